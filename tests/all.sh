@@ -77,6 +77,7 @@ try start 'python3 git xz' tests/start.py
 try package python3 tests/package.py
 try first_hour '' examples/first_hour.sh
 try program python3 python3 -B tests/program.py
+try limits python3 python3 -B tests/limits.py
 try large_month python3 python3 -B tests/large_month.py
 try upgrade sqlite3 tests/upgrade.sh
 try pages 'sqlite3 curl python3' tests/pages.sh

@@ -60,6 +60,23 @@ wait "$server"
 same 'status of serve' 0 "$?"
 same 'output of serve' '' "$(cat "$work/out" "$work/err")"
 
+# ---- at a port that the system chooses
+"$here/gm" serve --db "$net" --port 0 --count 1 --seed 7 >"$work/out" 2>"$work/err" &
+server=$!
+for _ in $(seq 100); do
+  [ -s "$work/err" ] && break
+  sleep 0.1
+done
+chosen=$(sed -n '1s/^port: //p' "$work/err")
+if [[ $chosen =~ ^[1-9][0-9]*$ ]]; then
+  same 'report at a chosen port' "$(cat "$work/avalon.line")" "$(curl -s --max-time 20 -H 'Atlantis-Pass: pw' "http://127.0.0.1:$chosen/report/1")"
+else
+  kill "$server"
+fi
+wait "$server"
+same 'status of serve at a chosen port' 0 "$?"
+same 'output of serve at a chosen port' "port: $chosen" "$(cat "$work/out" "$work/err")"
+
 # ---- the databases
 if command -v sqlite3 >/dev/null; then
   same 'rows' "$(sqlite3 "$line" .dump)" "$(sqlite3 "$net" .dump)"

@@ -629,8 +629,6 @@ AROUND_THE_FILE: list[Step] = [
     Do("its log", lambda bench: bench.expect(bench.path("late.db-wal").stat().st_size > 41, "it holds nothing")),
     done("a report of the file that wasn't shut", "report --db late.db --faction 1 --pass pw", REPORT),
     holds("late.db", "SELECT text FROM mail", WORKING),
-    Run("a small stack", "--help", -signal.SIGSEGV, limits=((resource.RLIMIT_STACK, 160 * KB),)),
-    Run("a report with enough stack", f"report {FIRST}", 0, REPORT, limits=((resource.RLIMIT_STACK, 512 * KB),)),
     Do("a hard link", link_file),
     fails("a report of a file with two names", f"report {FIRST}", "fault: Store"),
     fails("a report of its second name", "report --db second.db --faction 1 --pass pw", "fault: Store"),
@@ -678,6 +676,8 @@ PORTS: list[Step] = [
     done("no connections", "serve --db small.db --port 0 --count 0 --seed 0", ""),
 ]
 
+NUMBER = "' for '--faction <N>': invalid digit found in string\n"
+
 BAD_LINES: list[Step] = [
     misused("no subcommand", ""),
     misused("an unknown subcommand", "sail"),
@@ -696,7 +696,14 @@ BAD_LINES: list[Step] = [
     fails("the greatest number", "report --db small.db --faction 4294967295 --pass pw", "refused: 5 NoFaction"),
     misused("a port past its range", "serve --db small.db --port 65536 --count 0 --seed 0"),
     misused("a seed past its range", "join --db small.db --name Bree --pass pb --seed 18446744073709551616"),
-    misused("a word that is no text", ("report", "--db", "small.db", "--faction", "1", "--pass", b"\xff")),
+    misused("a word that is no text", ("report", "--db", "small.db", "--faction", "1", "--pass", b"\xff"),
+            "error: word 7 is not UTF-8\n"),
+    misused("a first word that is no text", (b"re\x80port", "--pass", b"\xff"), "error: word 1 is not UTF-8\n"),
+    misused("ESC in a subcommand", ("sa\x1b[2Jil",), "error: unrecognized subcommand 'sa\\u{1b}[2Jil'\n"),
+    misused("BEL in an option", ("report", "--mo\are", "1"), "error: unexpected argument '--mo\\u{7}re' found\n"),
+    misused("U+009B in a word", ("report", "mo\x9bre"), "error: unexpected argument 'mo\\u{9b}re' found\n"),
+    misused("DEL in a number", ("report", "--faction", "1\x7f"), f"error: invalid value '1\\u{{7f}}{NUMBER}"),
+    misused("CR and LF in a number", ("report", "--faction", "1\r\nfault: Store"), f"error: invalid value '1\\r\\nfault: Store{NUMBER}"),
     *(misused(words, words) for words in ("help", "-h", "--help", "--version")),
 ]
 

@@ -115,7 +115,7 @@ impl From<Cause> for Failure {
 /// A text that is printed on one line: each control character in it as its escape, all else as it
 /// is.
 #[derive(Clone, Copy)]
-struct OneLine<'a>(&'a str);
+pub struct OneLine<'a>(pub &'a str);
 
 /// Writes the text with an escape for each control character, as `\n` for the end of a line.
 impl<'a> fmt::Display for OneLine<'a> {

@@ -19,11 +19,12 @@ mod subcommand;
 mod trial;
 mod upgrade;
 
-use crate::failure::Failure;
+use crate::failure::{Failure, OneLine};
 use crate::subcommand::Subcommands;
 use clap::error::ErrorKind;
 use clap::{ArgMatches, Command, Error};
 use std::alloc::{AllocError, Global};
+use std::env::Env;
 use std::process::ExitCode;
 use std::{env, io};
 
@@ -72,35 +73,78 @@ fn refused_line(error: Error) -> Failure {
     Failure::CommandLine(error)
 }
 
-/// The failure for a command line that can't be read: a word is not UTF-8, or out of memory.
-fn unread_line(command: &mut Command<'_>, error: io::Error) -> Failure {
-    if error.kind() == io::ErrorKind::OutOfMemory {
-        return Failure::Memory;
+/// The failure for words that the parser refuses. Its text has line ends of its own, so it is asked
+/// for again, for the words with their control characters escaped.
+fn refused_words(alloc: Global, words: &[String], error: Error) -> Result<Failure, AllocError> {
+    let escaped = escaped_words(alloc, words)?;
+    match command_line(alloc)?.try_get_matches_from(escaped.as_slice()) {
+        Ok(_) => Ok(refused_line(error)),
+        Err(error) => Ok(refused_line(error)),
     }
-    match command.error(ErrorKind::InvalidValue, "a word is not UTF-8") {
-        Ok(error) => refused_line(error),
-        Err(_) => Failure::Memory,
+}
+
+/// The words, with an escape for each control character in them.
+fn escaped_words(alloc: Global, words: &[String]) -> Result<Vec<String>, AllocError> {
+    let mut escaped = Vec::new(alloc);
+    for word in words {
+        let word = OneLine(word.as_str());
+        escaped.push(format!(in alloc; "{word}")?)?;
     }
+    Ok(escaped)
+}
+
+/// The most bytes of a word of the command line, by the system's limit.
+const WORD_BYTES: usize = 131_072;
+
+/// Whether the command line has a word at this place, and it is UTF-8.
+fn is_text(rt: &HostRuntime, place: usize) -> Result<bool, AllocError> {
+    let mut word = vec![in rt.alloc(); 0; WORD_BYTES]?;
+    match rt.arg(place, word.as_mut_slice()) {
+        Ok(length) => {
+            word.truncate(length);
+            Ok(String::from_utf8(word).is_ok())
+        }
+        Err(_) => Ok(false),
+    }
+}
+
+/// The place of the first word that is not UTF-8. The program's name is at 0.
+fn place_of_no_text(rt: &HostRuntime) -> Result<usize, AllocError> {
+    for place in 0..usize::MAX {
+        if !is_text(rt, place)? {
+            return Ok(place);
+        }
+    }
+    Ok(usize::MAX)
+}
+
+/// The failure for a command line that can't be read, because a word is not UTF-8.
+fn no_text(rt: &HostRuntime, command: &mut Command<'_>) -> Result<Failure, AllocError> {
+    let place = place_of_no_text(rt)?;
+    let message = format!(in rt.alloc(); "word {place} is not UTF-8")?;
+    let error = command.error(ErrorKind::InvalidValue, message.as_str())?;
+    Ok(refused_line(error))
 }
 
 /// The words of the command line, as texts.
 fn words(rt: &HostRuntime, command: &mut Command<'_>) -> Result<Vec<String>, Failure> {
     match env::args(rt) {
         Ok(args) => Ok(args.collect(rt.alloc())?),
-        Err(error) => Err(unread_line(command, error)),
+        Err(error) if error.kind() == io::ErrorKind::OutOfMemory => Err(Failure::Memory),
+        Err(_) => Err(no_text(rt, command)?),
     }
 }
 
 /// Checks the stack, parses the command line, and runs the subcommand that it names.
 fn run(rt: &HostRuntime) -> Result<(), Failure> {
-    if !stack::has_room() {
+    if !stack::has_room(rt.alloc()) {
         return Err(Failure::Memory);
     }
     let mut command = command_line(rt.alloc())?;
     let words = words(rt, &mut command)?;
     match command.try_get_matches_from(words.as_slice()) {
         Ok(matches) => dispatch(rt, &matches),
-        Err(error) => Err(refused_line(error)),
+        Err(error) => Err(refused_words(rt.alloc(), words.as_slice(), error)?),
     }
 }
 

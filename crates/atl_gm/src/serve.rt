@@ -27,6 +27,18 @@ fn bind_failure(error: io::Error) -> Failure {
     Failure::of_system(error, Failure::Net)
 }
 
+/// Prints on standard error the port that the system chose for port 0.
+fn print_port(rt: &HostRuntime, listener: &TcpListener) -> Result<(), Failure> {
+    match listener.local_addr() {
+        Ok(address) => {
+            let port = address.port();
+            let _ = eprintln!(rt; "port: {port}");
+            Ok(())
+        }
+        Err(_) => Err(Failure::Net),
+    }
+}
+
 /// Listens on the port at 127.0.0.1, and serves `count` connections. Net if the port can't be bound
 /// or no connection accepted, Memory if memory ran out.
 impl<'a> Work for Serving<'a> {
@@ -40,6 +52,9 @@ impl<'a> Work for Serving<'a> {
     fn run<S: Alter>(&self, service: &mut Service<S>) -> Result<(), Failure> {
         let address = (Ipv4Addr::LOCALHOST, self.port);
         let listener = TcpListener::bind(self.rt, address).map_err(bind_failure)?;
+        if self.port == 0 && self.count != 0 {
+            print_port(self.rt, &listener)?;
+        }
         match serve_each(
             self.rt.alloc(),
             self.rt,
@@ -55,7 +70,8 @@ impl<'a> Work for Serving<'a> {
     }
 }
 
-/// The subcommand `serve`, which serves a count of connections and prints nothing.
+/// The subcommand `serve`, which serves a count of connections and prints nothing but the port that
+/// the system chose.
 pub struct Serve;
 
 /// Serves the campaign in `--db` at the port `--port` for `--count` connections, with the dice of

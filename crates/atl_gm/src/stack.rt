@@ -1,33 +1,74 @@
-//! Checks that the stack is large enough for the program.
+//! Finds out whether the stack can grow as far as a command may need.
+use libc::types::rlimit;
+use std::alloc::{AllocError, Global};
 
-/// The number of bytes of the stack that are touched: more than any command needs.
-const STACK_BYTES: usize = 262_144;
+/// How far the stack may grow, in bytes. A world text that nests tables as deep as TOML allows, and
+/// then has a fault, takes 2.4 MB of them.
+const STACK_BYTES: usize = STEPS * STEP_BYTES;
 
-/// Sets each byte of the buffer to `byte`.
-#[inline(never)]
-fn fill(room: &mut [u8], byte: u8) {
-    for each in room {
-        *each = byte;
+/// In how many steps the stack grows so far.
+const STEPS: usize = 10;
+
+/// The number of bytes of a step.
+const STEP_BYTES: usize = 262_144;
+
+/// The least limit on the stack, in bytes. The command line and the environment have a quarter of
+/// it at most.
+const LEAST_LIMIT: u64 = 4_194_304;
+
+/// The number of the limit on the address space, in which the stack lies too.
+const RLIMIT_AS: i32 = 9;
+
+/// The limit that stands for none.
+const NO_LIMIT: u64 = u64::MAX;
+
+/// The process's limit on a resource; 0 where the system doesn't tell it.
+fn limit_on(resource: i32) -> u64 {
+    let mut limit = rlimit {
+        rlim_cur: 0,
+        rlim_max: 0,
+    };
+    if libc::getrlimit(resource, &mut limit) != 0 {
+        return 0;
     }
+    limit.rlim_cur
 }
 
-/// Whether each byte of the buffer is `byte`.
+/// Asks for as much memory as the stack may take, and gives it back. The system refuses this by an
+/// error, but ends a program whose stack it refuses to grow.
+fn ask_for_room(alloc: Global) -> Result<(), AllocError> {
+    let _room: Vec<u8> = Vec::with_capacity(alloc, STACK_BYTES)?;
+    Ok(())
+}
+
+/// Whether each byte of the buffer is 0.
 #[inline(never)]
-fn is_filled(room: &[u8], byte: u8) -> bool {
+fn is_clear(room: &[u8]) -> bool {
     for each in room {
-        if *each != byte {
+        if *each != 0 {
             return false;
         }
     }
     true
 }
 
-/// Writes to as much of the stack as any command may need, and returns true. Under a smaller limit
-/// the system ends the program here, before it has done anything. The test of the bytes keeps a
-/// compiler from leaving out the writes.
+/// Has the stack grow by a number of steps, and returns true. The test of the bytes comes last, so
+/// that a compiler leaves out no buffer, and has all of them at one time.
 #[inline(never)]
-pub fn has_room() -> bool {
-    let mut room = [0; STACK_BYTES];
-    fill(&mut room, 1);
-    is_filled(&room, 1)
+fn grow(steps: usize) -> bool {
+    if steps == 0 {
+        return true;
+    }
+    let room = [0; STEP_BYTES];
+    grow(steps - 1) && is_clear(&room)
+}
+
+/// Whether the stack can grow as far as a command may need. Without a limit on the address space,
+/// the limit on the stack decides. With one, the stack grows now, since memory that is taken later
+/// could leave no room for it.
+pub fn has_room(alloc: Global) -> bool {
+    if limit_on(libc::RLIMIT_STACK) < LEAST_LIMIT {
+        return false;
+    }
+    limit_on(RLIMIT_AS) == NO_LIMIT || (ask_for_room(alloc).is_ok() && grow(STEPS))
 }
