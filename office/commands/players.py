@@ -41,7 +41,8 @@ def _join_options(parser: argparse.ArgumentParser) -> None:
 
 def handbook() -> list[Path]:
     """The pages that go to a player who joins."""
-    return [Path(__file__).resolve().parents[2] / "docs" / "PLAYER.md"]
+    docs = Path(__file__).resolve().parents[2] / "docs"
+    return [docs / "QUICKSTART.md", docs / "PLAYER.md"]
 
 
 def _join(words: argparse.Namespace) -> int:

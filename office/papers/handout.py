@@ -14,7 +14,6 @@ from office.papers.world import World
 
 CITED = re.compile(r'(docs/\w+\.md)(?:, "([^"]+)")?')
 PRICES = "prices"
-FOR_DEVELOPERS = "Definition:"
 
 
 @dataclass(frozen=True)
@@ -73,15 +72,7 @@ def _separated(links: list[Element]) -> Iterator[Child]:
 
 def _part(source: Source, text: str, texts: Mapping[Source, str]) -> Element:
     reading = Reading(f"{source.part}-", _Places(source, texts).find)
-    made = [_marked(block) for block in blocks(text.split("\n"), reading)]
-    return el("section", {"id": source.part, "class": "part"}, made)
-
-
-def _marked(block: Element) -> Element:
-    """A paragraph for developers is set small."""
-    first = block.children[0] if isinstance(block.children, list) and block.children else None
-    is_for_developers = block.name == "p" and isinstance(first, str) and first.startswith(FOR_DEVELOPERS)
-    return Element("p", {"class": "developers"}, block.children) if is_for_developers else block
+    return el("section", {"id": source.part, "class": "part"}, list(blocks(text.split("\n"), reading)))
 
 
 class _Places:

@@ -108,7 +108,6 @@ body { max-width: 80rem; }
 """
 HANDOUT = """\
 .part { margin-top: 4rem; }
-.developers { font-size: .78rem; color: var(--quiet); }
 nav ul { list-style: none; padding: 0; }
 nav li { margin: .5em 0; }
 .part > h1 { border-bottom: 3px double var(--rule); padding-bottom: .2em; }

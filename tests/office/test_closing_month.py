@@ -4,7 +4,6 @@ before, and kills at each step."""
 from __future__ import annotations
 
 import json
-import os
 import re
 import shutil
 import sqlite3
@@ -28,6 +27,7 @@ from tests.office.closing_tools import (ALL_CALLS, FULL, KILL, PROGRAM, SEED, St
                                         TestedClub, contents, fork, needs_program, needs_strace, say_nothing,
                                         words)
 from tests.office.closing_year import Year
+from tests.office.mailhouse import free_port
 
 COMES_OUT = "every report and the books come out again, byte for byte"
 # one system call of this many is stopped, so that the test takes a minute
@@ -133,7 +133,7 @@ class Refused(ClubOfTwo):
 
     def test_killed_serve(self) -> None:
         """While somebody's `gm serve` runs nothing is closed. What a killed one leaves in its log is in the copy."""
-        port = 20_000 + os.getpid() % 20_000
+        port = free_port()
         server = subprocess.Popen([str(PROGRAM), "serve", "--db", "club.db", "--port", str(port), "--count", "10",
                                    "--seed", SEED], cwd=self.club.root)
         self.addCleanup(server.wait)

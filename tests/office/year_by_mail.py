@@ -399,7 +399,7 @@ def read_welcome(year: Year, player: str) -> None:
                  f"#ATLANTIS {number} {year.club.pass_text(number)}"):
         check(part in text, f"the welcome of {player} has {part!r}", text)
     names = {part.get_filename() for part in letters[0].iter_attachments()}
-    check({"world.toml", "PLAYER.md"} <= names, "the prices and the handbook are with it", names)
+    check({"world.toml", "QUICKSTART.md", "PLAYER.md"} <= names, "the prices and the handbook are with it", names)
 
 
 def found(house: MailHouse, club: ClubFolder) -> Year:

@@ -1,4 +1,4 @@
-// The table of units, upkeep and changes: docs/RULES.md, "Upkeep", and docs/PLAYER.md, whose reports are used here.
+// The table of units, upkeep and changes: docs/RULES.md, "Upkeep", and docs/TUTORIAL.md, whose reports are used here.
 
 import assert from 'node:assert/strict';
 import { test } from 'node:test';
