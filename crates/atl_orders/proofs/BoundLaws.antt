@@ -61,7 +61,7 @@ module _ (world : WorldValue) (given : ℕ → Bool) where
 
   -- what a FORM line outside of blocks gives and the state after it are in bounds (`IsStep`), if its unit and alias are
   block_sound : (n : ℕ) (r : Result NumberRead LineFault) → IsNumber n → Holds (λ (x : NumberRead). IsAlias x.0) r → IsStep world (block_step n given r)
-  block_sound n (Ok a) h k = cond_both (given a.0) _ _ (IsStep world) (λ _. (tt, h)) (λ _. ((h, k), (h, k)))
+  block_sound n (Ok a) h k = cond_both (given a.0) _ _ (IsStep world) (λ _. (tt, h)) (λ _. ((h, record { shape = refl; operands = k }), (h, k)))
   block_sound n (Err fault) h k = (tt, h)
 
   -- what a FORM line gives and the state after it are in bounds (`IsStep`), if the state before it is
