@@ -184,7 +184,7 @@ impl OrderPhase for SailPhase {
 
     ghost unaffected = { IsAtMostMoved };
 
-    /// Carries out SAIL in a direction; None for an order with other operands.
+    /// Carries out SAIL in a direction.
     fn carry_out(
         &self,
         alloc: Global,
@@ -197,7 +197,7 @@ impl OrderPhase for SailPhase {
             Operands::Direction(direction) => Ok(Some(sail(
                 alloc, world, campaign, order, *direction,
             )?)),
-            _ => Ok(None),
+            _ => unreachable!(),
         }
     }
 

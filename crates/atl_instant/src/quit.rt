@@ -166,7 +166,7 @@ impl PhaseVerbs for QuitPhase {
     }
 }
 
-/// Removes all units of a faction by QUIT. An order with other operands is passed over.
+/// Removes all units of a faction by QUIT.
 impl OrderPhase for QuitPhase {
     ghost step = { λ _. quit_step };
 
@@ -178,7 +178,7 @@ impl OrderPhase for QuitPhase {
 
     ghost affects = { quit_affects };
 
-    /// Returns the outcome of an order of QUIT, or None where it has other operands.
+    /// Returns the outcome of an order of QUIT.
     fn carry_out(
         &self,
         alloc: Global,
@@ -189,7 +189,7 @@ impl OrderPhase for QuitPhase {
     ) -> Result<Option<Outcome>, AllocError> {
         match &order.order.operands {
             Operands::Number(number) => Ok(Some(quit(alloc, world, campaign, order, *number)?)),
-            _ => Ok(None),
+            _ => unreachable!(),
         }
     }
 

@@ -25,3 +25,4 @@ pub mod UnbookedLaws
 pub mod FitLaws
 pub mod UnmailedLaws
 pub mod PhaseSpecLaws
+pub mod ReportLaws

@@ -37,7 +37,7 @@ abbrev key_and_order : Arrangement → Task → List ℕ × Task
 key_and_order a t = (key_of a t, t)
 
 -- the map of the orders that pass a test lists the orders of the whole map that pass, if no two keys are equal
-values-passing : (a : Arrangement) (p : Task → Bool) (ts : List Task) → IsDistinct (same_key a) ts → values (from_entries {R = slice_cmp nat_cmp} (map (key_and_order a) (filter p ts))) ≡ filter p (values (from_entries {R = slice_cmp nat_cmp} (map (key_and_order a) ts)))
+pub values-passing : (a : Arrangement) (p : Task → Bool) (ts : List Task) → IsDistinct (same_key a) ts → values (from_entries {R = slice_cmp nat_cmp} (map (key_and_order a) (filter p ts))) ≡ filter p (values (from_entries {R = slice_cmp nat_cmp} (map (key_and_order a) ts)))
 values-passing a p ts apart =
     let es = map (key_and_order a) ts in
     ap (λ fs. values (from_entries {R = slice_cmp nat_cmp} fs)) (sym (filter-map (λ (e : List ℕ × Task). p e.1) (key_and_order a) ts))
