@@ -26,3 +26,4 @@ pub mod FitLaws
 pub mod UnmailedLaws
 pub mod PhaseSpecLaws
 pub mod ReportLaws
+pub mod EventLaws

@@ -23,7 +23,7 @@ use Rattle.atl_phase.proofs.MapOfListLaws.{entries-passing}
 use Rattle.atl_phase.proofs.OrderKeyLaws.{all_apart, same_key}
 
 -- for `values-passing`: to map elements by f and keep those that pass p is to keep those whose f passes p, and map them
-filter-map : {X Y : Type 0} (p : Y → Bool) (f : X → Y) (xs : List X) → filter p (map f xs) ≡ map f (filter (λ x. p (f x)) xs)
+pub filter-map : {X Y : Type 0} (p : Y → Bool) (f : X → Y) (xs : List X) → filter p (map f xs) ≡ map f (filter (λ x. p (f x)) xs)
 filter-map p f [] = refl
 filter-map p f (x ∷ xs) =
     let rest = filter-map p f xs in

@@ -1,5 +1,5 @@
 -- A law of the orders of a phase: among them is each order that counts and has a verb of the phase, and only once; no
--- other is of its faction and on its line.
+-- other is of its faction and on its line. So a phase that gives each of its orders an event gives it just one.
 use Rattle.std.proofs.Common.{◌≡◌, ◌≢◌, ◌==◌, ◌&&◌, ℕ, suc, zero, ◌+◌, ◌≤◌, ◌<◌, Bool, true, false, cond, List, [], ◌∷◌, ◌++◌, map, filter, flat_map, slice_get, Option, Some, None, refl, sym, ap, ap₂, subst, ◌∙◌, arith}
 use mathlib.Core.Bool.{and_comm}
 use Rattle.std.proofs.lemmas.Bool.{true≢false}
@@ -21,8 +21,7 @@ use Rattle.atl_campaign.proofs.ReadBackLaws.{Rise, entries_rise}
 use Rattle.atl_phase.specs.declared.phase_order.Arrangement.{Arrangement}
 use Rattle.atl_phase.specs.Fit.{AreFit}
 use Rattle.atl_phase.specs.Month.{Aliases}
-use Rattle.atl_phase.specs.PhaseOrders.{Task, key_of, order_counts, orders_of, tasks_for, tasks_from, tasks_of, unit_of}
-use Rattle.atl_phase.specs.Reports.{Counts}
+use Rattle.atl_phase.specs.PhaseOrders.{IsInMailing, Task, key_of, order_counts, orders_of, tasks_for, tasks_from, tasks_of, unit_of}
 use Rattle.atl_phase.proofs.MappedLaws.{no_entries}
 use Rattle.atl_phase.proofs.OneOrderLaws.{entry_line_above}
 use Rattle.atl_phase.proofs.OrderKeyLaws.{all_apart}
@@ -86,43 +85,48 @@ module _ (aliases : Aliases) (faction line : ℕ) where
 
 -- ---- the orders of a phase
 
-module _ (w : WorldValue) (aliases : Aliases) (readings : FinMap nat_cmp Reading) (fit : AreFit w readings) (t : Task) (counted : Counts aliases readings t) (is_of : Verb → Bool) where
+-- to keep what passes two tests in turn is to keep it in the other order
+pub in_turn : (p q : Task → Bool) (us : List Task) → filter q (filter p us) ≡ filter p (filter q us)
+in_turn p q us = filter_both p q us ∙ filter_agree (λ u. p u && q u) (λ u. q u && p u) (λ u. and_comm (p u) (q u)) us ∙ sym (filter_both q p us)
+
+-- an order that is sorted by its key alone, or no order, is what it was
+pub alone : (t : Task) (a : Arrangement) (b : Bool) → values (from_entries {R = slice_cmp nat_cmp} (map (λ u. (key_of a u, u)) (cond b (t ∷ []) []))) ≡ cond b (t ∷ []) []
+alone t a true =
+    ap (map (λ e. e.1)) (entries-insert nat_list_cmp_total (from_entries {R = slice_cmp nat_cmp} []) (key_of a t) t ∙ ap (put (slice_cmp nat_cmp) (key_of a t) t) (no_entries (slice_cmp nat_cmp)))
+alone t a false = ap (map (λ e. e.1)) (no_entries (slice_cmp nat_cmp))
+
+module _ (w : WorldValue) (aliases : Aliases) (readings : FinMap nat_cmp Reading) (fit : AreFit w readings) (t : Task) (there : IsInMailing aliases readings t) (is_of : Verb → Bool) where
   -- whether an order is of the faction and on the line of order t
   abbrev pub is_there : Task → Bool
   is_there = is_at aliases t.faction t.line
 
-  -- order t, if its verb is one of the phase's
+  -- whether order t is one of the phase's: it has a verb of the phase, and counts in its mailing
+  abbrev pub is_of_phase : Bool
+  is_of_phase = is_of t.order_value.verb && order_counts (tasks_of aliases t.faction there.reading) t
+
+  -- order t, if it is one of the phase's
   abbrev pub if_of_phase : List Task
-  if_of_phase = cond (is_of t.order_value.verb) (t ∷ []) []
+  if_of_phase = cond is_of_phase (t ∷ []) []
 
   -- the orders of the phase in a faction's mailing
   abbrev of_mailing : ℕ × Reading → List Task
   of_mailing e = tasks_for is_of (tasks_of aliases e.0 e.1)
 
   -- of the orders of the mailing of t's faction only t is left
-  in_own_mailing : filter is_there (tasks_of aliases t.faction counted.there.reading) ≡ t ∷ []
+  in_own_mailing : filter is_there (tasks_of aliases t.faction there.reading) ≡ t ∷ []
   in_own_mailing =
-      let h = counted.there in
+      let h = there in
       let e = h.entry in
       let at : 0 + t.index ≡ t.index = omega arith in
       one_left aliases t.faction t.line 0 0 t.index h.reading.entries e (fit t.faction h.reading h.of_faction).lines h.at_index h.on_line
       ∙ (λ i. record { faction = t.faction; unit = h.for_unit i; line = h.on_line i; index = at i; order_value = h.says i } ∷ [])
 
-  -- to keep what passes two tests in turn is to keep it in the other order
-  in_turn : (p q : Task → Bool) (us : List Task) → filter q (filter p us) ≡ filter p (filter q us)
-  in_turn p q us = filter_both p q us ∙ filter_agree (λ u. p u && q u) (λ u. q u && p u) (λ u. and_comm (p u) (q u)) us ∙ sym (filter_both q p us)
-
-  -- a conjunction with a true second part is its first part
-  first_part : (a b : Bool) → b ≡ true → (a && b) ≡ a
-  first_part true b holds = holds
-  first_part false b holds = refl
-
-  -- of the orders of the phase in the mailing of t's faction only t is left, if its verb is one of the phase's
-  own_mailing_left : filter is_there (of_mailing (t.faction, counted.there.reading)) ≡ if_of_phase
+  -- of the orders of the phase in the mailing of t's faction only t is left, if it is one of the phase's
+  own_mailing_left : filter is_there (of_mailing (t.faction, there.reading)) ≡ if_of_phase
   own_mailing_left =
-      let us = tasks_of aliases t.faction counted.there.reading in
+      let us = tasks_of aliases t.faction there.reading in
       let p = λ (u : Task). is_of u.order_value.verb && order_counts us u in
-      in_turn p is_there us ∙ ap (filter p) in_own_mailing ∙ ap (λ b. cond b (t ∷ []) []) (first_part (is_of t.order_value.verb) (order_counts us t) counted.counts)
+      in_turn p is_there us ∙ ap (filter p) in_own_mailing
 
   -- of the orders of the phase in other factions' mailings none is left
   others_left : (es : List (ℕ × Reading)) → AllByRecursion (λ e. e.0 ≢ t.faction) es → filter is_there (flat_map of_mailing es) ≡ []
@@ -138,20 +142,20 @@ module _ (w : WorldValue) (aliases : Aliases) (readings : FinMap nat_cmp Reading
   higher [] n is all = tt
   higher (e ∷ es) n is all = ((λ same. let above = all.0 in absurd (omega (arith, same, above, is))), higher es n is all.1)
 
-  -- of the orders of the phase in mailings by faction, among them that of t's faction, only t is left, if its verb is one
+  -- of the orders of the phase in mailings by faction, among them that of t's faction, only t is left, if it is one
   -- of the phase's
-  mailings_left : (es : List (ℕ × Reading)) → Rise es → find nat_cmp t.faction es ≡ Some counted.there.reading → filter is_there (flat_map of_mailing es) ≡ if_of_phase
+  mailings_left : (es : List (ℕ × Reading)) → Rise es → find nat_cmp t.faction es ≡ Some there.reading → filter is_there (flat_map of_mailing es) ≡ if_of_phase
   mailings_left [] rise found = cc
   mailings_left (e ∷ es) rise found = by_test (mailings_left es rise.1) (eq_by_cmp nat_cmp t.faction e.0) refl found
     where
       -- whether the first mailing is that of t's faction (b) or not
-      by_test : (find nat_cmp t.faction es ≡ Some counted.there.reading → filter is_there (flat_map of_mailing es) ≡ if_of_phase) → (b : Bool) → eq_by_cmp nat_cmp t.faction e.0 ≡ b → cond b (Some e.1) (find nat_cmp t.faction es) ≡ Some counted.there.reading → filter is_there (flat_map of_mailing (e ∷ es)) ≡ if_of_phase
+      by_test : (find nat_cmp t.faction es ≡ Some there.reading → filter is_there (flat_map of_mailing es) ≡ if_of_phase) → (b : Bool) → eq_by_cmp nat_cmp t.faction e.0 ≡ b → cond b (Some e.1) (find nat_cmp t.faction es) ≡ Some there.reading → filter is_there (flat_map of_mailing (e ∷ es)) ≡ if_of_phase
       by_test rest true is here =
           let faction = same_key t.faction e.0 is in
-          let reading = same_Some e.1 counted.there.reading here in
+          let reading = same_Some e.1 there.reading here in
           let own : filter is_there (of_mailing e) ≡ if_of_phase = (λ i. filter is_there (tasks_for is_of (tasks_of aliases (sym faction i) (reading i)))) ∙ own_mailing_left in
           filter-append is_there (of_mailing e) (flat_map of_mailing es)
-          ∙ ap₂ (λ xs ys. xs ++ ys) own (others_left es (higher es e.0 (sym faction) rise.0)) ∙ nothing_after (is_of t.order_value.verb)
+          ∙ ap₂ (λ xs ys. xs ++ ys) own (others_left es (higher es e.0 (sym faction) rise.0)) ∙ nothing_after is_of_phase
         where
           -- nothing comes after t
           nothing_after : (b : Bool) → cond b (t ∷ []) [] ++ [] ≡ cond b (t ∷ []) []
@@ -164,17 +168,11 @@ module _ (w : WorldValue) (aliases : Aliases) (readings : FinMap nat_cmp Reading
           filter-append is_there (of_mailing e) (flat_map of_mailing es)
           ∙ ap₂ (λ xs ys. xs ++ ys) (in_turn p is_there us ∙ ap (filter p) (none_of aliases t.faction t.line e.0 0 e.1.entries other)) (rest later)
 
-  -- an order sorted by its key is itself
-  alone : (a : Arrangement) (b : Bool) → values (from_entries {R = slice_cmp nat_cmp} (map (λ u. (key_of a u, u)) (cond b (t ∷ []) []))) ≡ cond b (t ∷ []) []
-  alone a true =
-      ap (map (λ e. e.1)) (entries-insert nat_list_cmp_total (from_entries {R = slice_cmp nat_cmp} []) (key_of a t) t ∙ ap (put (slice_cmp nat_cmp) (key_of a t) t) (no_entries (slice_cmp nat_cmp)))
-  alone a false = ap (map (λ e. e.1)) (no_entries (slice_cmp nat_cmp))
-
-  -- Of the orders of the phase just one is of t's faction and on its line, which is t, if its verb is one of the phase's;
-  -- and else none.
+  -- of the orders of the phase none but t is of t's faction and on its line, and t is among them just once, if it is one
+  -- of the phase's
   pub one_in_phase : (a : Arrangement) → filter is_there (values (orders_of is_of a aliases readings)) ≡ if_of_phase
   one_in_phase a =
       let us = flat_map of_mailing (entries readings) in
       sym (values-passing a is_there us (all_apart a aliases is_of readings))
-      ∙ ap (λ vs. values (from_entries {R = slice_cmp nat_cmp} (map (λ u. (key_of a u, u)) vs))) (mailings_left (entries readings) (entries_rise readings) (sym (get-entries readings t.faction) ∙ counted.there.of_faction))
-      ∙ alone a (is_of t.order_value.verb)
+      ∙ ap (λ vs. values (from_entries {R = slice_cmp nat_cmp} (map (λ u. (key_of a u, u)) vs))) (mailings_left (entries readings) (entries_rise readings) (sym (get-entries readings t.faction) ∙ there.of_faction))
+      ∙ alone t a is_of_phase
