@@ -5,9 +5,7 @@ use Rattle.std.proofs.lemmas.List.Elements.{filter-append}
 use Rattle.atl_orders.specs.declared.order.Operands.TheVariants as operands
 use Rattle.atl_orders.specs.declared.verb.Verb.{Verb}
 use Rattle.atl_orders.specs.declared.verb.Verb.TheVariants as verbs
-use Rattle.atl_orders.specs.Bounds.{shape_of}
 use Rattle.atl_orders.specs.Orders.{OperandsValue}
-use Rattle.atl_orders.specs.Verbs.{row_of}
 use Rattle.atl_world.specs.declared.direction.Direction.{Direction}
 use Rattle.atl_campaign.specs.Campaign.{CampaignValue}
 use Rattle.atl_phase.specs.declared.phase_order.Arrangement.TheVariants.{ByUnit}
@@ -15,25 +13,17 @@ use Rattle.atl_phase.specs.Month.{MonthValue}
 use Rattle.atl_phase.specs.OrderEffects.{OrderEffect}
 use Rattle.atl_phase.specs.PhaseOrders.{Task, order_counts, orders_by_unit, tasks_of}
 use Rattle.atl_phase.specs.Reports.{is_from, report_for, report_of}
-use Rattle.atl_phase.proofs.EventLaws.{Gives, TakesThose, fold_adds, fold_keeps, gives_by_orders, report_if, report_in_phase, reports_at}
+use Rattle.atl_phase.proofs.EventLaws.{Fits, Gives, TakesThose, all_orders, fold_adds, fold_keeps, gives_by_orders, report_if, report_in_phase, reports_at}
 use Rattle.atl_action.specs.Learners.{Learning, is_studying, learners}
 use Rattle.atl_action.specs.Sail.{is_sailing, sail, sail_spec, sail_step}
 use Rattle.atl_action.specs.Study.{learn_spec, study_effect, study_step}
 use Rattle.atl_action.specs.Teach.{TaughtMen, after_lessons, is_teaching, teach_order}
 use Rattle.atl_action.specs.Walk.{by_direction, is_walking, walk, walk_spec, walk_step}
 
--- the operands have the shape that the order table gives the verb
-abbrev Fits : Verb → OperandsValue → Type 0
-Fits v o = shape_of o ≡ (row_of v).shape
-
--- a phase passes over none of its orders
-abbrev none_passed : Task → Bool
-none_passed t = true
-
 -- ---- MOVE and SAIL
 
 -- the phase passes over no order of MOVE
-walk_takes : TakesThose walk_step is_walking none_passed
+walk_takes : TakesThose walk_step is_walking all_orders
 walk_takes w a t of_phase fit = by_verb t.order_value.verb t.order_value.operands of_phase fit.shape
   where
     -- operands of the shape of the verb have an effect
@@ -44,10 +34,10 @@ walk_takes w a t of_phase fit = by_verb t.order_value.verb t.order_value.operand
 
 -- the phase gives an event to each order of MOVE
 pub walk_gives : Gives (λ counts t. report_if (is_walking t.order_value.verb && counts && true) t) walk_spec.meaning
-walk_gives = gives_by_orders walk_step is_walking none_passed walk_takes
+walk_gives = gives_by_orders walk_step is_walking all_orders walk_takes
 
 -- the phase passes over no order of SAIL
-sail_takes : TakesThose sail_step is_sailing none_passed
+sail_takes : TakesThose sail_step is_sailing all_orders
 sail_takes w a t of_phase fit = by_verb t.order_value.verb t.order_value.operands of_phase fit.shape
   where
     -- operands of the shape of the verb have an effect
@@ -58,12 +48,12 @@ sail_takes w a t of_phase fit = by_verb t.order_value.verb t.order_value.operand
 
 -- the phase gives an event to each order of SAIL
 pub sail_gives : Gives (λ counts t. report_if (is_sailing t.order_value.verb && counts && true) t) sail_spec.meaning
-sail_gives = gives_by_orders sail_step is_sailing none_passed sail_takes
+sail_gives = gives_by_orders sail_step is_sailing all_orders sail_takes
 
 -- ---- TEACH and STUDY
 
 -- the phase passes over no order of STUDY
-study_takes : (taught : TaughtMen) → TakesThose (study_step taught) is_studying none_passed
+study_takes : (taught : TaughtMen) → TakesThose (study_step taught) is_studying all_orders
 study_takes taught w a t of_phase fit = by_verb t.order_value.verb t.order_value.operands of_phase fit.shape
   where
     -- operands of the shape of the verb have an effect
@@ -96,7 +86,7 @@ learn_gives = record {
       let lessons = after_lessons c learning m in
       let counts = order_counts (tasks_of aliases t.faction there.reading) t in
       let studied = report_if (is_studying t.order_value.verb && counts && true) t in
-      let study = gives_by_orders (study_step lessons.0) is_studying none_passed (study_takes lessons.0) in
+      let study = gives_by_orders (study_step lessons.0) is_studying all_orders (study_takes lessons.0) in
       study.events w c lessons.1 aliases readings (lessons_keep_aliases c learning m ∙ ea) (lessons_keep_readings c learning m ∙ er) fit t there
       ∙ ap (λ rs. rs ++ studied) (ap (filter (is_from t.faction t.line)) (lessons_add c learning m)
       ∙ filter-append (is_from t.faction t.line) (map report_of m.events) (map report_for (orders_by_unit is_teaching m))
@@ -104,8 +94,8 @@ learn_gives = record {
       ∙ append_assoc (reports_at t.faction t.line m) (report_if (is_teaching t.order_value.verb && counts) t) studied;
   readings = λ w c m.
       let lessons = after_lessons c (learners w c m) m in
-      (gives_by_orders (study_step lessons.0) is_studying none_passed (study_takes lessons.0)).readings w c lessons.1 ∙ lessons_keep_readings c (learners w c m) m;
+      (gives_by_orders (study_step lessons.0) is_studying all_orders (study_takes lessons.0)).readings w c lessons.1 ∙ lessons_keep_readings c (learners w c m) m;
   aliases = λ w c m.
       let lessons = after_lessons c (learners w c m) m in
-      (gives_by_orders (study_step lessons.0) is_studying none_passed (study_takes lessons.0)).aliases w c lessons.1 ∙ lessons_keep_aliases c (learners w c m) m;
+      (gives_by_orders (study_step lessons.0) is_studying all_orders (study_takes lessons.0)).aliases w c lessons.1 ∙ lessons_keep_aliases c (learners w c m) m;
 }

@@ -9,17 +9,15 @@ use Rattle.atl_world.specs.Worlds.{WorldValue}
 use Rattle.atl_orders.specs.declared.order.Operands.TheVariants as operands
 use Rattle.atl_orders.specs.declared.verb.Verb.{Verb}
 use Rattle.atl_orders.specs.declared.verb.Verb.TheVariants as verbs
-use Rattle.atl_orders.specs.Bounds.{shape_of}
 use Rattle.atl_orders.specs.Mailing.{Reading}
 use Rattle.atl_orders.specs.Orders.{OperandsValue}
-use Rattle.atl_orders.specs.Verbs.{row_of}
 use Rattle.atl_campaign.specs.Campaign.{CampaignValue}
 use Rattle.atl_phase.specs.declared.phase_order.Arrangement.TheVariants.{ByFaction}
 use Rattle.atl_phase.specs.Fit.{AreFit}
 use Rattle.atl_phase.specs.Month.{Aliases, MonthValue}
 use Rattle.atl_phase.specs.PhaseOrders.{IsInMailing, Task, order_counts, orders_of, tasks_of}
 use Rattle.atl_phase.specs.Reports.{is_from, report_for, report_of}
-use Rattle.atl_phase.proofs.EventLaws.{Gives, TakesThose, fold_adds, fold_keeps, gives_by_orders, report_if, report_in_phase, reports_at}
+use Rattle.atl_phase.proofs.EventLaws.{Fits, Gives, TakesThose, all_orders, fold_adds, fold_keeps, gives_by_orders, report_if, report_in_phase, reports_at}
 use Rattle.atl_instant.specs.Form.{form_by, form_meaning, form_order, form_spec, is_forming}
 use Rattle.atl_instant.specs.Give.{give_effect, give_spec, give_step, is_giving}
 use Rattle.atl_instant.specs.Guard.{guard_effect, guard_spec, guard_step, is_guarding}
@@ -28,18 +26,10 @@ use Rattle.atl_instant.specs.Place.{is_placing, place_effect, place_spec, place_
 use Rattle.atl_instant.specs.Quit.{is_quitting, quit_effect, quit_spec, quit_step}
 use Rattle.atl_instant.specs.Transfer.{is_transferring, transfer_effect, transfer_spec, transfer_step}
 
--- the operands have the shape that the order table gives the verb
-abbrev pub Fits : Verb → OperandsValue → Type 0
-Fits v o = shape_of o ≡ (row_of v).shape
-
--- a phase passes over none of its orders
-abbrev none_passed : Task → Bool
-none_passed t = true
-
 -- ---- LEAVE, ENTER and PROMOTE
 
 -- the phase passes over no order of LEAVE, ENTER or PROMOTE
-place_takes : TakesThose place_step is_placing none_passed
+place_takes : TakesThose place_step is_placing all_orders
 place_takes w a t of_phase fit = by_verb t.order_value.verb t.order_value.operands of_phase fit.shape
   where
     -- operands of the shape of the verb have an effect
@@ -54,12 +44,12 @@ place_takes w a t of_phase fit = by_verb t.order_value.verb t.order_value.operan
 
 -- the phase gives an event to each order of LEAVE, ENTER or PROMOTE
 pub place_gives : Gives (λ counts t. report_if (is_placing t.order_value.verb && counts && true) t) place_spec.meaning
-place_gives = gives_by_orders place_step is_placing none_passed place_takes
+place_gives = gives_by_orders place_step is_placing all_orders place_takes
 
 -- ---- GIVE and PAY
 
 -- the phase passes over no order of GIVE or PAY
-give_takes : TakesThose give_step is_giving none_passed
+give_takes : TakesThose give_step is_giving all_orders
 give_takes w a t of_phase fit = by_verb t.order_value.verb t.order_value.operands of_phase fit.shape
   where
     -- operands of the shape of the verb have an effect
@@ -72,12 +62,12 @@ give_takes w a t of_phase fit = by_verb t.order_value.verb t.order_value.operand
 
 -- the phase gives an event to each order of GIVE or PAY
 pub give_gives : Gives (λ counts t. report_if (is_giving t.order_value.verb && counts && true) t) give_spec.meaning
-give_gives = gives_by_orders give_step is_giving none_passed give_takes
+give_gives = gives_by_orders give_step is_giving all_orders give_takes
 
 -- ---- TRANSFER
 
 -- the phase passes over no order of TRANSFER
-transfer_takes : TakesThose transfer_step is_transferring none_passed
+transfer_takes : TakesThose transfer_step is_transferring all_orders
 transfer_takes w a t of_phase fit = by_verb t.order_value.verb t.order_value.operands of_phase fit.shape
   where
     -- operands of the shape of the verb have an effect
@@ -88,12 +78,12 @@ transfer_takes w a t of_phase fit = by_verb t.order_value.verb t.order_value.ope
 
 -- the phase gives an event to each order of TRANSFER
 pub transfer_gives : Gives (λ counts t. report_if (is_transferring t.order_value.verb && counts && true) t) transfer_spec.meaning
-transfer_gives = gives_by_orders transfer_step is_transferring none_passed transfer_takes
+transfer_gives = gives_by_orders transfer_step is_transferring all_orders transfer_takes
 
 -- ---- QUIT
 
 -- the phase passes over no order of QUIT
-quit_takes : TakesThose quit_step is_quitting none_passed
+quit_takes : TakesThose quit_step is_quitting all_orders
 quit_takes w a t of_phase fit = by_verb t.order_value.verb t.order_value.operands of_phase fit.shape
   where
     -- operands of the shape of the verb have an effect
@@ -104,7 +94,7 @@ quit_takes w a t of_phase fit = by_verb t.order_value.verb t.order_value.operand
 
 -- the phase gives an event to each order of QUIT
 pub quit_gives : Gives (λ counts t. report_if (is_quitting t.order_value.verb && counts && true) t) quit_spec.meaning
-quit_gives = gives_by_orders quit_step is_quitting none_passed quit_takes
+quit_gives = gives_by_orders quit_step is_quitting all_orders quit_takes
 
 -- ---- NAME and GUARD
 

@@ -11,10 +11,9 @@ use Rattle.atl_world.specs.Worlds.{WorldValue}
 use Rattle.atl_orders.specs.declared.order.Operands.TheVariants as operands
 use Rattle.atl_orders.specs.declared.verb.Verb.{Verb}
 use Rattle.atl_orders.specs.declared.verb.Verb.TheVariants as verbs
-use Rattle.atl_orders.specs.Bounds.{AreOperandsOf, shape_of}
+use Rattle.atl_orders.specs.Bounds.{AreOperandsOf}
 use Rattle.atl_orders.specs.Mailing.{Reading}
 use Rattle.atl_orders.specs.Orders.{OperandsValue}
-use Rattle.atl_orders.specs.Verbs.{row_of}
 use Rattle.atl_records.specs.declared.records.Unit.{Unit}
 use Rattle.atl_records.proofs.EveryLaws.{other_number}
 use Rattle.atl_campaign.specs.Campaign.{CampaignValue}
@@ -23,10 +22,9 @@ use Rattle.atl_phase.specs.Fit.{AreFit}
 use Rattle.atl_phase.specs.Month.{Aliases, MonthValue}
 use Rattle.atl_phase.specs.PhaseOrders.{IsInMailing, Task, is_month_long, key_of, order_counts, orders_by_unit, orders_of, tasks_of}
 use Rattle.atl_phase.specs.Reports.{is_from, report_for, report_of}
-use Rattle.atl_phase.proofs.EventLaws.{Gives, TakesThose, gives_by_orders, report_if, report_in_phase, reports_after, reports_at, reports_made, reports_of_orders}
-use Rattle.atl_phase.proofs.OneOrderLaws.{entry_line_above}
+use Rattle.atl_phase.proofs.EventLaws.{Fits, Gives, TakesThose, all_orders, gives_by_orders, one_reported, report_if, report_in_phase, reports_after, reports_at, reports_made, reports_of_orders}
 use Rattle.atl_phase.proofs.PickedLaws.{values-passing}
-use Rattle.atl_phase.proofs.ReportLaws.{alone, in_turn, is_at, one_in_phase}
+use Rattle.atl_phase.proofs.ReportLaws.{alone, in_turn, is_at, line_of_order, one_in_phase, second_false}
 use Rattle.atl_market.specs.Build.{build_effect, build_spec, build_step, is_building}
 use Rattle.atl_market.specs.PotPhase.{PotMeaning, events_by, given_by, outcome_of, pots_by_orders, unit_for}
 use Rattle.atl_market.specs.Produce.{is_produce, produce_spec}
@@ -40,7 +38,7 @@ use Rattle.atl_market.proofs.WorkOrderLaws.{all_are, have_same_key, month_long_k
 -- ---- BUILD
 
 -- the phase passes over no order of BUILD
-build_takes : TakesThose build_step is_building (λ t. true)
+build_takes : TakesThose build_step is_building all_orders
 build_takes w a t of_phase fit = by_verb t.order_value.verb t.order_value.operands of_phase fit.shape fit.operands
   where
     -- an element of a list, by an index within the list, is there, and so is what is made of it
@@ -50,7 +48,7 @@ build_takes w a t of_phase fit = by_verb t.order_value.verb t.order_value.operan
     is_there f (x ∷ xs) (suc i) inside = is_there f xs i (omega (arith, inside))
 
     -- operands of the shape of BUILD, with a kind of the world or none, have an effect
-    by_verb : (v : Verb) (o : OperandsValue) → is_building v ≡ true → shape_of o ≡ (row_of v).shape → AreOperandsOf w o → is_some (build_effect w t.unit o) ≡ true
+    by_verb : (v : Verb) (o : OperandsValue) → is_building v ≡ true → Fits v o → AreOperandsOf w o → is_some (build_effect w t.unit o) ≡ true
     by_verb verbs.Build (operands.Kind None) of_phase fits within = refl
     by_verb verbs.Build (operands.Kind (Some kind)) of_phase fits within = is_there _ w.kinds kind within
     by_verb verbs.Build o of_phase fits within = cc
@@ -58,7 +56,7 @@ build_takes w a t of_phase fit = by_verb t.order_value.verb t.order_value.operan
 
 -- the phase gives an event to each order of BUILD
 pub build_gives : Gives (λ counts t. report_if (is_building t.order_value.verb && counts && true) t) build_spec.meaning
-build_gives = gives_by_orders build_step is_building (λ t. true) build_takes
+build_gives = gives_by_orders build_step is_building all_orders build_takes
 
 -- ---- phases with pots
 
@@ -75,13 +73,21 @@ pots_give p is_of = record {
   aliases = λ w c m. refl;
 }
 
+-- whether a verb is SELL
+abbrev pub is_selling : Verb → Bool
+is_selling = is_trade Sell
+
+-- whether a verb is BUY
+abbrev pub is_buying : Verb → Bool
+is_buying = is_trade Buy
+
 -- the phase gives an event to each order of SELL
-pub sell_gives : Gives (λ counts t. report_if (is_trade Sell t.order_value.verb && counts) t) sell_spec.meaning
-sell_gives = pots_give _ (is_trade Sell)
+pub sell_gives : Gives (λ counts t. report_if (is_selling t.order_value.verb && counts) t) sell_spec.meaning
+sell_gives = pots_give _ is_selling
 
 -- the phase gives an event to each order of BUY
-pub buy_gives : Gives (λ counts t. report_if (is_trade Buy t.order_value.verb && counts) t) buy_spec.meaning
-buy_gives = pots_give _ (is_trade Buy)
+pub buy_gives : Gives (λ counts t. report_if (is_buying t.order_value.verb && counts) t) buy_spec.meaning
+buy_gives = pots_give _ is_buying
 
 -- the phase gives an event to each order of TAX
 pub tax_gives : Gives (λ counts t. report_if (is_tax t.order_value.verb && counts) t) tax_spec.meaning
@@ -97,22 +103,10 @@ produce_gives = pots_give _ is_produce
 
 -- ---- WORK
 
--- an order in a mailing isn't on line 0
-pub line_of_order : (w : WorldValue) (aliases : Aliases) (readings : FinMap nat_cmp Reading) → AreFit w readings → (t : Task) → IsInMailing aliases readings t → 0 < t.line
-line_of_order w aliases readings fit t there =
-    let above = entry_line_above 0 t.index there.reading.entries there.entry (fit t.faction there.reading there.of_faction).lines there.at_index in
-    let on = there.on_line in
-    omega (arith, above, on)
-
 module _ (c : CampaignValue) (aliases : Aliases) (faction line : ℕ) (low : 0 < line) where
   -- whether an order is of the faction and on the line
   abbrev at : Task → Bool
   at = is_at aliases faction line
-
-  -- a conjunction is false, if its second part is
-  second_false : (a b : Bool) → b ≡ false → (a && b) ≡ false
-  second_false true b fails = fails
-  second_false false b fails = refl
 
   -- no unit works on the line without an order
   none_idle : (es : List (ℕ × Unit)) → filter at (map (λ e. idle_task e.0 e.1.faction) es) ≡ []
@@ -146,7 +140,7 @@ work_gives = record {
       ∙ ap₂ (λ x y. sorted (filter passing (filter (is_at aliases t.faction t.line) (values (orders_of is_month_long ByUnit x y))))) ea er
       ∙ ap (λ us. sorted (filter passing us)) (one_in_phase w aliases readings fit t there is_month_long ByUnit)
       ∙ ap sorted (passing_one t month_long) ∙ alone t ByUnit (is_work t.order_value.verb && month_long))
-      ∙ mapped t (is_work t.order_value.verb && month_long));
+      ∙ one_reported t (is_work t.order_value.verb && month_long));
   readings = λ w c m. refl;
   aliases = λ w c m. refl;
 }
@@ -155,8 +149,3 @@ work_gives = record {
     passing_one : (t : Task) (b : Bool) → filter (λ u. is_work u.order_value.verb) (cond b (t ∷ []) []) ≡ cond (is_work t.order_value.verb && b) (t ∷ []) []
     passing_one t true = elim (is_work t.order_value.verb) as (λ x. cond x (t ∷ []) [] ≡ cond (x && true) (t ∷ []) []) [ true ↦ refl | false ↦ refl ]
     passing_one t false = elim (is_work t.order_value.verb) as (λ x. [] ≡ cond (x && false) (t ∷ []) []) [ true ↦ refl | false ↦ refl ]
-
-    -- the reports of one order, or of none
-    mapped : (t : Task) (b : Bool) → map report_for (cond b (t ∷ []) []) ≡ report_if b t
-    mapped t true = refl
-    mapped t false = refl

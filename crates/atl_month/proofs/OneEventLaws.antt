@@ -17,6 +17,7 @@ use Rattle.atl_phase.specs.PhaseOrders.{IsInMailing, Task, is_month_long, order_
 use Rattle.atl_phase.specs.PhaseSpecs.{meaning_of}
 use Rattle.atl_phase.specs.Reports.{Counts, Report, is_from, report_for, report_of}
 use Rattle.atl_phase.proofs.EventLaws.{Gives, gives_both, report_if, reports_after, reports_at}
+use Rattle.atl_phase.proofs.ReportLaws.{line_of_order, second_false}
 use Rattle.atl_instant.specs.Form.{form_meaning, is_forming}
 use Rattle.atl_instant.specs.Give.{give_spec, is_giving}
 use Rattle.atl_instant.specs.Guard.{guard_spec, is_guarding}
@@ -34,16 +35,15 @@ use Rattle.atl_market.specs.Build.{is_building}
 use Rattle.atl_market.specs.Produce.{is_produce}
 use Rattle.atl_market.specs.Recruit.{is_recruit, recruit_spec}
 use Rattle.atl_market.specs.Tax.{is_tax, tax_spec}
-use Rattle.atl_market.specs.Trade.{buy_spec, is_trade, sell_spec}
-use Rattle.atl_market.specs.declared.trade.Trade.TheVariants.{Buy, Sell}
+use Rattle.atl_market.specs.Trade.{buy_spec, sell_spec}
 use Rattle.atl_market.specs.Work.{is_work}
-use Rattle.atl_market.proofs.TakenLaws.{build_gives, buy_gives, line_of_order, produce_gives, recruit_gives, sell_gives, tax_gives, work_gives}
+use Rattle.atl_market.proofs.TakenLaws.{build_gives, buy_gives, is_buying, is_selling, produce_gives, recruit_gives, sell_gives, tax_gives, work_gives}
 use Rattle.atl_month.specs.Month.{last_phases, later_phases, month_meaning, new_month}
 use Rattle.atl_month.specs.OneEvent.{EachOrderHasOneEvent, aliases_for}
 use Rattle.atl_month.specs.Season.{season_spec}
 use Rattle.atl_month.specs.Sweep.{sweep_spec}
 use Rattle.atl_month.specs.Upkeep.{starved_event, starves, upkeep_results, upkeep_spec}
-use Rattle.atl_month.specs.UpkeepSharing.{UpkeepResult}
+use Rattle.atl_month.specs.declared.upkeep_sharing.UpkeepResult.{UpkeepResult}
 
 -- ---- the phases without orders
 
@@ -61,11 +61,6 @@ none_starved faction line low [] = refl
 none_starved faction line low (s ∷ list) =
     let rest = filter (is_from faction line) (map report_of (map starved_event list)) in
     ap (λ b. cond b (report_of (starved_event s) ∷ rest) rest) (second_false (s.faction == faction) (0 == line) (other_number 0 line (λ same. absurd (omega (arith, low, same))))) ∙ none_starved faction line low list
-  where
-    -- a conjunction is false, if its second part is
-    second_false : (a b : Bool) → b ≡ false → (a && b) ≡ false
-    second_false true b fails = fails
-    second_false false b fails = refl
 
 -- upkeep adds no event of an order
 upkeep_gives : Gives (λ counts t. []) upkeep_spec.meaning
@@ -89,7 +84,7 @@ goods_added v named counts t =
 -- what the phases from SELL to RECRUIT add
 abbrev pots_added : Verb → Bool → Task → List Report
 pots_added v counts t =
-    report_if (is_trade Sell v && counts) t ++ (report_if (is_trade Buy v && counts) t
+    report_if (is_selling v && counts) t ++ (report_if (is_buying v && counts) t
     ++ (report_if (is_tax v && counts) t ++ report_if (is_recruit v && counts) t))
 
 -- what the phases from GUARD 1 to PRODUCE add, also by whether it is GUARD 1
@@ -182,7 +177,7 @@ module _ (w : WorldValue) (c : CampaignValue) (readings : FinMap nat_cmp Reading
     read_by aliases = record t { unit = unit_of aliases t.faction there.entry.target }
 
     -- the order, with its unit by some aliases, is in the mailing as it is read with these
-    there_by : (aliases : Aliases) → IsInMailing aliases readings (read_by aliases)
+    abbrev there_by : (aliases : Aliases) → IsInMailing aliases readings (read_by aliases)
     there_by aliases = record { reading = there.reading; entry = there.entry; of_faction = there.of_faction; at_index = there.at_index; for_unit = refl; on_line = there.on_line; says = there.says }
 
     -- whether the order counts, with the units of its mailing by some aliases

@@ -7,8 +7,10 @@ use Rattle.std.specs.FinMap.{FinMap, values}
 use Rattle.std.specs.List.{AllByRecursion, fold}
 use Rattle.std.specs.Ordering.{nat_cmp}
 use Rattle.atl_world.specs.Worlds.{WorldValue}
-use Rattle.atl_orders.specs.Bounds.{IsOrderOf}
+use Rattle.atl_orders.specs.Bounds.{IsOrderOf, shape_of}
 use Rattle.atl_orders.specs.Mailing.{Reading}
+use Rattle.atl_orders.specs.Orders.{OperandsValue}
+use Rattle.atl_orders.specs.Verbs.{row_of}
 use Rattle.atl_orders.specs.declared.verb.Verb.{Verb}
 use Rattle.atl_records.specs.declared.event.Event.{Event}
 use Rattle.atl_records.specs.declared.event.Outcome.{Outcome}
@@ -70,18 +72,18 @@ reports_after faction line m events = ap (filter (is_from faction line)) (map-ap
 pub reports_of_orders : (aliases : Aliases) (faction line : ℕ) (ts : List Task) → filter (is_from faction line) (map report_for ts) ≡ map report_for (filter (is_at aliases faction line) ts)
 reports_of_orders aliases faction line ts = filter-map (is_from faction line) report_for ts
 
+-- the reports of an order, if the test holds, and else of none
+pub one_reported : (t : Task) (b : Bool) → map report_for (cond b (t ∷ []) []) ≡ report_if b t
+one_reported t true = refl
+one_reported t false = refl
+
 -- of the reports of a phase's orders just one is of an order's faction and on its line, if the order is one of the phase's
 pub report_in_phase : (w : WorldValue) (m : MonthValue) (aliases : Aliases) (readings : FinMap nat_cmp Reading) → m.aliases ≡ aliases → m.readings ≡ readings → AreFit w readings → (t : Task) (there : IsInMailing aliases readings t) (is_of : Verb → Bool) (a : Arrangement)
     → filter (is_from t.faction t.line) (map report_for (values (orders_of is_of a m.aliases m.readings))) ≡ report_if (is_of t.order_value.verb && order_counts (tasks_of aliases t.faction there.reading) t) t
 report_in_phase w m aliases readings ea er fit t there is_of a =
     reports_of_orders aliases t.faction t.line (values (orders_of is_of a m.aliases m.readings))
     ∙ ap₂ (λ x y. map report_for (filter (is_at aliases t.faction t.line) (values (orders_of is_of a x y)))) ea er
-    ∙ ap (map report_for) (one_in_phase w aliases readings fit t there is_of a) ∙ mapped (is_of t.order_value.verb && order_counts (tasks_of aliases t.faction there.reading) t)
-  where
-    -- the reports of an order, or of none
-    mapped : (b : Bool) → map report_for (cond b (t ∷ []) []) ≡ report_if b t
-    mapped true = refl
-    mapped false = refl
+    ∙ ap (map report_for) (one_in_phase w aliases readings fit t there is_of a) ∙ one_reported t (is_of t.order_value.verb && order_counts (tasks_of aliases t.faction there.reading) t)
 
 -- the reports of the events that are made for some orders, whatever came of them, are those of the orders
 pub reports_made : (outcome : Task → Outcome) (ts : List Task) → map report_of (map (λ t. event_for t (outcome t)) ts) ≡ map report_for ts
@@ -108,6 +110,14 @@ module _ {X : Type 0} where
 -- a step passes over an order that has a verb of the phase and says what it is (`IsOrderOf`) just if the order fails a test
 abbrev pub TakesThose : OrderMeaning → (Verb → Bool) → (Task → Bool) → Type 0
 TakesThose step is_of takes = (w : WorldValue) (a : Aliases) (t : Task) → is_of t.order_value.verb ≡ true → IsOrderOf w t.order_value → is_some (step w a t) ≡ takes t
+
+-- the operands have the shape that the order table gives the verb
+abbrev pub Fits : Verb → OperandsValue → Type 0
+Fits v o = shape_of o ≡ (row_of v).shape
+
+-- the test of a step that passes over none of its orders
+abbrev pub all_orders : Task → Bool
+all_orders t = true
 
 module _ (step : OrderMeaning) (is_of : Verb → Bool) (takes : Task → Bool) (takes_those : TakesThose step is_of takes) where
   -- an order adds its event, if the phase doesn't pass it over

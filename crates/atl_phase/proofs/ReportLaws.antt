@@ -34,7 +34,7 @@ abbrev task_for : Aliases → (faction index : ℕ) → EntryValue → Task
 task_for aliases faction index e = record { faction = faction; unit = unit_of aliases faction e.target; line = e.line; index = index; order_value = e.order_value }
 
 -- a conjunction is false, if its second part is
-second_false : (a b : Bool) → b ≡ false → (a && b) ≡ false
+pub second_false : (a b : Bool) → b ≡ false → (a && b) ≡ false
 second_false true b fails = fails
 second_false false b fails = refl
 
@@ -82,6 +82,13 @@ module _ (aliases : Aliases) (faction line : ℕ) where
       let past : is_at first ≡ false = second_false (faction == faction) (x.line == line) (other_number x.line line (λ same. absurd (omega (arith, same, above, on)))) in
       let next : (index + 1) + i ≡ index + suc i = omega arith in
       ap (λ b. cond b (first ∷ rest) rest) past ∙ one_left (index + 1) x.line i es e rise.1 is on ∙ ap (λ j. task_for aliases faction j e ∷ []) next
+
+-- an order in a mailing isn't on line 0
+pub line_of_order : (w : WorldValue) (aliases : Aliases) (readings : FinMap nat_cmp Reading) → AreFit w readings → (t : Task) → IsInMailing aliases readings t → 0 < t.line
+line_of_order w aliases readings fit t there =
+    let above = entry_line_above 0 t.index there.reading.entries there.entry (fit t.faction there.reading there.of_faction).lines there.at_index in
+    let on = there.on_line in
+    omega (arith, above, on)
 
 -- ---- the orders of a phase
 

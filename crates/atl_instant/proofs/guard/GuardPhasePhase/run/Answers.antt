@@ -3,7 +3,8 @@ use Rattle.std.proofs.lemmas.List.Elements.{All-from_recursion}
 use Rattle.atl_orders.specs.declared.verb.Verb.TheVariants as verbs
 use Rattle.atl_phase.specs.declared.phase_order.Arrangement.TheVariants.{ByUnit}
 use Rattle.atl_phase.proofs.PhaseOrderLaws.{orders_have_verbs}
-use Rattle.atl_instant.proofs.TakenLaws.{Fits, guard_shape}
+use Rattle.atl_phase.proofs.EventLaws.{Fits}
+use Rattle.atl_instant.proofs.TakenLaws.{guard_shape}
 use Rattle.std.proofs.lemmas.List.{append-nil}
 use Rattle.std.specs.Prelude.{fold}
 use Rattle.atl_orders.specs.Bounds.{IsOrderOf}
