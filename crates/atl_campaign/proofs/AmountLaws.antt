@@ -23,8 +23,6 @@ use Rattle.atl_records.proofs.EveryLaws.{each-from_every}
 use Rattle.atl_campaign.proofs.RuleLaws.{free_from}
 use Rattle.atl_campaign.proofs.MarketLaws.{market_known}
 
--- ---- items that no world has
-
 pub sum_of_zeros_is_zero : {V : Type 0} (f : V → ℕ) (es : List (ℕ × V)) → EachEntry (λ _ v. f v ≡ 0) es → sum_by (λ e. f e.1) es ≡ 0
 sum_of_zeros_is_zero f [] each = refl
 sum_of_zeros_is_zero {V} f (e ∷ es) each = let more = sum_by-cons (λ (e : ℕ × V). f e.1) e es in omega (arith, more, each.0, sum_of_zeros_is_zero f es each.1)

@@ -116,10 +116,14 @@ none_held item amount e = absurd (no_some amount (sym (get-empty nat_cmp item) �
 pub AreAmounts-had : (n : ℕ) (rows : List StoredHas) → list_all has_in_range rows ≡ true → AreAmounts (things_had n 0 rows)
 AreAmounts-had n rows h = put_in_range n rows empty h none_held
 
+-- ---- texts
+
 -- an Ok result holds `bytes`, if it holds `some` whenever `some` is UTF-8, and `some` equals `bytes`, which is UTF-8
 pub IfOk-text : {E : Type 0} (r : Result (List ℕ) E) (some bytes : List ℕ) → some ≡ bytes → IsUtf8 bytes → IfOk r (λ made. IsUtf8 some → made ≡ some) → IfOk r (λ made. made ≡ bytes)
 IfOk-text (Ok made) some bytes e h f = f (subst IsUtf8 (sym e) h) ∙ e
 IfOk-text (Err x) some bytes e h f = tt
+
+-- ---- a test that all rows pass
 
 pub row_passes_test : {R : Type 0} (p : R → Bool) (rows : List R) (i : ℕ) (r : R) → i < length rows → r ≡ get_or rows i r → list_all p rows ≡ true → p r ≡ true
 row_passes_test p [] i r h is all = absurd (omega arith)

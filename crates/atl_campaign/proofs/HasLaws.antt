@@ -43,8 +43,6 @@ items_and_days_are_all n has sorts =
     both : (s : ℕ) → filter (λ h. as_u32 h.sort == s) (rows_of_unit n has) ≡ filter (is_of_unit_and_sort n s) has
     both s = filter_both (λ h. as_u32 h.unit == n) (λ h. as_u32 h.sort == s) has
 
--- ---- the things of a unit
-
 -- a number of a row that is read as it is: it fits 32 bits
 abbrev pub FitsU32 : ℤ → Type 0
 FitsU32 z = z ≡ pos (as_u32 z)

@@ -175,8 +175,6 @@ module _ (w : WorldValue) (c : CampaignValue) (n : ℕ) (u : Unit) (h : HoldingV
       regrouped (sum_over (λ (r : Region). region_amount t r) c.regions) (sum_over there with_new_holding.units) (sum_over there c.units) (unit_amount t u.holding) (unit_amount t h)
       (sum_over-insert_known there c.units n u new_unit is)
 
--- ---- what is marked
-
 abbrev goods_of : Unit → FinMap nat_cmp ℕ × FinMap nat_cmp ℕ
 goods_of u = (u.holding.items, u.holding.days)
 

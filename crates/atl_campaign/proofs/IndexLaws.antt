@@ -126,6 +126,8 @@ put_again ps n i d s h =
 pub get-at_index : (ps : List IndexEntry) (n i : ℕ) (d : IndexEntry) → IsSortedIndex ps → IsAt (index_numbers ps) n i → finmap.get (as_map ps) n ≡ Some (get_or ps i d).slot
 get-at_index ps n i d s h = ap (λ m. finmap.get m n) (put_again ps n i d s h) ∙ get_inserted (as_map (remove ps i)) n (get_or ps i d).slot
 
+-- ---- an entry that is inserted
+
 pub map-added : (ps : List IndexEntry) (n i k : ℕ) → IsSortedIndex ps → BelongsAt (index_numbers ps) n i → as_map (insert ps i (record { number = n; slot = k })) ≡ finmap.insert (as_map ps) n k
 map-added ps n i k s b =
     ap from_entries (map-insert (λ (p : IndexEntry). (p.number, p.slot)) ps i (record { number = n; slot = k })) ∙ from_entries-insert (slots_of ps) i n k (get-belongs ps n i s b)

@@ -91,6 +91,8 @@ module _ {R V : Type 0} (number : R → ℕ) (value : R → V) where
       let order = flat_order (λ e. line e ∷ []) rows h in
       subst (λ xs. IsPermutation xs rows) (flat_map_single line es) (subst (λ ys. IsPermutation (flat_map (λ e. line e ∷ []) es) ys) (same_rows row rows same) (IsPermutation-sym (flat_of (λ e. line e ∷ []) rows) (flat_map (λ e. line e ∷ []) es) order))
 
+-- ---- rows with keys
+
 -- for HaveDistinctNumbers-keys: rows of which P holds, and whose keys differ from r's, have other numbers than r, if P
 -- and another key mean another number
 each_apart : {R K : Type 0} (key : R → K) (number : R → ℕ) (same : K → K → Bool) (P : R → Type 0) (r : R) → ((s : R) → P s → same (key r) (key s) ≡ false → number s ≢ number r)
@@ -105,6 +107,8 @@ pub HaveDistinctNumbers-keys : {R K : Type 0} (key : R → K) (number : R → �
 unfolding IsDistinct
 HaveDistinctNumbers-keys key number same P apart [] h d = tt
 HaveDistinctNumbers-keys key number same P apart (r ∷ rows) h d = (each_apart key number same P r (λ s. apart r s h.0) rows h.1 d.0, HaveDistinctNumbers-keys key number same P apart rows h.1 d.1)
+
+-- ---- tests of each row
 
 pub each_passes : {R : Type 0} (p : R → Bool) (P : R → Type 0) → ((r : R) → p r ≡ true → P r) → (rows : List R) → list_all p rows ≡ true → AllByRecursion P rows
 each_passes p P good [] h = tt
@@ -173,6 +177,8 @@ module _ {R V : Type 0} (number : R → ℕ) (value : R → V) where
       flat_same : (es : List (ℕ × V)) → flat_map (λ e. e ∷ []) es ≡ es
       flat_same [] = refl
       flat_same (e ∷ es) = ap (λ xs. e ∷ xs) (flat_same es)
+
+-- ---- facts of each row
 
 pub each_follows_from_two : {R : Type 0} (P Q S : R → Type 0) → ((r : R) → P r → Q r → S r) → (rows : List R) → AllByRecursion P rows → AllByRecursion Q rows → AllByRecursion S rows
 each_follows_from_two P Q S f [] p q = tt

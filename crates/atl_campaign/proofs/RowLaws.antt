@@ -23,8 +23,6 @@ module _ {R : Type 0} (shown : R → ℤ) (row : ℕ → ℕ → R) (shows : (th
 pub sort_rows_one : (n sort thing amount : ℕ) (es : List (ℕ × ℕ)) → amount ≢ 0 → rows_of_sort n sort ((thing, amount) ∷ es) ≡ has_row n sort thing amount ∷ rows_of_sort n sort es
 sort_rows_one n sort = amount_rows_one (λ r. r.amount) (has_row n sort) (λ i a. refl)
 
--- ---- rows of the books
-
 pub rows_under-append : (books : BooksValue) (some others : List Account) → rows_under books (some ++ others) ≡ rows_under books some ++ rows_under books others
 rows_under-append books [] others = refl
 rows_under-append books (a ∷ some) others =

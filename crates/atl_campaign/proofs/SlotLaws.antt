@@ -87,6 +87,8 @@ module _ {V : Type 0} where
   kept s t k x None u h = refl
   kept s t k x (Some j) u h = u.others j (h j refl)
 
+  -- ---- a value changed in its slot
+
   pub HaveOwnSlots-changed : (i : FinMap nat_cmp ℕ) (s t : slab.Slab V) (k : ℕ) (x : V) → slab.Updates s t k (Some x) → HaveOwnSlots i s → HaveOwnSlots i t
   HaveOwnSlots-changed i s t k x u held = record {
     in_use = λ n j h. elim (cases_eq j k) [
@@ -103,6 +105,8 @@ module _ {V : Type 0} where
       (λ same. ap (λ m. value_in_slot t (get i m)) same ∙ ap (value_in_slot t) is ∙ u.changed)
       (λ apart. kept s t k (Some x) (get i q) u (λ j h same. apart (held.by_one q n k (h ∙ ap Some same) is)))
       ∙ sym (get-insert nat_cmp_total (values_of i s) n x q ∙ ap (cond (eq_by_cmp nat_cmp q n) (Some x)) (get_values i s held q)))
+
+  -- ---- a value put in
 
   pub HaveOwnSlots-added : (i : FinMap nat_cmp ℕ) (s t : slab.Slab V) (n k : ℕ) (x : V) → slab.Updates s t k (Some x) → slab.get s k ≡ None → HaveOwnSlots i s → HaveOwnSlots (insert i n k) t
   HaveOwnSlots-added i s t n k x u vacant held = record {

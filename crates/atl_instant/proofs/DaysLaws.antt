@@ -102,8 +102,6 @@ days_go_with_men n other h s = record {
       none_come (amount_of h.days s) (going_of n other s) (none_listed h.days s apart.0) (none_go n other s (none_listed other.days s apart.1)));
 }
 
--- ---- what the code sets one by one
-
 no_zeros_after_setting : (f : ℕ → ℕ → ℕ) (es : List (ℕ × ℕ)) (left : FinMap nat_cmp ℕ) → Every (λ s d. 1 ≤ d) left → Every (λ s d. 1 ≤ d) (fold (λ (m : FinMap nat_cmp ℕ) (e : ℕ × ℕ). with_amount_of m e.0 (f e.0 e.1)) left es)
 no_zeros_after_setting f [] left old = old
 no_zeros_after_setting f (e ∷ es) left old = no_zeros_after_setting f es (with_amount_of left e.0 (f e.0 e.1)) (every_amount (λ s d. 1 ≤ d) left e.0 (f e.0 e.1) (λ some. some) old)

@@ -194,6 +194,8 @@ module _ (w : WorldValue) (c : CampaignValue) (p : ℕ) (u : Unit) (is : get c.u
   pub begun_stays : Every (λ n v. get begun.units n ≡ Some v) c.units
   begun_stays = unit_stays
 
+-- ---- what is marked
+
 pub marks-begun : (c : MarkedCampaign) (u : Unit) → MarksChanges c (record { value = with_unit_begun c.value u; marks = mark_unit_begun c })
 marks-begun c u =
     let n = c.value.next_unit in
@@ -246,6 +248,8 @@ module _ (w : WorldValue) (c : CampaignValue) (early : IsEarly w c) where
 
   pub order_stays : (m : MonthValue) (o : Forming) → Every (λ k v. get (form_by_copy (c, m) o).0.units k ≡ Some v) c.units
   order_stays m o = (form_fine o.faction o.unit).1
+
+-- ---- orders apart from the month
 
 -- copies of orders of FORM, carried out one after another, make what the orders themselves make
 pub formed_by_copy : (p : CampaignValue × MonthValue) (ts : List Task) → fold form_by_copy p (map forming_of ts) ≡ fold form_order p ts

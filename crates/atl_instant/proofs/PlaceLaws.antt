@@ -54,6 +54,8 @@ module _ (fit : Type 0) (w : WorldValue) (c : CampaignValue) (n : ℕ) (u : Unit
   abbrev KeepsOthersByPlace : CampaignValue → Type 0
   KeepsOthersByPlace d = OrderKeeps IsEarly fit w c n u.faction d
 
+  -- ---- LEAVE
+
   left : KeepsOthersByPlace (leave w n c u).0
   unfolding leave
   left =
@@ -63,6 +65,8 @@ module _ (fit : Type 0) (w : WorldValue) (c : CampaignValue) (n : ℕ) (u : Unit
       keeps_others w c n u.faction (with_place c n u.region 0)
       (λ early fits. place_well w c n u 0 is early (λ out. is_unequal u.structure 0 some.0 out) (λ not_none. absurd (not_none refl)) (λ wet. absurd (true≢false (sym (ap not wet) ∙ dry.0))))
       (λ k apart. place_stays c n u.region 0 k apart))
+
+  -- ---- ENTER
 
   entered_by : (s : ℕ) (o : Option Structure) → get c.structures s ≡ o → (b : Bool) → (u.structure == s) ≡ b → not (is_structure_in u.region o) ≡ false → KeepsOthersByPlace (if b then c else with_place c n u.region s)
   entered_by s None there b same near = absurd (true≢false near)

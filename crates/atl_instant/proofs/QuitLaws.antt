@@ -383,6 +383,8 @@ leaving_keeps_others c n k apart = by_unit (get c.units n)
     by_unit None = refl
     by_unit (Some u) = removal_keeps_others (with_all_losses c u.holding) n k apart ∙ ap (λ (m : FinMap nat_cmp Unit). get m k) (item_losses_keep_units _ (entries u.holding.items))
 
+-- ---- all units of a faction
+
 pub all_left_well : (w : WorldValue) (c : CampaignValue) (ns : List ℕ) → IsSteady w c → StepsWell IsSteady quit_remaining w c (fold after_leaving c ns)
 all_left_well w c [] steady = well_same w c steady
 all_left_well w c (n ∷ ns) steady =

@@ -176,6 +176,8 @@ transfer_keeps_sum n h k l things.Money = refl
 transfer_keeps_sum n h k l things.People = omega (arith, l)
 transfer_keeps_sum n h k l (things.Item i) = refl
 
+-- ---- no worse off
+
 pub men_receiver_no_worse : (n : ℕ) (other : HoldingValue) (v : Unit) → IsNoWorse v (record v { holding = after_receiving n other v.holding })
 men_receiver_no_worse n other v = record {
   faction = refl;

@@ -56,8 +56,6 @@ line_kept_by_length (b ∷ c ∷ bs) h = ap (λ l. b ∷ l) (line_kept_by_length
 pub line_without_return_kept : (line : List ℕ) → (0 < length line → get_or line (length line - 1) 0 ≢ carriage_return) → without_return line ≡ line
 line_without_return_kept line h = line_kept_by_length line (λ n e g. h (omega arith) (ap (λ k. get_or line k 0) (omega arith) ∙ g))
 
--- ---- where lines are in a text
-
 pub all_front : (text : List ℕ) → StartsWith text text
 all_front text = record { back = []; whole = sym (append-nil text) }
 

@@ -110,6 +110,8 @@ line_only world state given line s (bad_byte a e) = rw a e
 line_only world state given line s (no_word a b e) = rw (a, b) e
 line_only world state given line s (some_words a w ws b r) = rw (a, b) (words_only world state given w ws s r)
 
+-- ---- all lines
+
 -- the rules for lines (`BodySays`) allow the orders and faulty lines that the function `effects` gives
 pub body_fits : (world : WorldValue) (n : ℕ) (state : ReaderState) (given : ℕ → Bool) (lines : List (List ℕ)) → BodySays world n state given lines (entries_from world n state given lines) (faults_from world n state given lines)
 unfolding effects

@@ -178,6 +178,8 @@ module _ {V W : Type 0} (f : V → W) where
       forth : HasValue m n → HasValue (map_values f m) n
       forth (v, is) = (f v, get-mapped f m n ∙ ap (option_map f) is)
 
+-- ---- numbers compared
+
 pub same_number : (a : ℕ) → (a == a) ≡ true
 same_number a = grind (arith, nat_tests)
 

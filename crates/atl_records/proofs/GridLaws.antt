@@ -180,6 +180,8 @@ module _ (rows : List (List ℤ)) (grid : IsGrid rows) (e : BooksEntry) (t : Thi
       get-as_books (with_cell rows e t z) a ∙ ap listing_of (cell-with_cell a) ∙ elim (eq_by_cmp account_cmp a (e, t)) as (λ b. listing_of (cond b z (cell rows a)) ≡ cond b (listing_of z) (listing_of (cell rows a))) [ true ↦ refl | false ↦ refl ]
       ∙ sym (get-with_amount (as_books rows) e t z a ∙ ap (cond (eq_by_cmp account_cmp a (e, t)) (listing_of z)) (get-as_books rows a))))
 
+-- ---- the sum of a row
+
 row_listed : (row : List ℤ) → length row ≡ entry_count → map (λ e. get_or row (entry_index e) (pos 0)) all_entries ≡ row
 row_listed row size =
     ext_get_or (pos 0) (map (λ e. get_or row (entry_index e) (pos 0)) all_entries) row (length-map all_entries (λ e. get_or row (entry_index e) (pos 0)) ∙ sym size) (λ i h.

@@ -80,6 +80,8 @@ module _ (items : FinMap nat_cmp ℕ) (i amount : ℕ) where
           let equal : amount ≡ listed = let test = parts.1 in grind (arith, nat_tests) in
           ap (λ b. if b then remove items i else insert items i amount) (not-true _ parts.0) ∙ put_same items i listed amount is equal
 
+-- ---- a unit's amounts stay within the limits, whether there was memory or not
+
 -- each listed amount of an item is still from 1 to holding_limit after one of at most holding_limit is set, or after
 -- memory ran out, so that nothing is set
 pub AreAmounts-set : {E : Type 0} (r : Result (Unit {0}) E) (old new : FinMap nat_cmp ℕ) (item amount : ℕ) → amount ≤ holding_limit → OnOk r (new ≡ with_amount_of old item amount) → OnErr r (new ≡ old) → AreAmounts old → AreAmounts new
