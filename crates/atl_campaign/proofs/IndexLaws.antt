@@ -123,6 +123,7 @@ put_again ps n i d s h =
     sym (ap as_map (put_back ps i d (index_is_within ps n i h))) ∙ ap from_entries (map-insert (λ (p : IndexEntry). (p.number, p.slot)) (remove ps i) i p)
     ∙ ap (λ k. from_entries (insert (slots_of (remove ps i)) i (k, p.slot))) (number_at_index ps n i d h) ∙ from_entries-insert (slots_of (remove ps i)) i n p.slot (removed_entry_is_absent ps n i s h)
 
+-- the map of sorted index entries has under a number the slot of the entry with this number
 pub get-at_index : (ps : List IndexEntry) (n i : ℕ) (d : IndexEntry) → IsSortedIndex ps → IsAt (index_numbers ps) n i → finmap.get (as_map ps) n ≡ Some (get_or ps i d).slot
 get-at_index ps n i d s h = ap (λ m. finmap.get m n) (put_again ps n i d s h) ∙ get_inserted (as_map (remove ps i)) n (get_or ps i d).slot
 
@@ -153,6 +154,7 @@ map-missing ps n i s b = sym (remove_none (as_map ps) n (get-belongs ps n i s b)
 pub sorted-none : IsSortedIndex []
 sorted-none = sorted-empty
 
+-- the entries of the map that sorted index entries stand for are these index entries, as pairs of number and slot
 pub entries-index : (ps : List IndexEntry) → IsSortedIndex ps → finmap.entries (as_map ps) ≡ slots_of ps
 entries-index ps s = entries_of (slots_of ps) (rw (keys_are ps) s)
 
@@ -171,6 +173,7 @@ found-by_search ps n (Ok i) l h =
     }
 found-by_search ps n (Err i) l h = tt
 
+-- sorted index entries have first the numbers below n, then n, then those above it, as the binary search requires
 searchable : (ps : List IndexEntry) (n : ℕ) → IsSortedIndex ps → IsNonDecreasingBy (λ (p : IndexEntry). ordering_index (nat_cmp p.number n)) ps
 searchable ps n s = searchable_from_sorted nat_cmp_total (λ (p : IndexEntry). p.number) ps n (λ k d low h.
     let ns = index_numbers ps in

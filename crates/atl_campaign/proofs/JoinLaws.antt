@@ -63,6 +63,7 @@ joined-balances w name pass word c free h t =
     ∙ ap (λ z. z +ℤ booked_for t People (pos 1)) (sym (booked-after_booking c.books Joining Money (pos w.rules.start_money) t))
     ∙ sym (booked-after_booking one Joining People (pos 1) t)
 
+-- the bound on amounts of the books (`amount_bound`) is at most 4 * 10^18 if a campaign's numbers are in range
 amounts_small : (w : WorldValue) (c : CampaignValue) → AreInRange w c → amount_bound c ≤ 4000000000000000000
 amounts_small w c numbers = omega (arith, numbers.month, numbers.few_factions)
 

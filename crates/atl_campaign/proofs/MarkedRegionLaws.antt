@@ -47,6 +47,8 @@ module _ (regions : FinMap nat_cmp Region) (rows markets stocks : RoomySet) (ite
   AreRegions-row n = record { within = h.within; rows_fit = Room-put regions rows.numbers rows.room n (get regions n) refl h.rows_fit; markets_fit = h.markets_fit; stocks_fit = h.stocks_fit }
 
   module _ (n : ℕ) (r : Region) (is : get regions n ≡ Some r) where
+    -- once one stock of a region, and so the region, is marked, there is still room for all marks, and still no stock
+    -- is marked without its region (AreRegions)
     pub AreRegions-item : (group : FinMap nat_cmp (Prim.Unit {0})) → AreRegions regions rows (with_region_marked regions markets n) stocks (insert items n group)
     AreRegions-item group = record {
       within = subst (λ o. AreStocksWithin (marked_with markets.numbers n o) stocks.numbers (insert items n group)) (sym is) (record {

@@ -295,6 +295,7 @@ held_room c n u is room = room_less (held_moves u.holding) (quit_remaining c) c 
 
 -- ---- a unit that leaves
 
+-- other books in a campaign leave its total of each thing as it is, since the total counts no books
 books_leave_total : (c : CampaignValue) (books : BooksValue) (t : Thing) → total (record c { books = books }) t ≡ total c t
 unfolding total
 books_leave_total c books t = refl

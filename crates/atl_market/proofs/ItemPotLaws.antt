@@ -81,6 +81,7 @@ module _ (item_of : ℕ → Option ℕ) (wants : FinMap nat_cmp ℕ) where
   is_wanted : (i n want : ℕ) → get (item_wants i) n ≡ Some want → get wants n ≡ Some want
   is_wanted i n want is = by_test (asks_for_item i (item_of n)) (sym (item_want_at i n) ∙ is)
     where
+      -- a want for item `i` is the unit's want, since the test of its item only keeps or drops the want
       by_test : (b : Bool) → cond b (get wants n) None ≡ Some want → get wants n ≡ Some want
       by_test true h = h
       by_test false h = none_some want h
@@ -88,6 +89,7 @@ module _ (item_of : ℕ → Option ℕ) (wants : FinMap nat_cmp ℕ) where
   wants_the_same : (i n : ℕ) → is_some (get (item_wants i) n) ≡ true → want_of wants n ≡ want_of (item_wants i) n
   wants_the_same i n some = by_test (asks_for_item i (item_of n)) refl
     where
+      -- for `wants_the_same`: the unit has the same want in both maps, since it asks for item `i` (the test `b`)
       by_test : (b : Bool) → asks_for_item i (item_of n) ≡ b → want_of wants n ≡ want_of (item_wants i) n
       by_test true is = sym (ap (λ o. unwrap_or o 0) (item_want_at i n ∙ ap (λ b. cond b (get wants n) None) is))
       by_test false is = absurd (false≢true (sym (ap is_some (item_want_at i n ∙ ap (λ b. cond b (get wants n) None) is)) ∙ some))

@@ -22,6 +22,7 @@ early_move = each_also (λ phase (is : KeepsPhaseLaws phase). is.moves) early_ph
 later_move : EachPhase MovesItsOwn later_phases
 later_move = each_also (λ phase (is : KeepsPhaseLaws phase). is.moves) later_phases later_are
 
+-- each phase of a month moves the amounts of its own entries alone, each by less than 10^14
 pub each_little : PhasesMoveLittle
 each_little = (early_move, later_move, last_move)
 
@@ -37,5 +38,6 @@ two_at_most e Money = is_two_at_most (moving_phase_count e Money) (each_entry (�
 two_at_most e People = is_two_at_most (moving_phase_count e People) (each_entry (λ k. nat_le (moving_phase_count k People) 2) refl e)
 two_at_most e (Item i) = is_two_at_most (moving_phase_count e (Item i)) (each_entry (λ k. nat_le (moving_phase_count k (Item i)) 2) refl e)
 
+-- the phases of a month together move each amount by at most 2*10^14 (`moves_in_month`)
 pub phases_little : IsBoundWithin phases_bound moves_in_month
 phases_little e t = omega (arith, month_within e t, two_at_most e t)

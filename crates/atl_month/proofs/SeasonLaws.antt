@@ -181,6 +181,7 @@ season_at_leaves_well w world c (n, word) steady = by_terrain (terrain_of w n) r
     by_terrain None is = same
     by_terrain (Some t) is = by_region t is (get c.regions n) refl
 
+-- the season of as many regions as there may be moves each amount by less than 10^14
 pub season_little : (k : ℕ) → k ≤ most_regions → (e : BooksEntry) (t : Thing) → moved_times k (season_moves most_amount) e t ≤ season_moves most_moved e t
 season_little k few e t = grind (arith, few)
 

@@ -81,6 +81,7 @@ starved_are_reported (s ∷ ss) n = by_test (starved_are_reported ss n) (s.starv
     by_test rest true is = let none = is_equal s.starved 0 is in grind (arith, rest, none)
     by_test rest false is = sum_by-cons (by_event n) (starved_event s) (map starved_event (filter starves ss)) ∙ ap (λ x. starved_of_n n s + x) rest
 
+-- upkeep leaves units of factions without a mailing their items, and their men less the starved (`LeavesUnmailed`)
 pub upkeep_leaves : LeavesUnmailed upkeep_meaning upkeep_keeps
 upkeep_leaves = record {
   readings = λ w c m. refl;

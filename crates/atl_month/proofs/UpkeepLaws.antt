@@ -341,6 +341,7 @@ days_set left h listed =
     (λ k. set_each h.days stays k empty (λ free. ap (λ (o : Option ℕ). unwrap_or o 0) (get-empty nat_cmp k) ∙ sym (none k))
     ∙ sym (as_said (going_of left h) (keys h.days) k (λ other. none_go left h k (not_listed k other))))
   where
+    -- how many of `d` days stay: `d` times the men left, divided by the men before, rounded down
     stays : ℕ → ℕ → ℕ
     stays k d = d * left / h.men
 

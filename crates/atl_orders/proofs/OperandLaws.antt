@@ -131,6 +131,7 @@ abbrev pub IsOrderInBounds : WorldValue → Result OrderValue LineFault → Type
 IsOrderInBounds world r = Holds (IsOrderOf world) r
 
 module _ (world : WorldValue) where
+  -- if words are read as a flag, the operands are in bounds (`AreOperandsInBounds`), since a flag has no bound
   flag_sound : (ws : List WordText) → AreOperandsInBounds world (read_flag ws)
   flag_sound ws =
       two_steps_hold _ (AreOperandsOf world) (word_at ws) _ (always_true_holds (word_at ws)) (λ w _.

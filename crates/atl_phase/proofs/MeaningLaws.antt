@@ -48,6 +48,7 @@ room_when_sound w c book_bound l sound e t =
     let few : amount_bound c ≤ 3000000000000000000 = omega (arith, sound.steady.numbers.month, sound.steady.numbers.few_factions) in
     within (amount_in c.books e t) (amount_bound c) (book_bound e t) few (l e t) (sound.amounts e t)
   where
+    -- for `room_when_sound`: an amount of at most 3*10^18 in size has room for a move of at most 5*10^18
     within : (a : ℤ) (bound change : ℕ) → bound ≤ 3000000000000000000 → change ≤ 5000000000000000000 → IsWithin bound a → HasRoom change a
     within a bound change few little h = record { above = omega (arith, ints, h.most); below = omega (arith, ints, h.least) }
 

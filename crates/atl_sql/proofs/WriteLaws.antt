@@ -17,6 +17,7 @@ use Rattle.atl_sql.specs.Statements.{Statements, OneStatement, RowStatements}
 use Rattle.atl_sql.proofs.CauseLaws.{gives, gives_after, gives_among, reached_then, reached_among, property_of_equal_error}
 use Rattle.atl_sql.proofs.KeepLaws.{survives_more, keeps_more, on_ok, if_err}
 
+-- a result that is an error meets `OnOk` for each claim P, since `OnOk` asks P of an Ok result alone
 pub on_ok_of_error : {A E : Type 0} (r : Result A E) (P : Type 0) → IsErr r → OnOk r P
 on_ok_of_error (Ok a) P failed = absurd cc
 on_ok_of_error (Err e) P failed = tt

@@ -49,6 +49,7 @@ module _ {V : Type 0} (line : ℕ → V → Row) (rows : List Row) where
       let at = says n p v u is there same in
       ap (get k) at.0 ∙ there ∙ sym (ap Some at.1)
 
+  -- two maps are equal, if one table has exactly the rows of each, and rows determine entries (`Determines`)
   same_values : (m k : FinMap nat_cmp V) → Determines line m k → Determines line k m → HasExactly rows (RowsOf line m) → HasExactly rows (RowsOf line k) → m ≡ k
   same_values m k there back a b = equal_by_values m k (one_way m k there a b) (one_way k m back b a)
 

@@ -99,5 +99,6 @@ module _ (w : WorldValue) where
     with_good : IsGood (without_markets w) c → IsGood w c
     with_good good = good_with (without_markets w) w.regions c bare (λ n. sym (land_same n)) is_of_world stays_without_markets good
 
+-- a campaign with nothing in stock that is good in a world is good in each world that differs from it in markets alone
 pub good_either : (v w : WorldValue) (c : CampaignValue) → without_markets w ≡ without_markets v → HasNoStocks c → IsGood v c → IsGood w c
 good_either v w c same bare good = with_good w c bare (subst (λ x. IsGood x c) (sym same) (without_good v c bare good))

@@ -136,6 +136,7 @@ module _ {V : Type 0} (line : ℕ → V → Row) (numbered : (n : ℕ) (v : V) �
     lines_apart es (and_parts _ _ sorted).1,
   )
 
+  -- an empty table filled with the rows of the map's entries has exactly the map's rows (`RowsOf`)
   pub rows_filled : (rows old : List Row) (m : FinMap nat_cmp V) → old ≡ [] → HasExactly rows (puts 1 (rows_in_order line (entries m)) (Has old)) → HasExactly rows (RowsOf line m)
   rows_filled rows old m none made r =
       let is = empty_table_has_put_rows 1 rows (rows_in_order line (entries m)) old none (lines_apart (entries m) (in_order m)) made r in (

@@ -49,6 +49,7 @@ module _ {V : Type 0} (lines : ℕ → V → List Row) (more : ℕ) (values : Fi
       let found = flat_has (λ (v : ℕ × V). lines v.0 v.1) es r there in
       are.wanted found.0.0 found.0.1 (entry_got values found.0.0 found.0.1 (subst (λ (l : List (ℕ × V)). Has l found.0) same found.1)) r found.2
 
+  -- an empty table filled with the rows that `lines` gives for all entries has exactly the wanted rows
   pub groups_filled : (rows old : List Row) → old ≡ [] → HasExactly rows (puts (suc more) (groups_of lines (entries values)) (Has old)) → HasExactly rows Wanted
   groups_filled rows old none made r =
       let is = empty_table_has_put_rows (suc more) rows (groups_of lines (entries values)) old none (all_apart (entries values) (in_order values)) made r in (

@@ -58,6 +58,7 @@ module _ {V : Type 0} (part : Part) (line : ℕ → V → Row) (values : Campaig
           absurd (let there = sym of.2 ∙ ap (get (values c)) number ∙ none in cc),
     ))
 
+    -- putting the rows of all entries fills the part's table, if it was empty (`FillsPart`)
     pub kept_filled : (c : CampaignValue) (es : List (ℕ × V)) → es ≡ entries (values c) → (old new : Database) → PutsRows (table_of part) 1 (rows_in_order line es) old new → FillsPart c part old new
     kept_filled c = numbered_filled c part line numbered (values c) (λ own rows is r. (λ there. (are own c r).1 ((is r).0 there), λ of. (is r).1 ((are own c r).0 of)))
 

@@ -27,6 +27,7 @@ use Rattle.sqlite.specs.Order.{Row}
 one_item : (region m a n b : ℕ) → ◌≡◌ {A = Row} (take 2 (market_row region m a)) (take 2 (market_row region n b)) → m ≡ n
 one_item region m a n b same = cc
 
+-- the rows of `market` come in groups, one for each region, whose rows begin with its number (`AreGroups`)
 pub stocks_grouped : (regions : FinMap nat_cmp Region) → AreGroups region_stock_lines 2 regions (MarketRowsOf regions)
 stocks_grouped regions = record {
   numbered = λ n region r there. ap (take 1) (amounts_have (market_row n) (entries region.stocks) r there).3;

@@ -48,6 +48,7 @@ module _ (own : StoredCampaign) (h : StoredCampaignRow) (text : List ℕ) (is : 
   pub same_text : string_bytes own.world ≡ text
   same_text = let e = same_column 7 in cc
 
+-- if the shown rows keep the first rule (`AreOwnRow`), the parsed row keeps it too
 pub own_read : (f : Format) (items : List StoredCampaign) (rows : List Row) (h : StoredCampaignRow) (text : List ℕ) (w : WorldValue)
     → map campaign_stored items ≡ map (first_columns (length campaign_forms)) rows → AreOwnRow f rows h text w
     → (own : StoredCampaign) × IsOwnRow f items own w

@@ -67,6 +67,7 @@ module _ {A : Type 0} (shown : A → Row) (rows : List Row) (read made : List A)
 abbrev HasKeys : List Row → Type 0
 HasKeys rows = (shown : List Row) × IsPermutation rows shown × HaveDistinctIntegers 0 shown
 
+-- a table has exactly the rows of a map, with different numbers, if the rows read of it are made of the map's entries
 table_has_rows_of_map : {A V : Type 0} {Q : Type 0} (shown : A → Row) (row : ℕ → V → A) (line : ℕ → V → Row) → ((n : ℕ) (v : V) → shown (row n v) ≡ line n v) → ((n : ℕ) (v : V) → column (line n v) 0 ≡ Int (pos n))
     → (rows : List Row) (read : List A) (m : FinMap nat_cmp V) → IsPermutation rows (map shown read) → IsPermutation (rows_by row (entries m)) read → HasExactly rows (RowsOf line m) × (Q → HasKeys rows)
 table_has_rows_of_map {A} {V} shown row line same numbered rows read m in_table of_them = (held, λ _. (lines, is, lines_keys line numbered m))
@@ -238,6 +239,7 @@ module _ (f : Format) (db : Trees) (text : List ℕ) (p : Parts) (c : CampaignVa
   by_part Books there = (books_held things c.books books _ p.books (have.rows Books there) are.books, λ number. absurd (true≢false number))
   by_part Markets there = (stocks_held _ p.markets c.regions (have.rows Markets there) (subst (λ f. IsPermutation (made.market_rows f (entries c.regions)) p.markets) (second_by_late_part f Markets refl there) are.markets), λ number. absurd (true≢false number))
 
+  -- tables whose rows are made of the campaign hold it in the format
   pub rows_hold : HoldsIn f db text c
   rows_hold = record { rows = λ part there. (by_part part there).0 }
 

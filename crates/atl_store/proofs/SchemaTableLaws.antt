@@ -78,6 +78,7 @@ one_defined table a b (Real x) tree name one two = absurd one
 one_defined table a b (Text sql) tree name one two = one_stated table sql a b tree one two
 one_defined table a b (Blob bytes) tree name one two = absurd one
 
+-- two indexes that one row of the schema table lists are equal, if no two tables have the same name
 one_index : (tables : List Table) → IsAscending (λ s t. same_name s.name t.name ≡ false) tables → (row : Row) (a b : Index) → IsIndexRow tables row a → IsIndexRow tables row b → a ≡ b
 one_index tables apart row a b one two =
     let tree : a.tree ≡ b.tree = same_tree a.tree b.tree (sym one.described.id ∙ two.described.id) in
@@ -95,6 +96,7 @@ no_views (r ∷ rows) none views is one two = absurd (subst (AllZip IsViewRow (r
 
 -- ---- the whole
 
+-- two sound schemas of one database are equal, if the first has no views
 pub one_schema : (db : Trees) (s t : Schema) → IsSound s db → IsSound t db → s.views ≡ [] → t ≡ s
 one_schema db s t one two none =
     let first = one.lists.listed in

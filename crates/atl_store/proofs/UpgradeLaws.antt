@@ -103,6 +103,7 @@ module _ (text : List ℕ) (c : CampaignValue) (old mid new : Database) (first :
   rows_stay : (part : Part) → part ≢ Own → Has (parts_in First) part → HasExactly (rows_in (table_of part) new.trees) (rows_for (campaign_row_in First (campaign_row_of c) before) c part)
   rows_stay part other there = subst (λ rows. HasExactly rows (rows_for (campaign_row_in First (campaign_row_of c) before) c part)) (sym (other_tables_stay part other)) (rows_between part there)
 
+  -- after the campaign row is changed, the tables of the second format hold the campaign, which has nothing in stock
   pub upgrade_held : Holds new.trees text c
   upgrade_held = record { rows = rows }
     where

@@ -28,6 +28,8 @@ returns-clause-keeps c =
     let is : c.new-month.result ≡ new_month (by_faction (map reading_of c.args.mailings.items)) c.args.words.now = search rules in
     subst (λ (m : MonthValue). month_keeps c.args.world.now m c.args.campaign.value c.in_ok-campaign.campaign.value) is c.in_ok-campaign.ensures.keeps
 
+-- close_month may call `run` of the phases: a good campaign is early, as the first phase needs, and each phase leaves
+-- what the next one needs
 pub run-requires-clause-needs : goal.run-requires-clause-needs
 run-requires-clause-needs c =
     (sound_early c.args.world.now c.args.campaign.value c.requires.good.sound, λ w d h. (h, λ w d h. (h, λ w d h. (h, λ w d h. h))))

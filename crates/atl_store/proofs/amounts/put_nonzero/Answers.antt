@@ -9,5 +9,6 @@ returns g c =
     let row = g.O.AmountWriter.line c.args.owner c.args.thing c.args.amount in
     one_written g.S.Store g.O.AmountWriter.table g.O.AmountWriter.key row _ (ap (λ (zero : Bool). if zero then [] else row ∷ []) (is_not_zero c.args.amount c.if-amount-eq0.false)) c.put.ensures
 
+-- an amount of 0 has no row, so there is nothing to put
 pub returns-then-amount-eq0 : goal.returns-then-amount-eq0
 returns-then-amount-eq0 g c = none_written g.S.Store g.O.AmountWriter.table g.O.AmountWriter.key _ (ap (thing_rows (g.O.AmountWriter.line c.args.owner) c.args.thing) c.if-amount-eq0.true)

@@ -3,9 +3,11 @@ use Rattle.atl_world.proofs.NameLaws.{name_ok-IsUtf8, pass_ok-IsUtf8}
 use Rattle.atl_campaign.proofs.JoinLaws.{joined-sound}
 use Rattle.atl_campaign.proofs.campaign.Campaign.join.Goals as goal
 
+-- join may call enroll: the name is valid UTF-8, as it keeps the rule of names
 pub enroll-requires-clause-name : goal.enroll-requires-clause-name
 enroll-requires-clause-name c = name_ok-IsUtf8 c.args.name.now c.requires.name
 
+-- join may call enroll: the pass text is valid UTF-8, as it keeps the rule of pass texts
 pub enroll-requires-clause-pass : goal.enroll-requires-clause-pass
 enroll-requires-clause-pass c = pass_ok-IsUtf8 c.args.pass.now c.requires.pass
 
