@@ -16,11 +16,9 @@ use Rattle.atl_action.specs.Limits.{pupils_per_teacher}
 use Rattle.atl_action.specs.Teach.{AreTaughtOnce, NobodyIsTaughtTwice, TaughtMen, after_lessons, first_mentions, is_below, is_pupil, is_teaching, lesson, listed_units, men_at, teach, teach_fault, teach_order}
 
 module _ (c : CampaignValue) where
-  -- if of no unit more men were taught than it has, this is also true after one more lesson
   once_lesson : (taught : TaughtMen) (places : ℕ) (ns : List ℕ) → AreTaughtOnce c taught → AreTaughtOnce c (lesson c taught places ns).0
   once_lesson taught places ns old n = let few = old n in grind arith
 
-  -- if of no unit more men were taught than it has, this is also true after an order of TEACH
   once_taught : (aliases : Aliases) (learning : Learning) (taught : TaughtMen) (t : Task) → AreTaughtOnce c taught → AreTaughtOnce c (teach c aliases learning taught t).0
   unfolding teach
   once_taught aliases learning taught t old =
@@ -28,19 +26,15 @@ module _ (c : CampaignValue) where
       let below = filter (is_below c learning t.unit) pupils in
       by_fault (first_mentions below) (teach_fault c t pupils below)
     where
-      -- For `once_taught`: after an order of TEACH, of no unit more men were taught than it has, whether the order has
-      -- a fault or not.
       by_fault : (ns : List ℕ) (o : Option EventFault)
           → AreTaughtOnce c (option_map_or (λ fault. (taught, Fault (event_fault_number fault))) o (lesson c taught (pupils_per_teacher * men_at c t.unit) ns)).0
       by_fault ns (Some fault) = old
       by_fault ns None = once_lesson taught (pupils_per_teacher * men_at c t.unit) ns old
 
-  -- if of no unit more men were taught than it has, this is also true after some orders of TEACH
   once_all : (learning : Learning) (ts : List Task) (p : TaughtMen × MonthValue) → AreTaughtOnce c p.0 → AreTaughtOnce c (fold (teach_order c learning) p ts).0
   once_all learning [] p old = old
   once_all learning (t ∷ ts) p old = once_all learning ts (teach_order c learning p t) (once_taught p.1.aliases learning p.0 t old)
 
--- after all orders of TEACH, of no unit more men were taught than it has
 pub nobody_twice : NobodyIsTaughtTwice
 unfolding after_lessons
 nobody_twice c learning m = once_all c learning (values (orders_of is_teaching ByUnit m.aliases m.readings)) ((λ n. 0), m) (λ n. omega arith)

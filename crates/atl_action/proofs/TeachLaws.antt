@@ -13,7 +13,6 @@ use Rattle.atl_action.specs.Teach.{TaughtMen, first_mentions, taught_in_lesson, 
 
 -- ---- lists of units
 
--- the second number isn't the first, by the test `nat_eq`
 abbrev IsOther : ℕ → ℕ → Type 0
 IsOther n y = nat_eq n y ≡ false
 
@@ -21,7 +20,6 @@ IsOther n y = nat_eq n y ≡ false
 abbrev pub AreOthers : ℕ → List ℕ → Type 0
 AreOthers n = AllByRecursion (IsOther n)
 
--- the numbers of a list that pass a test are without repetitions, if the list is
 filtered_distinct : (p : ℕ → Bool) (ns : List ℕ) → IsDistinct nat_eq ns → IsDistinct nat_eq (filter p ns)
 unfolding IsDistinct
 filtered_distinct p [] all = tt
@@ -30,11 +28,9 @@ filtered_distinct p (k ∷ ns) all =
     let others = recursion_from_All (IsOther k) (filter p ns) (All-filter p (IsOther k) ns (All-from_recursion (IsOther k) ns all.0)) in
     cond_both (p k) (k ∷ filter p ns) (filter p ns) (IsDistinct nat_eq) (λ _. (others, rest)) (λ _. rest)
 
--- a list from which n was filtered out has no number that is n
 filtered_out_is_not_listed : (n : ℕ) (ns : List ℕ) → AreOthers n (filter (λ k. not (k == n)) ns)
 filtered_out_is_not_listed n ns = recursion_from_All (IsOther n) (filter (λ k. not (k == n)) ns) (λ k d l. equality_is_symmetric n _ ∙ not-true _ (filter_passes (λ k. not (k == n)) ns k d l))
 
--- `first_mentions` has no repetitions
 pub mentions_distinct : (ns : List ℕ) → IsDistinct nat_eq (first_mentions ns)
 unfolding IsDistinct
 mentions_distinct [] = tt
@@ -48,7 +44,6 @@ before_cons p n ns = grind rules
 -- ---- men of the first unit are taught, and then men of the others
 
 module _ (c : CampaignValue) (taught after : TaughtMen) (n given : ℕ) (here : after n ≡ taught n + given) (away : (k : ℕ) → k ≢ n → after k ≡ taught k) where
-  -- units other than n have together as many untaught men as before unit n got its part of the lesson
   pub same_sum : (ns : List ℕ) → AreOthers n ns → sum_by (untaught_men c after) ns ≡ sum_by (untaught_men c taught) ns
   same_sum [] all = refl
   same_sum (k ∷ ns) all =
@@ -56,14 +51,12 @@ module _ (c : CampaignValue) (taught after : TaughtMen) (n given : ℕ) (here : 
       grind (arith, sum_by-cons (untaught_men c after) k ns, sum_by-cons (untaught_men c taught) k ns, same, same_sum ns all.1)
 
   module _ (places : ℕ) (ns : List ℕ) (is : given ≡ min places (untaught_men c taught n)) (others : AreOthers n ns) where
-    -- unit n has as many men taught after its part and the lesson to the others as after the whole lesson
     at_first : after n + taught_in_lesson c after (places - given) ns n ≡ taught n + taught_in_lesson c taught places (n ∷ ns) n
     at_first =
         let unlisted = list_any_none (λ j. n == j) ns (All-from_recursion (IsOther n) ns others) in
         let first : before_first (λ j. n == j) (n ∷ ns) ≡ [] = before_cons (λ j. n == j) n ns ∙ ap (λ b. if b then [] else n ∷ before_first (λ j. n == j) ns) (equal_itself n) in
         grind (arith, unlisted, first, equal_itself n, here, is)
 
-    -- a unit other than n has as many men taught after n's part and the lesson to the others as after the whole lesson
     at_other : (k : ℕ) → k ≢ n → after k + taught_in_lesson c after (places - given) ns k ≡ taught k + taught_in_lesson c taught places (n ∷ ns) k
     at_other k apart =
         let before = before_first (λ j. k == j) ns in

@@ -23,17 +23,14 @@ module _ (f : ℕ × ℕ → ℕ) where
   abbrev instead : List (ℕ × ℕ) → List (ℕ × ℕ)
   instead es = map (λ e. (e.0, f e)) es
 
-  -- if the numbers of entries are above `k`, they are so with other amounts under them (`instead`)
   above_instead : (k : ℕ) (es : List (ℕ × ℕ)) → AllByRecursion (λ e. k < e.0) es → AllByRecursion (λ e. k < e.0) (instead es)
   above_instead k [] above = tt
   above_instead k (e ∷ es) above = (above.0, above_instead k es above.1)
 
-  -- if the numbers of entries rise, they rise also with other amounts under them (`instead`)
   rise_instead : (es : List (ℕ × ℕ)) → Rise es → Rise (instead es)
   rise_instead [] rise = tt
   rise_instead (e ∷ es) rise = (above_instead e.0 es rise.0, rise_instead es rise.1)
 
-  -- a number found among the entries of `instead` is found among the entries themselves, and its amount is given by `f`
   found_instead : (es : List (ℕ × ℕ)) (n a : ℕ) → find nat_cmp n (instead es) ≡ Some a → (b : ℕ) × (find nat_cmp n es ≡ Some b) × (a ≡ f (n, b))
   found_instead [] n a is = none_some a is
   found_instead (e ∷ es) n a is = elim (cases_eq n e.0) [
@@ -49,15 +46,12 @@ module _ (f : ℕ × ℕ → ℕ) where
 -- ---- what is made
 
 module _ (asked : FinMap nat_cmp ℕ) (w : WorldValue) (c : CampaignValue) (wants : FinMap nat_cmp ℕ) where
-  -- putting the amounts made into the empty map, unit by unit, gives the map of the definition (`made_amounts`)
   pub makes_are : with_entries empty (map (λ e. (e.0, amount_made w asked c wants e)) (entries wants)) ≡ made_amounts asked w c wants
   makes_are = risen_put (instead (amount_made w asked c wants) (entries wants)) (rise_instead (amount_made w asked c wants) (entries wants) (entries_rise wants))
 
-  -- no unit makes more than it wants
   least : (n want : ℕ) → get wants n ≡ Some want → amount_made w asked c wants (n, want) ≤ want
   least n want wanted = by_item (is_some (output_item w asked n))
     where
-      -- a unit's share `o` of what its region gives of its item, or 0 without one, is at most its want
       by_share : (o : Option ℕ) → output_share w asked c wants n ≡ o → unwrap_or o 0 ≤ want
       by_share None is = omega arith
       by_share (Some share) is =
@@ -70,7 +64,6 @@ module _ (asked : FinMap nat_cmp ℕ) (w : WorldValue) (c : CampaignValue) (want
       by_item true = by_share (output_share w asked c wants n) refl
       by_item false = omega arith
 
--- PRODUCE gives only to units with a want, and to none more than it wants
 pub produce_gives_to_wants : (w : WorldValue) (c : CampaignValue) → GivesToWants produce_pots w c
 produce_gives_to_wants w c asked wants n share is =
     let all = entries wants in

@@ -34,25 +34,20 @@ use Rattle.atl_phase.proofs.MonthLaws.{by_faction_is, under_faction}
 abbrev pub same_key : Arrangement → Task → Task → Bool
 same_key a t u = eq_by_cmp (slice_cmp nat_cmp) (key_of a t) (key_of a u)
 
--- two orders with the same key are of one faction, and have the same index in their mailings
 same_key_same_index : (a : Arrangement) (t u : Task) → key_of a t ≡ key_of a u → (t.faction ≡ u.faction) × (t.index ≡ u.index)
 same_key_same_index ByUnit t u e = (ap (λ key. get_or key 2 0) e, ap (λ key. get_or key 3 0) e)
 same_key_same_index ByFaction t u e = (ap (λ key. get_or key 0 0) e, ap (λ key. get_or key 3 0) e)
 
--- two orders have different keys, if they aren't both of one faction and at one index of their mailings
 other_key : (a : Arrangement) (t u : Task) → (t.faction ≡ u.faction → t.index ≡ u.index → ⊥) → same_key a t u ≡ false
 other_key a t u other = false_from_ne_true (same_key a t u) (λ h.
     let same = same_key_same_index a t u (tells_apart (slice_cmp-IsAntisymmetric nat_cmp-IsAntisymmetric) (key_of a t) (key_of a u) h) in
     other same.0 same.1)
 
 module _ (a : Arrangement) (aliases : Aliases) where
-  -- the orders of a faction's entries from an index on are of this faction, and have an index of at least `low`, if the
-  -- first index is at least `low`
   from_low : (faction low index : ℕ) (es : List EntryValue) → low ≤ index → AllByRecursion (λ t. (t.faction ≡ faction) × (low ≤ t.index)) (tasks_from aliases faction index es)
   from_low faction low index [] le = tt
   from_low faction low index (e ∷ es) le = ((refl, le), from_low faction low (index + 1) es (omega arith))
 
-  -- no two orders of one mailing have the same key
   apart_within : (faction index : ℕ) (es : List EntryValue) → IsDistinct (same_key a) (tasks_from aliases faction index es)
   unfolding IsDistinct
   apart_within faction index [] = tt
@@ -63,7 +58,6 @@ module _ (a : Arrangement) (aliases : Aliases) where
         apart_within faction (index + 1) es,
       )
 
-  -- no two orders of a phase have the same key
   pub all_apart : (is_of : Verb → Bool) (readings : FinMap nat_cmp Reading) → IsDistinct (same_key a) (flat_map (λ e. tasks_for is_of (tasks_of aliases e.0 e.1)) (entries readings))
   all_apart is_of readings =
       flat_apart (same_key a) (λ e. tasks_for is_of (tasks_of aliases e.0 e.1)) (λ (e f : ℕ × Reading). e.0 < f.0) (λ e t. t.faction ≡ e.0)
@@ -86,7 +80,6 @@ sorted_are_map_values {X = X} as_task key os list ts are apart p up =
     sym (ap (map (λ e. e.1)) sorted ∙ map-map (λ (e : List ℕ × Task). e.1) entry list)
     ∙ ap (λ es. values (from_entries {R = slice_cmp nat_cmp} es)) (sym (map-map paired as_task os) ∙ ap (map paired) are)
 
--- orders sorted by a key, no two with the same key, are what the map from key to order lists
 pub listed_tasks : (key : Task → List ℕ) (os list : List PhaseOrder) (ts : List Task) → map task_of os ≡ ts → IsDistinct (λ t u. eq_by_cmp (slice_cmp nat_cmp) (key t) (key u)) ts → IsPermutation os list
     → IsSortedByKey (λ o. key (task_of o)) (slice_cmp nat_cmp) list → map task_of list ≡ values (from_entries {R = slice_cmp nat_cmp} (map (λ t. (key t, t)) ts))
 listed_tasks = sorted_are_map_values task_of
@@ -100,7 +93,6 @@ all_tasks_are aliases ms h =
 
 -- ---- the indices of all orders
 
--- indices of orders that are sorted by their own keys are sorted by the keys of the orders that they name
 sorted_by_order_keys : (a : Arrangement) (ms : List Mailing) (list : List OrderIndex) → IsSortedByKey (key_by a) (slice_cmp nat_cmp) list → IsSortedByKey (λ p. key_of a (task_at ms p)) (slice_cmp nat_cmp) list
 sorted_by_order_keys ByUnit ms list up = up
 sorted_by_order_keys ByFaction ms list up = up

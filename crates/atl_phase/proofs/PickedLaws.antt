@@ -22,7 +22,6 @@ use Rattle.atl_phase.specs.OrderIndices.{AreOrderIndices, every_verb, has_verb, 
 use Rattle.atl_phase.proofs.MapOfListLaws.{entries-passing}
 use Rattle.atl_phase.proofs.OrderKeyLaws.{all_apart, same_key}
 
--- for `values-passing`: to map elements by f and keep those that pass p is to keep those whose f passes p, and map them
 filter-map : {X Y : Type 0} (p : Y → Bool) (f : X → Y) (xs : List X) → filter p (map f xs) ≡ map f (filter (λ x. p (f x)) xs)
 filter-map p f [] = refl
 filter-map p f (x ∷ xs) =
@@ -32,11 +31,9 @@ filter-map p f (x ∷ xs) =
       | false ↦ rest
     ]
 
--- the pair of an order's key and the order
 abbrev key_and_order : Arrangement → Task → List ℕ × Task
 key_and_order a t = (key_of a t, t)
 
--- the map of the orders that pass a test lists the orders of the whole map that pass, if no two keys are equal
 values-passing : (a : Arrangement) (p : Task → Bool) (ts : List Task) → IsDistinct (same_key a) ts → values (from_entries {R = slice_cmp nat_cmp} (map (key_and_order a) (filter p ts))) ≡ filter p (values (from_entries {R = slice_cmp nat_cmp} (map (key_and_order a) ts)))
 values-passing a p ts apart =
     let es = map (key_and_order a) ts in
@@ -45,7 +42,6 @@ values-passing a p ts apart =
     ∙ sym (filter-map p (λ e. e.1) (entries (from_entries {R = slice_cmp nat_cmp} es)))
 
 module _ (is_of : Verb → Bool) (aliases : Aliases) where
-  -- the orders that a phase takes are those which have one of its verbs, among all orders that count
   tasks_of_phase : (es : List (ℕ × Reading)) → flat_map (λ e. tasks_for is_of (tasks_of aliases e.0 e.1)) es ≡ filter (has_verb is_of) (flat_map (λ e. tasks_for every_verb (tasks_of aliases e.0 e.1)) es)
   tasks_of_phase [] = refl
   tasks_of_phase (e ∷ es) =
@@ -53,7 +49,6 @@ module _ (is_of : Verb → Bool) (aliases : Aliases) where
       ap₂ (λ us vs. us ++ vs) (filter_agree (λ t. has_verb is_of t && order_counts ts t) (λ t. order_counts ts t && has_verb is_of t) (λ t. and_comm (has_verb is_of t) (order_counts ts t)) ts ∙ sym (filter_both (order_counts ts) (has_verb is_of) ts)) (tasks_of_phase es)
       ∙ sym (filter-append (has_verb is_of) (tasks_for every_verb ts) (flat_map (λ e. tasks_for every_verb (tasks_of aliases e.0 e.1)) es))
 
-  -- the orders picked by the phase's verbs from all orders that count are those that the phase carries out
   picked_orders : (a : Arrangement) (readings : FinMap nat_cmp Reading) (ts : List Task) → ts ≡ values (orders_of every_verb a aliases readings) → filter (has_verb is_of) ts ≡ values (orders_of is_of a aliases readings)
   picked_orders a readings ts all =
       ap (filter (has_verb is_of)) all ∙ sym (values-passing a (has_verb is_of) _ (all_apart a aliases every_verb readings))
@@ -77,7 +72,6 @@ picked_more is_of ms places i p o list new b h at task before verb is =
     ∙ ap (λ q. tasks_picked is_of ms (take i places) ++ filter (has_verb is_of) (task_at ms q ∷ [])) at
     ∙ sym (ap (filter (has_verb is_of)) (map_more (task_at ms) places i p h) ∙ filter-append (has_verb is_of) (map (task_at ms) (take i places)) (task_at ms (get_or places i p) ∷ []))
   where
-    -- for `picked_more`: the new list has the orders of the old, and then the order at i if it was added (`c`)
     by_test : (c : Bool) → map task_of (cond c (list ++ o ∷ []) list) ≡ map task_of list ++ cond c (task_at ms p ∷ []) []
     by_test true = map_push task_of list o ∙ ap (λ t. map task_of list ++ t ∷ []) task
     by_test false = sym (append-nil (map task_of list))

@@ -10,11 +10,9 @@ use Rattle.atl_phase.specs.NoWorse.{IsUnchanged}
 use Rattle.atl_action.specs.Learners.{is_studying}
 use Rattle.atl_action.proofs.learn.LearnPhasePhase.run.Goals as goal
 
--- the mailings' orders can still be read with the world after TEACH, as `carry_out_orders` requires
 pub carry_out_orders-requires-clause-read : goal.carry_out_orders-requires-clause-read
 carry_out_orders-requires-clause-read c = λ f r is. c.requires.read f r (ap (λ m. get m f) (sym c.in_ok-taught.ensures.readings) ∙ is)
 
--- a unit for which no order of STUDY of its own faction counts is unchanged (`learn_keeps`)
 pub returns-clause-keeps : goal.returns-clause-keeps
 returns-clause-keeps c =
     let before = c.args.campaign.value in

@@ -4,7 +4,6 @@ use Rattle.atl_phase.proofs.ChangeLaws.{money_changes}
 use Rattle.atl_phase.proofs.MarkLaws.{marks_by}
 use Rattle.atl_market.proofs.tax.TaxPhasePotPhase.pay.Goals as goal
 
--- the new money of the unit and of its region is marked
 pub returns-clause-marks : goal.returns-clause-marks
 returns-clause-marks c =
     let mid = c.set_money.new.self in

@@ -9,7 +9,6 @@ use Rattle.atl_phase.specs.PhaseOrders.{orders_of, task_of}
 use Rattle.atl_phase.proofs.PickedLaws.{picked_list}
 use Rattle.atl_phase.proofs.month.Month.orders.Goals as goal
 
--- the orders picked from the month's gathered indices are those of the phase, by unit
 pub returns-in-ByUnit-Some : goal.returns-in-ByUnit-Some
 returns-in-ByUnit-Some g c =
     let ms = c.self.inside.mailings.items in
@@ -21,7 +20,6 @@ returns-in-ByUnit-Some g c =
     subst (λ (a : Arrangement). IfOk r (λ list. map task_of list.items ≡ values (orders_of is_of a c.args.self.now.aliases c.args.self.now.readings))) (sym c.in-ByUnit-Some.is-0)
     (subst (λ (m : MonthValue). IfOk r (λ list. map task_of list.items ≡ values (orders_of is_of ByUnit m.aliases m.readings))) c.self.view_is picked)
 
--- the orders picked from indices that are gathered for this call alone are those of the phase
 pub returns-in_ok-places-in_default : goal.returns-in_ok-places-in_default
 returns-in_ok-places-in_default g c =
     let ms = c.self.inside.mailings.items in
