@@ -133,8 +133,6 @@ mark_amount c e t = record c.marks { books = amount_marked c.marks.books e t }
 abbrev pub mark_all_mail : MarkedCampaign → Marks
 mark_all_mail c = record c.marks { mail = union c.marks.mail (from_list (keys c.value.mail)) }
 
--- ---- where units are: the campaign after each step, with its marks
-
 -- the campaign with structure s handed from owner `from` to `to` and marked; unchanged unless `from` owns it
 abbrev pub handed_marked : MarkedCampaign → ℕ → ℕ → ℕ → MarkedCampaign
 handed_marked c s from to =
@@ -174,8 +172,6 @@ gone_marked_at c n (Some u) = handed_marked (taken_marked c n) u.structure n (he
 -- gets another owner
 unfoldable pub gone_marked : MarkedCampaign → ℕ → MarkedCampaign
 gone_marked c n = gone_marked_at c n (get c.value.units n)
-
--- ---- mail, reports and joining
 
 -- the marks after a report of faction n was stored: the report of faction n is marked too
 abbrev pub mark_report : MarkedCampaign → ℕ → Marks

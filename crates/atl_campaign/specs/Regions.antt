@@ -16,15 +16,10 @@ use Rattle.atl_campaign.specs.Stocks.{stock_in}
 -- The regions by number, with their marks: `rows` has the regions whose rows are marked, and `markets` those of which
 -- a stock is. Of these, `stocks` has the regions all of whose stocks are marked, and `items` single stocks by region.
 pub record MarkedRegions : Type 0 where
-  -- the regions by their numbers
   pub values : map.FinMap nat_cmp Region
-  -- the numbers of the regions whose rows are marked
   pub rows : set.FinSet nat_cmp
-  -- the numbers of the regions of which a stock is marked
   pub markets : set.FinSet nat_cmp
-  -- the numbers of the regions all of whose stocks are marked
   pub stocks : set.FinSet nat_cmp
-  -- the stocks that are marked one by one: the items' numbers, by the region's number
   pub items : MarkedThings
 
 -- for proofs alone: regions with marks encoded as nested pairs, as the kit asks of a type that contracts see
@@ -80,11 +75,7 @@ MarksStockAt before after n item amount =
 
 -- For proofs alone: there is room to mark each region's row and its stocks, and a marked stock has its region marked.
 pub record AreRegions (regions : map.FinMap nat_cmp Region) (rows markets stocks : RoomySet) (items : MarkedThings) : Type 0 where
-  -- a region is in `markets` if all its stocks are marked, or one of them is
   pub within : AreStocksWithin markets.numbers stocks.numbers items
-  -- marking the row of any region takes no memory
   pub rows_fit : HasRoomForMarks regions rows
-  -- marking any region as one with a marked stock takes no memory
   pub markets_fit : HasRoomForMarks regions markets
-  -- marking any region as one all of whose stocks are marked takes no memory
   pub stocks_fit : HasRoomForMarks regions stocks

@@ -28,7 +28,6 @@ pub(crate) struct Regions {
     items: Numbered<Numbered<()>>,
 }
 
-/// Drops the regions and their marks.
 impl Drop for Regions {
     fn drop(self) {
         let_go!(self: Regions { values, rows, markets, stocks, items });
@@ -55,7 +54,6 @@ impl Model for Regions {
     ghost invariant = { λ a. AreRegions a.values a.rows a.markets a.stocks a.items };
 }
 
-/// Reads and changes regions and their stocks, marks what changed, and clears all marks.
 impl Regions {
     ghost use Rattle.std.specs.Option.{option_copied_mut};
     ghost use Rattle.std.specs.Borrow.{sem};
@@ -93,7 +91,6 @@ impl Regions {
         })
     }
 
-    /// The region under a number, where there is one.
     pub(crate) fn get(&self, number: u32) -> Option<&Region>
         ensures { option_copied result ≡ map.get self.now.values number }
     {
@@ -107,7 +104,6 @@ impl Regions {
         self.values.iter()
     }
 
-    /// How many regions there are.
     pub(crate) fn len(&self) -> usize
         ensures { result ≡ map.len self.now.values }
     {

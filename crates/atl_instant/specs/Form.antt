@@ -28,8 +28,6 @@ abbrev pub is_forming : Verb → Bool
 is_forming verbs.Form = true
 is_forming verb = false
 
--- ---- one order
-
 -- whether no further unit can be formed: there are 100,000 units, or the next unit's number is above 999,999,999
 abbrev pub is_unit_limit : CampaignValue → Bool
 is_unit_limit c = nat_le most_units (len c.units) || nat_lt last_unit c.next_unit
@@ -54,8 +52,6 @@ with_formed_unit c f n = with_unit_begun c (new_unit c.next_unit f (region_of c 
 -- the campaign and the outcome after an order of FORM from faction f for unit n
 abbrev pub form_by : CampaignValue → (f n : ℕ) → CampaignValue × Outcome
 form_by c f n = unless c (form_fault c f n) (with_formed_unit c f n, Done c.next_unit)
-
--- ---- the phase
 
 -- the alias that an order of FORM gives; 0 for operands of any other form
 abbrev pub alias_of : OperandsValue → ℕ

@@ -15,14 +15,11 @@ use std::alloc::{AllocError, Global};
 /// The pots of PRODUCE: what each region's terrain gives of the items that orders name.
 #[derive(Drop)]
 struct Outputs<'a> {
-    /// The world, whose terrains say what regions give.
     world: &'a World,
     /// The item that each unit's order names, by unit.
     asked: &'a Numbered<u16>,
 }
 
-/// The item that a unit makes out of what its region gives; None if its item needs raw items, or it
-/// asks for none.
 fn output_item(world: &World, asked: &Numbered<u16>, unit: u32) -> Option<u16>
     ensures { result ≡ output_item world.now asked.now unit }
 {
@@ -40,12 +37,10 @@ impl<'a> ItemPots for Outputs<'a> {
 
     ghost ready = { λ _. ⊤ };
 
-    /// The item that a unit makes out of what its region gives, if it makes one without raw items.
     fn item(&self, unit: u32) -> Option<u16> {
         output_item(self.world, self.asked, unit)
     }
 
-    /// How much of an item a region's terrain gives; 0 where there is no terrain.
     fn pot(&self, item: u32, region: u32) -> u64 {
         match self.world.terrain_of(region) {
             Some(terrain) => {
@@ -57,8 +52,6 @@ impl<'a> ItemPots for Outputs<'a> {
     }
 }
 
-/// How much a unit makes: its share of what its region gives of its item, or, where its item needs
-/// raw items, all of its want.
 fn amount_made(
     world: &World,
     campaign: &Campaign,

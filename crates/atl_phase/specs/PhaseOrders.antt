@@ -127,19 +127,12 @@ orders_by_unit is_of m = values (orders_of is_of ByUnit m.aliases m.readings)
 
 -- order t is an entry of its faction's mailing, at its index, with its unit, its line and what it says
 pub record IsInMailing (aliases : Aliases) (readings : FinMap nat_cmp Reading) (t : Task) : Type 0 where
-  -- what was read of the faction's mailing
   pub reading : Reading
-  -- the entry of the mailing that the order is
   pub entry : EntryValue
-  -- the reading is that of the faction that wrote the order
   pub of_faction : get readings t.faction ≡ Some reading
-  -- the entry has the order's index in the mailing
   pub at_index : slice_get reading.entries t.index ≡ Some entry
-  -- the entry is for the order's unit
   pub for_unit : unit_of aliases t.faction entry.target ≡ t.unit
-  -- the entry is on the order's line
   pub on_line : entry.line ≡ t.line
-  -- the entry says what the order says
   pub says : entry.order_value ≡ t.order_value
 
 -- A law: each order of a phase is an entry of the mailing of its faction.

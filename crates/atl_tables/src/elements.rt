@@ -36,8 +36,6 @@ pub(crate) trait FromTable: Drop {
         ensures sound { IfOk result is_sound };
 }
 
-/// The element `value`, the i-th of the array at the path `key`, as read, else the fault WrongType
-/// if it is no table, or the first fault of its keys.
 fn one_element<E: FromTable>(
     alloc: Global,
     key: &str,
@@ -58,8 +56,6 @@ fn one_element<E: FromTable>(
     }
 }
 
-/// All elements of the array at the path `key`, as read, in order, else the first fault of an
-/// element.
 fn elements<E: FromTable>(alloc: Global, key: &str, values: &Array) -> Result<Vec<E>, WorldFault>
     ensures value { Gives (λ v. v.items) result
         (first_fault (elements_conditions E.conditions key.now 0 (array_view values.now)))

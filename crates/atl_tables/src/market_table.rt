@@ -24,7 +24,6 @@ use toml::Table;
 pub struct MarketDraft {
     /// The path of the market's table, as `region[0].market[1]`.
     pub table_path: Text,
-    /// The name of the item that the market trades.
     pub item: Text,
     /// Money that a unit pays the market for one item, from 1 to `MOST_PRICE`.
     pub price: u32,
@@ -36,7 +35,6 @@ pub struct MarketDraft {
     pub restock: u32,
 }
 
-/// Drops the path of the market's table and the name of its item.
 impl Drop for MarketDraft {
     fn drop(self) {
         let_go!(self: MarketDraft { table_path, item, price, pays, limit, restock });
@@ -51,7 +49,6 @@ impl FromTable for MarketDraft {
 
     ghost is_sound = { IsMarketDraft };
 
-    /// The market that the table at a path describes, else the first fault of the table's keys.
     #[tactic(auto, unfolding(crate::specs::MarketTable::market_keys, crate::specs::MarketTable::market_from))]
     fn read(alloc: Global, at: &str, table: &Table) -> Result<MarketDraft, WorldFault> {
         let item = keys::text(alloc, "item", at, table)?;
@@ -87,17 +84,14 @@ pub(crate) fn markets(
     read_optional_array::<MarketDraft>(alloc, MOST_MARKETS, array.as_str(), "market", table)
 }
 
-/// The title of a market is the name of its item.
 impl Titled for MarketDraft {
     ghost title_of = { λ d. d.item };
 
-    /// The name of the market's item.
     fn title(&self) -> &Text {
         &self.item
     }
 }
 
-/// Makes the market of a table `[[region.market]]`, with its item looked up by name.
 impl Draft for MarketDraft {
     type Record = Market;
 
@@ -109,7 +103,6 @@ impl Draft for MarketDraft {
 
     ghost is_sound = { λ all i m. IsMarket (length all.items) m.item m };
 
-    /// The market with its item by number, else the fault UnknownName if no item has the name.
     #[tactic(auto, unfolding(crate::specs::MarketTable::market_known, crate::specs::MarketTable::market_of))]
     fn resolve(&self, alloc: Global, all: &WorldDraft, _i: usize) -> Result<Market, WorldFault> {
         let at = self.table_path.as_str();
@@ -128,7 +121,6 @@ impl Draft for MarketDraft {
 impl HasNumber for Market {
     ghost own_number_of = { λ m. m.item };
 
-    /// The number of the market's item.
     fn own_number(&self) -> u32 {
         u32::from(self.item)
     }

@@ -17,7 +17,6 @@ use atl_world::Direction::{self, East, North, South, West};
 use atl_world::{Numbered, RegionPlan};
 use std::alloc::Global;
 
-/// The number of a region's neighbour on a side, `None` if there is no such region or no neighbour.
 fn region_next_to(regions: &Numbered<RegionPlan>, number: u32, side: Direction) -> Option<u32>
     ensures { result ≡ option_and_then (neighbour_to side) (get regions.now number) }
 {
@@ -27,7 +26,6 @@ fn region_next_to(regions: &Numbered<RegionPlan>, number: u32, side: Direction) 
     }
 }
 
-/// Whether `other` is given (`Some`) and equals the region number `number`.
 fn equals_number(number: u32, other: Option<u32>) -> bool
     ensures { result ≡ equals_number number other }
 {
@@ -63,8 +61,6 @@ fn check_neighbour(
     }
 }
 
-/// Checks that each neighbour of the i-th region of the file has this region on its opposite side,
-/// else gives the fault BadNeighbour at the first side whose neighbour hasn't.
 #[tactic(auto, unfolding(crate::specs::Neighbours::neighbours_at))]
 fn neighbours_of(
     alloc: Global,

@@ -26,7 +26,6 @@ pub struct RegionBasics {
     pub number: u32,
     /// The region's name as the file writes it; it keeps the rule of names.
     pub name: Text,
-    /// The name of the region's terrain.
     pub terrain: Text,
     /// The region's peasants at founding, at most `MOST_AMOUNT`.
     pub peasants: u32,
@@ -34,7 +33,6 @@ pub struct RegionBasics {
     pub money: u32,
 }
 
-/// Drops the names of the region and of its terrain.
 impl Drop for RegionBasics {
     fn drop(self) {
         let_go!(self: RegionBasics { number, name, terrain, peasants, money });
@@ -54,24 +52,19 @@ pub struct Sides {
 /// A table `[[region]]` of the first format as read, with its terrain by name.
 #[derive(Drop)]
 pub struct OldRegion {
-    /// The region's number, name, terrain, peasants and money.
     pub basics: RegionBasics,
-    /// The numbers of the region's neighbours on its four sides.
     pub sides: Sides,
 }
 
 /// A table `[[region]]` as read by either format, with its terrain and the items of its markets by
 /// name; by the first it has no markets.
 pub struct RegionDraft {
-    /// The region's number, name, terrain, peasants and money.
     pub basics: RegionBasics,
-    /// The numbers of the region's neighbours on its four sides.
     pub sides: Sides,
     /// The region's markets, in the order of the file.
     pub markets: Sequence<MarketDraft>,
 }
 
-/// Drops the region's basics, its sides and its markets.
 impl Drop for RegionDraft {
     fn drop(self) {
         let_go!(self: RegionDraft { basics, sides, markets });
@@ -86,8 +79,6 @@ impl FromTable for RegionBasics {
 
     ghost is_sound = { AreRegionBasics };
 
-    /// The basics that the table of a region gives, else the first fault of its keys `number`,
-    /// `name`, `terrain`, `peasants` and `money`.
     #[tactic(auto, unfolding(crate::specs::RegionTable::basics_keys, crate::specs::RegionTable::basics_from))]
     fn read(alloc: Global, at: &str, table: &Table) -> Result<RegionBasics, WorldFault> {
         let number = keys::number(alloc, 1, LAST_REGION, "number", at, table)?;
@@ -105,8 +96,6 @@ impl FromTable for RegionBasics {
     }
 }
 
-/// The numbers of a region's neighbours on its four sides, else the fault WrongType or OutOfRange
-/// of a side.
 #[tactic(auto, unfolding(crate::specs::RegionTable::side_keys, crate::specs::RegionTable::sides_from))]
 fn read_sides(alloc: Global, at: &str, table: &Table) -> Result<Sides, WorldFault>
     ensures { Gives (λ s. s) result (first_fault (side_keys at.now (table_view table.now)))
@@ -132,8 +121,6 @@ impl FromTable for OldRegion {
 
     ghost is_sound = { IsOldRegion };
 
-    /// The region that the table at the path `at` describes in the first format, else the first
-    /// fault of its keys but `market`.
     #[tactic(auto, unfolding(crate::specs::RegionTable::old_region_keys, crate::specs::RegionTable::old_region_from))]
     fn read(alloc: Global, at: &str, table: &Table) -> Result<OldRegion, WorldFault> {
         let basics = RegionBasics::read(alloc, at, table)?;
@@ -150,8 +137,6 @@ impl FromTable for RegionDraft {
 
     ghost is_sound = { IsRegionDraft };
 
-    /// The region that the table at a path describes, else the first fault of its keys and its
-    /// markets.
     #[tactic(auto, unfolding(crate::specs::RegionTable::region_keys, crate::specs::RegionTable::region_from))]
     fn read(alloc: Global, at: &str, table: &Table) -> Result<RegionDraft, WorldFault> {
         let OldRegion { basics, sides } = OldRegion::read(alloc, at, table)?;
@@ -183,12 +168,9 @@ pub(crate) fn without_markets(
     Ok(drafts)
 }
 
-/// Checks that no two markets of a region are of the same item, else gives the fault TwoNames at
-/// the second.
 impl HasUniqueNames for RegionDraft {
     ghost no_duplicates = { duplicate_market_items };
 
-    /// Checks the markets of the i-th region, else gives TwoNames at the second market of an item.
     #[tactic(auto, unfolding(crate::specs::RegionTable::duplicate_market_items))]
     fn no_duplicates_inside(&self, alloc: Global, i: usize) -> Result<(), WorldFault> {
         let element = element_path(alloc, "region", i)?;
@@ -197,8 +179,6 @@ impl HasUniqueNames for RegionDraft {
     }
 }
 
-/// Makes the region of a table `[[region]]`, with its terrain and the items of its markets looked
-/// up.
 impl Draft for RegionDraft {
     type Record = RegionPlan;
 
@@ -211,8 +191,6 @@ impl Draft for RegionDraft {
     ghost is_sound = { λ all i x. IsRegionPlan (length all.terrains) (length all.items) x.number
         x };
 
-    /// The region with its terrain and the items of its markets by number, else UnknownName at the
-    /// first name that refers to nothing.
     #[tactic(auto, unfolding(crate::specs::RegionTable::region_known, crate::specs::RegionTable::region_of))]
     fn resolve(&self, alloc: Global, all: &WorldDraft, i: usize) -> Result<RegionPlan, WorldFault> {
         let element = element_path(alloc, "region", i)?;
@@ -241,11 +219,9 @@ impl Draft for RegionDraft {
     }
 }
 
-/// A region is stored under its own number.
 impl HasNumber for RegionPlan {
     ghost own_number_of = { λ p. p.number };
 
-    /// The number of the region.
     fn own_number(&self) -> u32 {
         self.number
     }

@@ -13,7 +13,6 @@ use atl_records::{BooksEntry, Thing, amount_number};
 use atl_world::Text;
 use std::alloc::AllocError;
 
-/// Sets single values of the campaign, books amounts, removes the mail, and marks what changed.
 impl Campaign {
     /// Sets the month last closed, from 0 to LAST_MONTH, and marks the campaign row.
     pub fn set_month(&mut self, month: u32)
