@@ -42,7 +42,6 @@ fn ask_for_room(alloc: Global) -> Result<(), AllocError> {
     Ok(())
 }
 
-/// Whether each byte of the buffer is 0.
 #[inline(never)]
 fn is_clear(room: &[u8]) -> bool {
     for each in room {
