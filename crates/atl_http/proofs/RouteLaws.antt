@@ -88,6 +88,8 @@ takes_report rest =
 -- if the number is faulty, `route_of` gives none.
 data Leads (path : List ℕ) : Type 0 where
   to_join : first rows path ≡ Some 1 → IsUtf8 path → route_of path ≡ Some route.Join → Leads path
+  -- the router finds a route whose parameter is `rest`, and `route_of` gives that route with the number of `rest`, or
+  -- none; `rest` is UTF-8 if the path is, and a path that has a route is UTF-8
   to_number : (key : ℕ) → (rest : List ℕ) → first rows path ≡ Some key → TakesNumber key path rest → (IsUtf8 path → IsUtf8 rest) → (route_of path ≡ None) ⊎ IsUtf8 path → route_of path ≡ route_in (kept_at key).value (Some rest) → Leads path
   nowhere : first rows path ≡ None → route_of path ≡ None → Leads path
 

@@ -31,11 +31,13 @@ use Rattle.atl_sql.proofs.WriteLaws.{weaker, among_only}
 pub record IsCreate (before after : Schema) (table : Table) (text : List ℕ) : Type 0 where
   pub command : command_of (understood before text) ≡ CreateTable
   pub whole : statement_of text (understood before text) ≡ text
+  -- the text defines the table, with 0 as the number of its tree
   pub defines : table_defined_by text ≡ Ok (record table { tree = 0 })
   pub plain : IsPlain (understood before text)
   pub after_is : created before (record table { tree = 0 }) ≡ after
   pub tree_is : next_tree before ≡ table.tree
   pub last : after.tables ≡ before.tables ++ table ∷ []
+  -- the schema `after` lacks no table of sequences, which only AUTOINCREMENT needs
   pub uncounted : lacks_sequence after ≡ false
 
 -- running a CREATE TABLE text (`IsCreate`) on a database of the schema `before` adds the table, without rows

@@ -75,9 +75,11 @@ changed_row width = col 1 0 ∷ lit Null ∷ map (col 0) (range_with_len 1 width
 -- the terms of the INSERT and of the UPDATE make the row of this number and these values
 pub record MakesRow (t : Table) (width number : ℕ) (values : Row) : Type 0 where
   pub source : value_rows ((int number ∷ values) ++ []) (width + 2) (length (given_row width) / (width + 2)) (given_row width) ≡ (int number ∷ Null ∷ values) ∷ []
+  -- the terms of the UPDATE give the number of the row that is there, NULL, and the values
   pub changed : (more r : Row) → eval_all (changed_row width) (((int number ∷ values) ++ more) ∷ r ∷ []) ≡ column r 0 ∷ Null ∷ values
   pub casted : cast_row t (int number ∷ Null ∷ values) ≡ int number ∷ Null ∷ values
   pub shown : visible_row t (int number ∷ Null ∷ values) ≡ int number ∷ values
+  -- of what the UPDATE reads, the column after the number and the values is `x`, the rowid of the row to change
   pub aimed : (x : Value) (more : Row) → column ((int number ∷ values) ++ x ∷ more) (width + 1) ≡ x
 
 module _ (tree : ℕ) (name key_name : List ℕ) (columns : List Column) (uniques : List (List ℕ)) where

@@ -76,11 +76,14 @@ pub record HasKey (t : Table) (at : ℕ) (positions : List ℕ) : Type 0 where
   pub ours : Has all_tables t
   pub position : (more : List Table) → slice_get (all_tables ++ more) at ≡ Some t
   pub plain : (db : Trees) → overlay db [] t.tree ≡ db t.tree
+  -- a row that passes the table's checks has integers in the columns of the key
   pub ints : (schema : Schema) (x : Row) → passes Datatype schema (λ u. []) t x ≡ true → passes NotNull schema (λ u. []) t x ≡ true → AreInts positions x
   pub first : (x : Row) → take (length positions) (visible_row t x) ≡ at_places positions x
+  -- if `r` clashes with none of `rows` in any index of the table, none of these with another rowid has the key of `r`
   pub unique : (indexes : List Index) (rows : List Row) (r : Row)
       → list_all (λ i. not (guards i t && clashes i.order i.columns rows r)) (all_indexes ++ indexes) ≡ true
       → list_any (λ y. agree_at positions y r && differ (rowid y) (rowid r)) rows ≡ false
+  -- row `x` conflicts with `new` in the key exactly if both agree in its columns or share values of a further index
   pub hits : (indexes : List Index) (new x : Row)
       → conflicts (Some positions) (all_indexes ++ indexes) t new x ≡ (agree_at positions x new || list_any (shares (Some positions) t new x) indexes)
 
@@ -99,11 +102,14 @@ MeansUpsert tree at positions sql width terms hole project = (more : List Table)
 -- the terms of an upsert make a row that shows these values, whether it is inserted or updated, and under any rowid
 pub record MakesValues (t : Table) (positions : List ℕ) (width : ℕ) (terms : List Term) (hole : ℕ) (project : List Term) (values : Row) : Type 0 where
   pub source : value_rows (values ++ []) width (length terms / width) terms ≡ (Null ∷ values) ∷ []
+  -- SQL's casts leave the row of these values, with NULL as its rowid, unchanged
   pub casted : cast_row t (Null ∷ values) ≡ Null ∷ values
   pub again : (n : ℤ) → cast_row t (Int n ∷ values) ≡ Int n ∷ values
   pub shown : (n : ℤ) → visible_row t (Int n ∷ values) ≡ values
   pub ints : (n : ℤ) → AreInts positions (Int n ∷ values)
+  -- of what the UPDATE reads, the column at the index `hole`, after the values, is `x`, the rowid of the row to change
   pub aimed : (x : Value) (more : Row) → column (values ++ x ∷ more) hole ≡ x
+  -- of a row with the key of these values, the UPDATE makes a row of which SQL shows these values
   pub changed : (more r : Row) → at_places positions r ≡ take (length positions) values
       → visible_row t (cast_row t (eval_all project ((values ++ more) ∷ r ∷ []))) ≡ values
 

@@ -48,6 +48,7 @@ has_number = op2 (Compare Eq Binary) (col 1 0) (col 0 0) ∷ []
 pub record IsNumberedTable (t : Table) (at width : ℕ) : Type 0 where
   pub ours : Has all_tables t
   pub position : (more : List Table) → slice_get (all_tables ++ more) at ≡ Some t
+  -- the table's tree is one of the file, not that of a temporary table
   pub plain : (db : Trees) → overlay db [] t.tree ≡ db t.tree
   pub puts : (more : List Table) (indexes : List Index)
       → command_of (understood (all_tables_and_others more indexes) (upsert t 1)) ≡ InsertOr at Abort (Values (given_row width) (width + 2)) (conflict_clause (0 ∷ []) (record { lets = []; body = update_query t.tree (width + 1) (changed_row width) }) ∷ [])
@@ -55,6 +56,7 @@ pub record IsNumberedTable (t : Table) (at width : ℕ) : Type 0 where
   pub drops : (more : List Table) (indexes : List Index)
       → command_of (understood (all_tables_and_others more indexes) (deletion t 1)) ≡ Delete at (record { lets = []; body = delete_query t.tree has_number })
   pub drops_plain : AlwaysPlain (deletion t 1)
+  -- no index of the ten tables makes the number unique
   pub no_index_shares : (new x : Row) → list_any (shares (Some (0 ∷ [])) t new x) all_indexes ≡ false
 
 -- one of the tables of a campaign, whose first column is the row's number

@@ -51,6 +51,7 @@ changed_to project head world r = visible_row campaign_table (cast_row campaign_
 -- an upsert of `campaign` inserts the row where there is none, or changes the one that is there by the terms `project`
 pub record PutsOwn (project : List Term) (head : CampaignRowValue) (world : List ℕ) (old new : Database) : Type 0 where
   pub first : rows_in campaign_table old.trees ≡ [] → Puts campaign_table 1 (campaign_row head world) old new
+  -- a campaign row `before` that is there is replaced by the row `after` that the UPDATE makes of it, if both have id 1
   pub again : (before after : Row) → take 1 before ≡ int 1 ∷ [] → take 1 after ≡ int 1 ∷ [] → HasExactly (rows_in campaign_table old.trees) (λ r. r ≡ before) → ((r : Row) → visible_row campaign_table r ≡ before → changed_to project head world r ≡ after) → Puts campaign_table 1 after old new
   pub tables : HasTables new
   pub carries : Carries old new

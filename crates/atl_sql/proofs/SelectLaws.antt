@@ -72,6 +72,7 @@ record IsMeant (part : Part) : Type 0 where
   plain : (more : List Table) (indexes : List Index) → IsPlain (understood (first_tables_and_others (table_count_in (select_of_part part).since) (index_count_in (select_of_part part).since) more indexes) (select_of_part part).select)
   -- the SELECT doesn't read `sqlite_schema`, the table in which the database lists its tables
   unlisted : (more : List Table) (indexes : List Index) → reads_listing (first_tables_and_others (table_count_in (select_of_part part).since) (index_count_in (select_of_part part).since) more indexes) (select_of_part part).select ≡ false
+  -- the table's tree is one of the file, not that of a temporary table
   same : (db : Trees) → overlay db [] (table_of part).tree ≡ db (table_of part).tree
   rows : (db : Trees) → map (λ r. eval_all (columns_of part) ([] ∷ r ∷ [])) (db (table_of part).tree) ≡ (select_of_part part).in_table db
   whole : (r : Row) → first_columns (length (select_of_part part).names) (eval_all (columns_of part) ([] ∷ r ∷ [])) ≡ eval_all (columns_of part) ([] ∷ r ∷ [])
