@@ -80,6 +80,8 @@ AreAmountsWithin c = (e : BooksEntry) (t : Thing) → IsWithin (amount_bound c) 
 abbrev pub HaveMen : CampaignValue → Type 0
 HaveMen c = Every (λ n u. 1 ≤ u.holding.men) c.units
 
+-- ---- of names
+
 -- names and pass texts keep their rules, and no two factions joined under the same name
 pub record AreNamed (c : CampaignValue) : Type 0 where
   -- the moderator's pass text keeps the rule of pass texts
@@ -160,6 +162,8 @@ pub record AreKnown (w : WorldValue) (c : CampaignValue) : Type 0 where
   -- all mail and all reports are of factions that exist
   pub posts : ArePosted c
 
+-- ---- of the numbers that come next
+
 -- the numbers of the map are exactly those from 1 to `next - 1`
 pub record IsNumbered {V : Type 0} (m : FinMap nat_cmp V) (next : ℕ) : Type 0 where
   -- the map has nothing under the number 0
@@ -194,6 +198,8 @@ GoneHaveNone c = Every (λ n f. f.gone ≡ true → numbers_of_faction n c.units
 abbrev pub UnitlessAreGone : CampaignValue → Type 0
 UnitlessAreGone c = Every (λ n f. numbers_of_faction n c.units ≡ [] → f.gone ≡ true) c.factions
 
+-- ---- of owners
+
 -- the owner of structure n is one of the given units inside the structure, or 0 (nobody) where none of them is inside
 pub record IsOwnedAmong (units : FinMap nat_cmp Unit) (n : ℕ) (s : Structure) : Type 0 where
   -- if the structure has an owner, this is a unit that exists and is inside the structure
@@ -226,6 +232,8 @@ pub record AreAfloat (w : WorldValue) (c : CampaignValue) : Type 0 where
   -- each structure in a region on water is a ship, and complete
   pub structures : Every (λ n s. is_land_at w s.region ≡ false → (is_ship w s ≡ true) × (s.done ≡ size_of w s.kind)) c.structures
 
+-- ---- of guards
+
 -- whether a unit guards: its guard flag is set, and it has men
 abbrev pub guards : Unit → Bool
 guards u = u.holding.guard && nat_lt 0 u.holding.men
@@ -235,6 +243,8 @@ abbrev pub AreOfOneFaction : (Unit → Bool) → CampaignValue → Type 0
 AreOfOneFaction test c =
     Every (λ n u. Every (λ m v. test u ≡ true → test v ≡ true → u.region ≡ v.region → u.faction ≡ v.faction) c.units) c.units
 
+-- ---- of mail and reports
+
 -- each mail is of a faction that is there and not gone, is short enough, and has a header with the faction's number
 abbrev pub HasValidMail : CampaignValue → Type 0
 HasValidMail c = Every (λ n text. IsMailingOf n text × IsActive c n) c.mail
@@ -243,9 +253,13 @@ HasValidMail c = Every (λ n text. IsMailingOf n text × IsActive c n) c.mail
 abbrev pub AreReported : CampaignValue → Type 0
 AreReported c = Every (λ n f. HasValue c.reports n) c.factions
 
+-- ---- of stocks
+
 -- no region has anything in stock
 abbrev pub HasNoStocks : CampaignValue → Type 0
 HasNoStocks c = Every (λ n r. r.stocks ≡ empty) c.regions
+
+-- ---- the campaigns
 
 -- a campaign within a month: the rules on numbers, names, days, owners, water and guards hold, and gone factions
 -- have no units. Unlike in a good campaign, a unit may have no men, and a faction without units needn't be gone yet.

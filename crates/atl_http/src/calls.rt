@@ -82,6 +82,7 @@ fn write_outcome(returned: io::Result<usize>) -> WriteOutcome
 impl ReadCalls {
     ghost use Rattle.atl_http.specs.Calls.{most_reads, no_reads, ReadsOnce};
 
+    /// The counters before the first read.
     pub fn none() -> ReadCalls
         ensures { result ≡ no_reads }
     {
@@ -115,6 +116,7 @@ impl ReadCalls {
 impl WriteCalls {
     ghost use Rattle.atl_http.specs.Calls.{most_interrupted, no_writes, WritesOnce};
 
+    /// The counters before the first write.
     pub fn none() -> WriteCalls
         ensures { result ≡ no_writes }
     {

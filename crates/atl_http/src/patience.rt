@@ -26,6 +26,7 @@ pub struct Patience<'a, C: Clock> {
     left: Duration,
 }
 
+/// Drops the time left; the clock is only lent.
 impl<'a, C: Clock> Drop for Patience<'a, C> {
     fn drop(self) {
         let Patience { clock: _, left: _ } = self;
@@ -86,6 +87,7 @@ pub struct Peer<'a, C: Clock> {
     patience: Patience<'a, C>,
 }
 
+/// Drops a reference and the time left: the connection is lent.
 impl<'a, C: Clock> Drop for Peer<'a, C> {
     fn drop(self) {
         let Peer {

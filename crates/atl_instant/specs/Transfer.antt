@@ -54,8 +54,6 @@ abbrev pub after_receiving : (n : ℕ) → (other h : HoldingValue) → HoldingV
 after_receiving n other h =
     record h { men = h.men + n; days = amounts_for (raised_of n other h) (keys h.days ++ keys other.days) }
 
--- ---- a law: the days that both units have of each skill after n men went
-
 -- After n men went, the sender has the days of the skill that stay, and the receiver those that it had and those that
 -- came. Before, the sender held `other`, and the receiver held h.
 pub record HaveDaysOf (n : ℕ) (other h : HoldingValue) (skill : ℕ) : Type 0 where

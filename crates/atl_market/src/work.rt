@@ -96,6 +96,7 @@ fn add_idle_orders<'m>(
     Ok(())
 }
 
+/// Sorts orders by unit, line and faction, and last by their index in the mailing (`index`).
 fn sort_by_unit(list: &mut Vec<PhaseOrder<'_>>)
     ensures moved { IsPermutation list.old.items list.new.items }
     ensures sorted { IsSortedByKey (λ o. key_of ByUnit (task_of o)) (slice_cmp nat_cmp)

@@ -12,6 +12,7 @@ pub const LAST_UNIT: u32 = 999_999_999;
 /// The most structures ever begun; they are numbered from 1 up to this one.
 pub const MOST_STRUCTURES: u32 = 10_000;
 
+/// How many entries the books have: 16.
 pub const ENTRY_COUNT: usize = BooksEntry::ALL.len();
 
 /// How many entries the books have in the first format: all but those of markets.

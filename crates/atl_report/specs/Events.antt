@@ -11,6 +11,8 @@ use Rattle.atl_records.specs.declared.event.Outcome.TheVariants.{Done, Fault, St
 use Rattle.atl_records.specs.Events.{event_keyword, event_fault_number, event_fault_name, event_faults}
 use Rattle.atl_report.specs.Each.{each_text}
 
+-- ---- a line of the mailing that isn't read
+
 -- the line for a line of the mailing that was not read: its line number, and the fault's number and name
 unfoldable pub faulty_line : FaultyLine → List ℕ
 faulty_line f =
@@ -21,6 +23,8 @@ faulty_line f =
 -- the lines for all faulty lines of the mailing, in their order
 abbrev pub faulty_lines : List FaultyLine → List ℕ
 faulty_lines = each_text faulty_line
+
+-- ---- an event
 
 -- the name of the fault with this number; a number that is no fault's has an empty name
 abbrev pub name_of_number : ℕ → List ℕ

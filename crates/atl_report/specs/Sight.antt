@@ -119,6 +119,8 @@ market_views r p = map (market_view r) (entries p.markets)
 abbrev pub region_market_views : Region → Option RegionPlan → List MarketView
 region_market_views r plan = option_map_or (market_views r) plan []
 
+-- ---- the whole
+
 -- the view of a region: peasants, money, markets, all structures, and the units that are seen
 abbrev pub region_view : WorldValue → CampaignValue → Watch → Region → RegionView
 region_view w c watch r = record {

@@ -154,6 +154,8 @@ pub(crate) const FIRST_TABLES: usize = 9;
 /// How many indexes the unique keys of the first format's tables have.
 pub(crate) const FIRST_INDEXES: usize = 3;
 
+// ---- whether a table of a schema is one of these
+
 /// Whether a table of a schema is the table `campaign`, with its check `id = 1`.
 fn is_campaign(found: &Table) -> bool
     ensures { IsTrue result ↔ (found.now ≡ campaign_table) }
@@ -203,6 +205,8 @@ pub(crate) fn are_first_tables(tables: &[Table], count: usize) -> bool
     }
     true
 }
+
+// ---- the tables are made
 
 /// Makes the ten tables by the texts of these definitions, each table without a row, in a database
 /// that has no table.

@@ -8,6 +8,7 @@ use std::alloc::{AllocError, Global};
 use std::collections::{BTreeMap, btree_map};
 use std::marker::Model;
 
+/// A map from numbers to values, sorted by number.
 #[derive(Drop)]
 pub struct Numbered<V> {
     entries: BTreeMap<u32, V>,

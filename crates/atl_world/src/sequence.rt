@@ -4,6 +4,7 @@ ghost use Rattle.std.specs.Prelude.{◌≡◌, ◌++◌, ◌∷◌, [], IfOk, On
 use std::alloc::{AllocError, Global};
 use std::marker::Model;
 
+/// A vector of values that contracts see as a list.
 #[derive(Drop, Debug)]
 pub struct Sequence<T> {
     items: Vec<T>,

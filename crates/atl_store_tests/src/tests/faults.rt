@@ -28,6 +28,7 @@ fn assert_opening_fault(
     Ok(())
 }
 
+/// Each fault of `load` has its number in docs/FORMATS.md, "For developers", and its text.
 #[test]
 fn faults_of_an_opening_have_their_numbers(rt: HostRuntime) -> Result<(), Fail> {
     for case in OPENINGS.iter() {
