@@ -32,6 +32,8 @@ STACKS = (*range(160, 1_025, 96), 1_600, 2_048, 2_400, 3_072, 4_092, 4_096, 5_12
 ENOUGH = 4_096
 # Of limits on the address space, 32 kB apart, under so many at most the program is ended by a signal.
 MOST_ENDED = 6
+# What the dynamic loader of glibc says where it finds no room.
+NOT_LOADED = (b"shared libraries", b"cannot allocate TLS data structures")
 # How deep toml nests values, and how many parts a key may have.
 DEEP = 80
 LONG_KEY = ".".join("a" * DEEP)
@@ -267,7 +269,7 @@ def stage_of(told: Outcome, wanted: Outcome, has_started: bool) -> int | None:
     """How far the program came: 0 not started, 1 not loaded, 2 Memory, 3 the answer; None for any other outcome."""
     if told.status < 0 and not has_started:
         return 0
-    if told.status == 127 and b"shared libraries" in told.error:
+    if told.status == 127 and any(reason in told.error for reason in NOT_LOADED):
         return 1
     return {Outcome(*MEMORY): 2, wanted: 3}.get(told)
 
