@@ -1,4 +1,4 @@
-"""The world, the campaign and the orders of a month, as tests/plain.py reckons with them."""
+"""The world, the campaign and the orders of a month, as tests/model/plain.py reckons with them."""
 import re, tomllib
 from dataclasses import dataclass, field
 

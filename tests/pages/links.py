@@ -8,6 +8,7 @@
 
 It ends with 'links: all there'."""
 import glob, os, re, sys
+from pathlib import Path
 
 LINK = re.compile(r"\[([^\]]*)\]\(([^)\s]*)\)")
 PATH = re.compile(r"(?:\./)?[\w.-]+(?:/[\w.-]+)*/?")
@@ -111,7 +112,7 @@ def faults_of_pages():
 
 
 def sources():
-    patterns = ("crates/*/src/**/*.rt", "crates/*/specs/*.antt", "crates/*/proofs/**/*.antt", "tests/*.sh", "tests/*.py", "examples/*.sh")
+    patterns = ("crates/*/src/**/*.rt", "crates/*/specs/*.antt", "crates/*/proofs/**/*.antt", "tests/**/*.sh", "tests/**/*.py", "examples/*.sh")
     return [*pages(), *(path for pattern in patterns for path in sorted(glob.glob(pattern, recursive=True)) if os.path.isfile(path))]
 
 
@@ -160,7 +161,7 @@ def faults_of_cited_names():
 
 
 def main():
-    os.chdir(os.path.dirname(os.path.dirname(os.path.abspath(__file__))))
+    os.chdir(Path(__file__).resolve().parents[2])
     if sys.argv[1:]:
         sys.exit(__doc__)
     faults = [*faults_of_pages(), *faults_of_citations(), *faults_of_cited_names()]

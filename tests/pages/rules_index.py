@@ -149,7 +149,7 @@ def faults_of_specs(found: list[Row]) -> Iterator[str]:
 
 
 def main() -> None:
-    os.chdir(os.path.dirname(os.path.dirname(os.path.abspath(__file__))))
+    os.chdir(Path(__file__).resolve().parents[2])
     if sys.argv[1:]:
         sys.exit(__doc__)
     found = rows()

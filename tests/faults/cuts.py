@@ -2,22 +2,23 @@
 """Simulates power cuts during each command that writes, and kills the program while it serves and while it recovers.
 Each time the file must hold the campaign before the command or the one after it, and never a third. All rows are
 compared, as SQLite reads them on one copy, and as the program leaves them on another. Called as
-    tests/cuts.py [TIMES [SEED]]
+    tests/faults/cuts.py [TIMES [SEED]]
 it tries TIMES as much as by default (1), with more factions, and chooses by SEED (1). It takes about a minute once the
 program is built, wants strace, and ends with 'cuts: all as expected'.
 
-tests/cut_disk.py says what a power cut leaves.
+tests/faults/cut_disk.py says what a power cut leaves.
 """
 import os, random, re, shutil, socket, sqlite3, subprocess, sys, tempfile, threading, time
+from pathlib import Path
 
 sys.dont_write_bytecode = True
 
 from cut_disk import Failed, Record, calls_in, path_of, put_files, read_files, recording, states, strace
 
-HERE = os.path.join(os.path.dirname(os.path.abspath(__file__)), "..")
-PROGRAM = subprocess.run([os.path.join(HERE, "gm"), "path"], stdout=subprocess.PIPE, text=True).stdout.strip()
-ISLE, SMALL = (os.path.join(HERE, "worlds", name) for name in ("isle.toml", "small.toml"))
-OLD = os.path.join(HERE, "tests", "old", "trial.db")
+TOP = Path(__file__).resolve().parents[2]
+PROGRAM = subprocess.run([TOP / "gm", "path"], stdout=subprocess.PIPE, text=True).stdout.strip()
+ISLE, SMALL = (str(TOP / "worlds" / name) for name in ("isle.toml", "small.toml"))
+OLD = str(TOP / "tests/old/trial.db")
 SEED = "5"
 NO_FILES = {"db": None, "wal": None}
 

@@ -2,6 +2,7 @@
 """Sees that no sentence of the pages has more than 35 words, and prints those that have, each with the line where its paragraph begins and its count of words.
 Code blocks, tables and headings are left out, and what is between backquotes counts as one word."""
 import os, re, sys
+from pathlib import Path
 
 sys.dont_write_bytecode = True
 
@@ -43,7 +44,7 @@ def long_sentences(page):
 
 
 def main():
-    os.chdir(os.path.dirname(os.path.dirname(os.path.abspath(__file__))))
+    os.chdir(Path(__file__).resolve().parents[2])
     if sys.argv[1:]:
         sys.exit(__doc__)
     found = [sentence for page in pages() for sentence in long_sentences(page)]

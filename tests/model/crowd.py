@@ -1,13 +1,14 @@
 #!/usr/bin/env python3
 """Prints the cases of crates/atl_phase_tests/data/crowd.txt: 300 units of two factions in 12 regions with markets and orders of all sorts, and what
-comes of them by tests/plain.py."""
-import os, random, sys
+comes of them by tests/model/plain.py."""
+import random, sys
+from pathlib import Path
 
 sys.dont_write_bytecode = True
 
 from plain import Case, World, played
 
-WORLD = os.path.join(os.path.dirname(os.path.abspath(__file__)), "..", "crates", "atl_phase_tests", "data", "crowd.toml")
+WORLD = Path(__file__).resolve().parents[2] / "crates/atl_phase_tests/data/crowd.toml"
 UNITS = 300
 dice = random.Random(1993)
 world = World(WORLD)
@@ -217,7 +218,7 @@ def main():
     menless = [f"menless {u.number}" for u in dice.sample(units, 70)]
     words = [dice.randrange(2**32) for _ in world.regions]
     mailings = [[*mailing(2)], [*mailing(1)]]
-    print("world crowd.toml\n-- 300 units of two factions in 12 regions. Made by tests/crowd.py, which reckons them plainly.\n\ncampaign")
+    print("world crowd.toml\n-- 300 units of two factions in 12 regions. Made by tests/model/crowd.py, which reckons them plainly.\n\ncampaign")
     print("\n".join(lines))
     for part in (
         case("Orders of all sorts.", "orders", mailings, [], lines),

@@ -17,7 +17,7 @@ from collections.abc import Iterator
 from contextlib import closing, contextmanager
 from pathlib import Path
 
-TOP = Path(__file__).resolve().parent.parent
+TOP = Path(__file__).resolve().parents[2]
 # How many seconds a test waits for the program at most.
 PATIENCE = 30
 # Closing a socket with this value for SO_LINGER resets its connection.

@@ -1,7 +1,7 @@
 #!/usr/bin/env python3
 """Plays worlds/coast.toml with simple players, by the program itself: two years each, of four to six factions.
 
-tests/simulate.py [--seeds N]
+tests/model/simulate.py [--seeds N]
 
 It plays the seeds 1 to N (2 by default, and at least), and prints what became of the players, what each kind of work
 brought, and the books. It ends with 'simulate: as expected' and status 0, or with what differs and status 1."""

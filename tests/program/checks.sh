@@ -1,4 +1,4 @@
-# Shell functions that run a command and compare its output, its errors and its status, in a temporary folder. Sourced by tests/upgrade.sh, which has
+# Shell functions that run a command and compare its output, its errors and its status, in a temporary folder. Sourced by tests/program/upgrade.sh, which has
 # set `here` to the top of the repository.
 work=$(mktemp -d)
 trap 'rm -rf "$work"' EXIT

@@ -4,8 +4,8 @@
 # Called without arguments, it ends with 'upgrade: all as expected'. Without sqlite3 what looks into a file by it is passed over, and so is
 # the largest file.
 set -u
-here=$(cd "$(dirname "$0")/.." && pwd)
-. "$here/tests/checks.sh"
+here=$(cd "$(dirname "$0")/../.." && pwd)
+. "$here/tests/program/checks.sh"
 old=$work/old
 mkdir "$old" && cp "$here"/tests/old/*.* "$old" && gunzip "$old"/*.gz || exit 1
 mailing=$work/mailing

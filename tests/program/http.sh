@@ -3,11 +3,11 @@
 # rows of both databases. Called without arguments, it takes some seconds once the program is built, and ends with 'http: all as expected'. It wants
 # curl; without sqlite3 the rows aren't compared, which is said at the end.
 set -u
-here=$(cd "$(dirname "$0")/.." && pwd)
+here=$(cd "$(dirname "$0")/../.." && pwd)
 work=$(mktemp -d)
 trap 'rm -rf "$work"' EXIT
 failed=0
-. "$here/tests/ports.sh"
+. "$here/tests/tools/ports.sh"
 port=$(free_port)
 site=http://127.0.0.1:$port
 net=$work/net.db line=$work/line.db

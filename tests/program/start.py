@@ -18,7 +18,7 @@ from collections.abc import Iterator
 from contextlib import contextmanager
 from pathlib import Path
 
-TOP = Path(__file__).resolve().parent.parent
+TOP = Path(__file__).resolve().parents[2]
 KIT = "kit-of-the-test logic 0"
 BUILT = "crates/atl_gm/out/atl_gm"
 PACK = "release/atl_gm.xz"
@@ -571,18 +571,18 @@ class Release(Trees):
 
 
 class Compared(Trees):
-    """tests/release.py, over releases into which a bug is planted."""
+    """tests/program/release.py, over releases into which a bug is planted."""
 
     def setUp(self) -> None:
         super().setUp()
         self.clean = self.tree()
-        put(self.clean / "tests/release.py", (TOP / "tests/release.py").read_text(encoding="utf-8"), 0o755)
+        put(self.clean / "tests/program/release.py", (TOP / "tests/program/release.py").read_text(encoding="utf-8"), 0o755)
         put(self.clean / BUILT, program_text("one"), 0o755)
         self.replace_tool("rt", f"echo {KIT}")
 
     def compare(self, *words: str) -> subprocess.CompletedProcess[str]:
         environment = self.environment | {"PATH": f"{self.tools}:/usr/bin:/bin"}
-        call = [str(self.clean / "tests/release.py"), *words]
+        call = [str(self.clean / "tests/program/release.py"), *words]
         return subprocess.run(call, cwd=self.clean, env=environment, capture_output=True, text=True)
 
     def assert_finds(self, *texts: str, built: bool = False) -> None:

@@ -25,10 +25,10 @@
 # club of MODERATOR.md, which three factions have joined. Without curl or sqlite3 a page is played up to the block that
 # needs it. The program is $GM, or else the gm of this repository.
 set -u
-here=$(cd "$(dirname "$0")/.." && pwd)
+here=$(cd "$(dirname "$0")/../.." && pwd)
 work=$(mktemp -d)
 trap 'rm -rf "$work"' EXIT
-. "$here/tests/ports.sh"
+. "$here/tests/tools/ports.sh"
 port=$(free_port)
 block=$work/block printed=$work/printed answer=$work/answer
 failed=0

@@ -3,13 +3,14 @@
 crates/*/specs that they rest on, once and with its place. The definitions come in the order of the sections of docs/RULES.md, and then those that no section names, crate by crate.
 The types of the code that they speak of follow.
 
-tests/believe.py            prints all of it, then the names of the kit that it uses, and last how much it is
-tests/believe.py --count    prints how much it is
-tests/believe.py --check    sees that each name has its definition, that nothing for proofs alone is reached, and that docs/PROVED.md gives the counts of --count and names definitions that
+tests/pages/believe.py            prints all of it, then the names of the kit that it uses, and last how much it is
+tests/pages/believe.py --count    prints how much it is
+tests/pages/believe.py --check    sees that each name has its definition, that nothing for proofs alone is reached, and that docs/PROVED.md gives the counts of --count and names definitions that
                             are there
 
 It follows names and not files, so a definition that nothing cites isn't printed. The definitions of the kit are listed by name alone."""
 import glob, itertools, os, re, signal, sys
+from pathlib import Path
 
 sys.dont_write_bytecode = True
 
@@ -254,7 +255,7 @@ def faults_of(all_of, contract):
 
 
 def main():
-    os.chdir(os.path.dirname(os.path.dirname(os.path.abspath(__file__))))
+    os.chdir(Path(__file__).resolve().parents[2])
     if sys.argv[1:] not in ([], ["--count"], ["--check"]):
         sys.exit(__doc__)
     all_of, contract = read_all()

@@ -1,7 +1,7 @@
 #!/usr/bin/env python3
 """Calculates cases of phases once more by the sentences of docs/RULES.md, simply and slowly: for each unit it looks at all units.
 
-tests/plain.py FILE..    plays the cases of files of crates/atl_phase_tests/data, and tells each line in which they differ from what is written there"""
+tests/model/plain.py FILE..    plays the cases of files of crates/atl_phase_tests/data, and tells each line in which they differ from what is written there"""
 import os, sys
 
 sys.dont_write_bytecode = True

@@ -9,7 +9,7 @@ import tempfile
 import unittest
 from pathlib import Path
 
-TOP = Path(__file__).resolve().parent.parent
+TOP = Path(__file__).resolve().parents[2]
 PROGRAM = subprocess.run([TOP / "gm", "path"], check=True, capture_output=True, text=True).stdout.strip()
 FACTIONS = 7
 MOST_BYTES = 65_536

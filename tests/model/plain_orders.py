@@ -1,4 +1,4 @@
-"""The phases that carry orders out one by one, and lessons, as tests/plain.py reckons them."""
+"""The phases that carry orders out one by one, and lessons, as tests/model/plain.py reckons them."""
 from plain_campaign import HOLDING_LIMIT, MEN_LIMIT, Fault, Structure, Unit, must, own
 
 LAST_UNIT, MOST_UNITS, MOST_STRUCTURES = 999_999_999, 100_000, 10_000

@@ -20,7 +20,7 @@ from dataclasses import dataclass
 from pathlib import Path
 from typing import NamedTuple
 
-TOP = Path(__file__).resolve().parent.parent
+TOP = Path(__file__).resolve().parents[2]
 PROGRAM = subprocess.run([TOP / "gm", "path"], check=True, capture_output=True, text=True).stdout.strip()
 SMALL = (TOP / "worlds/small.toml").read_text(encoding="utf-8")
 UNLIMITED = resource.RLIM_INFINITY
@@ -29,6 +29,8 @@ KB = 1024
 STACKS = (*range(160, 1_025, 96), 1_600, 2_048, 2_400, 3_072, 4_092, 4_096, 5_120, 8_192)
 # docs/FORMATS.md, "The program": from this limit on every command is carried out.
 ENOUGH = 4_096
+# What the dynamic loader of glibc says where it finds no room.
+NOT_LOADED = (b"shared libraries", b"cannot allocate TLS data structures")
 # How deep toml nests values, and how many parts a key may have.
 DEEP = 80
 LONG_KEY = ".".join("a" * DEEP)
@@ -258,7 +260,7 @@ def stage_of(told: Outcome, wanted: Outcome, has_started: bool) -> int | None:
     """How far the program came: 0 not started, 1 not loaded, 2 Memory, 3 the answer; None for any other outcome."""
     if told.status < 0 and not has_started:
         return 0
-    if told.status == 127 and b"shared libraries" in told.error:
+    if told.status == 127 and any(reason in told.error for reason in NOT_LOADED):
         return 1
     return {Outcome(*MEMORY): 2, wanted: 3}.get(told)
 

@@ -4,7 +4,7 @@
 # 'web: all as expected'. With '--shots FOLDER' it puts pictures of the page there. Where a program that it needs is
 # missing, it says so and ends with status 77.
 set -u
-here=$(cd "$(dirname "$0")/.." && pwd)
+here=$(cd "$(dirname "$0")/../.." && pwd)
 PATH=$PATH:/usr/sbin
 shots=()
 
@@ -12,7 +12,7 @@ if [ "${1:-}" = --shots ] && [ "$#" = 2 ]; then
   mkdir -p "$2"
   shots=("$(cd "$2" && pwd)")
 elif [ "$#" -gt 0 ]; then
-  echo 'use: tests/web.sh [--shots FOLDER]' >&2
+  echo 'use: tests/web/web.sh [--shots FOLDER]' >&2
   exit 2
 fi
 

@@ -20,7 +20,7 @@ from collections.abc import Mapping
 from email.utils import parsedate_to_datetime
 from pathlib import Path
 
-TOP = Path(__file__).resolve().parent.parent
+TOP = Path(__file__).resolve().parents[2]
 TOOLS = ("debootstrap", "pandoc", "dpkg-deb", "chroot", "tar")
 SUITE = "bookworm"
 INCLUDED = "adduser,python3,sqlite3"

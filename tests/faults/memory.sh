@@ -2,14 +2,14 @@
 # Refuses requests for memory, one at a time, and checks each time that the answer is Memory and nothing has changed, or that the outcome is
 # that of enough memory; and that Memory is never the answer if none was refused. This is done within one process, for the calls
 # that crates/atl_memory_tests tries, and for the subcommands of the program, each on a copy of a file. The heap that refuses is
-# tests/fuse.c, which is put before the C library's. Called as
-#   tests/memory.sh [STEP [PROGRAM_STEP]]
+# tests/faults/fuse.c, which is put before the C library's. Called as
+#   tests/faults/memory.sh [STEP [PROGRAM_STEP]]
 # it refuses every STEP-th growth of the calls (1 where none is said) and every PROGRAM_STEP-th of the subcommands (97), each up to a run
 # without a refusal. Of a joining over HTTP it refuses ten times as many growths, from about where `serve` takes its port on. It wants cc,
 # glibc, curl and sqlite3, takes about two minutes once the program of calls is built, and ends with 'memory: all as expected'. Without the kit, which
 # builds that program, the calls are passed over, and the status is 77.
 set -u
-here=$(cd "$(dirname "$0")/.." && pwd)
+here=$(cd "$(dirname "$0")/../.." && pwd)
 step=${1:-1} program_step=${2:-97}
 [[ $step =~ ^[1-9][0-9]*$ && $program_step =~ ^[1-9][0-9]*$ ]] || { echo 'memory: a step is a number from 1' >&2; exit 2; }
 for tool in cc curl sqlite3 python3; do
@@ -18,7 +18,7 @@ done
 work=$(mktemp -d)
 trap 'rm -rf "$work"' EXIT
 failed=0 growths=1 code=
-. "$here/tests/ports.sh"
+. "$here/tests/tools/ports.sh"
 
 fail() {
   echo "memory: $*"
@@ -26,7 +26,7 @@ fail() {
 }
 
 heap=$work/fuse.so
-cc -O2 -fPIC -shared -o "$heap" "$here/tests/fuse.c" || exit 2
+cc -O2 -fPIC -shared -o "$heap" "$here/tests/faults/fuse.c" || exit 2
 db=$work/campaign.db
 "$here/gm" found --world "$here/worlds/isle.toml" --db "$db" --pass gm >/dev/null || exit 1
 program=$("$here/gm" path)

@@ -3,11 +3,11 @@
 # the command or from after it: by `report`, by the rows of all tables, and by `PRAGMA integrity_check`. Before that, sqlite3 alone checks the same
 # on a copy of what the kill left. Where strace is there, each command is then killed at each system call that it makes, and each of its
 # calls on files is made to fail, once with a fault of the disk and once with a full disk. Called as
-#   tests/killed.sh [KILLS]
+#   tests/faults/killed.sh [KILLS]
 # with 200 kills where none is said, it takes one to four minutes once the program is built, wants sqlite3, and ends with what was found. A command that
 # had ended before its moment counts as no kill.
 set -u
-here=$(cd "$(dirname "$0")/.." && pwd)
+here=$(cd "$(dirname "$0")/../.." && pwd)
 kills=${1:-200}
 command -v sqlite3 >/dev/null || { echo 'killed: sqlite3 is not there' >&2; exit 2; }
 work=$(mktemp -d)

@@ -5,7 +5,7 @@
 # without arguments, it takes about 80 seconds once the program is built, and ends with 'slow: all as expected'. It
 # wants Python 3.
 set -u
-here=$(cd "$(dirname "$0")/.." && pwd)
+here=$(cd "$(dirname "$0")/../.." && pwd)
 work=$(mktemp -d)
 trap 'rm -rf "$work"' EXIT
 

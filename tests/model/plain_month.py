@@ -1,4 +1,4 @@
-"""The phases that share pots, and those that end a month, as tests/plain.py reckons them."""
+"""The phases that share pots, and those that end a month, as tests/model/plain.py reckons them."""
 from plain_campaign import HOLDING_LIMIT, MEN_LIMIT, MONTH_LONG, Fault, Order, must, own, stock
 
 HUNDRED = 100

@@ -1,7 +1,7 @@
 #!/usr/bin/env python3
 """Compares release/ with what it was made from, and prints what differs. Called as
-  tests/release.py            for the checksums of the sources, the pack and the program, and release/README.md
-  tests/release.py PROGRAM    also for the bytes of a program that was built from the sources as they are, and the kit
+  tests/program/release.py            for the checksums of the sources, the pack and the program, and release/README.md
+  tests/program/release.py PROGRAM    also for the bytes of a program that was built from the sources as they are, and the kit
 It ends with 'release: as recorded'."""
 import importlib.machinery
 import importlib.util
@@ -13,7 +13,7 @@ from types import ModuleType
 
 sys.dont_write_bytecode = True
 
-TOP = Path(__file__).resolve().parent.parent
+TOP = Path(__file__).resolve().parents[2]
 REMEDY = "call tools/release once the program is built"
 
 

@@ -1,9 +1,9 @@
 """A campaign that the program itself keeps: each command is a process of its own."""
 import os, re, subprocess
+from pathlib import Path
 
 PASS, MODERATOR = "pw", "moderator"
-HERE = os.path.dirname(os.path.abspath(__file__))
-ROOT = os.path.dirname(os.path.dirname(HERE))
+ROOT = Path(__file__).resolve().parents[3]
 
 
 class Club:
