@@ -21,10 +21,10 @@ use Rattle.atl_records.specs.declared.records.Unit.{Unit}
 use Rattle.atl_records.specs.Books.{amount_in, amount_number}
 use Rattle.atl_records.specs.Holdings.{amount_of, with_amount_of}
 use Rattle.atl_campaign.specs.Covers.{Covers, ThingsStayMarked, StaysMarked, StayMarked, MarksChanges, without_goods, days_under, items_under, said_by_campaign_row, unstocked}
-use Rattle.atl_campaign.specs.Marking.{MarksStock, mark_amount, mark_faction, mark_region, mark_unit_added}
+use Rattle.atl_campaign.specs.Marking.{MarksStock, mark_amount, mark_faction, mark_peasants, mark_region, mark_region_money, mark_unit_added}
 use Rattle.atl_campaign.specs.Marks.{Marks, MarkedThings, is_thing_marked, thing_marked, with_thing}
 use Rattle.atl_campaign.specs.Stocks.{stock_of}
-use Rattle.atl_campaign.specs.Campaign.{CampaignValue, MarkedCampaign, faction_changed, region_changed, with_booking, with_stock}
+use Rattle.atl_campaign.specs.Campaign.{CampaignValue, MarkedCampaign, faction_changed, region_changed, with_booking, with_peasants, with_region_money, with_stock}
 use Rattle.atl_records.proofs.EveryLaws.{get-insert_other}
 use Rattle.atl_records.proofs.HoldingLaws.{amount_after_setting, set_other}
 use Rattle.atl_campaign.proofs.RegionLaws.{booking-other_amount}
@@ -315,8 +315,9 @@ shown_still shows values n k v w is same = ap shows (get-insert nat_cmp_total va
 abbrev in_stock : ℕ → Option Region → ℕ
 in_stock item o = option_map_or (λ r. amount_of r.stocks item) o 0
 
-pub marks-region : (f : Region → Region) → ((r : Region) → (f r).stocks ≡ r.stocks) → (c : MarkedCampaign) (n : ℕ) → MarksChanges c (record { value = region_changed f c.value n; marks = mark_region c n })
-marks-region f same c n =
+row-marked : (f : Region → Region) → ((r : Region) → (f r).stocks ≡ r.stocks) → (c : MarkedCampaign) (n : ℕ)
+    → MarksChanges c (record { value = region_changed f c.value n; marks = record c.marks { regions = marked_with c.marks.regions n (get c.value.regions n) } })
+row-marked f same c n =
     let after : FinMap nat_cmp Region → Option Region → MarkedCampaign = λ m o. record { value = record c.value { regions = m }; marks = record c.marks { regions = marked_with c.marks.regions n o } } in
     holds_of_changed (λ m o. MarksChanges c (after m o)) f c.value.regions n (marks-refl c) (λ v is.
     let next = after (map.insert c.value.regions n (f v)) (Some v) in
@@ -327,6 +328,46 @@ marks-region f same c n =
       | Stocks ↦ λ k free. shown_still (in_stock k.1) c.value.regions n k.0 v (f v) is (λ _. ap (λ s. amount_of s k.1) (same v))
       | _ ↦ λ k free. refl
     ]))
+
+-- numbers that pass the test of equality are equal
+equal : (a b : ℕ) → (a == b) ≡ true → a ≡ b
+equal a b same = grind (arith, nat_tests)
+
+-- a number of region n, which `of` reads, is set to x by f; if it was another, the region's row is marked
+module _ (of : Region → ℕ) (f : Region → Region) (x : ℕ) (same : (r : Region) → (f r).stocks ≡ r.stocks) (again : (r : Region) → of r ≡ x → f r ≡ r) (c : MarkedCampaign) (n : ℕ) where
+  -- setting a region's number to what it is already needs no mark (MarksChanges)
+  number_stays : (v : Region) → get c.value.regions n ≡ Some v → of v ≡ x → MarksChanges c (record c { value = record c.value { regions = map.insert c.value.regions n (f v) } })
+  number_stays v is was =
+      let next : MarkedCampaign = record c { value = record c.value { regions = map.insert c.value.regions n (f v) } } in
+      part_by_part c next (λ p k h. h)
+      (λ p. elim p as (KeepsUnmarked next.marks c.value next.value) [
+        | Regions ↦ λ k free. shown_still (option_map unstocked) c.value.regions n k v (f v) is (λ _. ap (λ r. Some (unstocked r)) (again v was))
+        | Stocks ↦ λ k free. shown_still (in_stock k.1) c.value.regions n k.0 v (f v) is (λ _. ap (λ s. amount_of s k.1) (same v))
+        | _ ↦ λ k free. refl
+      ])
+
+  -- setting the number, with the region's row marked if it was another (`mark_region`), marks all that changes
+  marks-region : MarksChanges c (record { value = region_changed f c.value n; marks = mark_region of c n x })
+  marks-region = by_number (option_map_or of (get c.value.regions n) 0 == x) refl
+    where
+      -- for marks-region: all that changes is marked, whether the region has the number x already (b) or not
+      by_number : (b : Bool) → (option_map_or of (get c.value.regions n) 0 == x) ≡ b
+          → MarksChanges c (record { value = region_changed f c.value n; marks = record c.marks { regions = marked_with c.marks.regions n (if b then None else get c.value.regions n) } })
+      by_number true was =
+          holds_of_changed (λ m o. MarksChanges c (record c { value = record c.value { regions = m } })) f c.value.regions n (marks-refl c)
+          (λ v is. number_stays v is (sym (ap (λ o. option_map_or of o 0) is) ∙ equal (option_map_or of (get c.value.regions n) 0) x was))
+      by_number false was = row-marked f same c n
+
+-- setting the peasants of a region, with its row marked if they were others (`mark_peasants`), marks all that changes
+pub marks-peasants : (c : MarkedCampaign) (n peasants : ℕ) → MarksChanges c (record { value = with_peasants c.value n peasants; marks = mark_peasants c n peasants })
+marks-peasants c n peasants =
+    marks-region (λ r. r.peasants) (λ r. record r { peasants = peasants }) peasants (λ r. refl) (λ r was. ap (λ p. record r { peasants = p }) (sym was)) c n
+
+-- setting the money of a region, with its row marked if it was another amount (`mark_region_money`), marks all that
+-- changes
+pub marks-region-money : (c : MarkedCampaign) (n money : ℕ) → MarksChanges c (record { value = with_region_money c.value n money; marks = mark_region_money c n money })
+marks-region-money c n money =
+    marks-region (λ r. r.money) (λ r. record r { money = money }) money (λ r. refl) (λ r was. ap (λ m. record r { money = m }) (sym was)) c n
 
 -- the stock of an item is set in a region; if it was another amount, it is marked, alone or with all of the region
 module _ (c : MarkedCampaign) (n item amount : ℕ) where
@@ -411,9 +452,6 @@ module _ (c : MarkedCampaign) (n item amount : ℕ) where
   pub marks-stock : (m : Marks) → MarksStock c n item amount m → MarksChanges c (record { value = with_stock c.value n item amount; marks = m })
   marks-stock m how = by_amount (stock_of c.value n item == amount) refl
     where
-      equal : (a b : ℕ) → (a == b) ≡ true → a ≡ b
-      equal a b same = grind (arith, nat_tests)
-
       was : (v : Region) → get c.value.regions n ≡ Some v → (stock_of c.value n item == amount) ≡ true → amount_of v.stocks item ≡ amount
       was v is same = sym (ap (in_stock item) is) ∙ equal (stock_of c.value n item) amount same
 

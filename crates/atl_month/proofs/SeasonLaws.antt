@@ -21,12 +21,12 @@ use Rattle.atl_records.specs.declared.records.Region.{Region}
 use Rattle.atl_records.specs.Books.{BooksValue, amount_in, after_booking}
 use Rattle.atl_campaign.specs.Good.{IsSteady}
 use Rattle.atl_campaign.specs.Covers.{MarksChanges}
-use Rattle.atl_campaign.specs.Marking.{mark_amount, mark_region}
+use Rattle.atl_campaign.specs.Marking.{mark_amount, mark_peasants, mark_region_money}
 use Rattle.atl_campaign.specs.Campaign.{MarkedCampaign, CampaignValue, with_booking, with_peasants, with_region_money}
 use Rattle.atl_records.specs.Amounts.{region_amount}
 use Rattle.atl_campaign.specs.Totals.{Balances, total}
 use Rattle.atl_records.proofs.BookLaws.{booked-after_booking, booked_for}
-use Rattle.atl_campaign.proofs.CoverLaws.{marks-region, marks-trans}
+use Rattle.atl_campaign.proofs.CoverLaws.{marks-peasants, marks-region-money, marks-trans}
 use Rattle.atl_campaign.proofs.RegionLaws.{IsRegion-money, IsRegion-peasants, region-changed, steady-amount, steady-region, total-booking, total-region}
 use Rattle.atl_records.proofs.EveryLaws.{none_some}
 use Rattle.atl_phase.specs.Meaning.{IsNear, LeavesWell, both_move, most_moved, moves_only}
@@ -129,13 +129,13 @@ births_first c room = room_less (both_move (moves_only most_amount Births People
 -- ---- marks
 
 pub growth_marks : (c d e f g : MarkedCampaign) (n peasants money born earned : ℕ)
-    → d.value ≡ with_peasants c.value n peasants → d.marks ≡ mark_region c n
-    → e.value ≡ with_region_money d.value n money → e.marks ≡ mark_region d n
+    → d.value ≡ with_peasants c.value n peasants → d.marks ≡ mark_peasants c n peasants
+    → e.value ≡ with_region_money d.value n money → e.marks ≡ mark_region_money d n money
     → f.value ≡ with_booking e.value Births People (pos born) → f.marks ≡ mark_amount e Births People
     → g.value ≡ with_booking f.value Income Money (pos earned) → g.marks ≡ mark_amount f Income Money → MarksChanges c g
 growth_marks c d e f g n peasants money born earned d_is d_marks e_is e_marks f_is f_marks g_is g_marks =
-    let people = marks_by c d _ d_is d_marks (marks-region (λ r. record r { peasants = peasants }) (λ r. refl) c n) in
-    let treasure = marks_by d e _ e_is e_marks (marks-region (λ r. record r { money = money }) (λ r. refl) d n) in
+    let people = marks_by c d _ d_is d_marks (marks-peasants c n peasants) in
+    let treasure = marks_by d e _ e_is e_marks (marks-region-money d n money) in
     booked_marks c f g Income Money (pos earned) (booked_marks c e f Births People (pos born) (marks-trans c d e people treasure) f_is f_marks) g_is g_marks
 
 -- ---- the terrains of a world

@@ -27,6 +27,19 @@ pub(crate) fn element_path(alloc: Global, key: &str, i: usize) -> Result<Text, A
     Ok(Text::from_string(format!(in alloc; "{key}[{i}]")?))
 }
 
+/// The path of a key of the i-th element of the array at the path `array`, as `region[0].number`.
+pub(crate) fn element_key_path(
+    alloc: Global,
+    array: &str,
+    i: usize,
+    key: &str,
+) -> Result<Text, AllocError>
+    ensures { IfOk result (λ text. text ≡ path (element_path array.now i) key.now) }
+{
+    let element = element_path(alloc, array, i)?;
+    path(alloc, element.as_str(), key)
+}
+
 pub(crate) fn member<'a>(table: &'a Table, key: &str) -> Option<&'a Value>
     ensures { option_map (λ v. view v.now) result ≡ get_member key.now (table_view table.now) }
 {

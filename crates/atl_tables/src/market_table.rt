@@ -9,10 +9,10 @@ ghost use Rattle.atl_tables.specs.Results.{Gives};
 ghost use Rattle.atl_tables.specs.MarketTable.{market_keys, market_from, markets_keys, markets_from, market_known, market_of};
 ghost use Rattle.atl_world.specs.Worlds.{IsMarket};
 
-use crate::elements::{FromTable, read_optional_array};
+use crate::elements::{FromTable, array_elements};
 use crate::fault::WorldFault;
 use crate::has_number::HasNumber;
-use crate::keys::{self, path};
+use crate::keys::{self, member, path};
 use crate::titles::known_number;
 use crate::world_draft::{Draft, WorldDraft};
 use atl_world::limits::{MOST_AMOUNT, MOST_MARKETS, MOST_PRICE};
@@ -70,7 +70,7 @@ impl FromTable for MarketDraft {
 
 /// The markets of the region at a path, at most `MOST_MARKETS` in the order of the file, else the
 /// first fault of their array or of one of them.
-#[tactic(auto, unfolding(crate::specs::MarketTable::markets_keys, crate::specs::MarketTable::markets_from))]
+#[tactic(auto, unfolding(crate::specs::MarketTable::markets_keys, crate::specs::MarketTable::markets_from, crate::specs::Keys::optional_array_at, crate::specs::Arrays::list_conditions, crate::specs::Arrays::list_of))]
 pub(crate) fn markets(
     alloc: Global,
     at: &str,
@@ -80,8 +80,13 @@ pub(crate) fn markets(
         (markets_from at.now (table_view table.now)) }
     ensures sound { IfOk result (λ v. All IsMarketDraft v) }
 {
-    let array = path(alloc, at, "market")?;
-    read_optional_array::<MarketDraft>(alloc, MOST_MARKETS, array.as_str(), "market", table)
+    match member(table, "market") {
+        None => Ok(Sequence::new(alloc)),
+        Some(value) => {
+            let array = path(alloc, at, "market")?;
+            array_elements::<MarketDraft>(alloc, 0, MOST_MARKETS, array.as_str(), value)
+        }
+    }
 }
 
 impl Titled for MarketDraft {

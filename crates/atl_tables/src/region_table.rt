@@ -1,19 +1,23 @@
 //! Reads the tables `[[region]]` and looks up the terrains and items that they name. A call that
 //! may return a fault may also return `Memory`. See docs/FORMATS.md, "The world file".
-ghost use Rattle.std.specs.Prelude.{◌≡◌, IfOk, length, map};
+ghost use Rattle.std.specs.Prelude.{◌≡◌, ◌≤◌, ◌<◌, IfOk, codes, length, map, unwrap_or};
 ghost use Rattle.toml.specs.View.{table_view};
 ghost use Rattle.atl_tables.specs.Drafts.{AreRegionBasics, IsOldRegion, IsRegionDraft};
 ghost use Rattle.atl_tables.specs.Faults.{first_fault};
+ghost use Rattle.atl_tables.specs.Keys.{path, element_path};
 ghost use Rattle.atl_tables.specs.Results.{Gives};
 ghost use Rattle.atl_tables.specs.RegionTable.{basics_keys, basics_from, side_keys, sides_from, old_region_keys, old_region_from, as_draft, region_keys, region_from, duplicate_market_items, region_known, region_of};
+ghost use Rattle.atl_tables.specs.Titles.{number_of, name_is_known};
+ghost use Rattle.atl_world.specs.Limits.{most_numbered};
 ghost use Rattle.atl_world.specs.Worlds.{IsRegionPlan};
 
 use crate::elements::FromTable;
 use crate::fault::WorldFault;
 use crate::has_number::{HasNumber, by_number};
-use crate::keys::{self, element_path, path};
+use crate::keys::{self, element_key_path};
 use crate::market_table::{MarketDraft, markets};
-use crate::titles::{HasUniqueNames, known_number, no_duplicate_names};
+use crate::terrain_table::TerrainDraft;
+use crate::titles::{HasUniqueNames, first_duplicate, number_of};
 use crate::world_draft::{Draft, WorldDraft, resolve_all};
 use atl_world::limits::{LAST_REGION, MOST_AMOUNT};
 use atl_world::{RegionPlan, Sequence, Text, let_go};
@@ -173,9 +177,35 @@ impl HasUniqueNames for RegionDraft {
 
     #[tactic(auto, unfolding(crate::specs::RegionTable::duplicate_market_items))]
     fn no_duplicates_inside(&self, alloc: Global, i: usize) -> Result<(), WorldFault> {
-        let element = element_path(alloc, "region", i)?;
-        let element = path(alloc, element.as_str(), "market")?;
-        no_duplicate_names(alloc, element.as_str(), "item", self.markets.as_slice())
+        match first_duplicate(alloc, self.markets.as_slice())? {
+            None => Ok(()),
+            Some(k) => {
+                let markets = element_key_path(alloc, "region", i, "market")?;
+                let item = element_key_path(alloc, markets.as_str(), k, "item")?;
+                Err(WorldFault::TwoNames(item))
+            }
+        }
+    }
+}
+
+/// The number of the terrain that the i-th region of the file names, else the fault UnknownName at
+/// the path of its `terrain`.
+fn known_terrain(
+    alloc: Global,
+    terrains: &[TerrainDraft],
+    i: usize,
+    name: &Text,
+) -> Result<u16, WorldFault>
+    requires { length terrains.now ≤ most_numbered }
+    ensures value { Gives (λ n. n) result
+        (name_is_known (path (element_path (codes "region") i) (codes "terrain"))
+        (number_of (λ d. d.name) terrains.now name.now))
+        (unwrap_or (number_of (λ d. d.name) terrains.now name.now) 0) }
+    ensures below { IfOk result (λ n. n < length terrains.now) }
+{
+    match number_of(terrains, name) {
+        Some(number) => Ok(number),
+        None => Err(WorldFault::UnknownName(element_key_path(alloc, "region", i, "terrain")?)),
     }
 }
 
@@ -193,14 +223,7 @@ impl Draft for RegionDraft {
 
     #[tactic(auto, unfolding(crate::specs::RegionTable::region_known, crate::specs::RegionTable::region_of))]
     fn resolve(&self, alloc: Global, all: &WorldDraft, i: usize) -> Result<RegionPlan, WorldFault> {
-        let element = element_path(alloc, "region", i)?;
-        let terrain = known_number(
-            alloc,
-            all.terrains.as_slice(),
-            "terrain",
-            element.as_str(),
-            &self.basics.terrain,
-        )?;
+        let terrain = known_terrain(alloc, all.terrains.as_slice(), i, &self.basics.terrain)?;
         let markets = resolve_all(alloc, all, self.markets.as_slice())?;
         let markets = by_number(alloc, markets.into_vec())?;
         let name = self.basics.name.copy(alloc)?;

@@ -8,7 +8,7 @@ ghost use Rattle.atl_tables.specs.TerrainTable.{economy_at, terrain_keys, terrai
 
 use crate::elements::FromTable;
 use crate::fault::WorldFault;
-use crate::keys::{self, element_path, path};
+use crate::keys::{self, element_key_path};
 use crate::output_table::{Output, amounts_of, keys_name_items, no_duplicate_keys, outputs};
 use crate::titles::HasUniqueNames;
 use crate::world_draft::{Draft, WorldDraft};
@@ -114,9 +114,8 @@ impl Draft for TerrainDraft {
 
     #[tactic(auto, unfolding(crate::specs::TerrainTable::terrain_known, crate::specs::TerrainTable::terrain_of))]
     fn resolve(&self, alloc: Global, all: &WorldDraft, i: usize) -> Result<Terrain, WorldFault> {
-        let element = element_path(alloc, "terrain", i)?;
-        let element = path(alloc, element.as_str(), "output")?;
-        keys_name_items(alloc, all, element.as_str(), self.output.as_slice())?;
+        let outputs = element_key_path(alloc, "terrain", i, "output")?;
+        keys_name_items(alloc, all, outputs.as_str(), self.output.as_slice())?;
         let output = amounts_of(alloc, all.items.as_slice(), self.output.as_slice())?;
         let name = self.name.copy(alloc)?;
         Ok(Terrain {
@@ -136,8 +135,7 @@ impl HasUniqueNames for TerrainDraft {
 
     #[tactic(auto, unfolding(crate::specs::TerrainTable::duplicate_output_keys))]
     fn no_duplicates_inside(&self, alloc: Global, i: usize) -> Result<(), WorldFault> {
-        let element = element_path(alloc, "terrain", i)?;
-        let element = path(alloc, element.as_str(), "output")?;
-        no_duplicate_keys(alloc, element.as_str(), self.output.as_slice())
+        let outputs = element_key_path(alloc, "terrain", i, "output")?;
+        no_duplicate_keys(alloc, outputs.as_str(), self.output.as_slice())
     }
 }

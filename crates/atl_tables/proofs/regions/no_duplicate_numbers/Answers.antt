@@ -18,7 +18,7 @@ returns-in-Some c =
     let d = c.index-drafts-i.result in
     let ds = c.args.drafts.now in
     let test : some_region_has_number d.basics.number (take c.loop-i.i ds) ≡ true = sym (c.loop-i.invariant.seen d.basics.number) ∙ ap (λ (e : RegionDraft). is_some (get c.loop-i.seen e.basics.number)) c.index-drafts-i.is ∙ ap is_some (sym c.in-Some.ensures) in
-    rw (c.in_ok-path.ensures, c.as_str.ensures, c.in_ok-element.ensures) (error_at_index_is_error_of_all (duplicate_number_at ds) ds c.loop-i.i d _ c.loop-i-test.true c.index-drafts-i.is c.loop-i.invariant.faults (TwoNames (path (element_path (codes "region") c.loop-i.i) (codes "number"))) (duplicate_number_fault ds c.loop-i.i d true test))
+    rw c.in_ok-path.ensures (error_at_index_is_error_of_all (duplicate_number_at ds) ds c.loop-i.i d _ c.loop-i-test.true c.index-drafts-i.is c.loop-i.invariant.faults (TwoNames (path (element_path (codes "region") c.loop-i.i) (codes "number"))) (duplicate_number_fault ds c.loop-i.i d true test))
 
 pub loop-i-preserved : goal.loop-i-preserved
 loop-i-preserved c =

@@ -1,4 +1,4 @@
-use Rattle.std.proofs.Common.{◌≡◌, ◌≤◌, ◌-◌, ◌*◌, ◌∙◌, ℕ, Some, refl, sym, ap, arith, rules}
+use Rattle.std.proofs.Common.{◌≡◌, ◌≤◌, ◌-◌, ◌*◌, ◌∙◌, ℕ, Some, sym, ap, arith, rules}
 use Rattle.std.specs.Prelude.{neg_ℤ, pos}
 use Rattle.std.specs.FinMap.{get}
 use Rattle.atl_records.specs.declared.books.BooksEntry.TheVariants.{Recruiting}
@@ -7,7 +7,7 @@ use Rattle.atl_records.specs.Books.{amount_in}
 use Rattle.atl_records.specs.Limits.{holding_limit}
 use Rattle.atl_campaign.specs.Campaign.{CampaignValue, with_booking, with_peasants}
 use Rattle.atl_campaign.specs.Lending.{with_holding_at}
-use Rattle.atl_campaign.proofs.CoverLaws.{marks-region, marks-trans}
+use Rattle.atl_campaign.proofs.CoverLaws.{marks-peasants, marks-trans}
 use Rattle.atl_phase.proofs.ChangeLaws.{changed_held, men_changes, money_changes, then_changes}
 use Rattle.atl_phase.proofs.MarkLaws.{booked_marks, marks_by}
 use Rattle.atl_phase.proofs.MeaningLaws.{amount_room_for_less}
@@ -56,5 +56,5 @@ returns-clause-marks c =
     let left = c.in-Some-region.found.now.peasants - c.args.share in
     let set = then_changes old c.set_men.new.self mid n _ _ (men_changes old c.set_men.new.self n _ c.set_men.ensures.what c.set_men.ensures.marks) (money_changes c.set_men.new.self mid n _ c.set_money.ensures.what c.set_money.ensures.marks) in
     booked_marks old last c.book_taken.new.campaign Recruiting Money _
-    (marks-trans old mid last set.marks (marks_by mid last _ c.set_peasants.ensures.what c.set_peasants.ensures.marks (marks-region (λ r. record r { peasants = left }) (λ r. refl) mid region)))
+    (marks-trans old mid last set.marks (marks_by mid last _ c.set_peasants.ensures.what c.set_peasants.ensures.marks (marks-peasants mid region left)))
     c.book_taken.ensures.what c.book_taken.ensures.marks
