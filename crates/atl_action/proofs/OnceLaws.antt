@@ -2,7 +2,6 @@
 use Rattle.std.proofs.Common.{ℕ, ◌*◌, List, [], ◌∷◌, Option, Some, None, filter, map, arith}
 use Rattle.std.specs.Prelude.{fold}
 use Rattle.std.specs.Option.{option_map_or}
-use Rattle.std.specs.FinMap.{values}
 use Rattle.atl_records.specs.declared.event.EventFault.{EventFault}
 use Rattle.atl_records.specs.declared.event.Outcome.TheVariants.{Fault}
 use Rattle.atl_records.specs.Events.{event_fault_number}
@@ -43,4 +42,4 @@ module _ (c : CampaignValue) where
 -- after all orders of TEACH, of no unit more men were taught than it has
 pub nobody_twice : NobodyIsTaughtTwice
 unfolding after_lessons
-nobody_twice c learning m = once_all c learning (values (orders_of is_teaching ByUnit m.aliases m.readings)) ((λ n. 0), m) (λ n. omega arith)
+nobody_twice c learning m = once_all c learning (orders_of is_teaching ByUnit m.aliases m.readings) ((λ n. 0), m) (λ n. omega arith)

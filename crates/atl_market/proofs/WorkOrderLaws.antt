@@ -30,7 +30,7 @@ use Rattle.atl_phase.specs.OrderEffects.{is_of_faction}
 use Rattle.atl_market.specs.Puts.{with_entries}
 use Rattle.atl_market.specs.Idle.{all_idle_orders, all_work, idle_order, own_unit, own_writers}
 use Rattle.atl_market.specs.Unordered.{has_own_order}
-use Rattle.atl_market.specs.Work.{idle_task, idle_work, is_idle, is_work, sorted_by_unit, work_orders, written_work}
+use Rattle.atl_market.specs.Work.{idle_task, idle_work, is_idle, is_work, work_orders, written_work}
 use Rattle.atl_market.proofs.PotLaws.{inserted_is_in, still_in_after_entries}
 use Rattle.atl_market.proofs.WantLaws.{appended_entries}
 
@@ -277,4 +277,4 @@ unfolding work_orders
 work_sorted c m os list are moved up =
     let ts = orders_by_unit is_month_long m in
     listed_tasks (key_of ByUnit) os list (all_work c ts) are (work_apart c ts (month_long_keys_differ m)) moved up
-    ∙ ap sorted_by_unit (all_are c ts)
+    ∙ ap (sorted_by (key_of ByUnit)) (all_are c ts)

@@ -1,5 +1,6 @@
 -- What is left of the units of a faction that sent no mailing. See docs/RULES.md, "Closing a month".
-use Rattle.std.specs.Prelude.{◌≡◌, ◌≤◌, ◌<◌, ◌-◌, ◌==◌, ℕ, List, sum_by, if◌then◌else◌}
+use Rattle.std.specs.Prelude.{◌≡◌, ◌≤◌, ◌<◌, ◌-◌, ◌==◌, ℕ, List, None, sum_by, if◌then◌else◌}
+use Rattle.std.specs.FinMap.{get}
 use Rattle.atl_records.specs.declared.event.Event.{Event}
 use Rattle.atl_records.specs.declared.event.EventVerb.{EventVerb}
 use Rattle.atl_records.specs.declared.event.EventVerb.TheVariants as verbs
@@ -30,7 +31,10 @@ pub record IsLessBy (fewer : ℕ) (before after : Unit) : Type 0 where
   -- the unit has no less of any item than before
   pub items : (i : ℕ) → amount_of before.holding.items i ≤ amount_of after.holding.items i
 
--- a unit of which fewer men starved than it had is still there, with its faction and name, no less of any item,
--- and exactly those men less
-abbrev pub IsLeft : (starved : ℕ) → (after : CampaignValue) → (number : ℕ) → Unit → Type 0
-IsLeft starved after number u = starved < u.holding.men → IsStillThere (IsLessBy starved) after number u
+-- what is left of a unit, given with its number, of which so many men starved
+pub record IsLeft (starved : ℕ) (after : CampaignValue) (number : ℕ) (u : Unit) : Type 0 where
+  -- where fewer men starved than the unit had, it is still there, with its faction and name, no less of any item, and
+  -- exactly those men less
+  pub fewer : starved < u.holding.men → IsStillThere (IsLessBy starved) after number u
+  -- where as many men starved as the unit had, it is removed
+  pub all : u.holding.men ≤ starved → get after.units number ≡ None
