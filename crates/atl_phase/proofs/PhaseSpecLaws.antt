@@ -64,7 +64,7 @@ leave_together [] each = record {
 }
   where
     -- for `leave_together`: if nobody starved (x - x is 0), a unit has its men a less that number
-    nobody : (x a : ℕ) → a ≡ a - (x - x)
+    nobody : (x a : ℕ) → a + (x - x) ≡ a
     nobody x a = omega arith
 leave_together (phase ∷ []) each = each.0
 leave_together (phase ∷ next ∷ rest) each = both_leave each.0 (leave_together (next ∷ rest) each.1)

@@ -73,17 +73,17 @@ less_twice x y z u v t l k one two = record {
   where
     -- For `less_twice`: if b is a less y - x, and d is b less z - y, d is a less z - x. The numbers x, y and z count
     -- the men who starved in turn.
-    less : (a b d : ℕ) → b ≡ a - (y - x) → d ≡ b - (z - y) → d ≡ a - (z - x)
+    less : (a b d : ℕ) → b + (y - x) ≡ a → d + (z - y) ≡ b → d + (z - x) ≡ a
     less a b d e f = omega (arith, l, k)
 
 -- if fewer men of a unit starved in two phases (z - x) than it had (a), fewer starved in the second (z - y) than were
 -- left after the first (b)
-some_left : (x y z a b : ℕ) → x ≤ y → y ≤ z → b ≡ a - (y - x) → z - x < a → z - y < b
+some_left : (x y z a b : ℕ) → x ≤ y → y ≤ z → b + (y - x) ≡ a → z - x < a → z - y < b
 some_left x y z a b l k e some = omega arith
 
--- if as many men of a unit starved in two phases (z - x) as it had (a), as many starved in the second (z - y) as were
--- left after the first (b)
-none_left : (x y z a b : ℕ) → x ≤ y → y ≤ z → b ≡ a - (y - x) → a ≤ z - x → b ≤ z - y
+-- if all men of a unit (a) starved in two phases (z - x), all who were left after the first (b) starved in the second
+-- (z - y)
+none_left : (x y z a b : ℕ) → x ≤ y → y ≤ z → b + (y - x) ≡ a → z - x ≡ a → z - y ≡ b
 none_left x y z a b l k e all = omega arith
 
 -- a faction that sent no mailing still has none after a phase that keeps the mailings (`LeavesUnmailed`)
@@ -116,6 +116,7 @@ module _ {first second : Meaning} {early late : Frame} where
         let late = two.starved_reported w between.0 between.1 n in
         let left = two.left w between.0 between.1 keeps.1 n a.unit a.there (still_none one w c m u.faction a.unit.faction a.is_unaffected.faction none) in
         record {
+          most = omega (arith, early, late, a.is_unaffected.men, left.most);
           fewer = λ some.
               let b = left.fewer (some_left _ _ _ u.holding.men a.unit.holding.men early late a.is_unaffected.men some) in
               record { unit = b.unit; there = b.there; is_unaffected = less_twice _ _ _ u a.unit b.unit early late a.is_unaffected b.is_unaffected };
@@ -219,7 +220,7 @@ none_less : (x y : ℕ) (u v : Unit) → y ≡ x → HasItsMen u v → HasItsIte
 none_less x y u v same men items = record { faction = men.faction; name = items.name; men = nobody u.holding.men v.holding.men men.men; items = items.items }
   where
     -- for `none_less`: the men b of a unit that keeps its men a are a less y - x, which is 0
-    nobody : (a b : ℕ) → b ≡ a → b ≡ a - (y - x)
+    nobody : (a b : ℕ) → b ≡ a → b + (y - x) ≡ a
     nobody a b e = omega (arith, same)
 
 module _ {meaning : Meaning} {keeps : Frame} (readings : (w : WorldValue) (c : CampaignValue) (m : MonthValue) → (meaning w c m).1.readings ≡ m.readings)
