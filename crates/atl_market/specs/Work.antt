@@ -18,7 +18,7 @@ use Rattle.atl_records.specs.Limits.{holding_limit}
 use Rattle.atl_campaign.specs.Campaign.{CampaignValue, with_booking, with_money}
 use Rattle.atl_phase.specs.Month.{MonthValue}
 use Rattle.atl_phase.specs.Meaning.{BookBound, Meaning, moves_only}
-use Rattle.atl_phase.specs.PhaseOrders.{Task, is_month_long, key_of, orders_by_unit}
+use Rattle.atl_phase.specs.PhaseOrders.{Task, is_month_long, key_of, orders_by_unit, sorted_by}
 use Rattle.atl_phase.specs.NoWorse.{all_no_worse}
 use Rattle.atl_phase.specs.declared.phase_order.Arrangement.TheVariants.{ByUnit}
 use Rattle.atl_phase.specs.Outcomes.{first_fault}
