@@ -9,7 +9,7 @@ use Rattle.std.proofs.Math.Bool.{or-true}
 use Rattle.std.proofs.lemmas.Iterator.Adapters.{option_map_id}
 use Rattle.std.proofs.lemmas.Option.{same_Some}
 use Rattle.std.specs.Ordering.{nat_cmp}
-use Rattle.std.specs.FinMap.{FinMap, get, values}
+use Rattle.std.specs.FinMap.{FinMap, get}
 use Rattle.std.proofs.lemmas.Bool.{and_parts, cases_eq, cond_both, false_from_ne_true, not-false}
 use Rattle.std.proofs.lemmas.List.Elements.{recursion_from_All}
 use Rattle.std.proofs.lemmas.List.Sums.{sum_by-cons}
@@ -462,7 +462,7 @@ module _ (w : WorldValue) (begun : CampaignValue) (number faction : ℕ) where
 pub others_do_not_sail : (w : WorldValue) (c : CampaignValue) (m : MonthValue) → IsSteady w c → others_unaffected (SailsWith w c) IsUnchanged is_sailing w m c (sail_spec.meaning w c m).0
 unfolding meaning_by_orders
 others_do_not_sail w c m steady n u there others =
-    let ts = values (orders_of is_sailing ByUnit m.aliases m.readings) in
+    let ts = orders_of is_sailing ByUnit m.aliases m.readings in
     let begun : IsAsBegun w c n u.faction c = record { steady = steady; places = λ k. refl; structure = refl; units = λ k here. refl; list = refl } in
     let stays = tasks_stay w c n u.faction c m ts begun (recursion_from_All (λ t. SailsWith w c t n u.faction → ⊥) ts others) in
     record { unit = u; there = stays.units n refl ∙ there; is_unaffected = refl }

@@ -5,7 +5,7 @@ use Rattle.std.specs.Prelude.{fold, if◌then◌else◌}
 use Rattle.std.proofs.lemmas.Option.{same_Some}
 use Rattle.std.specs.List.{AllByRecursion, IsDistinct, slice_index_or}
 use Rattle.std.proofs.lemmas.List.Elements.{All-contains, All-from_recursion}
-use Rattle.std.specs.FinMap.{get, values}
+use Rattle.std.specs.FinMap.{get}
 use Rattle.atl_world.specs.Worlds.{WorldValue}
 use Rattle.atl_world.specs.ByNumber.{fee_of}
 use Rattle.atl_world.proofs.GeneralLaws.{equal_itself}
@@ -157,8 +157,8 @@ units_study_as_begun w c m fit n skill u there own =
     let lessons = after_lessons c (learners w c m) m in
     let unchanged = all_lessons_add_no_starved c (learners w c m) m in
     let one : CampaignValue × MonthValue → Task → CampaignValue × MonthValue = one_order (study_step lessons.0) w in
-    let list : values (orders_of is_studying ByUnit lessons.1.aliases lessons.1.readings) ≡ study_tasks m =
-    ap (λ r. values (orders_of is_studying ByUnit lessons.1.aliases r)) unchanged.readings ∙ ap (λ a. values (orders_of is_studying ByUnit a m.readings)) unchanged.aliases in
+    let list : orders_of is_studying ByUnit lessons.1.aliases lessons.1.readings ≡ study_tasks m =
+    ap (λ r. orders_of is_studying ByUnit lessons.1.aliases r) unchanged.readings ∙ ap (λ a. orders_of is_studying ByUnit a m.readings) unchanged.aliases in
     let (k, low, at) = own.counts in
     ap (λ ts. get (fold one (c, lessons.1) ts).0.units n) list
     ∙ alone w lessons.0 n u skill own.order own.for_unit own.own own.says c there (study_tasks m) (c, lessons.1) there refl (one_order_counts w is_studying ByUnit m.aliases m.readings fit) (orders_have_verbs is_studying ByUnit m.aliases m.readings) k low at

@@ -1,7 +1,7 @@
 -- Laws of TEACH and STUDY: the units of a faction that sent no mailing keep their men, names and items.
 use Rattle.std.proofs.Common.{◌≡◌, ◌∷◌, [], List, ◌-◌, ◌*◌, ℕ, Some, None, refl, ap, subst, ◌∙◌, arith}
 use Rattle.std.specs.Prelude.{fold}
-use Rattle.std.specs.FinMap.{get, values}
+use Rattle.std.specs.FinMap.{get}
 use Rattle.atl_world.specs.Worlds.{WorldValue}
 use Rattle.atl_world.specs.ByNumber.{fee_of}
 use Rattle.atl_records.specs.declared.event.Outcome.TheVariants.{Done}
@@ -44,7 +44,7 @@ lessons_add_no_starved c learning p (t ∷ ts) =
 
 pub all_lessons_add_no_starved : (c : CampaignValue) (learning : Learning) (m : MonthValue) → AddsNoStarved m (after_lessons c learning m).1
 unfolding after_lessons
-all_lessons_add_no_starved c learning m = lessons_add_no_starved c learning ((λ n. 0), m) (values (orders_of is_teaching ByUnit m.aliases m.readings))
+all_lessons_add_no_starved c learning m = lessons_add_no_starved c learning ((λ n. 0), m) (orders_of is_teaching ByUnit m.aliases m.readings)
 
 -- ---- STUDY
 

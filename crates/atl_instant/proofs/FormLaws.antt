@@ -5,7 +5,7 @@ use Rattle.std.proofs.lemmas.Bool.{true≢false}
 use Rattle.std.specs.Prelude.{IsTrue, is_some, unwrap_or, fold}
 use Rattle.std.specs.Ordering.{nat_cmp}
 use Rattle.std.specs.Cmp.{nat_cmp_total}
-use Rattle.std.specs.FinMap.{FinMap, get, get-empty, insert, len, len-insert, values}
+use Rattle.std.specs.FinMap.{FinMap, get, get-empty, insert, len, len-insert}
 use Rattle.std.proofs.lemmas.Bool.Decides.{nat_tests}
 use Rattle.atl_world.specs.Names.{name_ok}
 use Rattle.atl_world.specs.Worlds.{WorldValue}
@@ -256,6 +256,6 @@ pub formed_by_copy : (p : CampaignValue × MonthValue) (ts : List Task) → fold
 formed_by_copy p [] = refl
 formed_by_copy p (t ∷ ts) = formed_by_copy (form_order p t) ts
 
-pub all_formed : (w : WorldValue) (c : CampaignValue) (m : MonthValue) → fold form_by_copy (c, m) (map forming_of (values (orders_of is_forming ByFaction m.aliases m.readings))) ≡ form_meaning w c m
+pub all_formed : (w : WorldValue) (c : CampaignValue) (m : MonthValue) → fold form_by_copy (c, m) (map forming_of (orders_of is_forming ByFaction m.aliases m.readings)) ≡ form_meaning w c m
 unfolding form_meaning
-all_formed w c m = formed_by_copy (c, m) (values (orders_of is_forming ByFaction m.aliases m.readings))
+all_formed w c m = formed_by_copy (c, m) (orders_of is_forming ByFaction m.aliases m.readings)

@@ -10,7 +10,7 @@ use Rattle.std.proofs.lemmas.List.{drop_more}
 use Rattle.std.specs.declared.cmp.Ordering.TheVariants.{Less, Equal, Greater}
 use Rattle.std.specs.Ordering.{nat_cmp, is_eq}
 use Rattle.std.specs.Cmp.{ranked}
-use Rattle.std.specs.FinMap.{FinMap, entries, find, get, get-entries, is_sorted, len, nat_cmp-IsAntisymmetric, remove, values}
+use Rattle.std.specs.FinMap.{FinMap, entries, find, get, get-entries, is_sorted, len, nat_cmp-IsAntisymmetric, remove}
 use Rattle.atl_world.specs.Worlds.{WorldValue}
 use Rattle.atl_world.specs.Sums.{sum_over}
 use Rattle.atl_orders.specs.declared.order.Operands.TheVariants as operands
@@ -521,4 +521,4 @@ module _ (begun : CampaignValue) where
 pub quit_leaves_others : (w : WorldValue) (c : CampaignValue) (m : MonthValue) → IsSteady w c → AreFit w m.readings → quit_keeps w m c (quit_meaning w c m).0
 unfolding meaning_by_orders
 quit_leaves_others w c m steady fit =
-    orders_leave_others quit_step (since_orderly c) w c m (values (orders_of is_quitting ByUnit m.aliases m.readings)) (steady, λ t own. own) (orders_fit w m.aliases m.readings fit is_quitting)
+    orders_leave_others quit_step (since_orderly c) w c m (orders_of is_quitting ByUnit m.aliases m.readings) (steady, λ t own. own) (orders_fit w m.aliases m.readings fit is_quitting)

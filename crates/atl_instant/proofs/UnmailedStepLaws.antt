@@ -1,7 +1,6 @@
 -- Laws of the phases from FORM to QUIT: in each, units of a faction that sent no mailing keep their men and items.
 use Rattle.std.proofs.Common.{◌≡◌, ℕ, List, [], ◌∷◌, refl, sym, ◌∙◌, arith}
 use Rattle.std.specs.Prelude.{IfSome, fold}
-use Rattle.std.specs.FinMap.{values}
 use Rattle.atl_orders.specs.declared.order.Operands.TheVariants as operands
 use Rattle.atl_orders.specs.Orders.{OperandsValue}
 use Rattle.atl_campaign.specs.Good.{IsEarly, IsSteady}
@@ -41,8 +40,8 @@ pub form_leaves : LeavesUnmailed form_meaning form_keeps
 unfolding form_meaning
 form_leaves =
     whole_leaves {meaning = form_meaning} {keeps = form_keeps}
-    (λ w c m. form_readings (c, m) (values (orders_of is_forming ByFaction m.aliases m.readings)))
-    (λ w c m n. form_starves_none (c, m) (values (orders_of is_forming ByFaction m.aliases m.readings)) n)
+    (λ w c m. form_readings (c, m) (orders_of is_forming ByFaction m.aliases m.readings))
+    (λ w c m n. form_starves_none (c, m) (orders_of is_forming ByFaction m.aliases m.readings) n)
     (λ w c m keeps n u there none. record { unit = u; there = keeps n u there; is_unaffected = record { faction = refl; men = refl } })
     (λ w c m keeps n u there none. record { unit = u; there = keeps n u there; is_unaffected = record { name = refl; items = λ i. omega arith } })
 

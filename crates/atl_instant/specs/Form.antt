@@ -1,7 +1,7 @@
 -- FORM: units form new ones. See docs/RULES.md, "Form".
 use Rattle.std.specs.Prelude.{◌≡◌, ◌||◌, ◌++◌, ℕ, Bool, true, false, [], ◌∷◌, codes, fold, nat_le, nat_lt, not, Option, Some}
 use Rattle.std.specs.Fmt.{decimal}
-use Rattle.std.specs.FinMap.{empty, get, len, values}
+use Rattle.std.specs.FinMap.{empty, get, len}
 use Rattle.atl_orders.specs.declared.order.Operands.TheVariants as operands
 use Rattle.atl_orders.specs.declared.verb.Verb.{Verb}
 use Rattle.atl_orders.specs.declared.verb.Verb.TheVariants as verbs
@@ -80,7 +80,7 @@ form_order (c, m) t = with_form_result m t (form_by c t.faction t.unit)
 
 -- the effect of the phase: all orders of FORM, carried out by faction and then by line
 unfoldable pub form_meaning : Meaning
-form_meaning w c m = fold form_order (c, m) (values (orders_of is_forming ByFaction m.aliases m.readings))
+form_meaning w c m = fold form_order (c, m) (orders_of is_forming ByFaction m.aliases m.readings)
 
 -- what the phase keeps: each unit that was there is there as it was
 abbrev pub form_keeps : Frame

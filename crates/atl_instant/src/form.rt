@@ -116,8 +116,7 @@ fn forming_of(order: PhaseOrder<'_>) -> Forming
 /// Copies of all orders of FORM of a month, by faction and then by line.
 fn formings(alloc: Global, month: &Month) -> Result<Vec<Forming>, AllocError>
     ensures { IfOk result (λ list. list.items
-        ≡ each forming_of (map.values
-        (orders_of is_forming ByFaction month.now.aliases month.now.readings))) }
+        ≡ each forming_of (orders_of is_forming ByFaction month.now.aliases month.now.readings)) }
 {
     let orders = month.orders(alloc, &FormPhase, Arrangement::ByFaction)?;
     let mut list = Vec::new(alloc);

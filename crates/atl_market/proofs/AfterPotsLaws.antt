@@ -1,7 +1,6 @@
 -- Laws that TAX, RECRUIT, WORK and PRODUCE change all units and regions at once: a payment changes only its own unit
 -- and region.
 use Rattle.std.proofs.Common.{◌≡◌, ℕ, ◌+◌, ◌-◌, ◌*◌, true, false, Option, Some, None, refl, ap, ◌∙◌, arith}
-use Rattle.std.specs.List.{slice_get}
 use Rattle.std.specs.Option.{option_map_or}
 use Rattle.std.specs.Ordering.{nat_cmp}
 use Rattle.std.specs.FinMap.{FinMap, get}
@@ -15,7 +14,7 @@ use Rattle.atl_market.specs.AtOnce.{unchanged_region}
 use Rattle.atl_market.specs.Goods.{with_made, with_used}
 use Rattle.atl_market.specs.AfterPots.{ProducesAtOnce, RecruitsAtOnce, TaxesAtOnce, WorksAtOnce, unit_after_production, maker_of, with_raw_taken, with_less_money, with_less_peasants, with_pieces_added, with_more_money, with_recruits}
 use Rattle.atl_market.specs.PotPhase.{items_by, wants_by}
-use Rattle.atl_market.specs.Produce.{after_production, produce_pots, with_item_made, with_raw_used}
+use Rattle.atl_market.specs.Produce.{after_production, numbered_item, produce_pots, with_item_made, with_raw_used}
 use Rattle.atl_market.specs.Recruit.{after_recruiting, recruit_pots, recruits_at, with_paid_recruits}
 use Rattle.atl_market.specs.Tax.{after_tax, money_at, tax_pots}
 use Rattle.atl_market.specs.Work.{after_work, places_at, wages_for, work_pots}
@@ -114,29 +113,26 @@ module _ (asked : FinMap nat_cmp ℕ) (w : WorldValue) where
   produced_regions : (d : CampaignValue) (e : ℕ × ℕ) → (after_production asked w d e).regions ≡ d.regions
   unfolding after_production
   produced_regions d e =
-      by_option (HasItsRegions d) _ (get asked e.0) d refl (λ i says.
-      by_option (HasItsRegions d) _ (slice_get w.items i) d refl (λ x is.
+      by_option (HasItsRegions d) _ (numbered_item w (get asked e.0)) d refl (λ (i, x) is.
       let amount = e.1 * x.raw_count in
       made_regions (with_raw_used d e.0 amount x.raw) e.0 i e.1
-      ∙ by_option (HasItsRegions d) (λ r. with_used d e.0 r amount) x.raw d refl (λ r raw. used_regions d e.0 r amount)))
+      ∙ by_option (HasItsRegions d) (λ r. with_used d e.0 r amount) x.raw d refl (λ r raw. used_regions d e.0 r amount))
 
   -- a unit that is there has, after its production, more of the item that it made and less of the raw items
   -- (`unit_after_production`)
   produced_unit : (d : CampaignValue) (e : ℕ × ℕ) (u : Unit) → get d.units e.0 ≡ Some u → get (after_production asked w d e).units e.0 ≡ Some (unit_after_production w u e.1 (get asked e.0))
   unfolding after_production
-  produced_unit d e u is = by_item (get asked e.0)
+  produced_unit d e u is = by_item (numbered_item w (get asked e.0))
     where
       by_raw : (i amount : ℕ) (o : Option ℕ) → get (with_made (with_raw_used d e.0 amount o) e.0 i e.1).units e.0 ≡ Some (record u { holding = with_pieces_added (with_raw_taken u.holding o amount) i e.1 })
       by_raw i amount None = made_unit w d e.0 i e.1 u is
       by_raw i amount (Some r) = made_unit w (with_used d e.0 r amount) e.0 i e.1 (record u { holding = with_raw_taken u.holding (Some r) amount }) (used_unit w d e.0 r amount u is)
 
-      by_world : (i : ℕ) (o : Option Item) → get (option_map_or (with_item_made d e.0 e.1 i) o d).units e.0 ≡ Some (option_map_or (maker_of u e.1 i) o u)
-      by_world i None = is
-      by_world i (Some x) = by_raw i (e.1 * x.raw_count) x.raw
-
-      by_item : (o : Option ℕ) → get (option_map_or (λ i. option_map_or (with_item_made d e.0 e.1 i) (slice_get w.items i) d) o d).units e.0 ≡ Some (unit_after_production w u e.1 o)
+      -- after its production the unit has more of the world's item `o` that its order names, and less of the raw items
+      -- (`maker_of`); without such an item the unit is as it was
+      by_item : (o : Option (ℕ × Item)) → get (option_map_or (λ f. with_item_made d e.0 e.1 f.0 f.1) o d).units e.0 ≡ Some (option_map_or (λ f. maker_of u e.1 f.0 f.1) o u)
       by_item None = is
-      by_item (Some i) = by_world i (slice_get w.items i)
+      by_item (Some (i, x)) = by_raw i (e.1 * x.raw_count) x.raw
 
   produce_pays : Pays false (after_production asked w) (λ n u made. unit_after_production w u made (get asked n)) unchanged_region
   produce_pays = record {

@@ -1,7 +1,7 @@
 -- Laws of pots of items: the shares that the code puts in region by region and item by item are those of the
 -- definition.
 use Rattle.std.proofs.Common.{◌≡◌, ℕ, ◌<◌, ◌≤◌, ◌==◌, ◌&&◌, Bool, true, false, cond, List, [], ◌∷◌, ◌++◌, map, filter, Option, Some, None, is_some, T, refl, sym, ap, subst, ◌∙◌, inl, inr, arith}
-use Rattle.std.specs.Prelude.{fold, option_and_then, option_map, unwrap_or}
+use Rattle.std.specs.Prelude.{fold, option_map, unwrap_or}
 use Rattle.std.specs.List.{AllByRecursion, cons_option, filter_map, flat_map, zip}
 use Rattle.std.specs.Ordering.{nat_cmp, is_lt}
 use Rattle.std.specs.Cmp.{nat_cmp_is, nat_cmp_total}
@@ -17,8 +17,8 @@ use Rattle.atl_records.proofs.EveryLaws.{each-from_every, first, get-insert_othe
 use Rattle.atl_campaign.proofs.RegionLaws.{get-insert_same}
 use Rattle.atl_phase.proofs.MappedLaws.{no_entries}
 use Rattle.atl_market.specs.ItemGroups.{WantGroups, item_shares_in, region_shares, with_item_want, with_want}
-use Rattle.atl_market.specs.ItemPots.{asks_for_item, item_share, item_shares, wants_for}
-use Rattle.atl_market.specs.Pots.{share_of, shares_in, takers_in, want_of}
+use Rattle.atl_market.specs.ItemPots.{asks_for_item, item_share, item_shares, share_for, wants_for}
+use Rattle.atl_market.specs.Pots.{shares_in, takers_in, want_of}
 use Rattle.atl_market.specs.Puts.{with_entries}
 use Rattle.atl_shares.specs.Share.{shares}
 use Rattle.atl_market.proofs.PotLaws.{AgreeWith, Entries, IsApart, IsRisen, agreeing_put, each_flat, each_found, each_region, found_among, found_is, found_other, found_put, given_apart, given_is, given_takes, pots_give, somewhere, takers_risen}
@@ -146,10 +146,6 @@ module _ (item_of : ℕ → Option ℕ) (pot_of : (item region : ℕ) → ℕ) (
   abbrev gets : ℕ → Option ℕ
   gets n = item_share item_of pot_of wants c n
 
-  -- what unit `n` gets of the pot of item `o` in its region; nothing where no item is given
-  abbrev pub share_for : ℕ → Option ℕ → Option ℕ
-  share_for n o = option_and_then (λ i. share_of (pot_of i) (wants_for item_of wants i) c n) o
-
   module _ (r : ℕ) where
     abbrev groups : WantGroups
     groups = fold (with_want item_of wants) empty (numbers_in_region r c.units)
@@ -187,7 +183,7 @@ module _ (item_of : ℕ → Option ℕ) (pot_of : (item region : ℕ) → ℕ) (
         one : (i : ℕ) → AgreeWith gets (of_item i)
         one i = each_found (λ e. gets e.0 ≡ Some e.1) (of_item i) (given_apart (pot_of i) (item_wants item_of wants i) c.units r) (λ n s is.
             let (at, (want, wanted)) = given_takes (pot_of i) (item_wants item_of wants i) c.units r n s is in
-            ap (share_for n) (asks item_of wants i n want wanted) ∙ given_is (pot_of i) (item_wants item_of wants i) c r n s there is)
+            ap (share_for item_of pot_of wants c n) (asks item_of wants i n want wanted) ∙ given_is (pot_of i) (item_wants item_of wants i) c r n s there is)
 
     region_whole : (i n s : ℕ) → find nat_cmp n (of_item i) ≡ Some s → is_some (find nat_cmp n (region_shares item_of pot_of wants c r)) ≡ true
     region_whole i n s is =
@@ -203,7 +199,7 @@ module _ (item_of : ℕ → Option ℕ) (pot_of : (item region : ℕ) → ℕ) (
   pub items_give : (n s : ℕ) → gets n ≡ Some s → (want : ℕ) × (get wants n ≡ Some want) × (s ≤ want)
   items_give n s is = by_item (item_of n) is
     where
-      by_item : (o : Option ℕ) → share_for n o ≡ Some s → (want : ℕ) × (get wants n ≡ Some want) × (s ≤ want)
+      by_item : (o : Option ℕ) → share_for item_of pot_of wants c n o ≡ Some s → (want : ℕ) × (get wants n ≡ Some want) × (s ≤ want)
       by_item None is = none_some s is
       by_item (Some i) is =
           let (want, wanted, low) = pots_give (pot_of i) c (item_wants item_of wants i) n s is in
@@ -256,7 +252,7 @@ module _ (item_of : ℕ → Option ℕ) (pot_of : (item region : ℕ) → ℕ) (
   none_missing : (n s : ℕ) → gets n ≡ Some s → is_some (find nat_cmp n all_shares) ≡ true
   none_missing n s is = by_item (item_of n) is
     where
-      by_item : (o : Option ℕ) → share_for n o ≡ Some s → is_some (find nat_cmp n all_shares) ≡ true
+      by_item : (o : Option ℕ) → share_for item_of pot_of wants c n o ≡ Some s → is_some (find nat_cmp n all_shares) ≡ true
       by_item None is = none_some s is
       by_item (Some i) is =
           let (r, among, found) = somewhere (of_item_in i) n s (keys c.regions) (sym (found_is (pot_of i) (item_wants item_of wants i) c n) ∙ is) in

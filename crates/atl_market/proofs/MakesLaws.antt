@@ -1,5 +1,5 @@
 -- Laws of what units make in PRODUCE: the code's map is the one that is defined, and no unit makes more than it wants.
-use Rattle.std.proofs.Common.{◌≡◌, ℕ, ◌<◌, ◌≤◌, Bool, true, false, cond, List, [], ◌∷◌, map, Option, Some, None, is_some, refl, sym, ap, subst, ◌∙◌, inl, inr, arith}
+use Rattle.std.proofs.Common.{◌≡◌, ℕ, ◌<◌, ◌≤◌, Bool, true, false, cond, List, [], ◌∷◌, map, Option, Some, None, refl, sym, ap, subst, ◌∙◌, inl, inr, arith}
 use Rattle.std.specs.Prelude.{unwrap_or}
 use Rattle.std.specs.List.{AllByRecursion}
 use Rattle.std.specs.Cmp.{nat_cmp_total}
@@ -11,7 +11,7 @@ use Rattle.atl_campaign.specs.Campaign.{CampaignValue}
 use Rattle.atl_campaign.proofs.ReadBackLaws.{Rise, entries_rise}
 use Rattle.atl_records.proofs.EveryLaws.{first, none_some}
 use Rattle.atl_market.specs.Puts.{with_entries}
-use Rattle.atl_market.specs.Produce.{made_amounts, amount_made, output_at, output_item, output_share, produce_pots}
+use Rattle.atl_market.specs.Produce.{made_amounts, amount_made, output_at, output_item, output_share, produce_pots, takes_raw}
 use Rattle.atl_market.proofs.ItemPotLaws.{items_give}
 use Rattle.atl_market.proofs.PotLaws.{found_other, risen_put}
 use Rattle.atl_market.proofs.WantLaws.{GivesToWants}
@@ -50,7 +50,7 @@ module _ (asked : FinMap nat_cmp ℕ) (w : WorldValue) (c : CampaignValue) (want
   makes_are = risen_put (instead (amount_made w asked c wants) (entries wants)) (rise_instead (amount_made w asked c wants) (entries wants) (entries_rise wants))
 
   least : (n want : ℕ) → get wants n ≡ Some want → amount_made w asked c wants (n, want) ≤ want
-  least n want wanted = by_item (is_some (output_item w asked n))
+  least n want wanted = by_item (takes_raw w (get asked n))
     where
       by_share : (o : Option ℕ) → output_share w asked c wants n ≡ o → unwrap_or o 0 ≤ want
       by_share None is = omega arith
@@ -60,9 +60,9 @@ module _ (asked : FinMap nat_cmp ℕ) (w : WorldValue) (c : CampaignValue) (want
           subst (λ k. share ≤ k) same low
 
       -- a unit makes at most its want, whether out of what its region gives (`b`) or out of raw items
-      by_item : (b : Bool) → cond b (unwrap_or (output_share w asked c wants n) 0) want ≤ want
-      by_item true = by_share (output_share w asked c wants n) refl
-      by_item false = omega arith
+      by_item : (b : Bool) → cond b want (unwrap_or (output_share w asked c wants n) 0) ≤ want
+      by_item false = by_share (output_share w asked c wants n) refl
+      by_item true = omega arith
 
 pub produce_gives_to_wants : (w : WorldValue) (c : CampaignValue) → GivesToWants produce_pots w c
 produce_gives_to_wants w c asked wants n share is =

@@ -1,13 +1,13 @@
 -- Laws of PRODUCE: it keeps a campaign steady, its books balanced and units without an order as they are; all shares
 -- can be made.
-use Rattle.std.proofs.Common.{◌≡◌, ◌≢◌, ◌==◌, ℕ, ◌+◌, ◌-◌, ◌*◌, ◌/◌, ◌≤◌, ◌<◌, Bool, true, false, List, [], ◌∷◌, length, Option, Some, None, refl, sym, subst, ◌∙◌, arith}
+use Rattle.std.proofs.Common.{◌≡◌, ◌≢◌, ◌==◌, ℕ, ◌+◌, ◌-◌, ◌*◌, ◌/◌, ◌≤◌, ◌<◌, Bool, true, false, List, [], ◌∷◌, length, Option, Some, None, option_map, refl, sym, subst, ◌∙◌, arith}
 use Rattle.std.specs.Prelude.{ℤ, IfSome, fold, min, if◌then◌else◌}
 use Rattle.std.specs.List.{AllByRecursion, slice_get}
 use Rattle.std.specs.Option.{option_map_or}
 use Rattle.std.specs.Ordering.{nat_cmp}
 use Rattle.std.specs.FinMap.{FinMap, entries, get}
 use Rattle.std.proofs.lemmas.Bool.Decides.{nat_tests}
-use Rattle.std.proofs.lemmas.Option.{slice_get_within}
+use Rattle.std.proofs.lemmas.Option.{same_Some, slice_get_within}
 use Rattle.std.proofs.Math.Nat.{mul-div-le, mul-le-mul_right, mul_comm}
 use Rattle.atl_world.specs.Worlds.{IsWorld, WorldValue}
 use Rattle.atl_world.specs.declared.world.Item.{Item}
@@ -35,7 +35,7 @@ use Rattle.atl_phase.proofs.MeaningLaws.{IsBoundWithin, both_leave_well, amount_
 use Rattle.atl_market.specs.Making.{CanMake, CanMakeOf, CanProduce, CanUse, HasRoomAndRaw}
 use Rattle.atl_market.specs.PotPhase.{after_sharing, given_by, item_in, items_by}
 use Rattle.atl_market.specs.Bounds.{CanInTurn}
-use Rattle.atl_market.specs.Produce.{after_production, item_of, produce_fault, most_makeable, most_makeable_of, produce_moves, produce_pots, up_to_raw, with_raw_used}
+use Rattle.atl_market.specs.Produce.{after_production, item_of, most_makeable, most_makeable_of, numbered_item, produce_fault, produce_moves, produce_pots, up_to_raw, with_raw_used}
 use Rattle.atl_market.specs.Goods.{with_made, with_used}
 use Rattle.atl_market.specs.Unordered.{OthersAreNoWorse}
 use Rattle.atl_market.proofs.DrawLaws.{all_pairs}
@@ -87,6 +87,16 @@ pub only_room : (e : BooksEntry) (t : Thing) (z : ℤ) → HasRoom (moves_only h
 only_room e t z room = subst (λ b. HasRoom (if b then holding_limit else 0) z) (same_number (amount_number e t)) room
 
 -- ---- one step
+
+-- the number and the item that `numbered_item` finds are the number that the order names, and the world's item under it
+of_numbered : (w : WorldValue) (asked : Option ℕ) (f : ℕ × Item) → numbered_item w asked ≡ Some f → (asked ≡ Some f.0) × (slice_get w.items f.0 ≡ Some f.1)
+of_numbered w None f is = none_some f is
+of_numbered w (Some i) f is = by_world (slice_get w.items i) refl is
+  where
+    -- for `of_numbered`: the world has the item (`o`), since one is found
+    by_world : (o : Option Item) → slice_get w.items i ≡ o → option_map (λ x. (i, x)) o ≡ Some f → (Some i ≡ Some f.0) × (slice_get w.items f.0 ≡ Some f.1)
+    by_world None there found = none_some f found
+    by_world (Some x) there found = subst (λ (g : ℕ × Item). (Some i ≡ Some g.0) × (slice_get w.items g.0 ≡ Some g.1)) (same_Some (i, x) f found) (refl, there)
 
 module _ (asked : FinMap nat_cmp ℕ) (w : WorldValue) (c : CampaignValue) (e : ℕ × ℕ) where
   module _ (can : CanProduce asked w c e) (i : ℕ) (x : Item) (says : get asked e.0 ≡ Some i) (there : slice_get w.items i ≡ Some x) where
@@ -170,8 +180,8 @@ module _ (asked : FinMap nat_cmp ℕ) (w : WorldValue) (c : CampaignValue) (e : 
   unfolding after_production
   produced_well can =
       let unchanged = well_unchanged (produce_moves holding_limit) w c can.steady in
-      by_option (λ d. LeavesWell IsSteady (produce_moves holding_limit) w c d) _ (get asked e.0) c unchanged (λ i says.
-      by_option (λ d. LeavesWell IsSteady (produce_moves holding_limit) w c d) _ (slice_get w.items i) c unchanged (λ x is. item_well can i x says is))
+      by_option (λ d. LeavesWell IsSteady (produce_moves holding_limit) w c d) _ (numbered_item w (get asked e.0)) c unchanged
+      (λ f is. let (says, there) = of_numbered w (get asked e.0) f is in item_well can f.0 f.1 says there)
 
   abbrev IsStill : ℕ → CampaignValue → Type 0
   IsStill k d = get d.units k ≡ get c.units k
@@ -179,11 +189,10 @@ module _ (asked : FinMap nat_cmp ℕ) (w : WorldValue) (c : CampaignValue) (e : 
   pub produced_others : (k : ℕ) → k ≢ e.0 → get (after_production asked w c e).units k ≡ get c.units k
   unfolding after_production
   produced_others k apart =
-      by_option (IsStill k) _ (get asked e.0) c refl (λ i says.
-      by_option (IsStill k) _ (slice_get w.items i) c refl (λ x is.
+      by_option (IsStill k) _ (numbered_item w (get asked e.0)) c refl (λ (i, x) is.
       let amount = e.1 * x.raw_count in
       made_others w (with_raw_used c e.0 amount x.raw) e.0 i e.1 k apart
-      ∙ by_option (IsStill k) (λ r. with_used c e.0 r amount) x.raw c refl (λ r raw. used_others w c e.0 r amount k apart)))
+      ∙ by_option (IsStill k) (λ r. with_used c e.0 r amount) x.raw c refl (λ r raw. used_others w c e.0 r amount k apart))
 
 pub produce_keeps_others : (w : WorldValue) (c : CampaignValue) (os : List Task) → OthersAreNoWorse os c (after_sharing produce_pots w c os)
 produce_keeps_others w c os = others_no_worse produce_pots w (λ items. produced_others items w) c (produce_gives_to_wants w c) os
@@ -236,7 +245,7 @@ raw_in items r (Some k) is known = let same : k ≡ r = cc in subst (λ m. m < i
 module _ (asked : FinMap nat_cmp ℕ) (w : WorldValue) (c : CampaignValue) (world : IsWorld w) (steady : IsSteady w c) where
   fits_by : (n made : ℕ) (u : Unit) → get c.units n ≡ Some u → made ≤ most_makeable w u.holding (get asked n) → (i : ℕ) (x : Item) → get asked n ≡ Some i → slice_get w.items i ≡ Some x → HasRoomAndRaw w u made i x
   fits_by n made u there low i x says is =
-      let all : made ≤ most_makeable_of u.holding i x = subst (λ o. made ≤ option_map_or (most_makeable_of u.holding i) o 0) is (subst (λ o. made ≤ most_makeable w u.holding o) says low) in
+      let all : made ≤ most_makeable_of u.holding i x = subst (λ o. made ≤ option_map_or (λ (f : ℕ × Item). most_makeable_of u.holding f.0 f.1) (option_map (λ y. (i, y)) o) 0) is (subst (λ o. made ≤ most_makeable w u.holding o) says low) in
       let skilled = u.holding.men * level_in_any u.holding x.skill in
       let most = min skilled (holding_limit - amount_of u.holding.items i) in
       record {

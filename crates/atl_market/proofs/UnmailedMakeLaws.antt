@@ -90,12 +90,11 @@ made_men c n i amount =
 produced_men : (asked : FinMap nat_cmp ℕ) (w : WorldValue) (c : CampaignValue) (e : ℕ × ℕ) → HaveTheirMen c (produce.after_production asked w c e)
 unfolding produce.after_production
 produced_men asked w c e =
-    by_option (HaveTheirMen c) _ (get asked e.0) c (men_stay c) (λ i says.
-    by_option (HaveTheirMen c) _ (slice_get w.items i) c (men_stay c) (λ x is.
+    by_option (HaveTheirMen c) _ (produce.numbered_item w (get asked e.0)) c (men_stay c) (λ (i, x) is.
     let used = produce.with_raw_used c e.0 (e.1 * x.raw_count) x.raw in
     men_twice c used (with_made used e.0 i e.1)
     (by_option (HaveTheirMen c) (λ r. with_used c e.0 r (e.1 * x.raw_count)) x.raw c (men_stay c) (λ r raw. used_men c e.0 r (e.1 * x.raw_count)))
-    (made_men used e.0 i e.1)))
+    (made_men used e.0 i e.1))
 
 pub produce_leaves : PhaseLeavesUnmailed produce.produce_spec
 produce_leaves =

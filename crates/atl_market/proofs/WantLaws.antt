@@ -3,7 +3,6 @@
 use Rattle.std.proofs.Common.{◌≡◌, ◌≢◌, ℕ, ◌==◌, ◌<◌, ◌≤◌, Bool, true, false, cond, List, [], ◌∷◌, ◌++◌, length, Option, Some, None, is_some, refl, sym, ap, subst, ◌∙◌, inl, inr, arith}
 use Rattle.std.specs.Prelude.{Result, Ok, Err, is_ok, option_map}
 use Rattle.std.specs.List.{AllByRecursion, IsDistinct, cons_option, filter_map}
-use Rattle.std.specs.Option.{option_map_or}
 use Rattle.std.specs.Result.{result_ok}
 use Rattle.std.specs.Map.{keys_of}
 use Rattle.std.specs.Ordering.{nat_cmp, eq_by_cmp}
@@ -18,7 +17,6 @@ use Rattle.std.proofs.lemmas.Map.Steps.{length-le_from_keys}
 use Rattle.atl_world.specs.Limits.{most_amount}
 use Rattle.atl_world.specs.Worlds.{WorldValue}
 use Rattle.atl_records.specs.declared.event.EventFault.{EventFault}
-use Rattle.atl_records.specs.declared.event.EventFault.TheVariants.{NotYours}
 use Rattle.atl_records.specs.declared.records.Unit.{Unit}
 use Rattle.atl_records.specs.Every.{Every}
 use Rattle.atl_campaign.specs.Campaign.{CampaignValue}
@@ -29,7 +27,7 @@ use Rattle.atl_phase.specs.PhaseOrders.{Task}
 use Rattle.atl_phase.specs.OrderEffects.{of_faction}
 use Rattle.atl_phase.proofs.MapOfListLaws.{find_is}
 use Rattle.atl_market.proofs.PotLaws.{put_in_turn}
-use Rattle.atl_market.specs.PotPhase.{PotMeaning, given_by, item_by, item_in, items_by, unit_for, want_by, wants_by}
+use Rattle.atl_market.specs.PotPhase.{PotMeaning, carrier_of, given_by, item_by, item_in, items_by, unit_for, unless_fault, want_by, wants_by}
 use Rattle.atl_market.specs.Pots.{AreWants}
 use Rattle.atl_market.specs.Puts.{with_entry_if_some, with_entries}
 
@@ -77,23 +75,20 @@ module _ (p : PotMeaning) (w : WorldValue) (c : CampaignValue) where
     pub own : (u.faction == t.faction) ≡ true
     pub no_fault : p.fault w u t ≡ None
 
-  -- the unit that carries an order out, or else its fault: the one that the phase finds, or NotYours without a unit
-  abbrev unless_fault : Task → Option Unit → Result Unit EventFault
-  unless_fault t o = option_map_or (λ v. option_map_or Err (p.fault w v t) (Ok v)) o (Err NotYours)
-
   pub carries_out : (t : Task) (u : Unit) → unit_for p w c t ≡ Ok u → CarriesOut t u
   unfolding unit_for
   carries_out t u is = by_unit (get c.units t.unit) refl is
     where
-      by_fault : (v : Unit) → get c.units t.unit ≡ Some v → (v.faction == t.faction) ≡ true → (f : Option EventFault) → p.fault w v t ≡ f → option_map_or Err f (Ok v) ≡ Ok u → CarriesOut t u
+      by_fault : (v : Unit) → get c.units t.unit ≡ Some v → (v.faction == t.faction) ≡ true → (f : Option EventFault) → p.fault w v t ≡ f → unless_fault f v ≡ Ok u → CarriesOut t u
       by_fault v at own (Some f) fault h = none_some u (ap result_ok h)
       by_fault v at own None fault h = subst (CarriesOut t) (same_Some _ _ (ap result_ok h)) (record { there = at; own = own; no_fault = fault })
 
-      by_test : (v : Unit) → get c.units t.unit ≡ Some v → (b : Bool) → (v.faction == t.faction) ≡ b → unless_fault t (cond b (Some v) None) ≡ Ok u → CarriesOut t u
+      by_test : (v : Unit) → get c.units t.unit ≡ Some v → (b : Bool) → (v.faction == t.faction) ≡ b → carrier_of p w c t (cond b (Some v) None) ≡ Ok u → CarriesOut t u
       by_test v at true own h = by_fault v at own (p.fault w v t) refl h
       by_test v at false own h = none_some u (ap result_ok h)
 
-      by_unit : (o : Option Unit) → get c.units t.unit ≡ o → unless_fault t (of_faction t.faction o) ≡ Ok u → CarriesOut t u
+      -- for `carries_out`: the unit `u` that `carrier_of` returns for the unit with the order's number (`o`) carries
+      by_unit : (o : Option Unit) → get c.units t.unit ≡ o → carrier_of p w c t (of_faction t.faction o) ≡ Ok u → CarriesOut t u
       by_unit None at h = none_some u (ap result_ok h)
       by_unit (Some v) at h = by_test v at (v.faction == t.faction) refl h
 

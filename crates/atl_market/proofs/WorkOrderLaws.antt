@@ -21,7 +21,7 @@ use Rattle.atl_campaign.proofs.GroupLaws.{filter_apart, filter_each}
 use Rattle.atl_records.proofs.EveryLaws.{each-from_every, get-insert_other, other_number, same_number}
 use Rattle.atl_campaign.proofs.MapOfRowsLaws.{each_follows}
 use Rattle.atl_phase.specs.Month.{MonthValue}
-use Rattle.atl_phase.specs.PhaseOrders.{Task, is_month_long, key_of, orders_by_unit, task_of}
+use Rattle.atl_phase.specs.PhaseOrders.{Task, is_month_long, key_of, orders_by_unit, task_of, sorted_by}
 use Rattle.atl_phase.specs.declared.phase_order.Arrangement.TheVariants.{ByUnit}
 use Rattle.atl_phase.specs.declared.phase_order.PhaseOrder.{PhaseOrder}
 use Rattle.atl_phase.proofs.MappedLaws.{no_entries}
@@ -30,7 +30,7 @@ use Rattle.atl_phase.specs.OrderEffects.{is_of_faction}
 use Rattle.atl_market.specs.Puts.{with_entries}
 use Rattle.atl_market.specs.Idle.{all_idle_orders, all_work, idle_order, own_unit, own_writers}
 use Rattle.atl_market.specs.Unordered.{has_own_order}
-use Rattle.atl_market.specs.Work.{idle_task, idle_work, is_idle, is_work, sorted_by_unit, work_orders, written_work}
+use Rattle.atl_market.specs.Work.{idle_task, idle_work, is_idle, is_work, work_orders, written_work}
 use Rattle.atl_market.proofs.PotLaws.{inserted_is_in, still_in_after_entries}
 use Rattle.atl_market.proofs.WantLaws.{appended_entries}
 
@@ -239,4 +239,4 @@ unfolding work_orders
 work_sorted c m os list are moved up =
     let ts = orders_by_unit is_month_long m in
     listed_tasks (key_of ByUnit) os list (all_work c ts) are (work_apart c ts (month_long_keys_differ m)) moved up
-    ∙ ap sorted_by_unit (all_are c ts)
+    ∙ ap (sorted_by (key_of ByUnit)) (all_are c ts)

@@ -3,7 +3,7 @@
 ghost use Rattle.std.specs.Prelude.{⊤, ℕ, ◌≡◌, map, IfOk};
 ghost use Rattle.std.specs.FinMap as finmap;
 ghost use Rattle.atl_market.specs.Pots.{AreWants};
-ghost use Rattle.atl_market.specs.Produce.{made_amounts, amount_made, output_at, output_item, output_share};
+ghost use Rattle.atl_market.specs.Produce.{made_amounts, amount_made, output_at, output_item, output_share, takes_raw};
 ghost use Rattle.atl_market.specs.Puts.{with_entries};
 
 use crate::item_pots::{ItemPots, item_shares};
@@ -20,12 +20,26 @@ struct Outputs<'a> {
     asked: &'a Numbered<u16>,
 }
 
+/// Whether a raw item goes into the item that an order names; true where that is no item of the
+/// world.
+fn takes_raw(world: &World, asked: Option<u16>) -> bool
+    ensures { result ≡ takes_raw world.now asked }
+{
+    match item_of(world, asked) {
+        Some(item) => item.raw.is_some(),
+        None => true,
+    }
+}
+
 fn output_item(world: &World, asked: &Numbered<u16>, unit: u32) -> Option<u16>
     ensures { result ≡ output_item world.now asked.now unit }
 {
     let number = asked.get(unit).copied();
-    let item = item_of(world, number)?;
-    if item.raw.is_some() { None } else { number }
+    if takes_raw(world, number) {
+        None
+    } else {
+        number
+    }
 }
 
 /// Each unit asks for the item that it makes without raw items; a region's pot of an item is its
@@ -65,9 +79,10 @@ fn amount_made(
         ≡ output_share world.now asked.now campaign.now.value wants.now n }
     ensures { result ≡ amount_made world.now asked.now campaign.now.value wants.now (unit, want) }
 {
-    match output_item(world, asked, unit) {
-        Some(_) => shares.get(unit).copied().unwrap_or(0),
-        None => want,
+    if takes_raw(world, asked.get(unit).copied()) {
+        want
+    } else {
+        shares.get(unit).copied().unwrap_or(0)
     }
 }
 

@@ -22,7 +22,7 @@ use Rattle.atl_campaign.proofs.KeyLaws.{IsDistinct-map}
 use Rattle.atl_phase.specs.declared.phase_order.Arrangement.{Arrangement}
 use Rattle.atl_phase.specs.Month.{Aliases}
 use Rattle.atl_phase.specs.Fit.{AreFit}
-use Rattle.atl_phase.specs.PhaseOrders.{Task, key_of, last_line, orders_of, slot_number, order_counts, counts_in_slot, tasks_of}
+use Rattle.atl_phase.specs.PhaseOrders.{Task, counts_in_slot, key_of, last_line, order_counts, slot_number, tasks_of, tasks_of_phase, under_keys}
 use Rattle.atl_phase.specs.OneOrder.{OneOrderCounts, are_same_slot, share_slot}
 use Rattle.atl_phase.proofs.MapOfListLaws.{by_key, entries_rise}
 use Rattle.atl_phase.proofs.PhaseOrderLaws.{IsPhaseOrder, orders_count}
@@ -113,7 +113,8 @@ module _ (w : WorldValue) (is_of : Verb → Bool) (a : Arrangement) (aliases : A
 
 pub one_order_counts : OneOrderCounts
 one_order_counts w is_of a aliases readings fit =
-    let es = entries (orders_of is_of a aliases readings) in
+    let keyed = under_keys (key_of a) (tasks_of_phase is_of aliases (entries readings)) in
+    let es = entries keyed in
     IsDistinct-map (λ (e : List ℕ × Task). e.1) share_slot es
     (distinct_also (UnderKey w is_of a aliases readings fit) (one_key w is_of a aliases readings fit) (λ e f. share_slot e.1 f.1) (slots_apart w is_of a aliases readings fit) es (orders_count is_of aliases readings a)
-    (IsDistinct-from_sorted (by_key nat_list_cmp_total) es (entries_rise nat_list_cmp_total (orders_of is_of a aliases readings))))
+    (IsDistinct-from_sorted (by_key nat_list_cmp_total) es (entries_rise nat_list_cmp_total keyed)))

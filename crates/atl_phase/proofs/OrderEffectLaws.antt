@@ -7,7 +7,7 @@ use Rattle.std.proofs.lemmas.Option.{same_Some}
 use Rattle.std.specs.Prelude.{ℤ, fold, IfSome, if◌then◌else◌}
 use Rattle.std.specs.List.{All, AllByRecursion, slice_get}
 use Rattle.std.proofs.lemmas.List.Elements.{recursion_from_All}
-use Rattle.std.specs.FinMap.{FinMap, get, values}
+use Rattle.std.specs.FinMap.{FinMap, get}
 use Rattle.std.specs.Ordering.{nat_cmp}
 use Rattle.std.proofs.lemmas.Int.{ints}
 use Rattle.atl_world.specs.Worlds.{WorldValue}
@@ -155,7 +155,7 @@ module _ (w : WorldValue) where
     in_mailing_in_bounds : (t : Task) → IsInMailing aliases readings t → IsOrderOf w t.order_value
     in_mailing_in_bounds t h = subst (IsOrderOf w) h.says (entry_fit h.reading t.index h.entry (fit t.faction h.reading h.of_faction) h.at_index)
 
-    pub orders_fit : (is_of : Verb → Bool) → All (λ t. IsOrderOf w t.order_value) (values (orders_of is_of ByUnit aliases readings))
+    pub orders_fit : (is_of : Verb → Bool) → All (λ t. IsOrderOf w t.order_value) (orders_of is_of ByUnit aliases readings)
     orders_fit is_of k d l = in_mailing_in_bounds _ (orders_are_in_mailings is_of ByUnit aliases readings k d l)
 
 -- ---- the mailings stay

@@ -1,12 +1,12 @@
 -- Laws of the orders of a phase: each is an entry of the mailing of its faction, and has a verb of the phase.
-use Rattle.std.proofs.Common.{◌≡◌, ℕ, suc, ◌+◌, Bool, true, ◌&&◌, List, [], ◌∷◌, map, flat_map, slice_get, Some, All, refl, sym, subst, arith}
+use Rattle.std.proofs.Common.{◌≡◌, ℕ, suc, ◌+◌, Bool, true, ◌&&◌, List, [], ◌∷◌, map, slice_get, Some, All, refl, sym, subst, arith}
 use Rattle.std.specs.declared.cmp.Ordering.{Ordering}
 use Rattle.std.specs.declared.cmp.Ordering.TheVariants.{Less, Equal, Greater}
 use Rattle.std.specs.Ordering.{nat_cmp}
 use Rattle.std.specs.Cmp.{IsTotalOrder}
 use Rattle.std.specs.Cmp.Lexicographic.{slice_cmp, nat_list_cmp_total}
 use Rattle.std.specs.List.{AllByRecursion}
-use Rattle.std.specs.FinMap.{FinMap, IsAntisymmetric, entries, entries-insert, from_entries, get, nat_cmp-IsAntisymmetric, put, slice_cmp-IsAntisymmetric, values}
+use Rattle.std.specs.FinMap.{FinMap, IsAntisymmetric, entries, entries-insert, from_entries, get, nat_cmp-IsAntisymmetric, put, slice_cmp-IsAntisymmetric}
 use Rattle.std.specs.FinMap.Entries.{by_order}
 use Rattle.std.proofs.lemmas.Bool.{and_parts}
 use Rattle.std.proofs.lemmas.List.Elements.{All-from_recursion, All-map, recursion_from_All}
@@ -19,7 +19,7 @@ use Rattle.atl_campaign.proofs.MapOfRowsLaws.{each_follows}
 use Rattle.atl_campaign.proofs.ReadBackLaws.{append_each}
 use Rattle.atl_phase.specs.declared.phase_order.Arrangement.{Arrangement}
 use Rattle.atl_phase.specs.Month.{Aliases}
-use Rattle.atl_phase.specs.PhaseOrders.{IsInMailing, OrdersAreInMailings, Task, key_of, orders_of, order_counts, tasks_for, tasks_from, tasks_of}
+use Rattle.atl_phase.specs.PhaseOrders.{IsInMailing, OrdersAreInMailings, Task, key_of, order_counts, orders_of, tasks_for, tasks_from, tasks_of, tasks_of_phase, under_keys}
 use Rattle.atl_phase.proofs.MappedLaws.{no_entries}
 
 -- ---- what is so of each entry is so of each that a map lists
@@ -63,28 +63,28 @@ module _ (is_of : Verb → Bool) (aliases : Aliases) (readings : FinMap nat_cmp 
         counted f r h (index + 1) es (λ j x is. let next : index + suc j ≡ (index + 1) + j = omega arith in subst (λ n. slice_get r.entries n ≡ Some x) next (whole (suc j) x is)),
       )
 
-  all_count : (es : List (ℕ × Reading)) → EachEntry (λ f r. get readings f ≡ Some r) es → AllByRecursion IsPhaseOrder (flat_map (λ e. tasks_for is_of (tasks_of aliases e.0 e.1)) es)
+  all_count : (es : List (ℕ × Reading)) → EachEntry (λ f r. get readings f ≡ Some r) es → AllByRecursion IsPhaseOrder (tasks_of_phase is_of aliases es)
   all_count [] h = tt
   all_count (e ∷ es) h =
       let ts = tasks_of aliases e.0 e.1 in
-      append_each IsPhaseOrder (tasks_for is_of ts) (flat_map (λ e. tasks_for is_of (tasks_of aliases e.0 e.1)) es)
+      append_each IsPhaseOrder (tasks_for is_of ts) (tasks_of_phase is_of aliases es)
       (kept _ IsPhaseOrder ts (counted e.0 e.1 h.0 0 e.1.entries (λ j x is. let at : j ≡ 0 + j = omega arith in subst (λ n. slice_get e.1.entries n ≡ Some x) at is))) (all_count es h.1)
 
   -- each order of a phase is under its key, is in its faction's mailing, counts there, and has a verb of the phase
   -- (`IsPhaseOrder`)
-  pub orders_count : (a : Arrangement) → AllByRecursion (λ e. (e.0 ≡ key_of a e.1) × IsPhaseOrder e.1) (entries (orders_of is_of a aliases readings))
+  pub orders_count : (a : Arrangement) → AllByRecursion (λ e. (e.0 ≡ key_of a e.1) × IsPhaseOrder e.1) (entries (under_keys (key_of a) (tasks_of_phase is_of aliases (entries readings))))
   orders_count a =
-      let ts = flat_map (λ e. tasks_for is_of (tasks_of aliases e.0 e.1)) (entries readings) in
+      let ts = tasks_of_phase is_of aliases (entries readings) in
       entries-listed (slice_cmp nat_cmp) (λ k t. (k ≡ key_of a t) × IsPhaseOrder t) nat_list_cmp_total (slice_cmp-IsAntisymmetric nat_cmp-IsAntisymmetric) (key_of a) ts
       (each_follows IsPhaseOrder (λ t. (key_of a t ≡ key_of a t) × IsPhaseOrder t) (λ t h. (refl, h)) ts (all_count (entries readings) (each-from_every (λ f r. get readings f ≡ Some r) readings (λ f r is. is))))
 
-  of_each : (P : Task → Type 0) → ((t : Task) → IsPhaseOrder t → P t) → (a : Arrangement) → All P (values (orders_of is_of a aliases readings))
+  of_each : (P : Task → Type 0) → ((t : Task) → IsPhaseOrder t → P t) → (a : Arrangement) → All P (orders_of is_of a aliases readings)
   of_each P so a =
-      let es = entries (orders_of is_of a aliases readings) in
+      let es = entries (under_keys (key_of a) (tasks_of_phase is_of aliases (entries readings))) in
       All-map P (λ (e : List ℕ × Task). e.1) es (All-from_recursion (λ e. P e.1) es (each_follows (λ e. (e.0 ≡ key_of a e.1) × IsPhaseOrder e.1) (λ e. P e.1) (λ e h. so e.1 h.1) es (orders_count a)))
 
 pub orders_are_in_mailings : OrdersAreInMailings
 orders_are_in_mailings is_of a aliases readings = of_each is_of aliases readings (IsInMailing aliases readings) (λ t h. h.there) a
 
-pub orders_have_verbs : (is_of : Verb → Bool) (a : Arrangement) (aliases : Aliases) (readings : FinMap nat_cmp Reading) → AllByRecursion (λ t. is_of t.order_value.verb ≡ true) (values (orders_of is_of a aliases readings))
+pub orders_have_verbs : (is_of : Verb → Bool) (a : Arrangement) (aliases : Aliases) (readings : FinMap nat_cmp Reading) → AllByRecursion (λ t. is_of t.order_value.verb ≡ true) (orders_of is_of a aliases readings)
 orders_have_verbs is_of a aliases readings = recursion_from_All (λ t. is_of t.order_value.verb ≡ true) _ (of_each is_of aliases readings (λ t. is_of t.order_value.verb ≡ true) (λ t h. (and_parts _ _ h.passes).0) a)

@@ -39,14 +39,14 @@ abbrev pub PhaseLeavesUnmailed : PhaseSpec → Type 0
 PhaseLeavesUnmailed phase = LeavesUnmailed phase.meaning phase.keeps
 
 -- all phases leave units of factions without a mailing their items, and their men less the starved; after the last
--- phase, a unit all of whose men starved may be gone
+-- phase, a unit all of whose men starved is removed
 abbrev pub CloseTogether : List PhaseSpec → Type 0
 CloseTogether [] = ⊥
 CloseTogether (phase ∷ []) = ClosesUnmailed phase.meaning phase.keeps
 CloseTogether (phase ∷ next ∷ rest) = PhaseLeavesUnmailed phase × CloseTogether (next ∷ rest)
 
 -- Phases in turn leave units of factions without a mailing their items, and their men less the starved, if each phase
--- does (`CloseTogether`). After the last phase, a unit all of whose men starved may be gone (`ClosesUnmailed`).
+-- does (`CloseTogether`). After the last phase, a unit all of whose men starved is removed (`ClosesUnmailed`).
 pub closed_together : (phases : List PhaseSpec) → CloseTogether phases → ClosesUnmailed (meaning_of phases) (keeps_of phases)
 closed_together [] none = absurd none
 closed_together (phase ∷ []) closes = closes
@@ -59,7 +59,7 @@ leave_together [] each = record {
   left = λ w c m keeps n u there none. record { unit = u; there = there; is_unaffected = record { faction = refl; name = refl; men = nobody (starved_in m.events n) u.holding.men; items = λ i. omega arith } };
 }
   where
-    nobody : (x a : ℕ) → a ≡ a - (x - x)
+    nobody : (x a : ℕ) → a + (x - x) ≡ a
     nobody x a = omega arith
 leave_together (phase ∷ []) each = each.0
 leave_together (phase ∷ next ∷ rest) each = both_leave each.0 (leave_together (next ∷ rest) each.1)

@@ -5,7 +5,7 @@ use Rattle.std.proofs.lemmas.Option.{same_Some}
 use Rattle.std.specs.Prelude.{IfSome, fold, option_map, if◌then◌else◌}
 use Rattle.std.specs.List.{All, AllByRecursion}
 use Rattle.std.specs.Ordering.{nat_cmp}
-use Rattle.std.specs.FinMap.{FinMap, get, insert, values}
+use Rattle.std.specs.FinMap.{FinMap, get, insert}
 use Rattle.std.proofs.lemmas.Bool.{cases_eq}
 use Rattle.std.proofs.lemmas.List.Elements.{recursion_from_All}
 use Rattle.std.proofs.lemmas.List.Sums.{sum_by_push}
@@ -47,11 +47,12 @@ pub record LeavesUnmailed (meaning : Meaning) (keeps : Frame) : Type 0 where
   pub left : (w : WorldValue) (c : CampaignValue) (m : MonthValue) → keeps w m c (meaning w c m).0 →
       Every (λ n u. get m.readings u.faction ≡ None → IsStillThere (IsLessBy (starved_in (meaning w c m).1.events n - starved_in m.events n)) (meaning w c m).0 n u) c.units
 
--- After the phase each unit of a faction without a mailing is there, unless all its men starve. It has its faction and
--- name, no less of any item, and its men less exactly those who starve. The phase takes back no Starved event, and may
--- change the mailings.
+-- After the phase each unit of a faction without a mailing is there, or removed if all its men starve (`IsLeft`). The
+-- phase takes back no Starved event, and may change the mailings.
 pub record ClosesUnmailed (meaning : Meaning) (keeps : Frame) : Type 0 where
   pub starved_reported : (w : WorldValue) (c : CampaignValue) (m : MonthValue) (n : ℕ) → starved_in m.events n ≤ starved_in (meaning w c m).1.events n
+  -- if the phase keeps what `keeps` says, each unit of a faction without a mailing is left with those men whom the new
+  -- events don't report as starved
   pub left : (w : WorldValue) (c : CampaignValue) (m : MonthValue) → keeps w m c (meaning w c m).0 →
       Every (λ n u. get m.readings u.faction ≡ None → IsLeft (starved_in (meaning w c m).1.events n - starved_in m.events n) (meaning w c m).0 n u) c.units
 
@@ -65,13 +66,18 @@ less_twice x y z u v t l k one two = record {
   items = λ i. omega (arith, one.items i, two.items i);
 }
   where
-    less : (a b d : ℕ) → b ≡ a - (y - x) → d ≡ b - (z - y) → d ≡ a - (z - x)
+    less : (a b d : ℕ) → b + (y - x) ≡ a → d + (z - y) ≡ b → d + (z - x) ≡ a
     less a b d e f = omega (arith, l, k)
 
 -- if fewer men of a unit starved in two phases (z - x) than it had (a), fewer starved in the second (z - y) than were
 -- left after the first (b)
-some_left : (x y z a b : ℕ) → x ≤ y → y ≤ z → b ≡ a - (y - x) → z - x < a → z - y < b
+some_left : (x y z a b : ℕ) → x ≤ y → y ≤ z → b + (y - x) ≡ a → z - x < a → z - y < b
 some_left x y z a b l k e some = omega arith
+
+-- if all men of a unit (a) starved in two phases (z - x), all who were left after the first (b) starved in the second
+-- (z - y)
+none_left : (x y z a b : ℕ) → x ≤ y → y ≤ z → b + (y - x) ≡ a → z - x ≡ a → z - y ≡ b
+none_left x y z a b l k e all = omega arith
 
 still_none : {first : Meaning} {early : Frame} → LeavesUnmailed first early → (w : WorldValue) (c : CampaignValue) (m : MonthValue) (f g : ℕ) → g ≡ f → get m.readings f ≡ None → get (first w c m).1.readings g ≡ None
 still_none one w c m f g same none = ap (λ (r : FinMap nat_cmp Reading). get r g) (one.readings w c m) ∙ ap (get m.readings) same ∙ none
@@ -93,14 +99,19 @@ module _ {first second : Meaning} {early late : Frame} where
   pub then_closes : LeavesUnmailed first early → ClosesUnmailed second late → ClosesUnmailed (then_also first second) (both_keep first early late)
   then_closes one two = record {
     starved_reported = λ w c m n. omega (arith, one.starved_reported w c m n, two.starved_reported w (first w c m).0 (first w c m).1 n);
-    left = λ w c m keeps n u there none some.
+    left = λ w c m keeps n u there none.
         let between = first w c m in
         let a = one.left w c m keeps.0 n u there none in
         let early = one.starved_reported w c m n in
         let late = two.starved_reported w between.0 between.1 n in
-        let b = two.left w between.0 between.1 keeps.1 n a.unit a.there (still_none one w c m u.faction a.unit.faction a.is_unaffected.faction none)
-        (some_left _ _ _ u.holding.men a.unit.holding.men early late a.is_unaffected.men some) in
-        record { unit = b.unit; there = b.there; is_unaffected = less_twice _ _ _ u a.unit b.unit early late a.is_unaffected b.is_unaffected };
+        let left = two.left w between.0 between.1 keeps.1 n a.unit a.there (still_none one w c m u.faction a.unit.faction a.is_unaffected.faction none) in
+        record {
+          most = omega (arith, early, late, a.is_unaffected.men, left.most);
+          fewer = λ some.
+              let b = left.fewer (some_left _ _ _ u.holding.men a.unit.holding.men early late a.is_unaffected.men some) in
+              record { unit = b.unit; there = b.there; is_unaffected = less_twice _ _ _ u a.unit b.unit early late a.is_unaffected b.is_unaffected };
+          all = λ every. left.all (none_left _ _ _ u.holding.men a.unit.holding.men early late a.is_unaffected.men every);
+        };
   }
 
 -- ---- a phase in which nobody starves: men and items
@@ -179,7 +190,7 @@ UnmailedAre unaffected m before after = Every (λ n u. get m.readings u.faction 
 none_less : (x y : ℕ) (u v : Unit) → y ≡ x → HasItsMen u v → HasItsItems u v → IsLessBy (y - x) u v
 none_less x y u v same men items = record { faction = men.faction; name = items.name; men = nobody u.holding.men v.holding.men men.men; items = items.items }
   where
-    nobody : (a b : ℕ) → b ≡ a → b ≡ a - (y - x)
+    nobody : (a b : ℕ) → b ≡ a → b + (y - x) ≡ a
     nobody a b e = omega (arith, same)
 
 module _ {meaning : Meaning} {keeps : Frame} (readings : (w : WorldValue) (c : CampaignValue) (m : MonthValue) → (meaning w c m).1.readings ≡ m.readings)
@@ -201,7 +212,7 @@ module _ {meaning : Meaning} {keeps : Frame} (readings : (w : WorldValue) (c : C
 
 -- ---- a phase whose orders are carried out one by one
 
-pub none_ordered : (is_of : Verb → Bool) (arrangement : Arrangement) (m : MonthValue) (f : ℕ) → get m.readings f ≡ None → All (λ t. t.faction ≢ f) (values (orders_of is_of arrangement m.aliases m.readings))
+pub none_ordered : (is_of : Verb → Bool) (arrangement : Arrangement) (m : MonthValue) (f : ℕ) → get m.readings f ≡ None → All (λ t. t.faction ≢ f) (orders_of is_of arrangement m.aliases m.readings)
 none_ordered is_of arrangement m f none k d l same =
     let h = orders_are_in_mailings is_of arrangement m.aliases m.readings k d l in
     none_some h.reading (sym none ∙ ap (get m.readings) (sym same) ∙ h.of_faction)
@@ -256,16 +267,16 @@ module _ (step : OrderMeaning) where
   module _ (is_of : Verb → Bool) where
     pub carried_readings : (w : WorldValue) (c : CampaignValue) (m : MonthValue) → (meaning_by_orders step is_of w c m).1.readings ≡ m.readings
     unfolding meaning_by_orders
-    carried_readings w c m = orders_readings w (c, m) (values (orders_of is_of ByUnit m.aliases m.readings))
+    carried_readings w c m = orders_readings w (c, m) (orders_of is_of ByUnit m.aliases m.readings)
 
     pub carried_starve_none : (w : WorldValue) (c : CampaignValue) (m : MonthValue) (n : ℕ) → starved_in (meaning_by_orders step is_of w c m).1.events n ≡ starved_in m.events n
     unfolding meaning_by_orders
-    carried_starve_none w c m n = orders_starve_none w (c, m) (values (orders_of is_of ByUnit m.aliases m.readings)) n
+    carried_starve_none w c m n = orders_starve_none w (c, m) (orders_of is_of ByUnit m.aliases m.readings) n
 
     pub carried_men : LeavesOthersMen step → (w : WorldValue) (c : CampaignValue) (m : MonthValue) → UnmailedAre HasItsMen m c (meaning_by_orders step is_of w c m).0
     unfolding meaning_by_orders
     carried_men unaffected w c m n u there none =
-        let ts = values (orders_of is_of ByUnit m.aliases m.readings) in
+        let ts = orders_of is_of ByUnit m.aliases m.readings in
         orders_leave_men unaffected w c m ts n u there (recursion_from_All (λ t. t.faction ≢ u.faction) ts (none_ordered is_of ByUnit m u.faction none))
 
     -- A phase that carries out its orders one by one leaves units of factions without a mailing their items, and their

@@ -4,7 +4,7 @@ use Rattle.std.specs.declared.vec.Vec.{Vec}
 use Rattle.std.specs.List.{All, flat_map}
 use Rattle.std.specs.Ordering.{nat_cmp}
 use Rattle.std.specs.List.Sorted.{IsStrictlySortedBy}
-use Rattle.std.specs.FinMap.{FinMap, get, insert, values}
+use Rattle.std.specs.FinMap.{FinMap, get, insert}
 use Rattle.atl_world.specs.Groups.{group_of}
 use Rattle.atl_orders.specs.declared.mailing.Entry.{Entry}
 use Rattle.atl_orders.specs.declared.mailing.Mailing.{Mailing}
@@ -122,7 +122,7 @@ AreIndicesByMailing aliases mailings = AreIndicesOf mailings (all_tasks aliases 
 -- the indices name the orders that count of all mailings, sorted as the arrangement says
 abbrev pub AreOrderIndices : Arrangement → Aliases → List Mailing → List OrderIndex → Type 0
 AreOrderIndices arrangement aliases mailings =
-    AreIndicesOf mailings (values (orders_of every_verb arrangement aliases (by_faction (map reading_of mailings))))
+    AreIndicesOf mailings (orders_of every_verb arrangement aliases (by_faction (map reading_of mailings)))
 
 -- the orders that some indices name and that have a verb of the phase, in the order of the indices
 abbrev pub tasks_picked : (Verb → Bool) → List Mailing → List OrderIndex → List Task

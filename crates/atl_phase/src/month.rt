@@ -1,6 +1,6 @@
 //! A month: its mailings, aliases, dice words and events, which phases hand on.
 ghost use Rattle.std.specs.Prelude.{◌≡◌, ◌++◌, ◌∷◌, [], IfOk, OnOk, OnErr, map, option_copied, option_map};
-ghost use Rattle.std.specs.FinMap.{empty, get, values};
+ghost use Rattle.std.specs.FinMap.{empty, get};
 ghost use Rattle.atl_orders.specs.Mailing.{reading_of};
 ghost use Rattle.atl_phase.specs.Month.{HaveOwnFactions, HaveNoOrder, alias_unit, by_faction, with_alias, with_events};
 ghost use Rattle.atl_phase.specs.PhaseOrders.{orders_of, task_of, unit_of};
@@ -158,7 +158,7 @@ impl Month {
         arrangement: Arrangement,
     ) -> Result<Vec<PhaseOrder<'_>>, AllocError>
         ensures { IfOk result (λ list. map task_of list.items
-            ≡ values (orders_of P.is_of arrangement self.now.aliases self.now.readings)) }
+            ≡ orders_of P.is_of arrangement self.now.aliases self.now.readings) }
     {
         match (arrangement, &self.gathered_indices) {
             (Arrangement::ByUnit, Some(places)) => {
