@@ -23,7 +23,7 @@ use Rattle.atl_phase.proofs.MapOfListLaws.{entries-passing}
 use Rattle.atl_phase.proofs.OrderKeyLaws.{all_apart, same_key}
 
 -- for `sorted-passing`: to map elements by f and keep those that pass p is to keep those whose f passes p, and map them
-filter-map : {X Y : Type 0} (p : Y → Bool) (f : X → Y) (xs : List X) → filter p (map f xs) ≡ map f (filter (λ x. p (f x)) xs)
+pub filter-map : {X Y : Type 0} (p : Y → Bool) (f : X → Y) (xs : List X) → filter p (map f xs) ≡ map f (filter (λ x. p (f x)) xs)
 filter-map p f [] = refl
 filter-map p f (x ∷ xs) =
     let rest = filter-map p f xs in
@@ -33,7 +33,7 @@ filter-map p f (x ∷ xs) =
     ]
 
 -- the sorted orders of those that pass a test are those of all sorted orders that pass, if no two keys are equal
-sorted-passing : (a : Arrangement) (p : Task → Bool) (ts : List Task) → IsDistinct (same_key a) ts → sorted_by (key_of a) (filter p ts) ≡ filter p (sorted_by (key_of a) ts)
+pub sorted-passing : (a : Arrangement) (p : Task → Bool) (ts : List Task) → IsDistinct (same_key a) ts → sorted_by (key_of a) (filter p ts) ≡ filter p (sorted_by (key_of a) ts)
 sorted-passing a p ts apart =
     let entry : Task → List ℕ × Task = λ t. (key_of a t, t) in
     ap (λ fs. values (from_entries {R = slice_cmp nat_cmp} fs)) (sym (filter-map (λ (e : List ℕ × Task). p e.1) entry ts))
