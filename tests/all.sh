@@ -80,7 +80,7 @@ try package python3 tests/program/package.py
 try program python3 python3 -B tests/program/program.py
 try limits python3 python3 -B tests/program/limits.py
 try large_month python3 python3 -B tests/program/large_month.py
-try upgrade sqlite3 tests/program/upgrade.sh
+try upgrade python3 python3 -B tests/program/upgrade.py
 try http 'curl python3' python3 -B tests/program/month_by_http.py
 try slow python3 python3 -B tests/program/slow.py
 try given_up 'python3 strace' python3 -B tests/program/given_up.py
