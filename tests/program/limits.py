@@ -2,13 +2,12 @@
 """Runs the program under limits on its stack and its address space, over texts that nest as deep as their readers allow.
 
 Under each limit the program gives the answer that docs/FORMATS.md names, or answers `fault: Memory` before it has made or
-changed a file. It is never ended by a signal but in one small range of limits on the address space, and there too
-before it has made or changed a file. Called without arguments, it takes about a minute, and ends with 'OK'."""
+changed a file. Once it has begun, no limit has it ended by a signal. Called without arguments, it takes about a
+minute, and ends with 'OK'."""
 import json
 import os
 import resource
 import shutil
-import signal
 import socket
 import sqlite3
 import subprocess
@@ -33,8 +32,6 @@ KB = 1024
 STACKS = (*range(160, 1_025, 96), 1_600, 2_048, 2_400, 3_072, 4_092, 4_096, 5_120, 8_192)
 # docs/FORMATS.md, "The program": from this limit on every command is carried out.
 ENOUGH = 4_096
-# Of limits on the address space, 32 kB apart, under so many at most the program is ended by a signal.
-MOST_ENDED = 6
 # What the dynamic loader of glibc says where it finds no room.
 NOT_LOADED = (b"shared libraries", b"cannot allocate TLS data structures")
 # How deep toml nests values, and how many parts a key may have.
@@ -243,24 +240,18 @@ class Limits(unittest.TestCase):
                 self.assertEqual(self.run_case(case, resource.RLIMIT_STACK, UNLIMITED), case.wanted)
 
     def test_small_address_spaces(self) -> None:
-        """From small to large: the system can't start the program, its libraries find no room, Memory, the answer. Just
-        below the answer the system refuses to let the stack grow, and ends the program."""
+        """From small to large: the system can't start the program, its libraries find no room, Memory, the answer."""
         file = make_campaign(self.made, f"{LONG_KEY} = 1\n{SMALL}")
         case = showing_books("a dotted key in the file", file, Outcome(0, BOOKS, b""))
         stages: list[int | None] = []
-        ended = 0
-        for limit in range(3_072, 10_241, 32):
+        for limit in range(3_072, 10_241, 16):
             with self.subTest(space=f"{limit} kB"):
                 folder = self.copy_of(case.files)
                 told = outcome_of(start(case.words, folder, resource.RLIMIT_AS, limit * KB))
-                if told.status == -signal.SIGSEGV and stages[-1:] == [2]:
-                    ended += 1
-                else:
-                    stages.append(stage_of(told, case.wanted, any(stages)))
+                stages.append(stage_of(told, case.wanted, any(stages)))
                 self.assertIsNotNone(stages[-1], told)
                 self.assertEqual(contents(folder)["club.db"], file.read_bytes())
         self.assertEqual((2 in stages, stages[-1]), (True, 3))
-        self.assertLessEqual(ended, MOST_ENDED)
 
 
 def stage_of(told: Outcome, wanted: Outcome, has_started: bool) -> int | None:

@@ -30,8 +30,6 @@ campaign_maps_of p = record {
   reports = without_marks (by_number (λ r. as_u32 r.faction) (λ r. r.text) p.reports);
 }
 
--- ---- units and regions without goods and stocks
-
 -- the unit that a row of `unit` says, without items and days of study
 abbrev pub bare_unit : StoredUnit → Unit
 bare_unit r = unit_with_goods r empty empty
@@ -39,8 +37,6 @@ bare_unit r = unit_with_goods r empty empty
 -- the region that a row of `region` says, with nothing in stock
 abbrev pub bare_region : StoredRegion → Region
 bare_region r = region_with_stocks r empty
-
--- ---- row by row
 
 -- a unit with the amount of a row of `has` put in: pieces of an item (sort 0) or days of a skill (sort 1)
 abbrev pub with_has_row : StoredHas → Unit → Unit

@@ -29,7 +29,6 @@ pub struct Parts {
     pub markets: Sequence<StoredMarket>,
 }
 
-/// Drops the rows of all tables.
 impl Drop for Parts {
     fn drop(self) {
         let_go!(self: Parts { campaign, factions, regions, units, has, structures, mail, reports, books, markets });
@@ -56,7 +55,6 @@ pub struct StoredCampaignRow {
     pub pass: Sequence<u8>,
 }
 
-/// Drops the moderator's pass text.
 impl Drop for StoredCampaignRow {
     fn drop(self) {
         let_go!(self: StoredCampaignRow { id, format, month, next_faction, next_unit, next_structure, pass });
@@ -72,13 +70,11 @@ pub struct StoredFaction {
     pub joined_as: Sequence<u8>,
     /// The name that the faction shows.
     pub name: Sequence<u8>,
-    /// The faction's pass text.
     pub pass: Sequence<u8>,
     /// 1 where the faction has no unit left, else 0.
     pub gone: i64,
 }
 
-/// Drops the faction's two names and its pass text.
 impl Drop for StoredFaction {
     fn drop(self) {
         let_go!(self: StoredFaction { number, joined_as, name, pass, gone });
@@ -104,9 +100,7 @@ pub struct StoredUnit {
     pub number: i64,
     /// The number of the unit's faction.
     pub faction: i64,
-    /// The name that the unit shows.
     pub name: Sequence<u8>,
-    /// The number of the region where the unit is.
     pub region: i64,
     /// The number of the structure that the unit is inside, or 0 where it is inside none.
     pub structure: i64,
@@ -118,7 +112,6 @@ pub struct StoredUnit {
     pub guard: i64,
 }
 
-/// Drops the unit's name.
 impl Drop for StoredUnit {
     fn drop(self) {
         let_go!(self: StoredUnit { number, faction, name, region, structure, men, money, guard });
@@ -133,9 +126,7 @@ pub struct StoredStructure {
     pub number: i64,
     /// The index of the structure's kind in the world's list of kinds, from 0.
     pub kind: i64,
-    /// The name that the structure shows.
     pub name: Sequence<u8>,
-    /// The number of the region where the structure is.
     pub region: i64,
     /// How much of the structure is built, from 1 to the size of its kind.
     pub done: i64,
@@ -143,7 +134,6 @@ pub struct StoredStructure {
     pub owner: i64,
 }
 
-/// Drops the structure's name.
 impl Drop for StoredStructure {
     fn drop(self) {
         let_go!(self: StoredStructure { number, kind, name, region, done, owner });
@@ -159,7 +149,6 @@ pub struct StoredMail {
     pub text: Sequence<u8>,
 }
 
-/// Drops the bytes of the mailing.
 impl Drop for StoredMail {
     fn drop(self) {
         let_go!(self: StoredMail { faction, text });
@@ -169,13 +158,11 @@ impl Drop for StoredMail {
 /// A row of the table `report`: a faction's last report.
 #[derive(Debug)]
 pub struct StoredReport {
-    /// The number of the faction whose report it is.
     pub faction: i64,
     /// The report as the faction reads it. See docs/FORMATS.md, "Reports".
     pub text: Text,
 }
 
-/// Drops the text of the report.
 impl Drop for StoredReport {
     fn drop(self) {
         let_go!(self: StoredReport { faction, text });
@@ -185,7 +172,6 @@ impl Drop for StoredReport {
 /// A row of the table `has`: what a unit has of an item or a skill.
 #[derive(Debug, Drop)]
 pub struct StoredHas {
-    /// The unit's number.
     pub unit: i64,
     /// Whether the row is of an item (0) or of a skill (1).
     pub sort: i64,
@@ -210,7 +196,6 @@ pub struct StoredBooks {
 /// A row of the table `market`: the stock of an item in a region.
 #[derive(Debug, Drop)]
 pub struct StoredMarket {
-    /// The number of the region that has the stock.
     pub region: i64,
     /// The index of the item in the world's list of them, from 0.
     pub item: i64,

@@ -78,8 +78,6 @@ fn with_refusals(
     println!(rt; "{call:?}: never done")
 }
 
-/// Tries a call with few blocks left or, if a step is given, with refused growths, and prints the
-/// result.
 fn try_call(
     rt: &HostRuntime,
     call: Call,

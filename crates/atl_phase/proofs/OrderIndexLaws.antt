@@ -13,17 +13,14 @@ use Rattle.atl_phase.specs.Month.{Aliases}
 use Rattle.atl_phase.specs.PhaseOrders.{Task, order_counts, counts_in_slot, tasks_for, tasks_from, tasks_of, unit_of}
 use Rattle.atl_phase.specs.OrderIndices.{AddsMailing, AreLastLines, IsThere, LastLineMap, all_tasks, every_verb, mailing_at, no_entry, no_mailing, counts_by_lines, task_at, tasks_at}
 
--- an order counts by the greatest lines noted of its mailing exactly if it counts among the mailing's orders
 by_lines : (ts : List Task) (lines : LastLineMap) (t : Task) → AreLastLines ts lines → (o : Option Slot) → counts_by_lines lines t.unit t.line o ≡ counts_in_slot ts t o
 by_lines ts lines t last None = refl
 by_lines ts lines t last (Some slot) = ap (λ n. t.line == n) (last slot t.unit)
 
 module _ (aliases : Aliases) (ms : List Mailing) (at : ℕ) where
-  -- the mailing at index `at`, whose orders the code goes over
   abbrev read : Mailing
   read = mailing_at ms at
 
-  -- the entry at an index of the mailing
   abbrev entry_at : ℕ → Entry
   entry_at i = get_or read.entries i no_entry
 
@@ -31,11 +28,9 @@ module _ (aliases : Aliases) (ms : List Mailing) (at : ℕ) where
   abbrev pub rest_from : ℕ → List Task
   rest_from i = filter (order_counts (tasks_at aliases ms at)) (tasks_from aliases read.faction i (map (entry_value read.text) (drop i read.entries)))
 
-  -- the `OrderIndex` of the order at an index of the mailing
   abbrev place_of : ℕ → OrderIndex
   place_of i = record { unit = unit_of aliases read.faction (entry_at i).target; line = (entry_at i).line; faction = read.faction; mailing = at; index = i }
 
-  -- whether the order at index i of the mailing counts
   abbrev counts : ℕ → Bool
   counts i = order_counts (tasks_at aliases ms at) (task_at ms (place_of i))
 
@@ -45,21 +40,16 @@ module _ (aliases : Aliases) (ms : List Mailing) (at : ℕ) where
 
   -- the list has the indices of the orders that count before index i of the mailing, after those of `old`
   pub record Added (old : List OrderIndex) (i : ℕ) (list : List OrderIndex) : Type 0 where
-    -- each index of the list names an order that the mailings have (`IsThere`), if each index of `old` does
     pub there : All (IsThere ms) old → All (IsThere ms) list
-    -- the orders that the list names, and those still to come that count, are the old ones and all that count of the
-    -- mailing
     pub tasks : map (task_at ms) list ++ rest_from i ≡ map (task_at ms) old ++ rest_from 0
 
   module _ (old list : List OrderIndex) (i : ℕ) (h : i < length read.entries) (before : Added old i list) where
-    -- if the order at i doesn't count, the list as it is has the indices of those that count before i + 1 (`Added`)
     pub passed : counts i ≡ false → Added old (i + 1) list
     passed skipped = record {
       there = before.there;
       tasks = ap (λ ts. map (task_at ms) list ++ ts) (sym (opened i h ∙ ap (λ b. cond b (task_at ms (place_of i) ∷ rest_from (i + 1)) (rest_from (i + 1))) skipped)) ∙ before.tasks;
     }
 
-    -- if the order at i counts, the list with its index has the indices of those that count before i + 1 (`Added`)
     pub pushed : at < length ms → counts i ≡ true → Added old (i + 1) (list ++ place_of i ∷ [])
     pushed within counted = record {
       there = λ all. All-push (IsThere ms) list (place_of i) (before.there all) (record { mailing = within; entry = h });
@@ -71,11 +61,9 @@ module _ (aliases : Aliases) (ms : List Mailing) (at : ℕ) where
 
   -- the mailing, the entry and the unit that the code reads
   module _ (i : ℕ) (m : Mailing) (e : Entry) (unit : ℕ) (here : m ≡ read) (entry : e ≡ entry_at i) (for_unit : unit ≡ unit_of aliases m.faction e.target) where
-    -- the `OrderIndex` that the code makes of the mailing, the entry and the unit that it reads
     abbrev found : OrderIndex
     found = record { unit = unit; line = e.line; faction = m.faction; mailing = at; index = i }
 
-    -- the `OrderIndex` that the code makes is that of the order at index i
     found_is : found ≡ place_of i
     found_is k = record {
       unit = (for_unit ∙ (λ j. unit_of aliases (here j).faction (entry j).target)) k;
@@ -85,14 +73,11 @@ module _ (aliases : Aliases) (ms : List Mailing) (at : ℕ) where
       index = i;
     }
 
-    -- what the code's test by the noted lines says of the order at i is whether that order counts
     pub counts_by : (lines : LastLineMap) (b : Bool) → AreLastLines (tasks_at aliases ms at) lines → b ≡ counts_by_lines lines unit e.line (row_of e.order.verb).slot → counts i ≡ b
     counts_by lines b last is =
         let t = task_at ms (place_of i) in
         sym (is ∙ (λ k. counts_by_lines lines (found_is k).unit (found_is k).line (row_of (entry k).order.verb).slot) ∙ by_lines (tasks_at aliases ms at) lines t last (row_of t.order_value.verb).slot)
 
-    -- if the order at i counts, the list with the index that the code makes has the indices of those that count
-    -- before i + 1 (`Added`)
     pub added : (old list new : List OrderIndex) → i < length read.entries → Added old i list → at < length ms → counts i ≡ true → new ≡ list ++ found ∷ [] → Added old (i + 1) new
     added old list new h before within counted is = subst (Added old (i + 1)) (sym (is ∙ ap (λ p. list ++ p ∷ []) found_is)) (pushed old list i h before within counted)
 
@@ -106,8 +91,6 @@ module _ (aliases : Aliases) (ms : List Mailing) (at : ℕ) where
         ∙ ap (λ es. map (task_at ms) list ++ filter (order_counts (tasks_at aliases ms at)) (tasks_from aliases read.faction i (map (entry_value read.text) es))) (sym (drop_all i read.entries h))
         ∙ before.tasks;
   }
-
--- ---- the orders that count, mailing by mailing
 
 -- the indices name the orders that count of the mailings up to and with index i, once those of the mailing at i are
 -- added (`AddsMailing`), if they named those of the mailings before i

@@ -1,6 +1,6 @@
 //! A month: its mailings, aliases, dice words and events, which phases hand on.
 ghost use Rattle.std.specs.Prelude.{◌≡◌, ◌++◌, ◌∷◌, [], IfOk, OnOk, OnErr, map, option_copied, option_map};
-ghost use Rattle.std.specs.FinMap.{empty, get, values};
+ghost use Rattle.std.specs.FinMap.{empty, get};
 ghost use Rattle.atl_orders.specs.Mailing.{reading_of};
 ghost use Rattle.atl_phase.specs.Month.{HaveOwnFactions, HaveNoOrder, alias_unit, by_faction, with_alias, with_events};
 ghost use Rattle.atl_phase.specs.PhaseOrders.{orders_of, task_of, unit_of};
@@ -22,7 +22,6 @@ pub struct Month {
     mailings: Vec<Mailing>,
     // The unit that FORM made for each alias, by faction and then by alias.
     aliases: Numbered<Numbered<u32>>,
-    // The words of the dice.
     words: Vec<u32>,
     // The events so far, in the order in which they came.
     events: Vec<Event>,
@@ -59,8 +58,6 @@ impl Model for Month {
     ghost invariant = { λ a. IsSortedMonth a.aliases a.mailings.items a.gathered_indices };
 }
 
-/// Makes a month of its mailings, notes aliases and events in it, and gives its orders and its
-/// other parts.
 impl Month {
     /// A month before its first phase, with the given mailings, no two of one faction, and the
     /// given words of the dice. It takes no memory.
@@ -161,7 +158,7 @@ impl Month {
         arrangement: Arrangement,
     ) -> Result<Vec<PhaseOrder<'_>>, AllocError>
         ensures { IfOk result (λ list. map task_of list.items
-            ≡ values (orders_of P.is_of arrangement self.now.aliases self.now.readings)) }
+            ≡ orders_of P.is_of arrangement self.now.aliases self.now.readings) }
     {
         match (arrangement, &self.gathered_indices) {
             (Arrangement::ByUnit, Some(places)) => {
@@ -211,7 +208,6 @@ pub fn add_events(month: &mut Month, events: &[Event]) -> Result<(), AllocError>
     Ok(())
 }
 
-/// The number of the unit that a faction's FORM made under an alias; None where there is none.
 pub(crate) fn unit_under(aliases: &Numbered<Numbered<u32>>, faction: u32, alias: u32) -> Option<u32>
     ensures { result ≡ alias_unit aliases.now faction alias }
 {

@@ -18,9 +18,7 @@ use std::alloc::{AllocError, Global};
 pub(crate) struct OrderIndex {
     /// The unit that the order is for; 0 for an alias under which no unit was made.
     pub unit: u32,
-    /// The line of the order in its mailing.
     pub line: u32,
-    /// The faction that sent the mailing.
     pub faction: u32,
     /// The index of the mailing among those of the month, from 0 on.
     pub mailing: usize,
@@ -28,7 +26,6 @@ pub(crate) struct OrderIndex {
     pub index: usize,
 }
 
-/// Gives the key that an order is sorted by.
 impl OrderIndex {
     /// The numbers that the order is sorted by in an arrangement, from the most to the least
     /// significant; the last is its index in its mailing.
@@ -76,7 +73,6 @@ fn add_counting(
     Ok(())
 }
 
-/// The indices of all orders that count, mailing by mailing.
 fn indices_by_mailing(
     alloc: Global,
     aliases: &Numbered<Numbered<u32>>,
@@ -110,7 +106,6 @@ pub(crate) fn order_indices(
     Ok(list)
 }
 
-/// Sorts indices of orders by their keys in an arrangement.
 fn sort(list: &mut Vec<OrderIndex>, arrangement: Arrangement)
     ensures moved { IsPermutation list.old.items list.new.items }
     ensures sorted { IsSortedByKey (key_by arrangement) (slice_cmp nat_cmp) list.new.items }

@@ -14,10 +14,8 @@ use std::alloc::{AllocError, Global};
 
 /// The verbs of the orders that a phase carries out.
 pub trait PhaseVerbs {
-    // Whether a verb is one of the phase's.
     ghost is_of: { Verb → Bool };
 
-    /// Whether a verb is one of the phase's.
     fn has(&self, verb: Verb) -> bool
         ensures { result ≡ is_of verb };
 }
@@ -26,17 +24,14 @@ pub trait PhaseVerbs {
 /// each unit from each mailing: the one that counts.
 pub struct MonthLongVerbs;
 
-/// Has the verbs whose slot is the month-long one.
 impl PhaseVerbs for MonthLongVerbs {
     ghost is_of = { is_month_long };
 
-    /// Whether a verb takes the whole month.
     fn has(&self, verb: Verb) -> bool {
         is_same_slot(Slot::MonthLong, verb.row().slot)
     }
 }
 
-/// The order that an `OrderIndex` names, borrowed from its mailing.
 fn order_at<'m>(mailings: &'m [Mailing], placed: &OrderIndex) -> PhaseOrder<'m>
     requires { IsThere mailings.now placed.now }
     ensures { task_of result ≡ task_at mailings.now placed.now }

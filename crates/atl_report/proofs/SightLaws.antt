@@ -21,11 +21,9 @@ use Rattle.atl_records.proofs.EveryLaws.{each-from_every}
 use Rattle.atl_report.specs.Watching.{is_watching, sees_region}
 use Rattle.atl_report.specs.Gathering.{with_region, with_watched, with_all_watched}
 
--- a number compares equal to itself
 equal_to_itself : (n : ℕ) → is_eq (nat_cmp n n) ≡ true
 equal_to_itself n = ap is_eq (tied_itself nat_cmp_total n)
 
--- a number above another does not compare equal to it
 above_is_not_equal : (k q : ℕ) → is_lt (nat_cmp k q) ≡ true → is_eq (nat_cmp q k) ≡ false
 above_is_not_equal k q h = elim (nat_cmp q k) as (λ o. nat_cmp q k ≡ o → is_eq o ≡ false) [
   | Less ↦ λ _. refl
@@ -63,14 +61,11 @@ module _ {X : Type 0} (p : X → Bool) (g : Option X → Bool) where
         | false ↦ rest
       ]
 
-  -- in a map `g` holds of some value looked up by the number of an entry that passes `p`, just where some entry passes
-  -- both `p` and `g`
   some_where : (m : FinMap nat_cmp X) → list_any (λ n. g (get m n)) (numbers_where p m) ≡ list_any (λ e. p e.1 && g (Some e.1)) (entries m)
   some_where m = ap (λ (f : ℕ → Option X). list_any (λ n. g (f n)) (numbers_where p m)) (λ i n. get-entries m n i) ∙ some_found (entries m) (is_true _ (entries_sorted m))
 
 -- ---- who watches where
 
--- whether a unit is the faction's (`f`), has men, and is in region `q`
 abbrev watches_in : ℕ → ℕ → Option Unit → Bool
 watches_in f q None = false
 watches_in f q (Some u) = is_watching f (Some u) && eq_by_cmp nat_cmp q u.region
@@ -98,13 +93,10 @@ region_is_seen_by_unit c f q =
 abbrev forget_value : {V : Type 0} → V → Prim.Unit {0}
 forget_value v = tt
 
--- an entry with its value replaced by `tt`
 abbrev number_alone : {V : Type 0} → ℕ × V → ℕ × Prim.Unit {0}
 number_alone e = (e.0, tt)
 
 module _ {V : Type 0} where
-  -- to look up a number among entries with their values replaced by `tt` gives `tt` exactly where it gives a value
-  -- among the entries themselves
   find-alone : (q : ℕ) (es : List (ℕ × V)) → find nat_cmp q (map number_alone es) ≡ option_map forget_value (find nat_cmp q es)
   find-alone q [] = refl
   find-alone q (e ∷ es) = elim (is_eq (nat_cmp q e.0)) as (λ b. cond b (Some tt) (find nat_cmp q (map number_alone es)) ≡ option_map forget_value (cond b (Some e.1) (find nat_cmp q es))) [
@@ -112,12 +104,10 @@ module _ {V : Type 0} where
     | false ↦ find-alone q es
   ]
 
-  -- a number is below all entries with their values replaced by `tt` exactly if it is below all entries themselves
   below-alone : (k : ℕ) (es : List (ℕ × V)) → below_all nat_cmp k (map number_alone es) ≡ below_all nat_cmp k es
   below-alone k [] = refl
   below-alone k (e ∷ es) = ap (λ b. is_lt (nat_cmp k e.0) && b) (below-alone k es)
 
-  -- entries with their values replaced by `tt` are sorted exactly if the entries themselves are
   sorted-alone : (es : List (ℕ × V)) → is_sorted nat_cmp (map number_alone es) ≡ is_sorted nat_cmp es
   sorted-alone [] = refl
   sorted-alone (e ∷ es) = ap (λ b. b && is_sorted nat_cmp (map number_alone es)) (below-alone e.0 es) ∙ ap (λ b. below_all nat_cmp e.0 es && b) (sorted-alone es)
@@ -129,7 +119,6 @@ module _ {V : Type 0} where
   alone_chosen false o = refl
 
 module _ (c : CampaignValue) (f q : ℕ) where
-  -- Some `tt` if the campaign has region `k`, else None
   abbrev there : ℕ → Option (Prim.Unit {0})
   there k = option_map forget_value (get c.regions k)
 
@@ -153,8 +142,6 @@ module _ (c : CampaignValue) (f q : ℕ) where
     | Greater ↦ λ _. was
   ] refl
 
-  -- After a unit's region is added to the gathered regions, `q` is one of them if it was (b), or if the campaign has
-  -- region `q` and the unit is one of the faction's with men in it.
   one_watched : (seen : FinMap nat_cmp (Prim.Unit {0})) (b : Bool) (o : Option Unit) → get seen q ≡ cond b (there q) None → get (with_watched c f seen o) q ≡ cond (watches_in f q o || b) (there q) None
   one_watched seen b None was = was
   one_watched seen b (Some u) was =
@@ -171,8 +158,6 @@ module _ (c : CampaignValue) (f q : ℕ) where
   or_order false true b = refl
   or_order false false b = refl
 
-  -- After the regions of some units are added to the gathered ones, `q` is one of them if it was (b), or if the
-  -- campaign has region `q` and one of the units is one of the faction's with men in it.
   all_watched : (ns : List ℕ) (seen : FinMap nat_cmp (Prim.Unit {0})) (b : Bool) → get seen q ≡ cond b (there q) None
       → get (with_all_watched c f ns seen) q ≡ cond (list_any (λ n. watches_in f q (get c.units n)) ns || b) (there q) None
   all_watched [] seen b was = was
@@ -185,7 +170,6 @@ module _ (c : CampaignValue) (f q : ℕ) where
   or_none true = refl
   or_none false = refl
 
-  -- the regions gathered from all units of a faction are just those that it sees
   get-with_all_watched : get (with_all_watched c f (numbers_of_faction f c.units) empty) q ≡ cond (sees_region c f q) (there q) None
   get-with_all_watched =
       all_watched (numbers_of_faction f c.units) empty false (get-empty nat_cmp q)
@@ -205,8 +189,6 @@ entries-with_all_watched c f =
 
 -- regions looked up by the numbers of chosen entries
 module _ {A : Type 0} (m : FinMap nat_cmp Region) (make : ℕ → Region → A) where
-  -- if the map `m` has each entry of `es`, then to look up in `m` the regions of those entries that pass `p`, by
-  -- number, and apply `make` to each, gives what `make` gives of these entries
   looked_up : (p : ℕ × Region → Bool) (es : List (ℕ × Region)) → EachEntry (λ n r. get m n ≡ Some r) es
       → filter_map (λ (e : ℕ × Prim.Unit {0}). option_map (make e.0) (get m e.0)) (map number_alone (filter p es)) ≡ map (λ e. make e.0 e.1) (filter p es)
   looked_up p [] h = refl

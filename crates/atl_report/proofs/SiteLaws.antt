@@ -18,7 +18,6 @@ by_region : (b : Bool) (o : Option (List ℕ)) (listed rest : List ℕ) (n : ℕ
 by_region true o listed rest n h = ap (λ l. (l ++ (n ∷ [])) ++ rest) (h refl) ∙ append_assoc (unwrap_or o []) (n ∷ []) rest
 by_region false o listed rest n h = refl
 
--- regions with equal numbers have the same list of structures
 same_list : (sites : FinMap nat_cmp (List ℕ)) (q r : ℕ) → (r == q) ≡ true → list_of sites r ≡ list_of sites q
 same_list sites q r h = ap (list_of sites) (is_equal r q h)
 
@@ -33,6 +32,5 @@ site_goes_on sites n s es region =
     ∙ by_region (s.region == region) (get sites region) (list_of sites s.region) (numbers_among (λ (t : Structure). t.region == region) es) n (same_list sites region s.region)
     ∙ ap (λ l. list_of sites region ++ l) (sym (chosen-cons (λ (t : Structure). t.region == region) (n, s) es))
 
--- where there are no lists, each region's list is empty
 pub no_sites : (m : FinMap nat_cmp (List ℕ)) → m ≡ empty → (region : ℕ) → list_of m region ≡ []
 no_sites m h region = ap (λ (m : FinMap nat_cmp (List ℕ)). list_of m region) h ∙ ap (λ o. unwrap_or o []) (get-empty nat_cmp region)

@@ -10,8 +10,6 @@ use Rattle.atl_records.specs.Levels.{level_in_any}
 use Rattle.atl_campaign.specs.Campaign.{CampaignValue, numbers_in_region}
 use Rattle.atl_report.specs.declared.watch.Watch.{Watch}
 
--- ---- regions
-
 -- whether a unit exists, is the given faction's, and has men, so that the faction sees its region
 abbrev pub is_watching : ℕ → Option Unit → Bool
 is_watching faction unit = option_map_or (λ u. u.faction == faction && nat_lt 0 u.holding.men) unit false
@@ -19,8 +17,6 @@ is_watching faction unit = option_map_or (λ u. u.faction == faction && nat_lt 0
 -- `sees_region c faction region`: whether a faction sees a region, since it has a unit with men there
 abbrev pub sees_region : CampaignValue → ℕ → ℕ → Bool
 sees_region c faction region = list_any (λ n. is_watching faction (get c.units n)) (numbers_in_region region c.units)
-
--- ---- units
 
 -- the observation level of a unit, if it is of the given faction; 0 for another faction's unit, or without a unit
 abbrev pub observation_of : WorldValue → ℕ → Option Unit → ℕ

@@ -15,7 +15,6 @@ use atl_campaign::{Campaign, Holding, Region, Structure, Unit, level};
 use atl_world::{Market, Numbered, RegionPlan, Sequence, Text, World};
 use std::alloc::{AllocError, Global};
 
-/// A copy of a faction's name, as reports show it; empty where there is no such faction.
 fn shown_name(alloc: Global, campaign: &Campaign, faction: u32) -> Result<Text, AllocError>
     ensures { IfOk result (λ name. name ≡ shown_name (get campaign.now.value.factions faction)) }
 {
@@ -25,7 +24,6 @@ fn shown_name(alloc: Global, campaign: &Campaign, faction: u32) -> Result<Text, 
     }
 }
 
-/// The views of all items that a unit holds, in the order of the world.
 fn item_views(alloc: Global, holding: &Holding) -> Result<Sequence<ItemView>, AllocError>
     ensures { IfOk result (λ items. items ≡ item_views holding.now) }
 {
@@ -39,7 +37,6 @@ fn item_views(alloc: Global, holding: &Holding) -> Result<Sequence<ItemView>, Al
     Ok(items)
 }
 
-/// The views of all skills of a unit that have days, in the order of the world.
 fn skill_views(alloc: Global, holding: &Holding) -> Result<Sequence<SkillView>, AllocError>
     ensures { IfOk result (λ skills. skills ≡ skill_views holding.now) }
 {
@@ -55,7 +52,6 @@ fn skill_views(alloc: Global, holding: &Holding) -> Result<Sequence<SkillView>, 
     Ok(skills)
 }
 
-/// The side of a unit in a view: `Own` with money, items and skills, or `Other` with its faction.
 fn side_of(
     alloc: Global,
     campaign: &Campaign,
@@ -77,7 +73,6 @@ fn side_of(
     })
 }
 
-/// The view that a faction has of a unit that it sees.
 fn unit_view(
     alloc: Global,
     campaign: &Campaign,
@@ -97,8 +92,6 @@ fn unit_view(
     })
 }
 
-/// The views of the units that the watching faction sees in the watched region, in the order of
-/// their numbers.
 fn unit_views(
     alloc: Global,
     world: &World,
@@ -118,7 +111,6 @@ fn unit_views(
     Ok(units)
 }
 
-/// The number of a structure's owner; 0 where nobody owns it, or the owner isn't seen.
 fn shown_owner(world: &World, campaign: &Campaign, watch: Watch, structure: &Structure) -> u32
     ensures { result ≡ shown_owner world.now campaign.now.value watch structure.now }
 {
@@ -129,8 +121,6 @@ fn shown_owner(world: &World, campaign: &Campaign, watch: Watch, structure: &Str
     }
 }
 
-/// The view of a structure: number, kind, name, how much is done, and the owner, which is 0 where
-/// there is none, or the owner isn't seen.
 fn structure_view(
     alloc: Global,
     world: &World,
@@ -173,7 +163,6 @@ fn structure_views(
     Ok(structures)
 }
 
-/// The view of a market: its stock, and how many more pieces its limit leaves room for.
 fn market_view(number: u32, market: &Market, region: &Region) -> MarketView
     ensures { result ≡ market_view region.now (number, market.now) }
 {
@@ -185,7 +174,6 @@ fn market_view(number: u32, market: &Market, region: &Region) -> MarketView
     }
 }
 
-/// The views of all markets that the world gives a region, in the order of their items.
 fn market_views(
     alloc: Global,
     plan: &RegionPlan,
@@ -200,8 +188,6 @@ fn market_views(
     Ok(markets)
 }
 
-/// The views of all markets of a region, in the order of their items; none where the world lacks
-/// the region.
 fn region_market_views(
     alloc: Global,
     world: &World,
@@ -241,7 +227,6 @@ fn region_view(
     })
 }
 
-/// Adds a region's number to the set of the regions seen, where the campaign has the region.
 fn add_region_seen(
     seen: &mut Numbered<()>,
     campaign: &Campaign,
@@ -256,7 +241,6 @@ fn add_region_seen(
     Ok(())
 }
 
-/// The numbers of the regions where a faction has a unit with men, found from its units.
 fn regions_seen(
     alloc: Global,
     campaign: &Campaign,

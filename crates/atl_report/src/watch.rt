@@ -30,7 +30,6 @@ pub(crate) fn is_guard(unit: &Unit) -> bool
     unit.holding.guard() && unit.holding.men() > 0
 }
 
-/// The observation level of a unit, if it is of the given faction; 0 for another faction's unit.
 fn observation_of(world: &World, faction: u32, unit: &Unit) -> u32
     ensures { result ≡ observation_of world.now faction (Some unit.now) }
 {
@@ -41,7 +40,6 @@ fn observation_of(world: &World, faction: u32, unit: &Unit) -> u32
     }
 }
 
-/// The best observation level of a faction's units in a region.
 fn observation_in(world: &World, campaign: &Campaign, faction: u32, region: u32) -> u32
     ensures { result ≡ observation_in world.now campaign.now.value faction region }
 {
@@ -54,8 +52,6 @@ fn observation_in(world: &World, campaign: &Campaign, faction: u32, region: u32)
     best
 }
 
-/// A faction's watch in a region: faction, region, and the best observation level of the faction's
-/// units there.
 pub(crate) fn watch_over(world: &World, campaign: &Campaign, faction: u32, region: u32) -> Watch
     ensures { result ≡ watch_over world.now campaign.now.value faction region }
 {
@@ -66,7 +62,6 @@ pub(crate) fn watch_over(world: &World, campaign: &Campaign, faction: u32, regio
     }
 }
 
-/// Whether a unit's stealth level is at most the best observation level of the watching faction.
 fn is_identified(world: &World, watch: Watch, unit: &Unit) -> bool
     ensures { result ≡ nat_le (level_in_any unit.now.holding world.now.rules.stealth)
         watch.observation }

@@ -24,7 +24,6 @@ pub(crate) struct MonthResult {
     pub(crate) events: Vec<Event>,
 }
 
-/// Drops the lists of factions, faulty lines and events.
 impl Drop for MonthResult {
     fn drop(self) {
         let_go!(self: MonthResult { factions, faults, events });
@@ -73,7 +72,6 @@ pub(crate) fn store_first_report(
     store_report_with(alloc, world, campaign, &sites, faction, &[], &[])
 }
 
-/// Stores a faction's report of the month, with the faulty lines of its mailing and its own events.
 fn report_to(
     alloc: Global,
     world: &World,
@@ -96,8 +94,6 @@ fn report_to(
     store_report_with(alloc, world, campaign, sites, faction, faults, events)
 }
 
-/// Stores a report of the month for each faction that gets one, by the structures of each region
-/// (`sites`) and the events of each faction (`sorted`).
 fn report_to_each(
     alloc: Global,
     world: &World,

@@ -32,11 +32,8 @@ flag b = Int (if b then pos 1 else pos 0)
 pub record CampaignRowValue : Type 0 where
   -- the number of the month last closed, 0 before the first
   pub month : ℕ
-  -- the number that the next faction gets
   pub next_faction : ℕ
-  -- the number that the next unit gets
   pub next_unit : ℕ
-  -- the number that the next structure gets
   pub next_structure : ℕ
   -- the bytes of the moderator's pass text
   pub pass : List ℕ

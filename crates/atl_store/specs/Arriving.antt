@@ -27,11 +27,8 @@ pub record HasArrival (c : CampaignValue) (number : ℕ) : Type 0 where
   pub next : 1 ≤ c.next_unit
   -- the things of the books include money and people
   pub things : 2 ≤ c.books.things
-  -- the campaign has the faction
   pub faction : IsSome (get c.factions number)
-  -- the campaign has the unit of the last number
   pub unit : IsSome (get c.units (c.next_unit - 1))
-  -- the campaign has the faction's report
   pub report : IsSome (get c.reports number)
 
 -- The campaign has this faction, this report, and this unit, whose number `unit_number` is the last (`next_unit - 1`).
@@ -39,11 +36,8 @@ pub record HasArrival (c : CampaignValue) (number : ℕ) : Type 0 where
 pub record HasArrivalWith (c : CampaignValue) (number : ℕ) (faction : Faction) (unit_number : ℕ) (unit : Unit) (report : List ℕ) : Type 0 where
   -- the unit's number `unit_number` is the last: the next one is `next_unit`
   pub place_is : c.next_unit ≡ unit_number + 1
-  -- the campaign has this faction under its number
   pub faction_is : get c.factions number ≡ Some faction
-  -- the campaign has this unit under its number
   pub unit_is : get c.units unit_number ≡ Some unit
-  -- the campaign has this report of the faction
   pub report_is : get c.reports number ≡ Some report
   -- the things of the books include money and people
   pub things : 2 ≤ c.books.things

@@ -14,8 +14,6 @@ use atl_campaign::Campaign;
 use atl_sql::rows::campaign::{CampaignRow, put_campaign, put_upgraded};
 use sqlite::{Alter, Error, Transaction};
 
-/// Gives what the campaign row says of a campaign: the month, the numbers of the next faction, unit
-/// and structure, and the moderator's pass text.
 fn own_row(campaign: &Campaign) -> CampaignRow<'_>
     ensures { head_shown result ≡ campaign_row_of campaign.now.value }
 {

@@ -36,7 +36,6 @@ struct Arrival<'a> {
     report: &'a Text,
 }
 
-/// Gives the faction with this number, its report, and the unit numbered last (`next_unit - 1`).
 fn arrival_of(campaign: &Campaign, number: u32) -> Arrival<'_>
     requires { HasArrival campaign.now.value number }
     ensures found { HasArrivalWith campaign.now.value result.number result.faction.now
@@ -54,7 +53,6 @@ fn arrival_of(campaign: &Campaign, number: u32) -> Arrival<'_>
     }
 }
 
-/// Puts the campaign row, and the rows of the faction that joined and of its unit.
 fn put_newcomer<S: Alter>(
     tx: &mut Transaction<'_, S>,
     campaign: &Campaign,
@@ -74,8 +72,6 @@ fn put_newcomer<S: Alter>(
     arrival.unit.put(tx, arrival.unit_number)
 }
 
-/// Puts the row of the faction's report, and writes the two amounts that are booked under joining:
-/// money and people.
 fn put_report_and_amounts<S: Alter>(
     tx: &mut Transaction<'_, S>,
     campaign: &Campaign,
@@ -94,7 +90,6 @@ fn put_report_and_amounts<S: Alter>(
     write_amount(tx, campaign, BooksEntry::Joining, Thing::People)
 }
 
-/// Puts all rows that a faction's joining adds or changes, inside a transaction.
 fn put_joining<S: Alter>(
     tx: &mut Transaction<'_, S>,
     campaign: &Campaign,
@@ -110,7 +105,6 @@ fn put_joining<S: Alter>(
     put_report_and_amounts(tx, campaign, arrival)
 }
 
-/// Puts all rows that a faction's joining adds or changes, in one transaction.
 fn write_joining<S: Alter>(
     conn: &mut Connection<S>,
     campaign: &Campaign,

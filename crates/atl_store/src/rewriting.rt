@@ -10,8 +10,6 @@ use atl_campaign::Campaign;
 use atl_sql::numbered_rows::{NumberedRow, take_out};
 use sqlite::{Alter, Error, Transaction};
 
-/// Puts the row of the value that the campaign has under this number, as a faction or a unit, or
-/// deletes the number's row if there is none.
 fn rewrite<V: NumberedRow + Drop, S: Alter>(
     tx: &mut Transaction<'_, S>,
     campaign: &Campaign,

@@ -47,8 +47,6 @@ pub(crate) trait SingleAmounts: Copy {
             (wanted campaign.now.value))) result tx.old.conn tx.new.conn };
 }
 
-/// Puts the rows of an owner's amounts of the things in `numbers`, and deletes the rows of those
-/// that are 0.
 fn rewrite_amounts_of_owner<A: SingleAmounts, S: Alter>(
     tx: &mut Transaction<'_, S>,
     campaign: &Campaign,

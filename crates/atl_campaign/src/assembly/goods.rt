@@ -33,7 +33,6 @@ fn put_thing(units: &mut Arena<Unit>, row: &StoredHas) -> Result<(), AllocError>
     }
 }
 
-/// Puts the amounts of rows of `has`, which are in their ranges, into their units, row by row.
 pub(super) fn put_things(units: &mut Arena<Unit>, rows: &[StoredHas]) -> Result<(), AllocError>
     requires { list_all has_in_range rows.now ≡ true }
     ensures { OnOk result (units.new
@@ -56,7 +55,6 @@ fn put_stock(regions: &mut Numbered<Region>, row: &StoredMarket) -> Result<(), A
     }
 }
 
-/// Puts the stocks of rows of `market` into their regions, row by row.
 pub(super) fn put_stocks(
     regions: &mut Numbered<Region>,
     rows: &[StoredMarket],

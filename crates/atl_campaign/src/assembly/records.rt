@@ -45,7 +45,6 @@ pub(super) fn faction_of(alloc: Global, row: &StoredFaction) -> Result<Faction, 
     })
 }
 
-/// The region that a row of `region` says, with nothing in stock.
 pub(super) fn bare_region(alloc: Global, row: &StoredRegion) -> Region
     ensures { result ≡ bare_region row.now }
 {

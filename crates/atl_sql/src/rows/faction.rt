@@ -32,22 +32,18 @@ impl NumberedRow for Faction {
 
     ghost are_marked = { λ m r. refl };
 
-    /// The faction with this number, gone or not; None if the campaign has none.
     fn find_value(campaign: &Campaign, number: u32) -> Option<&Faction> {
         campaign.faction(number)
     }
 
-    /// The numbers of the factions whose rows are marked, in rising order.
     fn marked_numbers(campaign: &Campaign) -> MarkedNumbers<'_> {
         campaign.marked_factions()
     }
 
-    /// The text of the DELETE of the row of `faction` with a given number.
     fn delete_text() -> &'static str {
         "DELETE FROM faction WHERE number = ?1"
     }
 
-    /// Inserts the faction's row into `faction`, or changes the row that has its number.
     fn put<S: Alter>(&self, tx: &mut Transaction<'_, S>, number: u32) -> Result<(), Error> {
         run(
             tx,
@@ -63,9 +59,7 @@ impl NumberedRow for Faction {
     }
 }
 
-/// Lets a campaign's factions, gone or not, be listed by number.
 impl Mapped for Faction {
-    /// All factions of a campaign, gone or not, in rising order of their numbers.
     fn all(campaign: &Campaign) -> Entries<'_, Faction> {
         campaign.factions()
     }
@@ -77,7 +71,6 @@ impl Stored for StoredFaction {
 
     ghost shown = { faction_stored };
 
-    /// Parses a row of `faction`; an error if a value is of another type, or if memory runs out.
     fn from_row(alloc: Global, row: &Row) -> Result<StoredFaction, Error> {
         let number = integer(row, 0)?;
         let gone = integer(row, 4)?;
@@ -94,14 +87,11 @@ impl Stored for StoredFaction {
     }
 }
 
-/// Makes `faction` a table that can be read, in the order of the factions' numbers.
 impl HasSelect for StoredFaction {
     ghost part = { Factions };
 
     ghost columns = { refl };
 
-    /// The SELECT of all rows of `faction`, after the first format whose files have the table: the
-    /// first.
     fn select_of() -> (Format, &'static str) {
         (
             Format::First,

@@ -49,30 +49,24 @@ impl NumberedRow for Sequence<u8> {
 
     ghost are_marked = { λ m r. refl };
 
-    /// The mailing of the faction with this number; None if it sent none.
     fn find_value(campaign: &Campaign, number: u32) -> Option<&Sequence<u8>> {
         campaign.mail_of(number)
     }
 
-    /// The numbers of the factions whose rows of `mail` are marked, in rising order.
     fn marked_numbers(campaign: &Campaign) -> MarkedNumbers<'_> {
         campaign.marked_mail()
     }
 
-    /// The text of the DELETE of the row of `mail` with a given faction's number.
     fn delete_text() -> &'static str {
         "DELETE FROM mail WHERE faction = ?1"
     }
 
-    /// Inserts the mailing into `mail` under a faction's number, or replaces the one there.
     fn put<S: Alter>(&self, tx: &mut Transaction<'_, S>, number: u32) -> Result<(), Error> {
         put_mail(tx, number, self.as_slice())
     }
 }
 
-/// Lets a campaign's mailings be listed by the numbers of their factions.
 impl Mapped for Sequence<u8> {
-    /// All mailings of a campaign, in rising order of their factions' numbers.
     fn all(campaign: &Campaign) -> Entries<'_, Sequence<u8>> {
         campaign.mail()
     }
@@ -84,7 +78,6 @@ impl Stored for StoredMail {
 
     ghost shown = { mail_stored };
 
-    /// Parses a row of `mail`; an error if a value is of another type, or if memory runs out.
     fn from_row(_alloc: Global, row: &Row) -> Result<StoredMail, Error> {
         let faction = integer(row, 0)?;
         let text = bytes(row, 1)?;
@@ -92,14 +85,11 @@ impl Stored for StoredMail {
     }
 }
 
-/// Makes `mail` a table that can be read, in the order of the factions' numbers.
 impl HasSelect for StoredMail {
     ghost part = { Mail };
 
     ghost columns = { refl };
 
-    /// The SELECT of all rows of `mail`, after the first format whose files have the table: the
-    /// first.
     fn select_of() -> (Format, &'static str) {
         (
             Format::First,

@@ -14,7 +14,6 @@ use atl_world::{Entries, Format, MarkedNumbers};
 use sqlite::{Alter, Error, Row, Transaction, params};
 use std::alloc::Global;
 
-/// What makes a region one row of `region`: its number, peasants and money.
 impl NumberedRow for Region {
     ghost part = { Regions };
 
@@ -32,22 +31,18 @@ impl NumberedRow for Region {
 
     ghost are_marked = { λ m r. refl };
 
-    /// The region with this number; None if the campaign has none.
     fn find_value(campaign: &Campaign, number: u32) -> Option<&Region> {
         campaign.region(number)
     }
 
-    /// The numbers of the regions whose rows are marked, in rising order.
     fn marked_numbers(campaign: &Campaign) -> MarkedNumbers<'_> {
         campaign.marked_regions()
     }
 
-    /// The text of the DELETE of the row of `region` with a given number.
     fn delete_text() -> &'static str {
         "DELETE FROM region WHERE number = ?1"
     }
 
-    /// Inserts the region's row into `region`, or changes the row that has its number.
     fn put<S: Alter>(&self, tx: &mut Transaction<'_, S>, number: u32) -> Result<(), Error> {
         run(
             tx,
@@ -57,9 +52,7 @@ impl NumberedRow for Region {
     }
 }
 
-/// Lets a campaign's regions be listed by number.
 impl Mapped for Region {
-    /// All regions of a campaign, in rising order of their numbers.
     fn all(campaign: &Campaign) -> Entries<'_, Region> {
         campaign.regions()
     }
@@ -71,7 +64,6 @@ impl Stored for StoredRegion {
 
     ghost shown = { region_stored };
 
-    /// Parses a row of `region`; an error if a value is no integer.
     fn from_row(_alloc: Global, row: &Row) -> Result<StoredRegion, Error> {
         let (number, peasants, money) = three_integers(row, 0)?;
         Ok(StoredRegion {
@@ -82,14 +74,11 @@ impl Stored for StoredRegion {
     }
 }
 
-/// Makes `region` a table that can be read, in the order of the regions' numbers.
 impl HasSelect for StoredRegion {
     ghost part = { Regions };
 
     ghost columns = { refl };
 
-    /// The SELECT of all rows of `region`, after the first format whose files have the table: the
-    /// first.
     fn select_of() -> (Format, &'static str) {
         (
             Format::First,

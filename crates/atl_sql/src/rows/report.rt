@@ -13,7 +13,6 @@ use atl_world::{Entries, Format, MarkedNumbers, Text};
 use sqlite::{Alter, Error, Row, Transaction, params};
 use std::alloc::Global;
 
-/// What makes the text of a report one row of `report`: its faction's number, and the text.
 impl NumberedRow for Text {
     ghost part = { Reports };
 
@@ -31,22 +30,18 @@ impl NumberedRow for Text {
 
     ghost are_marked = { λ m r. refl };
 
-    /// The last report of the faction with this number; None if it has none.
     fn find_value(campaign: &Campaign, number: u32) -> Option<&Text> {
         campaign.report(number)
     }
 
-    /// The numbers of the factions whose rows of `report` are marked, in rising order.
     fn marked_numbers(campaign: &Campaign) -> MarkedNumbers<'_> {
         campaign.marked_reports()
     }
 
-    /// The text of the DELETE of the row of `report` with a given faction's number.
     fn delete_text() -> &'static str {
         "DELETE FROM report WHERE faction = ?1"
     }
 
-    /// Inserts the report into `report` under a faction's number, or replaces the one there.
     fn put<S: Alter>(&self, tx: &mut Transaction<'_, S>, number: u32) -> Result<(), Error> {
         run(
             tx,
@@ -56,9 +51,7 @@ impl NumberedRow for Text {
     }
 }
 
-/// Lets a campaign's reports be listed by the numbers of their factions.
 impl Mapped for Text {
-    /// All reports of a campaign, in rising order of their factions' numbers.
     fn all(campaign: &Campaign) -> Entries<'_, Text> {
         campaign.reports()
     }
@@ -70,7 +63,6 @@ impl Stored for StoredReport {
 
     ghost shown = { report_stored };
 
-    /// Parses a row of `report`; an error if a value is of another type, or if memory runs out.
     fn from_row(_alloc: Global, row: &Row) -> Result<StoredReport, Error> {
         let faction = integer(row, 0)?;
         let text = utf8_text(row, 1)?;
@@ -81,14 +73,11 @@ impl Stored for StoredReport {
     }
 }
 
-/// Makes `report` a table that can be read, in the order of the factions' numbers.
 impl HasSelect for StoredReport {
     ghost part = { Reports };
 
     ghost columns = { refl };
 
-    /// The SELECT of all rows of `report`, after the first format whose files have the table: the
-    /// first.
     fn select_of() -> (Format, &'static str) {
         (
             Format::First,

@@ -14,8 +14,6 @@ use atl_world::{Entries, Format, MarkedNumbers};
 use sqlite::{Alter, Error, Row, Transaction, params};
 use std::alloc::Global;
 
-/// What makes a structure one row of `structure`: its number, kind, name and region, how much of it
-/// is done, and its owner.
 impl NumberedRow for Structure {
     ghost part = { Structures };
 
@@ -33,22 +31,18 @@ impl NumberedRow for Structure {
 
     ghost are_marked = { λ m r. refl };
 
-    /// The structure with this number; None if the campaign has none.
     fn find_value(campaign: &Campaign, number: u32) -> Option<&Structure> {
         campaign.structure(number)
     }
 
-    /// The numbers of the structures whose rows are marked, in rising order.
     fn marked_numbers(campaign: &Campaign) -> MarkedNumbers<'_> {
         campaign.marked_structures()
     }
 
-    /// The text of the DELETE of the row of `structure` with a given number.
     fn delete_text() -> &'static str {
         "DELETE FROM structure WHERE number = ?1"
     }
 
-    /// Inserts the structure's row into `structure`, or changes the row that has its number.
     fn put<S: Alter>(&self, tx: &mut Transaction<'_, S>, number: u32) -> Result<(), Error> {
         run(
             tx,
@@ -65,9 +59,7 @@ impl NumberedRow for Structure {
     }
 }
 
-/// Lets a campaign's structures be listed by number.
 impl Mapped for Structure {
-    /// All structures of a campaign, in rising order of their numbers.
     fn all(campaign: &Campaign) -> Entries<'_, Structure> {
         campaign.structures()
     }
@@ -79,7 +71,6 @@ impl Stored for StoredStructure {
 
     ghost shown = { structure_stored };
 
-    /// Parses a row of `structure`; an error if a value is of another type, or if memory runs out.
     fn from_row(alloc: Global, row: &Row) -> Result<StoredStructure, Error> {
         let (number, kind) = two_integers(row, 0)?;
         let (region, done, owner) = three_integers(row, 3)?;
@@ -94,14 +85,11 @@ impl Stored for StoredStructure {
     }
 }
 
-/// Makes `structure` a table that can be read, in the order of the structures' numbers.
 impl HasSelect for StoredStructure {
     ghost part = { Structures };
 
     ghost columns = { refl };
 
-    /// The SELECT of all rows of `structure`, after the first format whose files have the table:
-    /// the first.
     fn select_of() -> (Format, &'static str) {
         (
             Format::First,

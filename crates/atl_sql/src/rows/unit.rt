@@ -15,8 +15,6 @@ use atl_world::{Format, MarkedNumbers};
 use sqlite::{Alter, Error, Row, Transaction, params};
 use std::alloc::Global;
 
-/// What makes a unit one row of `unit`: its number, faction, name, region, structure, men, money
-/// and guard flag.
 impl NumberedRow for Unit {
     ghost part = { Units };
 
@@ -34,22 +32,18 @@ impl NumberedRow for Unit {
 
     ghost are_marked = { λ m r. refl };
 
-    /// The unit with this number; None if the campaign has none.
     fn find_value(campaign: &Campaign, number: u32) -> Option<&Unit> {
         campaign.unit(number)
     }
 
-    /// The numbers of the units whose rows are marked, in rising order.
     fn marked_numbers(campaign: &Campaign) -> MarkedNumbers<'_> {
         campaign.marked_rows()
     }
 
-    /// The text of the DELETE of the row of `unit` with a given number.
     fn delete_text() -> &'static str {
         "DELETE FROM unit WHERE number = ?1"
     }
 
-    /// Inserts the unit's row into `unit`, or changes the row that has its number.
     fn put<S: Alter>(&self, tx: &mut Transaction<'_, S>, number: u32) -> Result<(), Error> {
         run(
             tx,
@@ -89,7 +83,6 @@ impl Stored for StoredUnit {
 
     ghost shown = { unit_stored };
 
-    /// Parses a row of `unit`; an error if a value is of another type, or if memory runs out.
     fn from_row(alloc: Global, row: &Row) -> Result<StoredUnit, Error> {
         let (number, faction) = two_integers(row, 0)?;
         let (region, structure) = two_integers(row, 3)?;
@@ -107,14 +100,11 @@ impl Stored for StoredUnit {
     }
 }
 
-/// Makes `unit` a table that can be read, in the order of the units' numbers.
 impl HasSelect for StoredUnit {
     ghost part = { Units };
 
     ghost columns = { refl };
 
-    /// The SELECT of all rows of `unit`, after the first format whose files have the table: the
-    /// first.
     fn select_of() -> (Format, &'static str) {
         (
             Format::First,

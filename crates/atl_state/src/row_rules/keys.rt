@@ -22,97 +22,78 @@ trait Keyed {
         ensures { result ≡ key_of self.now };
 }
 
-/// The key of a row of `faction`: its number.
 impl Keyed for StoredFaction {
     ghost key_of = { faction_key };
 
-    /// The row's number, and two zeros.
     fn key(&self) -> (i64, i64, i64) {
         (self.number, 0, 0)
     }
 }
 
-/// The key of a row of `region`: its number.
 impl Keyed for StoredRegion {
     ghost key_of = { region_key };
 
-    /// The row's number, and two zeros.
     fn key(&self) -> (i64, i64, i64) {
         (self.number, 0, 0)
     }
 }
 
-/// The key of a row of `unit`: its number.
 impl Keyed for StoredUnit {
     ghost key_of = { unit_key };
 
-    /// The row's number, and two zeros.
     fn key(&self) -> (i64, i64, i64) {
         (self.number, 0, 0)
     }
 }
 
-/// The key of a row of `has`: its unit, sort and thing.
 impl Keyed for StoredHas {
     ghost key_of = { has_key };
 
-    /// The row's unit, sort and thing.
     fn key(&self) -> (i64, i64, i64) {
         (self.unit, self.sort, self.thing)
     }
 }
 
-/// The key of a row of `structure`: its number.
 impl Keyed for StoredStructure {
     ghost key_of = { structure_key };
 
-    /// The row's number, and two zeros.
     fn key(&self) -> (i64, i64, i64) {
         (self.number, 0, 0)
     }
 }
 
-/// The key of a row of `mail`: its faction.
 impl Keyed for StoredMail {
     ghost key_of = { mail_key };
 
-    /// The faction's number, and two zeros.
     fn key(&self) -> (i64, i64, i64) {
         (self.faction, 0, 0)
     }
 }
 
-/// The key of a row of `report`: its faction.
 impl Keyed for StoredReport {
     ghost key_of = { report_key };
 
-    /// The faction's number, and two zeros.
     fn key(&self) -> (i64, i64, i64) {
         (self.faction, 0, 0)
     }
 }
 
-/// The key of a row of `books`: its entry and thing.
 impl Keyed for StoredBooks {
     ghost key_of = { books_key };
 
-    /// The row's entry and thing, and a zero.
     fn key(&self) -> (i64, i64, i64) {
         (self.entry, self.thing, 0)
     }
 }
 
-/// The key of a row of `market`: its region and item.
 impl Keyed for StoredMarket {
     ghost key_of = { market_key };
 
-    /// The row's region and item, and a zero.
     fn key(&self) -> (i64, i64, i64) {
         (self.region, self.item, 0)
     }
 }
 
-/// The keys of rows, in their order.
 fn keys_of<R: Keyed>(alloc: Global, rows: &[R]) -> Result<Vec<(i64, i64, i64)>, AllocError>
     ensures { IfOk result (λ keys. keys.items ≡ map R.key_of rows.now) }
 {
@@ -153,7 +134,6 @@ pub fn are_distinct<K: Ord + Copy + Drop>(alloc: Global, keys: &[K]) -> Result<b
     Ok(true)
 }
 
-/// Whether no two rows of a table have the same key.
 fn have_distinct_keys<R: Keyed>(alloc: Global, rows: &[R]) -> Result<bool, AllocError>
     ensures { IfOk result (λ yes. IsTrue yes ↔ (HaveDistinctKeys R.key_of rows.now)) }
 {

@@ -188,16 +188,12 @@ static NOBODY: [Row; 12] = [
     ),
 ];
 
-/// Begins a lodge, as structure 1, makes the calls of `CALLS` and `NOBODY` in turn, and asserts
-/// what each sets and marks.
 fn set_all(rt: &impl Abort, alloc: Global, campaign: &mut Campaign) -> Result<(), Fail> {
     make_step(alloc, campaign, Step::Begins(LODGE, 1))?;
     assert_unmarked_steps(rt, alloc, campaign, &CALLS)?;
     assert_unmarked_steps(rt, alloc, campaign, &NOBODY)
 }
 
-/// Tests that each call sets its part and marks that part alone, and that a number that nothing has
-/// changes nothing.
 #[test]
 fn each_call_sets_one_part(rt: HostRuntime) -> Result<(), Fail> {
     let mut campaign = joined_by(rt.alloc(), ISLE)?;

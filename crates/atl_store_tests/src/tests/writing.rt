@@ -32,7 +32,6 @@ SELECT count(*) FROM mail -> 1";
     play_new(&rt, rt.alloc(), script)
 }
 
-/// If a table is missing, the write answers Store, nothing is written, and the marks stay.
 #[test]
 fn nothing_is_written_in_part(rt: HostRuntime) -> Result<(), Fail> {
     let script = "create small
@@ -119,7 +118,6 @@ SELECT count(*) FROM has -> 0";
     play_new(&rt, rt.alloc(), script)
 }
 
-/// An amount of the books that becomes 0 loses its row.
 #[test]
 fn an_amount_of_0_has_no_row(rt: HostRuntime) -> Result<(), Fail> {
     let script = "create small
@@ -243,7 +241,6 @@ SELECT amount FROM has WHERE sort = 0 AND thing = 1 -> 2";
     play_new(&rt, rt.alloc(), script)
 }
 
-/// Stocks that were written are there when their table is read, and when the campaign is loaded.
 #[test]
 fn stocks_come_back(rt: HostRuntime) -> Result<(), Fail> {
     let script = "create isle with markets

@@ -10,7 +10,6 @@ use Rattle.atl_campaign.proofs.RowLaws.{rows_under-none, rows_under-some}
 use Rattle.atl_campaign.proofs.rows.add_entry.Goals as goal
 use Rattle.atl_campaign.proofs.rows.add_entry.Goals.{then-amount-ne0+in_ok-push, else-amount-ne0}
 
--- after each turn the rows so far are the rows at the start, and then those of the amounts of the things done, if not 0
 pub loop-number-preserved : goal.loop-number-preserved
 loop-number-preserved c =
     let books = c.args.books.now in

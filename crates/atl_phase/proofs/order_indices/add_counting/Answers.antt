@@ -7,12 +7,9 @@ use Rattle.atl_phase.proofs.OrderIndexLaws.{Added, added, counts_by, ended, pass
 use Rattle.atl_phase.proofs.order_indices.add_counting.Goals as goal
 use Rattle.atl_phase.proofs.order_indices.add_counting.Goals.{then-order_counts+in_ok-push, else-order_counts}
 
--- before the first order of the mailing the list has the old indices alone (`Added`)
 pub loop-index-init : goal.loop-index-init
 loop-index-init c = record { there = λ all. all; tasks = refl }
 
--- after one more order of the mailing, whether it counts or not, the list has the old indices and those of the orders
--- so far that count (`Added`)
 pub loop-index-preserved : goal.loop-index-preserved
 loop-index-preserved c =
     let aliases = c.args.aliases.now in
@@ -40,7 +37,6 @@ loop-index-preserved c =
           subst (Added aliases ms at old (i + 1)) (sym same) (passed aliases ms at old list i inside c.loop-index.invariant (counts ∙ w.if-order_counts.false))
     ]
 
--- after the loop the list has the old indices and those of all orders that count of the mailing (`AddsMailing`)
 pub returns : goal.returns
 returns c =
     let ms = c.args.mailings.now in

@@ -7,7 +7,6 @@ use Rattle.atl_report.specs.Watching.{sees_region, watch_over}
 use Rattle.atl_report.proofs.SightLaws.{regions_looked_up}
 use Rattle.atl_report.proofs.sight.region_views.Goals as goal
 
--- before the first region there are no views, and the regions still to come are all regions seen
 pub loop-number-init : goal.loop-number-init
 loop-number-init c =
     let w = c.args.world.now in

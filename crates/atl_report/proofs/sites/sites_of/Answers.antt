@@ -7,7 +7,6 @@ use Rattle.atl_report.specs.Sites.{with_site}
 use Rattle.atl_report.proofs.SiteLaws.{no_sites, site_goes_on}
 use Rattle.atl_report.proofs.sites.sites_of.Goals as goal
 
--- before the first structure each list is empty, and the numbers of all structures are still to come
 pub loop-number-init : goal.loop-number-init
 loop-number-init c =
     let what = c.args.campaign.now.value in
@@ -18,8 +17,6 @@ loop-number-init c =
           ∙ ap (numbers_among (λ (s : Structure). s.region == region)) is),
     )
 
--- after one more structure is listed, a region's list, followed by its structures still to come, has all structures of
--- the region
 pub loop-number-preserved : goal.loop-number-preserved
 loop-number-preserved c =
     let (_, _, rest) = c.loop-number.invariant in

@@ -6,8 +6,6 @@ use Rattle.atl_service.specs.Months.{reported_to_all}
 use Rattle.atl_service.proofs.CloseLaws.{fold_further, sites_stay}
 use Rattle.atl_service.proofs.reporting.report_to_each.Goals as goal
 
--- After one more report is stored, storing those that are left still makes the campaign with all reports. No mark is
--- lost, all that changed is marked, and `sites` still has the structures by region.
 pub loop-faction-preserved : goal.loop-faction-preserved
 loop-faction-preserved c =
     let (whole, marks, sites) = c.loop-faction.invariant in

@@ -8,7 +8,6 @@ use Rattle.atl_campaign.specs.FromRows.{as_u32, structure_of, put_rows}
 use Rattle.atl_campaign.proofs.KeyLaws.{next_of}
 use Rattle.atl_campaign.proofs.assembly.maps.structures_of.Goals as goal
 
--- after each turn the structures so far, with those of the rows left put in, are the structures of all rows
 pub loop-row-preserved : goal.loop-row-preserved
 loop-row-preserved c =
     let row = c.row-item.result in

@@ -3,7 +3,6 @@ use Rattle.atl_phase.specs.OrderIndices.{AreOrderIndices}
 use Rattle.atl_phase.specs.declared.phase_order.Arrangement.TheVariants.{ByUnit}
 use Rattle.atl_phase.proofs.month.Month.gather.Goals as goal
 
--- the month's invariant holds with the indices that were gathered: they name all orders that count, sorted by unit
 pub invariant_of-self : goal.invariant_of-self
 invariant_of-self c = record {
   sorted = c.self.invariant.sorted;

@@ -16,16 +16,13 @@ is_new : (b r : Bool) → r ≡ not b → r ≡ true → b ≡ false
 is_new true r h e = sym e ∙ h
 is_new false r h e = refl
 
--- if the values rise, are_distinct returns true, and they are distinct
 pub returns-then-are_sorted : goal.returns-then-are_sorted
 returns-then-are_sorted g c = (λ _. IsDistinct-from_sorted g.K.Ord.cmp c.args.keys.now (c.are_sorted.ensures c.if-are_sorted.true), λ _. refl)
 
--- before the loop: the set of the values seen is empty
 pub loop-key-init : goal.loop-key-init
 unfolding IsDistinct
 loop-key-init g c = record { seen = λ q. ap (list_any (eq_by_cmp g.K.Ord.cmp q)) c.new-seen.ensures.empty; apart = tt }
 
--- if a value was seen before, are_distinct returns false, and the values are not distinct
 pub returns-then-not-branch : goal.returns-then-not-branch
 returns-then-not-branch g c = (
   λ e. absurd (false≢true e),
@@ -35,7 +32,6 @@ returns-then-not-branch g c = (
       absurd (is_twice g.met.K.Ord.total c.args.keys.now c.loop-key.key-index x c.loop-key-test.true c.key-item.is twice apart),
 )
 
--- after a value that wasn't in the set, the set has this value and those before it, and they are distinct
 pub loop-key-preserved : goal.loop-key-preserved
 loop-key-preserved g c =
     let x = c.key-item.result in

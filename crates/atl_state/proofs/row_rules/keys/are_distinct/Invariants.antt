@@ -7,8 +7,6 @@ use Rattle.atl_state.proofs.row_rules.keys.are_distinct.Given as goal
 -- the set `seen` has just the values before the loop's current one, and these are distinct
 abbrev pub invariant-loop-key : goal.invariant-loop-key
 invariant-loop-key g l = record {
-  -- a value is in the set exactly if it is equal to one of the values before the current one
   seen : (q : g.row.K.Denot) → contains g.K.Ord.cmp l.seen q ≡ list_any (eq_by_cmp g.K.Ord.cmp q) (take l.key-index l.keys);
-  -- the values before the current one are distinct
   apart : IsDistinct (eq_by_cmp g.K.Ord.cmp) (take l.key-index l.keys);
 }

@@ -5,6 +5,5 @@ use Rattle.atl_sql.proofs.StatementLaws.{runs_with}
 use Rattle.atl_sql.proofs.Terms.{cast_int}
 use Rattle.atl_sql.proofs.rows.faction.FactionNumberedRow.put.Goals as goal
 
--- the upsert of `faction` puts the faction's row under its number (`WritesRow`)
 pub returns : goal.returns
 returns g c = runs_with g.S.Store _ _ _ _ (puts_part Factions tt c.args.number _ (refl, (refl, (refl, (cast_int _, tt))))) (search rules) c.run.ensures

@@ -7,39 +7,31 @@ use Rattle.atl_tables.specs.Titles.{no_duplicate_before, no_duplicates}
 use Rattle.atl_world.specs.Names.{same_name}
 use Rattle.atl_tables.proofs.EachLaws.{rest_has_same_fault_at_index, error_at_index_is_error_of_all}
 use Rattle.atl_tables.proofs.SeenLaws.{came_before, comes_first, has_one_more}
-use Rattle.atl_tables.proofs.titles.no_duplicate_names.Goals as goal
+use Rattle.atl_tables.proofs.titles.first_duplicate.Goals as goal
 
--- the condition on the name of the i-th element is broken (TwoNames) exactly if an element before it has the name
 duplicate_name_fault : {A : Type 0} (title : A → List ℕ) (array key : List ℕ) (all : List A) (i : ℕ) (x : A) (b : Bool) → list_any (λ y. same_name (title y) (title x)) (take i all) ≡ b
     → first_fault (no_duplicate_before title array key all i x) ≡ cond b (Some (TwoNames (path (element_path array i) key))) None
 unfolding no_duplicate_before
 duplicate_name_fault title array key all i x true h = rw h
 duplicate_name_fault title array key all i x false h = rw h
 
--- at a title that is equal to one before it, TwoNames at its path is the first fault of all elements
 pub returns-then-not-branch : goal.returns-then-not-branch
-returns-then-not-branch g c =
+returns-then-not-branch g c array key =
     let x = c.index-items-i.result in
     let title = g.T.Titled.title_of in
-    let array = c.args.array.now in
-    let key = c.args.key.now in
     let all = c.args.items.now in
     let i = c.loop-i.i in
     let test = came_before title all i x c.loop-i.seen c.loop-i.invariant.seen _ (rw c.title.ensures at c.in_ok-add_name.ensures.new) c.if-not-branch.true in
-    rw (c.in_ok-path.ensures, c.as_str.ensures, c.in_ok-element.ensures) (error_at_index_is_error_of_all (no_duplicate_before title array key all) all i x (first_fault (no_duplicates title array key all)) c.loop-i-test.true c.index-items-i.is c.loop-i.invariant.faults (TwoNames (path (element_path array i) key)) (duplicate_name_fault title array key all i x true test))
+    error_at_index_is_error_of_all (no_duplicate_before title array key all) all i x (first_fault (no_duplicates title array key all)) c.loop-i-test.true c.index-items-i.is (c.loop-i.invariant.faults array key) (TwoNames (path (element_path array i) key)) (duplicate_name_fault title array key all i x true test)
 
--- after a new title, `seen` has all titles checked so far, and the first fault of the elements after it is still that
--- of all elements
 pub loop-i-preserved : goal.loop-i-preserved
 loop-i-preserved g c =
     let x = c.index-items-i.result in
     let title = g.T.Titled.title_of in
-    let array = c.args.array.now in
-    let key = c.args.key.now in
     let all = c.args.items.now in
     let i = c.loop-i.i in
     let test = comes_first title all i x c.loop-i.seen c.loop-i.invariant.seen _ (rw c.title.ensures at c.in_ok-add_name.ensures.new) c.if-not-branch.false in
     record {
       seen = has_one_more title all i x c.loop-i.seen c.loop-i.invariant.seen c.add_name.new.seen c.loop-i-test.true c.index-items-i.is (rw c.title.ensures at c.in_ok-add_name.ensures.seen);
-      faults = rest_has_same_fault_at_index (no_duplicate_before title array key all) all i x (first_fault (no_duplicates title array key all)) c.loop-i-test.true c.index-items-i.is c.loop-i.invariant.faults (duplicate_name_fault title array key all i x false test);
+      faults = λ array key. rest_has_same_fault_at_index (no_duplicate_before title array key all) all i x (first_fault (no_duplicates title array key all)) c.loop-i-test.true c.index-items-i.is (c.loop-i.invariant.faults array key) (duplicate_name_fault title array key all i x false test);
     }
