@@ -80,10 +80,10 @@ try package python3 tests/program/package.py
 try program python3 python3 -B tests/program/program.py
 try limits python3 python3 -B tests/program/limits.py
 try large_month python3 python3 -B tests/program/large_month.py
-try upgrade sqlite3 tests/program/upgrade.sh
-try http 'sqlite3 curl python3' tests/program/http.sh
-try slow python3 tests/program/slow.sh
-try given_up 'python3 strace' tests/program/given_up.py
+try upgrade python3 python3 -B tests/program/upgrade.py
+try http 'curl python3' python3 -B tests/program/month_by_http.py
+try slow python3 python3 -B tests/program/slow.py
+try given_up 'python3 strace' python3 -B tests/program/given_up.py
 
 # pages: what they print, name and count
 try first_hour '' examples/first_hour.sh
@@ -104,8 +104,8 @@ try killed 'sqlite3 strace' tests/faults/killed.sh 40
 try cuts 'strace python3' tests/faults/cuts.py
 try memory 'sqlite3 curl cc python3' tests/faults/memory.sh 11 997
 
-# the office
-try office_types mypy mypy --strict office tests/office
+# the types of what is in Python, and the office
+try python_types mypy mypy --strict office tests/office tests/program tests/tools
 try office python3 python3 -B -m unittest discover -s tests/office -t .
 try office_year python3 tests/office/year_by_mail.py
 try office_stopped 'python3 openssl strace' tests/office/stopped.py

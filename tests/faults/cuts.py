@@ -12,10 +12,12 @@ import os, random, re, shutil, socket, sqlite3, subprocess, sys, tempfile, threa
 from pathlib import Path
 
 sys.dont_write_bytecode = True
+TOP = Path(__file__).resolve().parents[2]
+sys.path.insert(0, str(TOP))
 
 from cut_disk import Failed, Record, calls_in, path_of, put_files, read_files, recording, states, strace
+from tests.tools.ports import free_port
 
-TOP = Path(__file__).resolve().parents[2]
 PROGRAM = subprocess.run([TOP / "gm", "path"], stdout=subprocess.PIPE, text=True).stdout.strip()
 ISLE, SMALL = (str(TOP / "worlds" / name) for name in ("isle.toml", "small.toml"))
 OLD = str(TOP / "tests/old/trial.db")
@@ -327,9 +329,7 @@ class Server:
     """The program while it serves a number of requests on the files of the folder `served`."""
 
     def __init__(self, work, count, *before):
-        with socket.socket() as tried:
-            tried.bind(("127.0.0.1", 0))
-            self.port = tried.getsockname()[1]
+        self.port = free_port()
         words = ("serve", "--port", str(self.port), "--count", str(count), "--seed", SEED)
         silent = subprocess.DEVNULL
         self.process = subprocess.Popen([*before, *command(words, work.served)], stdout=silent, stderr=silent)

@@ -18,7 +18,6 @@ done
 work=$(mktemp -d)
 trap 'rm -rf "$work"' EXIT
 failed=0 growths=1 code=
-. "$here/tests/tools/ports.sh"
 
 fail() {
   echo "memory: $*"
@@ -114,7 +113,7 @@ each() {
 # `code`, its body in out, and what the program said in err.
 join_by_http() {
   local port server
-  port=$(free_port)
+  port=$(python3 "$here/tests/tools/ports.py")
   copied "$db"
   rm -f "$work/blown" "$work/out"
   FUSE=$1 FUSE_LOG=$work/blown LD_PRELOAD=$heap "$program" serve --db "$work/run.db" --port "$port" --count 1 --seed 0 >/dev/null 2>"$work/err" &

@@ -28,8 +28,7 @@ set -u
 here=$(cd "$(dirname "$0")/../.." && pwd)
 work=$(mktemp -d)
 trap 'rm -rf "$work"' EXIT
-. "$here/tests/tools/ports.sh"
-port=$(free_port)
+port=$(python3 "$here/tests/tools/ports.py")
 block=$work/block printed=$work/printed answer=$work/answer
 failed=0
 

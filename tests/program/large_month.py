@@ -9,8 +9,10 @@ import tempfile
 import unittest
 from pathlib import Path
 
-TOP = Path(__file__).resolve().parents[2]
-PROGRAM = subprocess.run([TOP / "gm", "path"], check=True, capture_output=True, text=True).stdout.strip()
+sys.path.insert(0, str(Path(__file__).resolve().parents[2]))
+
+from tests.program.calls import PROGRAM, SMALL_FILE  # noqa: E402
+
 FACTIONS = 7
 MOST_BYTES = 65_536
 ORDER = "LEAVE\n"
@@ -31,7 +33,7 @@ def events_of(faction: int) -> list[str]:
 class LargeMonth(unittest.TestCase):
     def setUp(self) -> None:
         self.folder = Path(self.enterContext(tempfile.TemporaryDirectory()))
-        self.tell("found", "--world", str(TOP / "worlds/small.toml"), "--pass", "gm")
+        self.tell("found", "--world", str(SMALL_FILE), "--pass", "gm")
 
     def tell(self, name: str, *words: str) -> str:
         """What a command prints."""

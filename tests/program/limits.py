@@ -20,9 +20,12 @@ from dataclasses import dataclass
 from pathlib import Path
 from typing import NamedTuple
 
-TOP = Path(__file__).resolve().parents[2]
-PROGRAM = subprocess.run([TOP / "gm", "path"], check=True, capture_output=True, text=True).stdout.strip()
-SMALL = (TOP / "worlds/small.toml").read_text(encoding="utf-8")
+sys.path.insert(0, str(Path(__file__).resolve().parents[2]))
+
+from tests.program.calls import PROGRAM, SMALL_FILE  # noqa: E402
+from tests.tools.ports import HOST, free_port  # noqa: E402
+
+SMALL = SMALL_FILE.read_text(encoding="utf-8")
 UNLIMITED = resource.RLIM_INFINITY
 KB = 1024
 # Limits on the stack in kB: those that an earlier program passed at its start and then broke, and those around the least one.
@@ -142,16 +145,11 @@ def contents(folder: Path) -> dict[str, bytes]:
     return {path.name: path.read_bytes() for path in folder.iterdir()}
 
 
-def free_port() -> int:
-    with socket.create_server(("127.0.0.1", 0)) as server:
-        return int(server.getsockname()[1])
-
-
 def request(port: int, process: subprocess.Popen[bytes], sent: bytes) -> bytes:
     """What comes back over a connection; nothing where the program ended before it listened."""
     for _ in range(600):
         try:
-            with socket.create_connection(("127.0.0.1", port), timeout=60) as connection:
+            with socket.create_connection((HOST, port), timeout=60) as connection:
                 connection.sendall(sent)
                 return b"".join(iter(lambda: connection.recv(65_536), b""))
         except ConnectionRefusedError:

@@ -21,9 +21,12 @@ from contextlib import closing
 from dataclasses import dataclass
 from pathlib import Path
 
-TOP = Path(__file__).resolve().parents[2]
-PROGRAM = subprocess.run([TOP / "gm", "path"], check=True, capture_output=True, text=True).stdout.strip()
-SMALL = (TOP / "worlds/small.toml").read_text(encoding="utf-8")
+sys.path.insert(0, str(Path(__file__).resolve().parents[2]))
+
+from tests.program.calls import PROGRAM, SMALL_FILE, TOP  # noqa: E402
+from tests.tools.ports import HOST, free_port  # noqa: E402
+
+SMALL = SMALL_FILE.read_text(encoding="utf-8")
 KB = 1024
 # In place of a text: some text, but not none.
 SOME = "\0"
@@ -641,13 +644,12 @@ AROUND_THE_FILE: list[Step] = [
 
 def connect(port: int) -> bool:
     with socket.socket() as client:
-        return client.connect_ex(("127.0.0.1", port)) == 0
+        return client.connect_ex((HOST, port)) == 0
 
 
 def hold_port(bench: Bench) -> None:
     """One program holds a port until two connections were served; the first shows that it does."""
-    with socket.create_server(("127.0.0.1", 0)) as server:
-        port = int(server.getsockname()[1])
+    port = free_port()
     words = shlex.split(f"serve --db isle.db --port {port} --count 2 --seed 0")
     holder = subprocess.Popen([PROGRAM, *words], cwd=bench.folder, stdout=subprocess.PIPE, stderr=subprocess.STDOUT)
     while not connect(port) and holder.poll() is None:
