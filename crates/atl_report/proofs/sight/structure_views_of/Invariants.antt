@@ -3,9 +3,9 @@ use Rattle.std.specs.Prelude.{option_map}
 use Rattle.std.specs.FinMap.{get}
 use Rattle.std.specs.List.{filter_map}
 use Rattle.atl_report.specs.Sight.{structure_view, structure_views}
-use Rattle.atl_report.proofs.sight.structure_views.Given as goal
+use Rattle.atl_report.proofs.sight.structure_views_of.Given as goal
 
 -- the views made so far, followed by those of the structures still to come, are the views of all structures of the
 -- region
 abbrev pub invariant-loop-number : goal.invariant-loop-number
-invariant-loop-number l = l.structures ++ filter_map (λ n. option_map (structure_view l.world l.campaign.value l.watch n) (get l.campaign.value.structures n)) (drop l.number-index l.number-items) ≡ structure_views l.world l.campaign.value l.watch
+invariant-loop-number l = l.structures ++ filter_map (λ n. option_map (structure_view l.world l.campaign.value l.watch n) (get l.campaign.value.structures n)) (drop l.number-index l.numbers) ≡ structure_views l.world l.campaign.value l.watch
