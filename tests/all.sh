@@ -65,44 +65,57 @@ try() {
   esac
 }
 
-# is_same_crowd: whether the cases that tests/crowd.py makes are those that are stored
+# is_same_crowd: whether the cases that tests/model/crowd.py makes are those that are stored
 is_same_crowd() {
-  tests/crowd.py | cmp - crates/atl_phase_tests/data/crowd.txt
+  tests/model/crowd.py | cmp - crates/atl_phase_tests/data/crowd.txt
 }
 
 [ "${1:-}" = scripts ] || count_gate
 name_program
-try release python3 tests/release.py "${built[@]}"
-try start 'python3 git xz' tests/start.py
-try package python3 tests/package.py
+
+# program: its release, its package, its command line, HTTP
+try release python3 tests/program/release.py "${built[@]}"
+try start 'python3 git xz' tests/program/start.py
+try package python3 tests/program/package.py
+try program python3 python3 -B tests/program/program.py
+try limits python3 python3 -B tests/program/limits.py
+try large_month python3 python3 -B tests/program/large_month.py
+try upgrade python3 python3 -B tests/program/upgrade.py
+try http 'curl python3' python3 -B tests/program/month_by_http.py
+try slow python3 python3 -B tests/program/slow.py
+try given_up 'python3 strace' python3 -B tests/program/given_up.py
+
+# pages: what they print, name and count
 try first_hour '' examples/first_hour.sh
-try program python3 python3 -B tests/program.py
-try limits python3 python3 -B tests/limits.py
-try large_month python3 python3 -B tests/large_month.py
-try upgrade sqlite3 tests/upgrade.sh
-try pages 'sqlite3 curl python3' tests/pages.sh
-try links python3 tests/links.py
-try rules_index python3 tests/rules_index.py
-try believe python3 tests/believe.py --check
-try sentences python3 tests/sentences.py
-try http 'sqlite3 curl python3' tests/http.sh
-try plain python3 tests/plain.py crates/atl_phase_tests/data/*.txt
+try pages 'sqlite3 curl python3' tests/pages/pages.sh
+try links python3 tests/pages/links.py
+try rules_index python3 tests/pages/rules_index.py
+try believe python3 tests/pages/believe.py --check
+try sentences python3 tests/pages/sentences.py
+
+# model: the phases by a second program, and scripted players
+try plain python3 tests/model/plain.py crates/atl_phase_tests/data/*.txt
 try island '' cmp worlds/isle.toml crates/atl_phase_tests/data/island.toml
 try crowd python3 is_same_crowd
-try simulate python3 tests/simulate.py
-try killed 'sqlite3 strace' tests/killed.sh 40
-try cuts 'strace python3' tests/cuts.py
-try slow python3 tests/slow.sh
-try given_up 'python3 strace' tests/given_up.py
-try office_types mypy mypy --strict office tests/office
+try simulate python3 tests/model/simulate.py
+
+# faults: kills, power cuts, refused memory
+try killed 'sqlite3 strace' tests/faults/killed.sh 40
+try cuts 'strace python3' tests/faults/cuts.py
+try memory 'sqlite3 curl cc python3' tests/faults/memory.sh 11 997
+
+# the types of what is in Python, and the office
+try python_types mypy mypy --strict office tests/office tests/program tests/tools
 try office python3 python3 -B -m unittest discover -s tests/office -t .
 try office_year python3 tests/office/year_by_mail.py
 try office_stopped 'python3 openssl strace' tests/office/stopped.py
 try office_served python3 tests/office/served.py
+
+# the page for players
 try page_modules node node --test tests/web/unit/*.test.js
 try page_types tsc tsc -p tsconfig.json
 try page_judge 'node python3' node tests/web/judge_beside_gm.js 600
-try web 'curl python3 nginx chromium chromedriver' tests/web.sh
-try memory 'sqlite3 curl cc python3' tests/memory.sh 11 997
+try web 'curl python3 nginx chromium chromedriver' tests/web/web.sh
+
 echo "$passed passed, $failed failed, $skipped skipped"
 [ "$failed" = 0 ]

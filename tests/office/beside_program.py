@@ -13,7 +13,6 @@ import http.client
 import json
 import random
 import re
-import socket
 import subprocess
 import sys
 import tempfile
@@ -31,6 +30,7 @@ from office.mail.blocks import Block, Ended, find_blocks  # noqa: E402
 from office.orders.faults import LineFault  # noqa: E402
 from office.orders.reading import VERBS, read_orders  # noqa: E402
 from office.orders.warnings import warn  # noqa: E402
+from tests.tools.ports import free_port  # noqa: E402
 
 WORLD = ROOT / "worlds" / "coast.toml"
 PASS = "scratch"
@@ -114,12 +114,6 @@ class Served:
     def mail(self, text: bytes) -> Answer:
         answer = json.loads(self.ask("POST", "/orders/1", text))
         return Answer(answer.get("error", ""), answer.get("orders", 0), dict(answer.get("faults", ())))
-
-
-def free_port() -> int:
-    with socket.socket() as listener:
-        listener.bind(("127.0.0.1", 0))
-        return int(listener.getsockname()[1])
 
 
 def random_line(dice: random.Random) -> str:

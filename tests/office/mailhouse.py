@@ -9,7 +9,6 @@ import grp
 import imaplib
 import os
 import pwd
-import random
 import shutil
 import signal
 import smtplib
@@ -28,10 +27,10 @@ from pathlib import Path
 from types import TracebackType
 from typing import cast
 
-HOST = "127.0.0.1"
+from tests.tools.ports import HOST, free_port
+
 DOMAIN = "club.test"
 PASSWORD = "a-password-of-the-tests"
-FIRST_PORT, LAST_PORT = 20_000, 32_000  # below those that the system gives to clients
 SECONDS_TO_START = 30.0
 SECONDS_TO_DELIVER = 30.0
 SECONDS_TO_END = 10.0
@@ -150,18 +149,6 @@ def missing_tool() -> str:
 
 def _find(tool: str) -> str | None:
     return shutil.which(tool, path=os.environ.get("PATH", "") + ":/usr/sbin:/sbin")
-
-
-def free_port() -> int:
-    """A port of 127.0.0.1 at which nobody listens."""
-    while True:
-        port = random.randint(FIRST_PORT, LAST_PORT)
-        with socket.socket() as trial:
-            try:
-                trial.bind((HOST, port))
-            except OSError:
-                continue
-            return port
 
 
 def make_certificate(folder: Path) -> tuple[Path, Path]:

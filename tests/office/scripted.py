@@ -14,7 +14,7 @@ from dataclasses import dataclass, field
 from pathlib import Path
 from types import TracebackType
 
-from tests.office.mailhouse import HOST
+from tests.tools.ports import HOST
 
 DROP = "drop the line"
 SILENCE = "no answer"

@@ -28,7 +28,8 @@ sys.dont_write_bytecode = True
 sys.path.insert(0, str(Path(__file__).resolve().parents[2]))
 
 from tests.office.clubs import TOP, ClubFolder, find_program  # noqa: E402
-from tests.office.mailhouse import HOST, end_process, free_port, wait_until  # noqa: E402
+from tests.office.mailhouse import end_process, wait_until  # noqa: E402
+from tests.tools.ports import HOST, free_port  # noqa: E402
 
 SKIPPED = 77
 SECONDS_TO_ANSWER = 60.0

@@ -26,8 +26,9 @@ from office.command import main  # noqa: E402
 from office.errors import OfficeError  # noqa: E402
 from tests.office.closing_tools import FULL, KILL, Ended, fork, rows  # noqa: E402
 from tests.office.clubs import TOP, ClubFolder, find_program  # noqa: E402
-from tests.office.mailhouse import HOST, make_certificate  # noqa: E402
+from tests.office.mailhouse import make_certificate  # noqa: E402
 from tests.office.scripted import Delivered, ImapScript, ScriptedImap, ScriptedSmtp, SmtpScript  # noqa: E402
+from tests.tools.ports import HOST  # noqa: E402
 
 SKIPPED = 77
 KILLED = -9

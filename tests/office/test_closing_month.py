@@ -27,7 +27,7 @@ from tests.office.closing_tools import (ALL_CALLS, FULL, KILL, PROGRAM, SEED, St
                                         TestedClub, contents, fork, needs_program, needs_strace, say_nothing,
                                         words)
 from tests.office.closing_year import Year
-from tests.office.mailhouse import free_port
+from tests.tools.ports import free_port
 
 COMES_OUT = "every report and the books come out again, byte for byte"
 # one system call of this many is stopped, so that the test takes a minute

@@ -20,8 +20,9 @@ from office.club.files import make_folder
 from office.command import main
 from office.mail import fetching, sending
 from office.mail.taking import BYTES_KEPT_ASIDE
-from tests.office.mailhouse import HOST, free_port, make_certificate
+from tests.office.mailhouse import make_certificate
 from tests.office.scripted import DROP, SILENCE, ImapScript, ScriptedImap, ScriptedSmtp, SmtpScript
+from tests.tools.ports import HOST, free_port
 
 SILENT_SECONDS = 0.4
 MANY = 2_000

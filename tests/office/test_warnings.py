@@ -1,11 +1,16 @@
 """What the reply warns of."""
 
+import re
 import unittest
 from collections.abc import Collection, Mapping
+from pathlib import Path
 
 from office.mail.blocks import find_blocks
 from office.orders.faults import LineFault
 from office.orders.warnings import MOST_WARNINGS, Warning, warn
+
+PAGES = Path(__file__).resolve().parents[2] / "docs"
+MAILING = re.compile(r"^```mailing \d+\n(.*?)^```", re.DOTALL | re.MULTILINE)
 
 
 def warnings_of(text: str, own_units: Collection[int] | None = None,
@@ -127,11 +132,14 @@ class Whole(unittest.TestCase):
             (warning,) = warnings_of(text)
             self.assertEqual((warning.line, words in warning.text), (0, True), text)
 
-    def test_no_warning_for_the_pages_mailing(self) -> None:
-        self.assertEqual(texts_of("UNIT 1\nNAME UNIT \"Guards of Far\"\nGUARD 1\nTAX\nRECRUIT 4\n"
-                                  "FORM 1                 ; a new unit, which this mailing calls NEW 1\n"
-                                  "  NAME UNIT Woodcutters\n  RECRUIT 8\n  GUARD 1\n  STUDY lumberjack\nEND\n"
-                                  "PAY NEW 1 500          ; eight recruits cost 400", [1]), [])
+    def test_no_warning_for_the_mailings_that_beginners_copy(self) -> None:
+        for page, end in (("QUICKSTART.md", "## All orders on one card"), ("TUTORIAL.md", "## Every order in one mailing")):
+            shown, found, _ = (PAGES / page).read_text().partition(f"\n{end}\n")
+            mailings = MAILING.findall(shown)
+            self.assertTrue(found and mailings, page)
+            for mailing in mailings:
+                (block,) = find_blocks(mailing.split("\n"))
+                self.assertEqual(warn(block, None, None), [], f"{page}: {mailing}")
 
     def test_they_are_bounded(self) -> None:
         found = warnings_of("UNIT 1\n" + "WORK\n" * 5000 + "#END")

@@ -4,18 +4,17 @@ import re
 import signal
 import socket
 import subprocess
+import sys
 import time
 
 HERE = os.path.dirname(os.path.dirname(os.path.dirname(os.path.abspath(__file__))))
+sys.path.insert(0, HERE)
+
+from tests.tools.ports import free_port  # noqa: E402
+
 GM = os.path.join(HERE, 'gm')
 PASS = 'moderator'
 SEED = '7'
-
-
-def free_port():
-    with socket.socket() as one:
-        one.bind(('127.0.0.1', 0))
-        return one.getsockname()[1]
 
 
 def wait_for(port, process, name):

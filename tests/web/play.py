@@ -1,5 +1,5 @@
 """Runs all cases of tests/web: starts campaigns, nginx and a browser, asks the lines of web/nginx.conf, and plays on
-the page. Called by tests/web.sh with a folder for its files, and perhaps one for pictures of the page."""
+the page. Called by tests/web/web.sh with a folder for its files, and perhaps one for pictures of the page."""
 import os
 import signal
 import sys

@@ -31,7 +31,6 @@ module _ (w : WorldValue) (c : CampaignValue) where
   learner_cases : (Q : Learning → Type 0) (t : Task) (learning : Learning) → Q learning → IfLearns (λ n s. Q (insert learning n s)) t → Q (with_learner w c learning t)
   learner_cases Q t learning same added = by_skill (skill_of t.order_value.operands) refl
     where
-      -- for `learner_cases`: Q holds of the map after an order of STUDY, whether the order names a skill or not
       by_skill : (o : Option ℕ) → skill_of t.order_value.operands ≡ o → Q (with_named_skill learning t o)
       by_skill None says = same
       by_skill (Some s) says = cond_both (learns w s t.faction (get c.units t.unit)) (insert learning t.unit s) learning Q (added s says) (λ _. same)
@@ -43,31 +42,25 @@ module _ (w : WorldValue) (c : CampaignValue) where
   only_all P (t ∷ ts) learning so old =
       only_all P ts (with_learner w c learning t) so.1 (learner_cases (Every P) t learning old (λ s says can. every-insert P learning t.unit s (so.0 s says can) old))
 
-  -- a unit that is in the map of those that learn is still in it once the units of some orders of STUDY are added
   kept : (ts : List Task) (learning : Learning) (n : ℕ) → HasValue learning n → HasValue (fold (with_learner w c) learning ts) n
   kept [] learning n there = there
   kept (t ∷ ts) learning n there = kept ts (with_learner w c learning t) n (learner_cases (λ l. HasValue l n) t learning there (λ s says can. there-insert learning t.unit n s there))
 
-  -- the unit of an order of STUDY is learning after the order, if the unit learns by the order
   added : (t : Task) (learning : Learning) → IfLearns (λ n s. HasValue (with_learner w c learning t) n) t
   added t learning s says can =
       subst (λ o. HasValue (with_named_skill learning t o) t.unit) (sym says)
       (subst (λ b. HasValue (if b then insert learning t.unit s else learning) t.unit) (sym can) (s, get-insert_same learning t.unit s))
 
-  -- each unit that learns by one of some orders of STUDY is in the map once the units of these orders are added
   each_all : (ts : List Task) (learning : Learning) → AllByRecursion (IfLearns (λ n s. HasValue (fold (with_learner w c) learning ts) n)) ts
   each_all [] learning = tt
   each_all (t ∷ ts) learning =
       let next = with_learner w c learning t in
       ((λ s says can. kept ts next t.unit (added t learning s says can)), each_all ts next)
 
--- each unit that learns by an order of STUDY that counts has men, and the fee for all of them, and learns the skill
--- that the order names (`IsLearning`)
 each_learner_is_learning : (w : WorldValue) (c : CampaignValue) (m : MonthValue) (ts : List Task) → AllByRecursion (Contains (study_tasks m)) ts → AllByRecursion (IfLearns w c (IsLearning w c m)) ts
 each_learner_is_learning w c m [] among = tt
 each_learner_is_learning w c m (t ∷ ts) among = ((λ s says can. record { order = t; counts = among.0; for_unit = refl; says = says; can = can }), each_learner_is_learning w c m ts among.1)
 
--- exactly those units are learning that learn by an order of STUDY that counts
 pub units_learn_by_orders : UnitsLearnByOrders
 unfolding learners
 units_learn_by_orders w c m =

@@ -16,11 +16,9 @@ both_filters : (p q r : ℕ → Bool) → ((k : ℕ) → (q k && p k) ≡ r k) �
 both_filters p q r same [] = refl
 both_filters p q r same (n ∷ ns) = grind (rules, same n, both_filters p q r same ns)
 
--- once n is among the numbers seen, a number is new exactly if it isn't n, and was new before
 new_after_insert : (seen : FinMap nat_cmp ℕ) (n k : ℕ) → (not (k == n) && is_new seen k) ≡ is_new (insert seen n n) k
 new_after_insert seen n k = grind (rules, get-insert nat_cmp_total seen n n k, unsigned_ties k n)
 
--- if n was seen before, a number is new exactly if it is new and isn't n
 new_before : (seen : FinMap nat_cmp ℕ) (n : ℕ) → is_some (get seen n) ≡ true → (k : ℕ) → (not (k == n) && is_new seen k) ≡ is_new seen k
 new_before seen n there k = grind (arith, nat_tests)
 
@@ -30,12 +28,9 @@ pub first_mention_is_kept : (seen : FinMap nat_cmp ℕ) (n : ℕ) (ns : List ℕ
     filter (is_new seen) (first_mentions (n ∷ ns)) ≡ n ∷ filter (is_new (insert seen n n)) (first_mentions ns)
 first_mention_is_kept seen n ns new = grind (rules, new, both_filters (is_new seen) (λ k. not (k == n)) (is_new (insert seen n n)) (new_after_insert seen n) (first_mentions ns))
 
--- the new numbers, without repetitions, of a list that begins with n are those of the numbers after n, if n was seen
--- before
 pub later_mention_is_dropped : (seen : FinMap nat_cmp ℕ) (n : ℕ) (ns : List ℕ) → is_some (get seen n) ≡ true → filter (is_new seen) (first_mentions (n ∷ ns)) ≡ filter (is_new seen) (first_mentions ns)
 later_mention_is_dropped seen n ns there = grind (rules, there, both_filters (is_new seen) (λ k. not (k == n)) (is_new seen) (new_before seen n there) (first_mentions ns))
 
--- if no number was seen yet, all numbers of a list are new
 pub all_new : (ns : List ℕ) → filter (is_new empty) ns ≡ ns
 all_new [] = refl
 all_new (n ∷ ns) = grind (rules, get-empty {X = ℕ} nat_cmp n, all_new ns)

@@ -26,34 +26,25 @@ use Rattle.atl_action.proofs.TravelLaws.{IsSameUnit}
 -- The units before and after a change are the same people. They are as many, each faction has the same unit numbers,
 -- and all together hold as much of each thing.
 pub record AreSamePeople (before after : FinMap nat_cmp Unit) : Type 0 where
-  -- there are as many units as before
   pub count : len after ≡ len before
-  -- each faction has the units that it had, by number
   pub of_factions : (m : ℕ) → numbers_of_faction m after ≡ numbers_of_faction m before
-  -- all units together hold as much of each thing as before
   pub hold : (t : Thing) → sum_over (λ (x : Unit). unit_amount t x.holding) after ≡ sum_over (λ (x : Unit). unit_amount t x.holding) before
 
--- the units are the same people (`AreSamePeople`) when nothing changes
 pub people_same : (m : FinMap nat_cmp Unit) → AreSamePeople m m
 people_same m = record { count = refl; of_factions = λ k. refl; hold = λ t. refl }
 
--- if each of two changes keeps the people (`AreSamePeople`), both together do
 pub people_twice : (a b c : FinMap nat_cmp Unit) → AreSamePeople a b → AreSamePeople b c → AreSamePeople a c
 people_twice a b c one two = record { count = two.count ∙ one.count; of_factions = λ k. two.of_factions k ∙ one.of_factions k; hold = λ t. two.hold t ∙ one.hold t }
 
--- a unit that is the same but for its region, structure and guard flag holds as much of each thing
 held_same : (u v : Unit) → IsSameUnit u v → (t : Thing) → unit_amount t v.holding ≡ unit_amount t u.holding
 held_same u v same Money = same.money
 held_same u v same People = same.men
 held_same u v same (Item i) = ap (λ items. amount_of items i) same.items
 
--- for `changed_by`: if a + p is b + q, and q is p, a is b
 equal_addends_cancel : (a b p q : ℕ) → a + p ≡ b + q → q ≡ p → a ≡ b
 equal_addends_cancel a b p q e f = omega arith
 
 module _ (f : Unit → Unit) (same : (u : Unit) → IsSameUnit u (f u)) (m : FinMap nat_cmp Unit) (k : ℕ) where
-  -- a change of unit k by f, whether it is there or not, keeps the people (`AreSamePeople`), if f changes only region,
-  -- structure and guard flag
   changed_by : (o : Option Unit) → get m k ≡ o → AreSamePeople m (with_changed_option f m k o)
   changed_by None is = people_same m
   changed_by (Some u) is = record {
@@ -64,7 +55,6 @@ module _ (f : Unit → Unit) (same : (u : Unit) → IsSameUnit u (f u)) (m : Fin
         equal_addends_cancel (sum_over stock (insert m k (f u))) (sum_over stock m) (stock u) (stock (f u)) (sum_over-insert_known stock m k u (f u) is) (held_same u (f u) (same u) t);
   }
 
-  -- a change of one unit that keeps all but its region, structure and guard flag keeps the people (`AreSamePeople`)
   pub people_changed : AreSamePeople m (with_changed_value f m k)
   people_changed = changed_by (get m k) refl
 
@@ -87,7 +77,6 @@ module _ (structure to : ℕ) where
   pub elsewhere_is : (c : CampaignValue) (n : ℕ) → with_guard (with_position c n to structure) n false ≡ record c { units = elsewhere c.units n }
   elsewhere_is c n = changed_twice (λ x. record x { region = to; structure = structure }) (λ x. record x { holding = record x.holding { guard = false } }) c n
 
-  -- a unit that went elsewhere, or didn't, is the same but for its region, structure and guard flag
   pub gone_same : (b : Bool) (x : Unit) → IsSameUnit x (gone_if b x)
   gone_same true x = record { faction = refl; name = refl; men = refl; money = refl; items = refl; days = refl }
   gone_same false x = record { faction = refl; name = refl; men = refl; money = refl; items = refl; days = refl }
@@ -97,11 +86,9 @@ module _ (structure to : ℕ) where
   guards_stay true x g = false_true g
   guards_stay false x g = refl
 
-  -- the units are the same people (`AreSamePeople`) after unit n went elsewhere and its flag was cleared
   pub elsewhere_people : (m : FinMap nat_cmp Unit) (n : ℕ) → AreSamePeople m (elsewhere m n)
   elsewhere_people m n = people_changed gone (gone_same true) m n
 
-  -- each structure has the same units inside after unit n went elsewhere, if n was inside `structure` before
   pub elsewhere_inside : (m : FinMap nat_cmp Unit) (n q : ℕ) (v : Unit) → get m n ≡ Some v → v.structure ≡ structure → numbers_inside q (elsewhere m n) ≡ numbers_inside q m
   elsewhere_inside m n q v is here =
       ap (λ o. numbers_inside q (with_changed_option gone m n o)) is
@@ -109,8 +96,6 @@ module _ (structure to : ℕ) where
 
 -- ---- the totals
 
--- the campaign's total of each thing stays the same, if the units are the same people (`AreSamePeople`) and the regions
--- are unchanged
 pub total_people : (c d : CampaignValue) → AreSamePeople c.units d.units → d.regions ≡ c.regions → (t : Thing) → total d t ≡ total c t
 unfolding total
 total_people c d people regions t =

@@ -9,7 +9,7 @@ use Rattle.std.proofs.Math.Bool.{or-true}
 use Rattle.std.proofs.lemmas.Iterator.Adapters.{option_map_id}
 use Rattle.std.proofs.lemmas.Option.{same_Some}
 use Rattle.std.specs.Ordering.{nat_cmp}
-use Rattle.std.specs.FinMap.{FinMap, get, values}
+use Rattle.std.specs.FinMap.{FinMap, get}
 use Rattle.std.proofs.lemmas.Bool.{and_parts, cases_eq, cond_both, false_from_ne_true, not-false}
 use Rattle.std.proofs.lemmas.List.Elements.{recursion_from_All}
 use Rattle.std.proofs.lemmas.List.Sums.{sum_by-cons}
@@ -62,25 +62,21 @@ use Rattle.atl_action.proofs.TravelLaws.{AreTravelled, IsPut, IsSameStructure, s
 abbrev structure_in : Option Unit → ℕ
 structure_in o = option_map_or (λ (x : Unit). x.structure) o 0
 
--- what `f` gives of a unit's holding; 0 where the unit isn't there
 abbrev number_of_unit : (HoldingValue → ℕ) → Option Unit → ℕ
 number_of_unit f o = option_map_or (λ (x : Unit). f x.holding) o 0
 
 -- ---- lists of units
 
--- the test whether a list has a number (`list_any`) is true, if the number is listed
 any_listed : (k : ℕ) (ns : List ℕ) → IsListed k ns → list_any (λ n. k == n) ns ≡ true
 any_listed k [] listed = absurd listed
 any_listed k (n ∷ ns) (inl same) = ap (λ b. b || list_any (λ n. k == n) ns) (equal_passes k n same)
 any_listed k (n ∷ ns) (inr listed) = ap (λ b. (k == n) || b) (any_listed k ns listed) ∙ or-true (k == n)
 
--- if the test whether a list has a number (`list_any`) is true, the number is listed
 listed_any : (k : ℕ) (ns : List ℕ) → list_any (λ n. k == n) ns ≡ true → IsListed k ns
 listed_any k [] e = false_true e
 listed_any k (n ∷ ns) e =
     elim (cases_eq k n) [ inl same ↦ inl same | inr apart ↦ inr (listed_any k ns (ap (λ b. b || list_any (λ n. k == n) ns) (sym (other_number k n apart)) ∙ e)) ]
 
--- P holds of all numbers of a list (`AllByRecursion`), if it holds of each number that is listed (`IsListed`)
 all_listed : (P : ℕ → Type 0) (ns : List ℕ) → ((k : ℕ) → IsListed k ns → P k) → AllByRecursion P ns
 all_listed P [] h = tt
 all_listed P (n ∷ ns) h = (h n (inl refl), all_listed P ns (λ k l. h k (inr l)))
@@ -88,12 +84,10 @@ all_listed P (n ∷ ns) h = (h n (inl refl), all_listed P ns (λ k l. h k (inr l
 -- ---- units that go along
 
 module _ (ship to : ℕ) where
-  -- the units are the same people (`AreSamePeople`) after those of a list went along with the ship
   all_people : (m : FinMap nat_cmp Unit) (ns : List ℕ) → AreSamePeople m (fold (elsewhere ship to) m ns)
   all_people m [] = people_same m
   all_people m (n ∷ ns) = people_twice m (elsewhere ship to m n) (fold (elsewhere ship to) (elsewhere ship to m n) ns) (elsewhere_people ship to m n) (all_people (elsewhere ship to m n) ns)
 
-  -- a unit that goes along if `a` is true, and then if `b` is, goes along if either is true
   mapped_both : (a b : Bool) (o : Option Unit) → option_map (gone_if ship to b) (option_map (gone_if ship to a) o) ≡ option_map (gone_if ship to (a || b)) o
   mapped_both a b o = grind rules
 
@@ -105,11 +99,9 @@ module _ (ship to : ℕ) where
       all_at (elsewhere ship to m n) ns k ∙ ap (option_map (gone_if ship to (list_any (λ n. k == n) ns))) (get-changed (gone ship to) m n k)
       ∙ mapped_both (k == n) (list_any (λ n. k == n) ns) (get m k)
 
-  -- the unit of this number is there, and is inside the ship
   abbrev IsInside : FinMap nat_cmp Unit → ℕ → Type 0
   IsInside m n = (v : Unit) × (get m n ≡ Some v) × (v.structure ≡ ship)
 
-  -- taking along a unit that is inside the ship changes nothing of the campaign but the units (`elsewhere`)
   one_is : (d : CampaignValue) (n : ℕ) (v : Unit) → get d.units n ≡ Some v → v.structure ≡ ship → with_unit_moved ship to d n ≡ record d { units = elsewhere ship to d.units n }
   unfolding with_place
   one_is d n v is here =
@@ -117,28 +109,23 @@ module _ (ship to : ℕ) where
       ∙ ap (λ b. with_guard (if b then with_position d n to ship else after_handover (after_handover (with_position d n to ship) v.structure n (heir d v.structure n)) ship 0 n) n false) (equal_passes v.structure ship here)
       ∙ elsewhere_is ship to d n
 
-  -- a unit inside the ship is still inside after a unit went along with the ship
   still_inside : (m : FinMap nat_cmp Unit) (n k : ℕ) → IsInside m k → IsInside (elsewhere ship to m n) k
   still_inside m n k (v, there, here) = (gone_if ship to (k == n) v, get-changed (gone ship to) m n k ∙ ap (option_map (gone_if ship to (k == n))) there, by_test (k == n))
     where
-      -- for `still_inside`: unit k is inside the ship, whether it is the unit that went along or not
       by_test : (b : Bool) → (gone_if ship to b v).structure ≡ ship
       by_test true = refl
       by_test false = here
 
-  -- all units of a list that are inside the ship are still inside after a unit went along with the ship
   still_all : (m : FinMap nat_cmp Unit) (n : ℕ) (ns : List ℕ) → AllByRecursion (IsInside m) ns → AllByRecursion (IsInside (elsewhere ship to m n)) ns
   still_all m n [] all = tt
   still_all m n (k ∷ ns) all = (still_inside m n k all.0, still_all m n ns all.1)
 
-  -- taking along a list of units that are inside the ship changes nothing of the campaign but the units (`elsewhere`)
   all_is : (d : CampaignValue) (ns : List ℕ) → AllByRecursion (IsInside d.units) ns → fold (with_unit_moved ship to) d ns ≡ record d { units = fold (elsewhere ship to) d.units ns }
   all_is d [] all = refl
   all_is d (n ∷ ns) all =
       let (v, there, here) = all.0 in
       ap (λ e. fold (with_unit_moved ship to) e ns) (one_is d n v there here) ∙ all_is (record d { units = elsewhere ship to d.units n }) ns (still_all d.units n ns all.1)
 
-  -- each structure has the same units inside after those of a list went along, if all of the list are inside the ship
   all_inside : (q : ℕ) (m : FinMap nat_cmp Unit) (ns : List ℕ) → AllByRecursion (IsInside m) ns → numbers_inside q (fold (elsewhere ship to) m ns) ≡ numbers_inside q m
   all_inside q m [] all = refl
   all_inside q m (n ∷ ns) all =
@@ -147,24 +134,19 @@ module _ (ship to : ℕ) where
 
 -- ---- a ship that goes
 
--- an unchanged unit at most went along with its structure (`IsAtMostMoved`)
 carried_same : (v : Unit) → IsAtMostMoved v v
 carried_same v = record { faction = refl; structure = refl; region = λ none. refl; name = refl; guard = λ none. refl; no_flag = λ off. off; men = omega arith; money = omega arith; items = λ i. omega arith; days = λ s. omega arith }
 
 module _ (w : WorldValue) (c : CampaignValue) (ship to : ℕ) (steady : IsSteady w c) (x : Structure) (is : get c.structures ship ≡ Some x) where
-  -- the numbers of the units inside the ship
   abbrev aboard_numbers : List ℕ
   aboard_numbers = numbers_inside ship c.units
 
-  -- the units after those inside the ship went along
   abbrev units : FinMap nat_cmp Unit
   units = fold (elsewhere ship to) c.units aboard_numbers
 
-  -- the structure, put into region `to`
   abbrev shifted : Structure → Structure
   shifted y = record y { region = to }
 
-  -- the structures with the ship in region `to`
   abbrev structures : FinMap nat_cmp Structure
   structures = with_changed_value shifted c.structures ship
 
@@ -176,21 +158,16 @@ module _ (w : WorldValue) (c : CampaignValue) (ship to : ℕ) (steady : IsSteady
   abbrev g : ℕ → Structure → Structure
   g = at_number shifted c.structures ship
 
-  -- the campaign after the ship went
   abbrev after : CampaignValue
   after = travelled w c units structures f g
 
-  -- the definition `after_sailing` makes the campaign `after`, in which the ship and the units inside are in region
-  -- `to`
   sailed_is : after_sailing c ship to ≡ after
   unfolding after_sailing
   sailed_is = ap (λ d. with_structure_region d ship to) (all_is ship to c aboard_numbers (all_listed (IsInside ship to c.units) aboard_numbers (listed_is_inside ship c.units)))
 
-  -- the ship's number isn't 0
   some_ship : ship ≢ 0
   some_ship = is_no_zero c.structures c.next_structure steady.next.structures ship x is
 
-  -- unit k, which is there, is in the list of the units inside the ship exactly if it is inside the ship
   member : (k : ℕ) (v : Unit) → get c.units k ≡ Some v → list_any (λ n. k == n) aboard_numbers ≡ (v.structure == ship)
   member k v there = elim (cases_eq v.structure ship) [
     | inl here ↦ any_listed k aboard_numbers (inside_is_listed ship c.units some_ship k v there here) ∙ sym (equal_passes v.structure ship here)
@@ -201,20 +178,16 @@ module _ (w : WorldValue) (c : CampaignValue) (ship to : ℕ) (steady : IsSteady
         unlisted ∙ sym (other_number v.structure ship apart)
   ]
 
-  -- unit k goes along by the list of the units inside the ship exactly if it is inside the ship
   units_by : (k : ℕ) (o : Option Unit) → get c.units k ≡ o → option_map (gone_if ship to (list_any (λ n. k == n) aboard_numbers)) o ≡ option_map (f k) o
   units_by k None there = refl
   units_by k (Some v) there = ap (λ b. Some (gone_if ship to b v)) (member k v there)
 
-  -- after the ship went, a look-up finds a unit gone along with it, if it was inside, and otherwise as it was
   units_at : (k : ℕ) → get units k ≡ option_map (f k) (get c.units k)
   units_at k = all_at ship to c.units aboard_numbers k ∙ units_by k (get c.units k) refl
 
-  -- a unit inside the ship goes along, and any other stays; so each at most goes with its structure (`IsAtMostMoved`)
   carried : (k : ℕ) (v : Unit) → IsAtMostMoved v (f k v)
   carried k v = cond_both (v.structure == ship) (gone ship to v) v (IsAtMostMoved v) (λ t. along (is_equal v.structure ship t)) (λ _. carried_same v)
     where
-      -- for `carried`: a unit inside the ship at most goes with its structure as it goes along
       along : v.structure ≡ ship → IsAtMostMoved v (gone ship to v)
       along here = record {
         faction = refl;
@@ -229,33 +202,26 @@ module _ (w : WorldValue) (c : CampaignValue) (ship to : ℕ) (steady : IsSteady
         days = λ s. omega arith;
       }
 
-  -- after the ship went, it is found in region `to`, and is otherwise as it was
   at_ship : get structures ship ≡ Some (shifted x)
   at_ship = get-changed shifted c.structures ship ship ∙ ap (option_map (g ship)) is ∙ ap (λ b. Some (if b then shifted x else x)) (equal_passes ship ship refl)
 
-  -- after the ship went, every other structure is as it was
   at_other : (q : ℕ) → q ≢ ship → get structures q ≡ get c.structures q
   at_other q apart = changed_else shifted c.structures ship q apart (get c.structures ship)
 
-  -- each structure has its right owner (`IsOwned`) after the ship sailed
   ship_owned : (q : ℕ) (y : Structure) → get c.structures q ≡ Some y → IsOwned after q (g q y)
   ship_owned q y there = cond_both (q == ship) (shifted y) y (IsOwned after q) (λ _. record { owned = owned; ownerless = ownerless }) (λ _. record { owned = owned; ownerless = ownerless })
     where
-      -- the owner of the structure, if there is one, is still inside it after the ship sailed
       owned : y.owner ≢ 0 → (v : Unit) × (get units y.owner ≡ Some v) × (v.structure ≡ q)
       owned some =
           let (v, here, inside) = (steady.owners q y there).owned some in
           (f y.owner v, units_at y.owner ∙ ap (option_map (f y.owner)) here, (carried y.owner v).structure ∙ inside)
 
-      -- a structure without an owner has no unit inside after the ship sailed
       ownerless : y.owner ≡ 0 → Every (λ m v. v.structure ≢ q) units
       ownerless none m v at inside =
           let (u, was, same) = mapped_from (f m) (get c.units m) v (sym (units_at m) ∙ at) in
           (steady.owners q y there).ownerless none m u was (sym (carried m u).structure ∙ ap (λ (z : Unit). z.structure) same ∙ inside)
 
   module _ (floats : is_ship w x ≡ true) (whole : x.done ≡ size_of w x.kind) (there_to : HasValue c.regions to) where
-    -- each unit is in a region that is there, and inside a structure of that region or none, after the ship sailed
-    -- (`IsPut`)
     put : (k : ℕ) (v : Unit) → get c.units k ≡ Some v → IsPut w c units structures f g (f k v)
     put k v there =
         cond_both (v.structure == ship) (gone ship to v) v (IsPut w c units structures f g) (λ _. record { region = there_to; structure = λ some. (shifted x, at_ship, refl) })
@@ -263,20 +229,17 @@ module _ (w : WorldValue) (c : CampaignValue) (ship to : ℕ) (steady : IsSteady
         let p = steady.known.units k v there in
         record { region = p.region; structure = λ some. let (s, was, near) = p.structure some in (s, at_other v.structure (is_unequal v.structure ship t) ∙ was, near) })
 
-    -- each unit on water is inside a ship after the ship sailed
     aboard : (k : ℕ) (v : Unit) → get c.units k ≡ Some v → is_land_at w (f k v).region ≡ false → IsAboard w after (f k v)
     aboard k v there =
         cond_both (v.structure == ship) (gone ship to v) v (λ u. is_land_at w u.region ≡ false → IsAboard w after u) (λ _ wet. (shifted x, at_ship, floats))
         (λ t wet. let (s, was, afloat) = steady.water.units k v there wet in (s, at_other v.structure (is_unequal v.structure ship t) ∙ was, afloat))
 
-    -- each structure on water is a complete ship after the ship sailed
     afloat : (q : ℕ) (y : Structure) → get c.structures q ≡ Some y → is_land_at w (g q y).region ≡ false → (is_ship w y ≡ true) × (y.done ≡ size_of w y.kind)
     afloat q y there =
         cond_both (q == ship) (shifted y) y (λ (z : Structure). is_land_at w z.region ≡ false → (is_ship w y ≡ true) × (y.done ≡ size_of w y.kind))
         (λ t wet. subst (λ z. (is_ship w z ≡ true) × (z.done ≡ size_of w z.kind)) (same_Some x y (sym is ∙ ap (get c.structures) (sym (is_equal q ship t)) ∙ there)) (floats, whole))
         (λ _. steady.water.structures q y there)
 
-    -- the units and structures after the ship sailed are such that the campaign is steady (`AreTravelled`)
     sailed_travelled : AreTravelled w c units structures f g
     sailed_travelled = record {
       units_at = units_at;
@@ -304,41 +267,33 @@ module _ (w : WorldValue) (c : CampaignValue) (ship to : ℕ) (steady : IsSteady
 
   -- ---- what stays of each unit
 
-  -- after sailing each unit is still there, and at most went along with its structure (`IsAtMostMoved`)
   pub sailed_at_most_moved : (k : ℕ) (v : Unit) → get c.units k ≡ Some v → IsStillThere IsAtMostMoved (after_sailing c ship to) k v
   sailed_at_most_moved k v there =
       subst (λ d. IsStillThere IsAtMostMoved d k v) (sym sailed_is)
       (record { unit = f k v; there = units_at k ∙ ap (option_map (f k)) there; is_unaffected = carried k v })
 
-  -- after sailing each unit is inside the structure that it was inside before
   pub sailed_inside : (k : ℕ) → structure_of_unit (after_sailing c ship to) k ≡ structure_of_unit c k
   sailed_inside k = ap (λ d. structure_of_unit d k) sailed_is ∙ ap structure_in (units_at k) ∙ by_unit (get c.units k)
     where
-      -- for `sailed_inside`: unit k is inside the structure that it was inside before, whether it is there (`o`) or not
       by_unit : (o : Option Unit) → structure_in (option_map (f k) o) ≡ structure_in o
       by_unit None = refl
       by_unit (Some v) = (carried k v).structure
 
-  -- a unit that isn't inside the ship stays as it was when the ship sails
   sailed_same : (k : ℕ) → structure_of_unit c k ≢ ship → get (after_sailing c ship to).units k ≡ get c.units k
   sailed_same k apart = ap (λ d. get d.units k) sailed_is ∙ units_at k ∙ by_unit (get c.units k) apart
     where
-      -- for `sailed_same`: unit k, if it isn't inside the ship, stays as it was, whether it is there (`o`) or not
       by_unit : (o : Option Unit) → structure_in o ≢ ship → option_map (f k) o ≡ o
       by_unit None apart = refl
       by_unit (Some v) apart = ap (λ b. Some (gone_if ship to b v)) (other_number v.structure ship apart)
 
-  -- every structure but the ship stays as it was when the ship sails
   sailed_structure : (q : ℕ) → q ≢ ship → get (after_sailing c ship to).structures q ≡ get c.structures q
   sailed_structure q apart = ap (λ d. get d.structures q) sailed_is ∙ at_other q apart
 
-  -- each structure has the same units inside when the ship sails
   sailed_list : (q : ℕ) → numbers_inside q (after_sailing c ship to).units ≡ numbers_inside q c.units
   sailed_list q = ap (λ d. numbers_inside q d.units) sailed_is ∙ all_inside ship to q c.units aboard_numbers (all_listed (IsInside ship to c.units) aboard_numbers (listed_is_inside ship c.units))
 
 -- ---- an order
 
--- a unit that at most went along in each of two changes at most went along in both together (`IsAtMostMoved`)
 carried_twice : (u v x : Unit) → IsAtMostMoved u v → IsAtMostMoved v x → IsAtMostMoved u x
 carried_twice u v x one two = record {
   faction = two.faction ∙ one.faction;
@@ -353,22 +308,17 @@ carried_twice u v x one two = record {
   days = λ s. omega (arith, one.days s, two.days s);
 }
 
--- the relation `IsAtMostMoved`, that a unit at most went along with its structure, is reflexive and transitive, and
--- keeps the faction
 at_most_moved_is_relation : IsUnaffectedRelation IsAtMostMoved
 at_most_moved_is_relation = record { same = carried_same; transitive = carried_twice; faction = λ u v h. h.faction }
 
--- if a way to a region isn't refused (`is_way`), that region is one of the world
 way_there : (w : WorldValue) (from : ℕ) (to : Option ℕ) → not (is_way w from to) ≡ false → HasValue w.regions (unwrap_or to 0)
 way_there w from None t = false_true (sym t)
 way_there w from (Some r) t = by_plan (get w.regions r) refl (and_parts (is_some (get w.regions r)) (not (is_land_at w from && is_land_at w r)) (not-false (is_way w from (Some r)) t)).0
   where
-    -- the world has region r, if a look-up of r finds a region
     by_plan : (o : Option RegionPlan) → get w.regions r ≡ o → is_some o ≡ true → HasValue w.regions r
     by_plan None there t = false_true t
     by_plan (Some p) there t = (p, there)
 
--- the faults of SAIL with their tests, from the unit, its structure, and the crew and load of all units inside
 abbrev sail_faults : WorldValue → (n : ℕ) → Unit → (to : Option ℕ) → Option Structure → (crew load : ℕ) → List (Bool × EventFault)
 sail_faults w n u to ship crew load =
     (u.holding.men == 0, NoMen)
@@ -388,14 +338,12 @@ unfolding sail
 sail_cases P w c n u direction same gone_off =
     by_fault (neighbour w u.region direction) (sail_fault w c n u (get c.structures u.structure) (neighbour w u.region direction)) refl
   where
-    -- for `sail_cases`: P holds after sailing, if the unit is inside a complete ship, and there is a way to the region
     by_ship : (to : Option ℕ) (o : Option Structure) → get c.structures u.structure ≡ o → not (is_complete_ship w o) ≡ false → not (is_way w u.region to) ≡ false → P (after_sailing c u.structure (unwrap_or to 0), Done 0)
     by_ship to None at whole way = false_true (sym whole)
     by_ship to (Some x) at whole way =
         let parts = and_parts (is_ship w x) (x.done == size_of w x.kind) (not-false (is_complete_ship w (Some x)) whole) in
         gone_off (unwrap_or to 0) x at parts.0 (is_equal x.done (size_of w x.kind) parts.1) (way_there w u.region to way)
 
-    -- for `sail_cases`: P holds of the result of an order of SAIL, whether it has a fault or not
     by_fault : (to : Option ℕ) (o : Option EventFault) → sail_fault w c n u (get c.structures u.structure) to ≡ o → P (unless c o (after_sailing c u.structure (unwrap_or to 0), Done 0))
     by_fault to (Some fault) e = same (Fault (event_fault_number fault))
     by_fault to None e =
@@ -403,14 +351,11 @@ sail_cases P w c n u direction same gone_off =
         let fine = none_fit (sail_faults w n u to ship (sum_inside (crew_of w) c u.structure) (sum_inside (load_of w) c u.structure)) e in
         by_ship to ship refl fine.1.1.1.0 fine.1.1.1.1.0
 
--- An order of SAIL keeps a steady campaign steady, with the same month, reports and set of factions, and with balanced
--- books still balanced (`StepsWell`).
 sail_well : (w : WorldValue) (c : CampaignValue) (n : ℕ) (u : Unit) (direction : Direction) → IsSteady w c → StepsWell IsSteady nothing_remaining w c (sail w n direction c u).0
 sail_well w c n u direction steady =
     sail_cases (λ p. StepsWell IsSteady nothing_remaining w c p.0) w c n u direction (λ outcome. well_same w c steady)
     (λ to x at floats whole there. sailed_well w c u.structure to steady x at floats whole ((steady.known.regions to).1 there))
 
--- an order of SAIL at most takes each unit along with the structure that it is inside (`IsAtMostMoved`)
 sail_moves_at_most : (w : WorldValue) (c : CampaignValue) (n : ℕ) (u : Unit) (direction : Direction) → IsSteady w c → (k : ℕ) (v : Unit) → get c.units k ≡ Some v → IsStillThere IsAtMostMoved (sail w n direction c u).0 k v
 sail_moves_at_most w c n u direction steady k v there =
     sail_cases (λ p. IsStillThere IsAtMostMoved p.0 k v) w c n u direction (λ outcome. record { unit = v; there = there; is_unaffected = carried_same v })
@@ -432,12 +377,10 @@ all_carried w m c d keeps n u there = keeps n u there (λ k d l nobody. nobody)
 
 -- ---- units that stay: those whose structure doesn't sail
 
--- two functions, g and h, have the same sum over a list of numbers, if they are equal for each number listed
 sum_same : (g h : ℕ → ℕ) (ns : List ℕ) → ((k : ℕ) → IsListed k ns → g k ≡ h k) → sum_by g ns ≡ sum_by h ns
 sum_same g h [] same = refl
 sum_same g h (n ∷ ns) same = grind (arith, sum_by-cons g n ns, sum_by-cons h n ns, same n (inl refl), sum_same g h ns (λ k l. same k (inr l)))
 
--- an order has the same outcome in two campaigns, whatever it makes of them, if it has the same fault, or none, in both
 same_outcome_unless : (c d x y : CampaignValue) (o : Option EventFault) → (unless c o (x, Done 0)).1 ≡ (unless d o (y, Done 0)).1
 same_outcome_unless c d x y o = grind rules
 
@@ -449,25 +392,18 @@ module _ (w : WorldValue) (begun : CampaignValue) (number faction : ℕ) where
   -- The campaign is steady, and each unit is inside the structure that it was inside as the phase began.
   -- The structure that unit `number` is inside is as it was, and so are all units inside this structure.
   record IsAsBegun (c : CampaignValue) : Type 0 where
-    -- the campaign is steady
     pub steady : IsSteady w c
-    -- each unit is inside the structure that it was inside as the phase began
     pub places : (k : ℕ) → structure_of_unit c k ≡ structure_of_unit begun k
-    -- the structure of unit `number` is as it was when the phase began
     pub structure : get c.structures s ≡ get begun.structures s
-    -- each unit that was inside this structure when the phase began is as it was then
     pub units : (k : ℕ) → structure_of_unit begun k ≡ s → get c.units k ≡ get begun.units k
-    -- the list of the units inside this structure is as it was when the phase began
     pub list : numbers_inside s c.units ≡ numbers_inside s begun.units
 
   module _ (c : CampaignValue) (same : IsAsBegun c) where
-    -- if `c` is as begun (`IsAsBegun`), the sum of `f` over the units in unit `number`'s structure is as at the start
     sum_inside_same : (f : HoldingValue → ℕ) → sum_inside f c s ≡ sum_inside f begun s
     sum_inside_same f =
         ap (sum_by (λ n. number_of_unit f (get c.units n))) same.list
         ∙ sum_same (λ n. number_of_unit f (get c.units n)) (λ n. number_of_unit f (get begun.units n)) (numbers_inside s begun.units) (λ k listed. ap (number_of_unit f) (same.units k (is_in k listed)))
       where
-        -- each unit listed as inside the structure of unit `number` is inside it as the phase begins
         is_in : (k : ℕ) → IsListed k (numbers_inside s begun.units) → structure_of_unit begun k ≡ s
         is_in k listed = let (v, there, here) = listed_is_inside s begun.units k listed in ap structure_in there ∙ here
 
@@ -476,8 +412,6 @@ module _ (w : WorldValue) (begun : CampaignValue) (number faction : ℕ) where
     fault_same : (n : ℕ) (u : Unit) (to : Option ℕ) → u.structure ≡ s → sail_fault w c n u (get c.structures u.structure) to ≡ sail_fault w begun n u (get begun.structures u.structure) to
     fault_same n u to here = rw (here, same.structure, sum_inside_same (crew_of w), sum_inside_same (load_of w)) refl
 
-    -- if `c` is as begun (`IsAsBegun`), SAIL for a unit in unit `number`'s structure has the outcome that it would have
-    -- had at the start
     same_outcome : (n : ℕ) (u : Unit) (direction : Direction) → u.structure ≡ s → (sail w n direction c u).1 ≡ (sail w n direction begun u).1
     unfolding sail
     same_outcome n u direction here =
@@ -485,23 +419,17 @@ module _ (w : WorldValue) (begun : CampaignValue) (number faction : ℕ) where
         ap (λ o. (unless c o (after_sailing c u.structure (unwrap_or to 0), Done 0)).1) (fault_same n u to here)
         ∙ same_outcome_unless c begun (after_sailing c u.structure (unwrap_or to 0)) (after_sailing begun u.structure (unwrap_or to 0)) (sail_fault w begun n u (get begun.structures u.structure) to)
 
-    -- if `c` is as begun (`IsAsBegun`), faction f's SAIL for unit n, inside unit `number`'s structure, has the outcome
-    -- that it would have had at the start
     same_faction_outcome : (f n : ℕ) (direction : Direction) → structure_of_unit begun n ≡ s → (faction_effect (sail w n direction) c f n).1 ≡ (faction_effect (sail w n direction) begun f n).1
     same_faction_outcome f n direction here = ap (λ o. (effect_on (sail w n direction) c (of_faction f o)).1) (same.units n here) ∙ by_unit (get begun.units n) here
       where
-        -- for `same_faction_outcome`: SAIL has one outcome in `c` and at the start, whether unit u is of the faction
-        -- (`b`) or not
         by_faction : (u : Unit) → u.structure ≡ s → (b : Bool) → (effect_on (sail w n direction) c (if b then Some u else None)).1 ≡ (effect_on (sail w n direction) begun (if b then Some u else None)).1
         by_faction u here true = same_outcome n u direction here
         by_faction u here false = refl
 
-        -- for `same_faction_outcome`: SAIL has one outcome in `c` and at the start, be its unit there (`o`) or not
         by_unit : (o : Option Unit) → structure_in o ≡ s → (effect_on (sail w n direction) c (of_faction f o)).1 ≡ (effect_on (sail w n direction) begun (of_faction f o)).1
         by_unit None here = refl
         by_unit (Some u) here = by_faction u here (u.faction == f)
 
-    -- if `c` is as begun (`IsAsBegun`), so is the campaign after another ship than unit `number`'s structure sailed
     sailed_else : (ship to : ℕ) (x : Structure) → get c.structures ship ≡ Some x → is_ship w x ≡ true → x.done ≡ size_of w x.kind → HasValue w.regions to → s ≢ ship → IsAsBegun (after_sailing c ship to)
     sailed_else ship to x at floats whole there apart = record {
       steady = (sailed_well w c ship to same.steady x at floats whole ((same.steady.known.regions to).1 there)).holds_still;
@@ -521,12 +449,9 @@ module _ (w : WorldValue) (begun : CampaignValue) (number faction : ℕ) where
         (λ in_it done. apart in_it (ap (λ outcome. Some outcome) (sym (same_faction_outcome f n direction in_it) ∙ done)))
     order_stays f n other apart = same
 
-    -- if `c` is as begun (`IsAsBegun`), so is the campaign after order t, if by it the structure of unit `number`
-    -- doesn't sail (`SailsWith`)
     task_stays : (m : MonthValue) (t : Task) → (SailsWith w begun t number faction → ⊥) → IsAsBegun (one_order sail_step w (c, m) t).0
     task_stays m t apart = order_stays t.faction t.unit t.order_value.operands (λ in_it done. apart (record { together = in_it; done = done }))
 
-  -- a campaign as begun (`IsAsBegun`) is so after orders by none of which unit `number`'s structure sails (`SailsWith`)
   tasks_stay : (c : CampaignValue) (m : MonthValue) (ts : List Task) → IsAsBegun c → AllByRecursion (λ t. SailsWith w begun t number faction → ⊥) ts → IsAsBegun (fold (one_order sail_step w) (c, m) ts).0
   tasks_stay c m [] same others = same
   tasks_stay c m (t ∷ ts) same others =
@@ -537,7 +462,7 @@ module _ (w : WorldValue) (begun : CampaignValue) (number faction : ℕ) where
 pub others_do_not_sail : (w : WorldValue) (c : CampaignValue) (m : MonthValue) → IsSteady w c → others_unaffected (SailsWith w c) IsUnchanged is_sailing w m c (sail_spec.meaning w c m).0
 unfolding meaning_by_orders
 others_do_not_sail w c m steady n u there others =
-    let ts = values (orders_of is_sailing ByUnit m.aliases m.readings) in
+    let ts = orders_of is_sailing ByUnit m.aliases m.readings in
     let begun : IsAsBegun w c n u.faction c = record { steady = steady; places = λ k. refl; structure = refl; units = λ k here. refl; list = refl } in
     let stays = tasks_stay w c n u.faction c m ts begun (recursion_from_All (λ t. SailsWith w c t n u.faction → ⊥) ts others) in
     record { unit = u; there = stays.units n refl ∙ there; is_unaffected = refl }

@@ -5,7 +5,7 @@ use Rattle.std.specs.Prelude.{fold, if◌then◌else◌}
 use Rattle.std.proofs.lemmas.Option.{same_Some}
 use Rattle.std.specs.List.{AllByRecursion, IsDistinct, slice_index_or}
 use Rattle.std.proofs.lemmas.List.Elements.{All-contains, All-from_recursion}
-use Rattle.std.specs.FinMap.{get, values}
+use Rattle.std.specs.FinMap.{get}
 use Rattle.atl_world.specs.Worlds.{WorldValue}
 use Rattle.atl_world.specs.ByNumber.{fee_of}
 use Rattle.atl_world.proofs.GeneralLaws.{equal_itself}
@@ -40,19 +40,15 @@ use Rattle.atl_action.proofs.UnmailedLearnLaws.{all_lessons_add_no_starved}
 -- ---- an order reads its own unit and the structures
 
 module _ (w : WorldValue) (taught n s : ℕ) (c d : CampaignValue) (u : Unit) (in_c : get c.units n ≡ Some u) (in_d : get d.units n ≡ Some u) (structures : d.structures ≡ c.structures) where
-  -- the fee of the skill, in money, for all men of unit n
   abbrev cost : ℕ
   cost = fee_of w s * u.holding.men
 
-  -- the days of the skill that unit n has after a month of study, if the structures are those of a given campaign
   abbrev days_in : CampaignValue → ℕ
   days_in b = days_after u.holding.men (amount_of u.holding.days s) taught (is_helpful w s (get b.structures u.structure))
 
-  -- unit n has the same days of the skill after a month of study in two campaigns with the same structures
   same_days : days_in d ≡ days_in c
   same_days = ap (λ (o : Option Structure). days_after u.holding.men (amount_of u.holding.days s) taught (is_helpful w s o)) (ap (λ m. get m u.structure) structures)
 
-  -- unit u after it paid the fee, with the given days of the skill
   abbrev after_paying_with_days : ℕ → Unit
   after_paying_with_days days = record u { holding = with_study u.holding s cost days }
 
@@ -61,7 +57,6 @@ module _ (w : WorldValue) (taught n s : ℕ) (c d : CampaignValue) (u : Unit) (i
   unfolding study
   study_alike = by_fault (study_fault u.holding cost) (Done (days_in d - amount_of u.holding.days s)) (Done (days_in c - amount_of u.holding.days s))
     where
-      -- for `study_alike`: the order changes unit n alike in campaigns `c` and `d`, whether it has a fault (`o`) or not
       by_fault : (o : Option EventFault) (x y : Outcome) → get (unless d o (after_study d n u s cost (days_in d), x)).0.units n ≡ get (unless c o (after_study c n u s cost (days_in c), y)).0.units n
       by_fault (Some fault) x y = in_d ∙ sym in_c
       by_fault None x y =
@@ -69,11 +64,9 @@ module _ (w : WorldValue) (taught n s : ℕ) (c d : CampaignValue) (u : Unit) (i
 
 -- ---- all orders
 
--- the order's verb is STUDY
 abbrev Studies : Task → Type 0
 Studies t = is_studying t.order_value.verb ≡ true
 
--- a verb that passes the test `is_studying` is STUDY
 is_study : (verb : Verb) → is_studying verb ≡ true → verb ≡ verbs.Study
 is_study verbs.Study is = refl
 is_study verb is = cc
@@ -85,7 +78,6 @@ both_own t o never t_studies o_studies unit faction =
     grind (rules, never, ap (λ j. j == o.unit) unit ∙ equal_itself o.unit, ap (λ j. j == o.faction) faction ∙ equal_itself o.faction, is_study t.order_value.verb t_studies, is_study o.order_value.verb o_studies)
 
 module _ (w : WorldValue) (taught : TaughtMen) (n : ℕ) (u : Unit) where
-  -- the campaign and the month after one order of STUDY
   abbrev step : CampaignValue × MonthValue → Task → CampaignValue × MonthValue
   step = one_order (study_step taught) w
 
@@ -93,14 +85,12 @@ module _ (w : WorldValue) (taught : TaughtMen) (n : ℕ) (u : Unit) where
   abbrev IsOther : Task → Type 0
   IsOther t = t.unit ≡ n → t.faction ≡ u.faction → ⊥
 
-  -- an order of STUDY changes no structure
   structures_stay : (d : CampaignValue) (l : MonthValue) (t : Task) → (step (d, l) t).0.structures ≡ d.structures
   structures_stay d l t =
       ordered_cases (λ b. b.structures ≡ d.structures) (study_step taught w l.aliases t) d t refl
       (λ x own. of_each_skill (λ effect. (effect d x).0.structures ≡ d.structures) w taught t.unit t.order_value.operands
       (λ s says. study_cases (λ b. b.structures ≡ d.structures) w (taught t.unit) d t.unit s x refl (λ days payable most. refl)))
 
-  -- an order of STUDY leaves unit n as it was, if it isn't for unit n or not from the faction of unit n
   one_stays : (d : CampaignValue) (l : MonthValue) (t : Task) (v : Unit) → get d.units n ≡ Some v → v.faction ≡ u.faction → IsOther t → get (step (d, l) t).0.units n ≡ Some v
   one_stays d l t v there own other =
       ordered_cases (λ b. get b.units n ≡ Some v) (study_step taught w l.aliases t) d t there
@@ -108,34 +98,27 @@ module _ (w : WorldValue) (taught : TaughtMen) (n : ℕ) (u : Unit) where
       let apart : n ≢ t.unit = (λ same. other (sym same) (sym its.faction ∙ ap (λ (y : Unit). y.faction) (same_Some x v (sym its.there ∙ ap (get d.units) (sym same) ∙ there)) ∙ own)) in
       study_stays w (taught t.unit) d t.unit s x n apart ∙ there))
 
-  -- if none of some orders of STUDY is for unit n and from its faction, they leave unit n as it was
   all_stay : (ts : List Task) (p : CampaignValue × MonthValue) (v : Unit) → get p.0.units n ≡ Some v → v.faction ≡ u.faction → AllByRecursion IsOther ts → get (fold step p ts).0.units n ≡ Some v
   all_stay [] p v there own others = there
   all_stay (t ∷ ts) p v there own others = all_stay ts (step p t) v (one_stays p.0 p.1 t v there own others.0) own others.1
 
   module _ (skill : ℕ) (order : Task) (for_unit : order.unit ≡ n) (own : order.faction ≡ u.faction) (says : order.order_value ≡ order_of verbs.Study (operands.Skill skill)) where
-    -- the verb of the unit's own order is STUDY
     studies : Studies order
     studies = ap (λ (o : OrderValue). is_studying o.verb) says
 
-    -- an order of STUDY that shares no slot with the unit's own order isn't for unit n, or not from its faction
     apart : (t : Task) → share_slot t order ≡ false → Studies t → IsOther t
     apart t never other unit faction = both_own t order never other studies (unit ∙ sym for_unit) (faction ∙ sym own)
 
-    -- orders of STUDY that share no slot with the unit's own order aren't for unit n, or not from its faction
     all_apart : (ts : List Task) → AllByRecursion (λ t. share_slot order t ≡ false) ts → AllByRecursion Studies ts → AllByRecursion IsOther ts
     all_apart [] all others = tt
     all_apart (t ∷ ts) all others = (one_apart, all_apart ts all.1 others.1)
       where
-        -- the first of the orders isn't for unit n, or not from its faction
         one_apart : IsOther t
         one_apart unit faction = both_own order t all.0 studies others.0 (for_unit ∙ sym unit) (own ∙ sym faction)
 
-    -- what unit n's own order of STUDY makes of a campaign and its unit n
     abbrev effect : OrderEffect
     effect = study w (taught n) n skill
 
-    -- the campaign after the own order of unit n is what the order's effect makes of the unit, if the unit is there
     own_study : (d : CampaignValue) (l : MonthValue) → get d.units n ≡ Some u → (step (d, l) order).0 ≡ (effect d u).0
     own_study d l there =
         ap (λ (o : OrderValue). (order_result (study_effect w taught order.unit o.operands) d order.faction order.unit).0) says
@@ -144,7 +127,6 @@ module _ (w : WorldValue) (taught : TaughtMen) (n : ℕ) (u : Unit) where
         ∙ ap (λ o. (effect_on effect d o).0) (ap (of_faction u.faction) there ∙ ap (λ b. if b then Some u else None) (equal_itself u.faction))
 
     module _ (c : CampaignValue) (begun : get c.units n ≡ Some u) where
-      -- unit n is still there, and of its faction, after its own order
       after_it : (v : Unit) × (get (effect c u).0.units n ≡ Some v) × (v.faction ≡ u.faction)
       after_it =
           study_cases (λ d. (v : Unit) × (get d.units n ≡ Some v) × (v.faction ≡ u.faction)) w (taught n) c n skill u (u, begun, refl)
@@ -169,15 +151,14 @@ module _ (w : WorldValue) (taught : TaughtMen) (n : ℕ) (u : Unit) where
 
 -- ---- the phase
 
--- after the phase a unit with an own order of STUDY that counts is as this order alone makes it
 pub units_study_as_begun : UnitsStudyAsBegun
 unfolding meaning_by_orders
 units_study_as_begun w c m fit n skill u there own =
     let lessons = after_lessons c (learners w c m) m in
     let unchanged = all_lessons_add_no_starved c (learners w c m) m in
     let one : CampaignValue × MonthValue → Task → CampaignValue × MonthValue = one_order (study_step lessons.0) w in
-    let list : values (orders_of is_studying ByUnit lessons.1.aliases lessons.1.readings) ≡ study_tasks m =
-    ap (λ r. values (orders_of is_studying ByUnit lessons.1.aliases r)) unchanged.readings ∙ ap (λ a. values (orders_of is_studying ByUnit a m.readings)) unchanged.aliases in
+    let list : orders_of is_studying ByUnit lessons.1.aliases lessons.1.readings ≡ study_tasks m =
+    ap (λ r. orders_of is_studying ByUnit lessons.1.aliases r) unchanged.readings ∙ ap (λ a. orders_of is_studying ByUnit a m.readings) unchanged.aliases in
     let (k, low, at) = own.counts in
     ap (λ ts. get (fold one (c, lessons.1) ts).0.units n) list
     ∙ alone w lessons.0 n u skill own.order own.for_unit own.own own.says c there (study_tasks m) (c, lessons.1) there refl (one_order_counts w is_studying ByUnit m.aliases m.readings fit) (orders_have_verbs is_studying ByUnit m.aliases m.readings) k low at

@@ -52,7 +52,6 @@ use Rattle.atl_action.specs.Teach.{TaughtMen}
 -- ---- a unit that pays, and reaches a number of days
 
 module _ (w : WorldValue) (c : CampaignValue) (n : ℕ) (u : Unit) (s cost days : ℕ) (is : get c.units n ≡ Some u) (steady : IsSteady w c) (payable : cost ≤ u.holding.money) where
-  -- what the unit holds after it paid the cost and has the new days of the skill
   abbrev learned : HoldingValue
   learned = with_study u.holding s cost days
 
@@ -60,12 +59,9 @@ module _ (w : WorldValue) (c : CampaignValue) (n : ℕ) (u : Unit) (s cost days 
   abbrev paid : CampaignValue
   paid = with_holding_at c n learned (Some u)
 
-  -- the campaign after the unit studied: it paid and has its days, and the cost is booked
   abbrev after : CampaignValue
   after = after_study c n u s cost days
 
-  -- the unit may hold (`MayHaveWithoutNewGuard`) what it holds after it studied, if the skill is of the world, and the
-  -- days are at most 450 for each man
   may_hold : s < length w.skills → days ≤ most_days * u.holding.men → MayHaveWithoutNewGuard w u learned
   may_hold known most =
       let old = may_have w c n u is steady in
@@ -78,7 +74,6 @@ module _ (w : WorldValue) (c : CampaignValue) (n : ℕ) (u : Unit) (s cost days 
         guard = λ g. g;
       }
 
-  -- a steady campaign is steady after a unit paid and reached at most 450 days for each man in a skill of the world
   steady_after : s < length w.skills → days ≤ most_days * u.holding.men → IsSteady w after
   steady_after known most = steady-amount w paid Study Money (neg_ℤ (pos cost)) (omega arith) (steady-new_holding w c n u learned is (may_hold known most) steady)
 
@@ -89,7 +84,6 @@ module _ (w : WorldValue) (c : CampaignValue) (n : ℕ) (u : Unit) (s cost days 
   owed People a b e = omega (arith, ints, e)
   owed (Item i) a b e = let other : (2 + i == 0) ≡ false = grind (arith, nat_tests) in grind (arith, ints)
 
-  -- the books balance after a unit paid and learned, if they balanced before
   balanced : Balances c → Balances after
   balanced old t =
       let sum : total after t + unit_amount t u.holding ≡ total c t + unit_amount t learned =
@@ -97,32 +91,25 @@ module _ (w : WorldValue) (c : CampaignValue) (n : ℕ) (u : Unit) (s cost days 
       owed t (total after t) (total c t) sum ∙ ap (λ z. z +ℤ cond (thing_index t == 0) (neg_ℤ (pos cost)) (pos 0)) (old t)
       ∙ sym (booked-after_booking c.books Study Money (neg_ℤ (pos cost)) t)
 
-  -- the money of all units together falls by the cost as the unit pays
   less : sum_over (λ (x : Unit). x.holding.money) after.units + cost ≡ sum_over (λ (x : Unit). x.holding.money) c.units
   less =
       let money = λ (x : Unit). x.holding.money in
       total_falls_by_cost (sum_over money after.units) (sum_over money c.units) u.holding.money (sum_over-insert_known money c.units n u (record u { holding = learned }) is) payable
     where
-      -- for `less`: the total a after the payment is the total b before it less the cost, where m is the unit's money
-      -- before it
       total_falls_by_cost : (a b m : ℕ) → a + m ≡ b + (m - cost) → cost ≤ m → a + cost ≡ b
       total_falls_by_cost a b m e l = omega (arith, e, l)
 
-  -- books with room for the money of all units have room for the cost
   pub cost_room : HaveRoom (study_remaining c) c → HasRoom cost (amount_in c.books Study Money)
   cost_room room =
       let all : HasRoom (sum_over (λ (x : Unit). x.holding.money) c.units) (amount_in c.books Study Money) = room Study Money in
       record { above = omega (arith, ints, all.above, less); below = omega (arith, ints, all.below, less) }
 
-  -- the booking of the fee moves no amount further than the remaining bound of STUDY falls (`UsesBound`)
   uses_bound : (e : BooksEntry) (t : Thing) → UsesBound (study_remaining c e t) (study_remaining after e t) (amount_in c.books e t) (amount_in after.books e t)
   uses_bound e t =
       bound_used_near (moves_only cost Study Money e t) (study_remaining c e t) (study_remaining after e t) (amount_in c.books e t) (amount_in after.books e t)
       (let fallen = less in grind arith)
       (booked-near c.books Study Money (neg_ℤ (pos cost)) cost (within-neg cost cost (omega arith)) e t)
 
-  -- A unit that pays and reaches at most 450 days for each man keeps a steady campaign steady and balanced books
-  -- balanced (`StepsWell`). The month, the reports and the set of factions stay.
   studied_well : s < length w.skills → days ≤ most_days * u.holding.men → StepsWell IsSteady study_remaining w c after
   studied_well known most = record {
     holds_still = steady_after known most;
@@ -133,11 +120,9 @@ module _ (w : WorldValue) (c : CampaignValue) (n : ℕ) (u : Unit) (s cost days 
 
 -- ---- an order
 
--- a unit has at most 450 days for each man after a month of study
 pub days_most : (men old taught : ℕ) (helped : Bool) → days_after men old taught helped ≤ most_days * men
 days_most men old taught helped = omega arith
 
--- if an order of STUDY has no fault for a unit, the unit has the money for the fee
 pub payable_fee : (h : HoldingValue) (cost : ℕ) → study_fault h cost ≡ None → cost ≤ h.money
 payable_fee h cost e =
     let poor = (nat_lt h.money cost, NoFee) ∷ [] in
@@ -156,20 +141,16 @@ study_cases P w taught c n s u same learned =
     let helped = is_helpful w s (get c.structures u.structure) in
     by_fault (days_after u.holding.men old taught helped) (days_after u.holding.men old taught helped - old) (days_most u.holding.men old taught helped) (study_fault u.holding (fee_of w s * u.holding.men)) refl
   where
-    -- for `study_cases`: P holds of the campaign after an order of STUDY, whether the order has a fault or not
     by_fault : (days done : ℕ) → days ≤ most_days * u.holding.men → (o : Option EventFault) → study_fault u.holding (fee_of w s * u.holding.men) ≡ o
         → P (unless c o (after_study c n u s (fee_of w s * u.holding.men) days, Done done)).0
     by_fault days done most (Some fault) e = same
     by_fault days done most None e = learned days (payable_fee u.holding (fee_of w s * u.holding.men) e) most
 
--- An order of STUDY of a skill of the world keeps a steady campaign steady, with the same month, reports and set of
--- factions, and with balanced books still balanced (`StepsWell`).
 study_well : (w : WorldValue) (taught : ℕ) (c : CampaignValue) (n s : ℕ) (u : Unit) → get c.units n ≡ Some u → IsSteady w c → s < length w.skills → StepsWell IsSteady study_remaining w c (study w taught n s c u).0
 study_well w taught c n s u is steady known =
     study_cases (λ d. StepsWell IsSteady study_remaining w c d) w taught c n s u (well_same w c steady)
     (λ days payable most. studied_well w c n u s (fee_of w s * u.holding.men) days is steady payable known most)
 
--- an order of STUDY leaves every other unit as it was
 pub study_stays : (w : WorldValue) (taught : ℕ) (c : CampaignValue) (n s : ℕ) (u : Unit) (k : ℕ) → k ≢ n → get (study w taught n s c u).0.units k ≡ get c.units k
 study_stays w taught c n s u k apart =
     study_cases (λ d. get d.units k ≡ get c.units k) w taught c n s u refl
@@ -183,11 +164,9 @@ of_each_skill P w taught n other each = tt
 
 -- ---- the phase
 
--- the relation `IsUnchanged`, that a unit is unchanged, is reflexive and transitive, and keeps the faction
 unchanged_is_unaffected_relation : IsUnaffectedRelation IsUnchanged
 unchanged_is_unaffected_relation = record { same = λ u. refl; transitive = λ u v x one two. two ∙ one; faction = λ u v same. ap (λ (x : Unit). x.faction) same }
 
--- in a steady campaign all money of the units (`study_remaining`) is within the bound of the phase (`study_moves`)
 money_most : (w : WorldValue) (c : CampaignValue) → IsSteady w c → (e : BooksEntry) (t : Thing) → study_remaining c e t ≤ study_moves e t
 money_most w c steady e t = let most = all_held_within w c steady Money in grind arith
 

@@ -1,19 +1,17 @@
 -- Laws of a lesson of TEACH: a lesson to a list of units is the first unit's part, and then a lesson to the others.
-use Rattle.std.proofs.Common.{◌≡◌, ◌≢◌, ◌==◌, ◌≤◌, ℕ, ◌+◌, ◌-◌, min, not, Bool, false, List, [], ◌∷◌, filter, sum_by, refl, sym, ap, subst, ◌∙◌, inl, inr, arith, rules}
+use Rattle.std.proofs.Common.{◌≡◌, ◌≢◌, ◌==◌, ◌≤◌, ℕ, ◌+◌, ◌-◌, min, not, Bool, false, List, [], ◌∷◌, filter, sum_by, refl, sym, ap, ◌∙◌, inl, inr, arith}
 use Rattle.std.specs.Prelude.{nat_eq, if◌then◌else◌}
-use Rattle.std.specs.List.{AllByRecursion, IsDistinct, before_first, position_or_len}
+use Rattle.std.specs.List.{AllByRecursion, IsDistinct}
 use Rattle.std.proofs.lemmas.Bool.{cases_eq, cond_both, not-true}
-use Rattle.std.proofs.lemmas.List.Elements.{All-filter, All-from_recursion, All-take, filter_passes, recursion_from_All}
-use Rattle.std.proofs.lemmas.List.Folds.{list_any_none}
+use Rattle.std.proofs.lemmas.List.Elements.{All-filter, All-from_recursion, filter_passes, recursion_from_All}
 use Rattle.std.proofs.lemmas.List.Sums.{sum_by-cons}
 use Rattle.atl_world.proofs.GeneralLaws.{equal_itself, equality_is_symmetric, is_unequal}
 use Rattle.atl_records.proofs.EveryLaws.{other_number}
 use Rattle.atl_campaign.specs.Campaign.{CampaignValue}
-use Rattle.atl_action.specs.Teach.{TaughtMen, first_mentions, taught_in_lesson, untaught_men}
+use Rattle.atl_action.specs.Teach.{TaughtMen, first_mentions, men_at, taught_in_lesson, untaught_men}
 
 -- ---- lists of units
 
--- the second number isn't the first, by the test `nat_eq`
 abbrev IsOther : ℕ → ℕ → Type 0
 IsOther n y = nat_eq n y ≡ false
 
@@ -21,7 +19,6 @@ IsOther n y = nat_eq n y ≡ false
 abbrev pub AreOthers : ℕ → List ℕ → Type 0
 AreOthers n = AllByRecursion (IsOther n)
 
--- the numbers of a list that pass a test are without repetitions, if the list is
 filtered_distinct : (p : ℕ → Bool) (ns : List ℕ) → IsDistinct nat_eq ns → IsDistinct nat_eq (filter p ns)
 unfolding IsDistinct
 filtered_distinct p [] all = tt
@@ -30,54 +27,45 @@ filtered_distinct p (k ∷ ns) all =
     let others = recursion_from_All (IsOther k) (filter p ns) (All-filter p (IsOther k) ns (All-from_recursion (IsOther k) ns all.0)) in
     cond_both (p k) (k ∷ filter p ns) (filter p ns) (IsDistinct nat_eq) (λ _. (others, rest)) (λ _. rest)
 
--- a list from which n was filtered out has no number that is n
 filtered_out_is_not_listed : (n : ℕ) (ns : List ℕ) → AreOthers n (filter (λ k. not (k == n)) ns)
 filtered_out_is_not_listed n ns = recursion_from_All (IsOther n) (filter (λ k. not (k == n)) ns) (λ k d l. equality_is_symmetric n _ ∙ not-true _ (filter_passes (λ k. not (k == n)) ns k d l))
 
--- `first_mentions` has no repetitions
 pub mentions_distinct : (ns : List ℕ) → IsDistinct nat_eq (first_mentions ns)
 unfolding IsDistinct
 mentions_distinct [] = tt
 mentions_distinct (n ∷ ns) = (filtered_out_is_not_listed n (first_mentions ns), filtered_distinct (λ k. not (k == n)) (first_mentions ns) (mentions_distinct ns))
 
--- In a list that begins with n, no numbers are ahead of the first one that passes a test, if n passes. Otherwise n is,
--- and then those ahead of the first such number in the list after n.
-before_cons : (p : ℕ → Bool) (n : ℕ) (ns : List ℕ) → before_first p (n ∷ ns) ≡ if p n then [] else n ∷ before_first p ns
-before_cons p n ns = grind rules
-
 -- ---- men of the first unit are taught, and then men of the others
 
 module _ (c : CampaignValue) (taught after : TaughtMen) (n given : ℕ) (here : after n ≡ taught n + given) (away : (k : ℕ) → k ≢ n → after k ≡ taught k) where
-  -- units other than n have together as many untaught men as before unit n got its part of the lesson
   pub same_sum : (ns : List ℕ) → AreOthers n ns → sum_by (untaught_men c after) ns ≡ sum_by (untaught_men c taught) ns
   same_sum [] all = refl
   same_sum (k ∷ ns) all =
       let same = away k (λ is. is_unequal n k all.0 (sym is)) in
       grind (arith, sum_by-cons (untaught_men c after) k ns, sum_by-cons (untaught_men c taught) k ns, same, same_sum ns all.1)
 
+  -- a lesson to units other than n teaches as many men as before unit n got its part of the lesson
+  same_lesson : (places : ℕ) (ns : List ℕ) (k : ℕ) → AreOthers n ns → taught_in_lesson c after places ns k ≡ taught_in_lesson c taught places ns k
+  same_lesson places [] k all = refl
+  same_lesson places (j ∷ ns) k all =
+      let same : untaught_men c after j ≡ untaught_men c taught j = ap (λ m. men_at c j - m) (away j (λ is. is_unequal n j all.0 (sym is))) in
+      ap (λ m. if k == j then min places m else taught_in_lesson c after (places - m) ns k) same
+      ∙ ap (λ m. if k == j then min places (untaught_men c taught j) else m) (same_lesson (places - untaught_men c taught j) ns k all.1)
+
+  -- a lesson to units other than n teaches none of its men
+  not_taught : (places : ℕ) (ns : List ℕ) → AreOthers n ns → taught_in_lesson c after places ns n ≡ 0
+  not_taught places [] all = refl
+  not_taught places (k ∷ ns) all = rw all.0 (not_taught (places - untaught_men c after k) ns all.1)
+
   module _ (places : ℕ) (ns : List ℕ) (is : given ≡ min places (untaught_men c taught n)) (others : AreOthers n ns) where
-    -- unit n has as many men taught after its part and the lesson to the others as after the whole lesson
-    at_first : after n + taught_in_lesson c after (places - given) ns n ≡ taught n + taught_in_lesson c taught places (n ∷ ns) n
-    at_first =
-        let unlisted = list_any_none (λ j. n == j) ns (All-from_recursion (IsOther n) ns others) in
-        let first : before_first (λ j. n == j) (n ∷ ns) ≡ [] = before_cons (λ j. n == j) n ns ∙ ap (λ b. if b then [] else n ∷ before_first (λ j. n == j) ns) (equal_itself n) in
-        grind (arith, unlisted, first, equal_itself n, here, is)
-
-    -- a unit other than n has as many men taught after n's part and the lesson to the others as after the whole lesson
-    at_other : (k : ℕ) → k ≢ n → after k + taught_in_lesson c after (places - given) ns k ≡ taught k + taught_in_lesson c taught places (n ∷ ns) k
-    at_other k apart =
-        let before = before_first (λ j. k == j) ns in
-        let others_before : AreOthers n before = recursion_from_All (IsOther n) before (All-take (IsOther n) (position_or_len (λ j. k == j) ns) ns (All-from_recursion (IsOther n) ns others)) in
-        let more : sum_by (untaught_men c taught) (before_first (λ j. k == j) (n ∷ ns)) ≡ untaught_men c taught n + sum_by (untaught_men c taught) before =
-        ap (sum_by (untaught_men c taught)) (before_cons (λ j. k == j) n ns ∙ ap (λ b. if b then [] else n ∷ before) (other_number k n apart)) ∙ sum_by-cons (untaught_men c taught) n before in
-        grind (arith, away k apart, same_sum before others_before, more, other_number k n apart, is)
-
     -- unit n's part and then a lesson to the others, for the places left, leave as many men of each unit taught as the
     -- whole lesson
     pub rest_taught : (k : ℕ) → after k + taught_in_lesson c after (places - given) ns k ≡ taught k + taught_in_lesson c taught places (n ∷ ns) k
     rest_taught k = elim (cases_eq k n) [
-      | inl same ↦ subst (λ j. after j + taught_in_lesson c after (places - given) ns j ≡ taught j + taught_in_lesson c taught places (n ∷ ns) j) (sym same) at_first
-      | inr apart ↦ at_other k apart
+      | inl same ↦ rw same (grind (arith, not_taught (places - given) ns others, equal_itself n, here, is))
+      | inr apart ↦
+          let left : places - given ≡ places - untaught_men c taught n = omega (arith, is) in
+          rw (away k apart, other_number k n apart, left, same_lesson (places - untaught_men c taught n) ns k others) refl
     ]
 
 -- The men taught so far and those that the places left allow make the same `total` before and after the first unit's

@@ -18,26 +18,17 @@ use Rattle.atl_phase.proofs.RefitLaws.{in_range_replaced, named_replaced, number
 
 -- Unit `after` is the same as unit `before`, but for its region, structure and guard flag.
 pub record IsSameUnit (before after : Unit) : Type 0 where
-  -- the unit keeps its faction
   pub faction : after.faction ≡ before.faction
-  -- the unit keeps its name
   pub name : after.holding.name ≡ before.holding.name
-  -- the unit keeps its number of men
   pub men : after.holding.men ≡ before.holding.men
-  -- the unit keeps its money
   pub money : after.holding.money ≡ before.holding.money
-  -- the unit keeps its amount of each item
   pub items : after.holding.items ≡ before.holding.items
-  -- the unit keeps its days of each skill
   pub days : after.holding.days ≡ before.holding.days
 
 -- Structure `after` is the same as structure `before`, but for its region and its owner.
 pub record IsSameStructure (before after : Structure) : Type 0 where
-  -- the structure keeps its kind
   pub kind : after.kind ≡ before.kind
-  -- of structure `after` as much is done as of structure `before`
   pub done : after.done ≡ before.done
-  -- the structure keeps its name
   pub name : after.name ≡ before.name
 
 module _ (w : WorldValue) (c : CampaignValue) (units : FinMap nat_cmp Unit) (structures : FinMap nat_cmp Structure) (f : ℕ → Unit → Unit) (g : ℕ → Structure → Structure) where
@@ -47,64 +38,44 @@ module _ (w : WorldValue) (c : CampaignValue) (units : FinMap nat_cmp Unit) (str
 
   -- unit u is in a region that is there, and the structure that it is inside, if any, is in that region
   pub record IsPut (u : Unit) : Type 0 where
-    -- the unit's region is there
     pub region : HasValue c.regions u.region
-    -- the structure that the unit is inside, if any, is there, in the same region
     pub structure : u.structure ≢ 0 → (s : Structure) × (get structures u.structure ≡ Some s) × (s.region ≡ u.region)
 
   -- The units and structures are what f and g make of those of c, and keep all that a steady campaign needs of them.
   -- Each unit is in a region that is there, and inside a structure of this region or none. Each structure has its right
   -- owner, and units that still guard are as they were.
   pub record AreTravelled : Type 0 where
-    -- each unit of `units` is what `f` makes of the unit of that number in campaign c
     pub units_at : (k : ℕ) → get units k ≡ option_map (f k) (get c.units k)
-    -- each structure of `structures` is what `g` makes of the structure of that number in campaign c
     pub structures_at : (k : ℕ) → get structures k ≡ option_map (g k) (get c.structures k)
-    -- `units` are as many as the units of campaign c
     pub unit_count : len units ≡ len c.units
-    -- `structures` are as many as the structures of campaign c
     pub structure_count : len structures ≡ len c.structures
-    -- each faction has in `units` the unit numbers that it has in campaign c
     pub of_factions : (m : ℕ) → numbers_of_faction m units ≡ numbers_of_faction m c.units
-    -- of each unit of campaign c, `f` changes only region, structure and guard flag (`IsSameUnit`)
     pub same_units : Every (λ k u. IsSameUnit u (f k u)) c.units
-    -- of each structure of campaign c, `g` changes only region and owner (`IsSameStructure`)
     pub same_structures : Every (λ k y. IsSameStructure y (g k y)) c.structures
-    -- each unit is in a region that is there, and inside a structure of this region or none (`IsPut`)
     pub put : Every (λ k u. IsPut (f k u)) c.units
-    -- each structure is in a region that is there
     pub built : Every (λ k y. HasValue c.regions (g k y).region) c.structures
-    -- each structure is owned by a unit inside it, or by none where none is inside (`IsOwned`)
     pub owned : Every (λ k y. IsOwned travelled k (g k y)) c.structures
-    -- each unit on water is inside a ship
     pub aboard : Every (λ k u. is_land_at w (f k u).region ≡ false → IsAboard w travelled (f k u)) c.units
-    -- each structure on water is a complete ship
     pub afloat : Every (λ k y. is_land_at w (g k y).region ≡ false → (is_ship w y ≡ true) × (y.done ≡ size_of w y.kind)) c.structures
-    -- a unit that guards once `f` changed it is as it was in campaign c
     pub guarding : Every (λ k u. guards (f k u) ≡ true → f k u ≡ u) c.units
 
   module _ (are : AreTravelled) where
-    -- P holds of each unit of the travelled campaign, if it holds of what `f` makes of each unit of c
     every_unit : (P : ℕ → Unit → Type 0) → Every (λ k u. P k (f k u)) c.units → Every P units
     every_unit P h k x there =
         let (u, was, same) = mapped_from (f k) (get c.units k) x (sym (are.units_at k) ∙ there) in
         subst (P k) same (h k u was)
 
-    -- P holds of each structure of the travelled campaign, if it holds of what `g` makes of each structure of c
     every_structure : (P : ℕ → Structure → Type 0) → Every (λ k y. P k (g k y)) c.structures → Every P structures
     every_structure P h k x there =
         let (y, was, same) = mapped_from (g k) (get c.structures k) x (sym (are.structures_at k) ∙ there) in
         subst (P k) same (h k y was)
 
-    -- a number that has no unit in c has none in the travelled campaign
     no_unit : (k : ℕ) → get c.units k ≡ None → get units k ≡ None
     no_unit k none = are.units_at k ∙ ap (option_map (f k)) none
 
-    -- a number that has no structure in c has none in the travelled campaign
     no_structure : (k : ℕ) → get c.structures k ≡ None → get structures k ≡ None
     no_structure k none = are.structures_at k ∙ ap (option_map (g k)) none
 
-    -- in the travelled campaign numbers and amounts are in their ranges (`AreInRange`), if they are in c
     numbers_kept : AreInRange w c → AreInRange w travelled
     numbers_kept old =
         in_range_replaced c units structures w are.unit_count are.structure_count
@@ -114,9 +85,6 @@ module _ (w : WorldValue) (c : CampaignValue) (units : FinMap nat_cmp Unit) (str
         (h.0, record { men = rw s.men h.1.men; money = rw s.money h.1.money; items = rw s.items h.1.items })))
         (every_structure (λ k x. (1 ≤ x.done) × (x.done ≤ size_of w x.kind)) (λ k y was. let s = are.same_structures k y was in rw (s.done, s.kind) (old.structures k y was))) old
 
-    -- If all that campaign c refers to exists (`AreKnown`), then in the travelled campaign each unit's faction and
-    -- region are there, and its items and skills are of the world. Each unit's structure, unless 0 (none), is there in
-    -- the unit's region (`IsPlaced`).
     placed_kept : AreKnown w c → Every (λ k x. IsPlaced w travelled x) units
     placed_kept old = every_unit (λ k x. IsPlaced w travelled x) (λ k u was.
         let s = are.same_units k u was in
@@ -124,8 +92,6 @@ module _ (w : WorldValue) (c : CampaignValue) (units : FinMap nat_cmp Unit) (str
         let q = are.put k u was in
         record { faction = rw s.faction p.faction; region = q.region; structure = q.structure; items = rw s.items p.items; skills = rw s.days p.skills })
 
-    -- if all that campaign c refers to exists (`AreKnown`), in the travelled campaign each structure's kind is of the
-    -- world, and its region and owner, if any, are there (`IsBuilt`)
     built_kept : AreKnown w c → Every (λ k x. IsBuilt w travelled x) structures
     built_kept old = every_structure (λ k x. IsBuilt w travelled x) (λ k y was.
         let s = are.same_structures k y was in
@@ -135,12 +101,9 @@ module _ (w : WorldValue) (c : CampaignValue) (units : FinMap nat_cmp Unit) (str
           owner = λ some. let (v, here, inside) = (are.owned k y was).owned some in (v, here);
         })
 
-    -- in the travelled campaign factions and structures are numbered from 1 without a gap, and units below the next
-    -- unit number (`AreNumbered`), if they are in c
     next_kept : AreNumbered c → AreNumbered travelled
     next_kept = numbered_replaced c units structures are.structure_count no_unit no_structure
 
-    -- in the travelled campaign each unit on water is inside a ship, and each structure there is a complete ship
     water_kept : AreAfloat w travelled
     water_kept = record {
       units = every_unit (λ k x. is_land_at w x.region ≡ false → IsAboard w travelled x) are.aboard;
@@ -150,11 +113,9 @@ module _ (w : WorldValue) (c : CampaignValue) (units : FinMap nat_cmp Unit) (str
           (rw s.kind a.0, rw (s.done, s.kind) a.1));
     }
 
-    -- if two units both guard, and are in one region, they are of one faction
     abbrev Agree : Unit → Unit → Type 0
     Agree x y = guards x ≡ true → guards y ≡ true → x.region ≡ y.region → x.faction ≡ y.faction
 
-    -- in the travelled campaign all units that guard a region are of one faction, if they are in c
     guards_kept : AreOfOneFaction guards c → AreOfOneFaction guards travelled
     guards_kept old =
         every_unit (λ k x. Every (λ m y. Agree x y) units) (λ k u here.
@@ -163,7 +124,6 @@ module _ (w : WorldValue) (c : CampaignValue) (units : FinMap nat_cmp Unit) (str
         let second = are.guarding m v there two in
         agree first second (old k u here m v there) one two))
       where
-        -- two units that are equal to u and v agree (`Agree`), if u and v do
         agree : {x u y v : Unit} → x ≡ u → y ≡ v → Agree u v → Agree x y
         agree one two same = rw (one, two) same
 

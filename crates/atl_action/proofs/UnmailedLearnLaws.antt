@@ -1,7 +1,7 @@
 -- Laws of TEACH and STUDY: the units of a faction that sent no mailing keep their men, names and items.
 use Rattle.std.proofs.Common.{◌≡◌, ◌∷◌, [], List, ◌-◌, ◌*◌, ℕ, Some, None, refl, ap, subst, ◌∙◌, arith}
 use Rattle.std.specs.Prelude.{fold}
-use Rattle.std.specs.FinMap.{get, values}
+use Rattle.std.specs.FinMap.{get}
 use Rattle.atl_world.specs.Worlds.{WorldValue}
 use Rattle.atl_world.specs.ByNumber.{fee_of}
 use Rattle.atl_records.specs.declared.event.Outcome.TheVariants.{Done}
@@ -24,14 +24,10 @@ use Rattle.atl_action.specs.Teach.{TaughtMen, after_lessons, is_teaching, teach,
 
 -- Month `after` has the readings and aliases of month `before`, and its events report as many starved men of each unit.
 pub record AddsNoStarved (before after : MonthValue) : Type 0 where
-  -- month `after` has the readings of mailings that month `before` has
   pub readings : after.readings ≡ before.readings
-  -- month `after` has the aliases that month `before` has
   pub aliases : after.aliases ≡ before.aliases
-  -- the events of `after` report as many starved men of each unit as those of `before`
   pub starved : (n : ℕ) → starved_in after.events n ≡ starved_in before.events n
 
--- an order of TEACH keeps readings and aliases, and adds no men who starved to the events
 lesson_adds_no_starved : (c : CampaignValue) (learning : Learning) (p : TaughtMen × MonthValue) (t : Task) → AddsNoStarved p.1 (teach_order c learning p t).1
 lesson_adds_no_starved c learning (taught, m) t = record {
   readings = refl;
@@ -39,7 +35,6 @@ lesson_adds_no_starved c learning (taught, m) t = record {
   starved = λ n. order_event_starves_none m.events t (teach c m.aliases learning taught t).1 n;
 }
 
--- orders of TEACH keep readings and aliases, and add no men who starved to the events
 lessons_add_no_starved : (c : CampaignValue) (learning : Learning) (p : TaughtMen × MonthValue) (ts : List Task) → AddsNoStarved p.1 (fold (teach_order c learning) p ts).1
 lessons_add_no_starved c learning p [] = record { readings = refl; aliases = refl; starved = λ n. refl }
 lessons_add_no_starved c learning p (t ∷ ts) =
@@ -47,14 +42,12 @@ lessons_add_no_starved c learning p (t ∷ ts) =
     let rest = lessons_add_no_starved c learning (teach_order c learning p t) ts in
     record { readings = rest.readings ∙ one.readings; aliases = rest.aliases ∙ one.aliases; starved = λ n. rest.starved n ∙ one.starved n }
 
--- all orders of TEACH of a month keep readings and aliases, and add no men who starved to the events
 pub all_lessons_add_no_starved : (c : CampaignValue) (learning : Learning) (m : MonthValue) → AddsNoStarved m (after_lessons c learning m).1
 unfolding after_lessons
-all_lessons_add_no_starved c learning m = lessons_add_no_starved c learning ((λ n. 0), m) (values (orders_of is_teaching ByUnit m.aliases m.readings))
+all_lessons_add_no_starved c learning m = lessons_add_no_starved c learning ((λ n. 0), m) (orders_of is_teaching ByUnit m.aliases m.readings)
 
 -- ---- STUDY
 
--- an order of STUDY leaves all units their men
 study_men : (w : WorldValue) (taught : ℕ) (c : CampaignValue) (n s : ℕ) (u : Unit) → get c.units n ≡ Some u → HaveTheirMen c (study w taught n s c u).0
 unfolding study
 study_men w taught c n s u is =
@@ -64,23 +57,19 @@ study_men w taught c n s u is =
     men_unless c (after_study c n u s cost days) (Done (days - old)) (study_fault u.holding cost)
     (men_put c (after_study c n u s cost days) n u (record u { holding = with_study u.holding s cost days }) is (record { faction = refl; men = refl }) refl)
 
--- each step of STUDY leaves units of other factions than the order's their men
 study_leaves_men : (taught : TaughtMen) → LeavesOthersMen (study_step taught)
 study_leaves_men taught w a c t x own =
     of_each_skill (λ effect. OthersHaveMen t.faction c (effect c x).0) w taught t.unit t.order_value.operands
     (λ s is. others_men t.faction c (study w (taught t.unit) t.unit s c x).0 (study_men w (taught t.unit) c t.unit s x own.there))
 
--- a unit that is unchanged has its name, and no less of any item (`HasItsItems`)
 items_of_unchanged : (u v : Unit) → IsUnchanged u v → HasItsItems u v
 items_of_unchanged u v same = record { name = ap (λ (x : Unit). x.holding.name) same; items = λ i. omega (arith, ap (λ (x : Unit). amount_of x.holding.items i) same) }
 
--- the orders of STUDY together leave units of factions without a mailing their men and items (`LeavesUnmailed`)
 all_study : (taught : TaughtMen) → LeavesUnmailed (meaning_by_orders (study_step taught) is_studying) learn_keeps
 all_study taught = carried_leaves (study_step taught) is_studying (study_leaves_men taught) (unmailed_keep_items is_studying own_faction items_of_unchanged)
 
 -- ---- both
 
--- the phase of TEACH and STUDY leaves units of factions without a mailing their men and items (`LeavesUnmailed`)
 pub learn_leaves : LeavesUnmailed learn_meaning learn_keeps
 learn_leaves = record {
   readings = λ w c m. let lessons = after_lessons c (learners w c m) m in (all_study lessons.0).readings w c lessons.1 ∙ (all_lessons_add_no_starved c (learners w c m) m).readings;
@@ -96,6 +85,5 @@ learn_leaves = record {
       record { unit = one.unit; there = one.there; is_unaffected = subst (λ k. IsLessBy (starved_in (learn_meaning w c m).1.events n - k) u one.unit) (same.starved n) one.is_unaffected };
 }
   where
-    -- what the phase keeps (`learn_keeps`) is the same for two months with the same readings and aliases
     alike : (w : WorldValue) (c d : CampaignValue) (m l : MonthValue) → l.readings ≡ m.readings → l.aliases ≡ m.aliases → learn_keeps w m c d → learn_keeps w l c d
     alike w c d m l readings aliases h = rw (readings, aliases) h

@@ -15,31 +15,26 @@ use Rattle.atl_action.proofs.WalkLaws.{in_each_direction}
 use Rattle.atl_phase.proofs.PhaseSpecLaws.{PhaseLeavesUnmailed}
 use Rattle.atl_phase.proofs.UnmailedLaws.{HasItsItems, HaveTheirMen, OthersHaveMen, LeavesOthersMen, carried_leaves, guard_men, items_of_no_worse, men_in_turn, men_same, men_twice, men_unless, others_men, own_faction, place_men, unmailed_keep_items}
 
--- all units keep their men when one of them goes elsewhere and its flag is cleared
 gone_men : (c : CampaignValue) (n r s : ℕ) → HaveTheirMen c (with_guard (with_place c n r s) n false)
 gone_men c n r s = let there = with_place c n r s in men_twice c there (with_guard there n false) (place_men c n r s) (guard_men there n false)
 
 -- ---- MOVE
 
--- an order of MOVE leaves all units their men
 walk_men : (w : WorldValue) (c : CampaignValue) (n : ℕ) (u : Unit) (direction : Direction) → HaveTheirMen c (walk w n direction c u).0
 unfolding walk
 walk_men w c n u direction =
     let to = neighbour w u.region direction in
     men_unless c (with_unit_moved 0 (unwrap_or to 0) c n) (Done 0) (walk_fault w u to) (gone_men c n (unwrap_or to 0) 0)
 
--- each step of MOVE leaves units of other factions than the order's their men
 walk_leaves_men : LeavesOthersMen walk_step
 walk_leaves_men w a c t x own =
     in_each_direction (λ effect. OthersHaveMen t.faction c (effect c x).0) (walk w t.unit) t.order_value.operands (λ direction. others_men t.faction c (walk w t.unit direction c x).0 (walk_men w c t.unit x direction))
 
--- the phase of MOVE leaves units of factions without a mailing their men and items (`LeavesUnmailed`)
 pub walk_leaves : PhaseLeavesUnmailed walk_spec
 walk_leaves = carried_leaves walk_step is_walking walk_leaves_men (unmailed_keep_items is_walking own_faction items_of_no_worse)
 
 -- ---- SAIL
 
--- all units keep their men when a ship sails with the units inside it
 sailed_men : (c : CampaignValue) (ship to : ℕ) → HaveTheirMen c (after_sailing c ship to)
 unfolding after_sailing
 sailed_men c ship to =
@@ -47,23 +42,19 @@ sailed_men c ship to =
     let gone = fold (with_unit_moved ship to) c ns in
     men_twice c gone (with_structure_region gone ship to) (men_in_turn (with_unit_moved ship to) (λ d n. gone_men d n to ship) c ns) (men_same gone (with_structure_region gone ship to) refl)
 
--- an order of SAIL leaves all units their men
 sail_men : (w : WorldValue) (c : CampaignValue) (n : ℕ) (u : Unit) (direction : Direction) → HaveTheirMen c (sail w n direction c u).0
 unfolding sail
 sail_men w c n u direction =
     let to = neighbour w u.region direction in
     men_unless c (after_sailing c u.structure (unwrap_or to 0)) (Done 0) (sail_fault w c n u (get c.structures u.structure) to) (sailed_men c u.structure (unwrap_or to 0))
 
--- each step of SAIL leaves units of other factions than the order's their men
 sail_leaves_men : LeavesOthersMen sail_step
 sail_leaves_men w a c t x own =
     in_each_direction (λ effect. OthersHaveMen t.faction c (effect c x).0) (sail w t.unit) t.order_value.operands (λ direction. others_men t.faction c (sail w t.unit direction c x).0 (sail_men w c t.unit x direction))
 
--- a unit that at most went along with its structure (`IsAtMostMoved`) has its name, and no less of any item
 items_of_carried : (u v : Unit) → IsAtMostMoved u v → HasItsItems u v
 items_of_carried u v h = record { name = h.name; items = h.items }
 
--- the phase of SAIL leaves units of factions without a mailing their men and items (`LeavesUnmailed`)
 pub sail_leaves : PhaseLeavesUnmailed sail_spec
 sail_leaves =
     carried_leaves sail_step is_sailing sail_leaves_men

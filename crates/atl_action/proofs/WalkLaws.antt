@@ -45,17 +45,14 @@ use Rattle.atl_action.specs.Walk.{by_direction, is_land_there, walk, walk_fault,
 use Rattle.atl_action.proofs.PeopleLaws.{AreSamePeople, elsewhere, elsewhere_is, elsewhere_people, gone, gone_if, gone_same, guards_stay, total_people}
 use Rattle.atl_action.proofs.TravelLaws.{AreTravelled, IsPut, IsSameStructure, steady-travelled, travelled}
 
--- a region with land is one of the world
 pub land_is_there : (w : WorldValue) (r : ℕ) → is_land_at w r ≡ true → HasValue w.regions r
 land_is_there w r land = by_plan (get w.regions r) refl land
   where
-    -- the world has region r, since a look-up of r finds a region
     by_plan : (o : Option RegionPlan) → get w.regions r ≡ o → option_map_or (is_land w.terrains) o false ≡ true → HasValue w.regions r
     by_plan None is dry = false_true dry
     by_plan (Some p) is dry = (p, is)
 
 module _ (w : WorldValue) (c : CampaignValue) (n : ℕ) (u : Unit) (to : ℕ) (is : get c.units n ≡ Some u) (steady : IsSteady w c) (land : is_land_at w to ≡ true) where
-  -- the number of the structure that the unit leaves; 0 where it is inside none
   abbrev old_place : ℕ
   old_place = u.structure
 
@@ -63,7 +60,6 @@ module _ (w : WorldValue) (c : CampaignValue) (n : ℕ) (u : Unit) (to : ℕ) (i
   abbrev next : ℕ
   next = heir c old_place n
 
-  -- the units, of which unit n is in region `to`, outside structures, with its guard flag cleared
   abbrev units : FinMap nat_cmp Unit
   units = elsewhere 0 to c.units n
 
@@ -73,33 +69,26 @@ module _ (w : WorldValue) (c : CampaignValue) (n : ℕ) (u : Unit) (to : ℕ) (i
 
   -- ---- the units
 
-  -- the units are the same people (`AreSamePeople`) after the walk
   same_people : AreSamePeople c.units units
   same_people = elsewhere_people 0 to c.units n
 
-  -- after unit n walked, a look-up finds unit n where it went with its flag cleared, and every other unit as it was
   units_at : (k : ℕ) → get units k ≡ option_map (f k) (get c.units k)
   units_at = get-changed (gone 0 to) c.units n
 
-  -- after the walk unit n is in region `to`, inside no structure, with its flag cleared
   here : get units n ≡ Some (gone 0 to u)
   here = units_at n ∙ ap (option_map (f n)) is ∙ ap (λ b. Some (gone_if 0 to b u)) (equal_passes n n refl)
 
-  -- after the walk every unit but n is as it was
   away : (k : ℕ) → k ≢ n → get units k ≡ get c.units k
   away k apart = units_at k ∙ ap (λ b. option_map (gone_if 0 to b) (get c.units k)) (other_number k n apart) ∙ option_map_id (get c.units k)
 
-  -- after the walk unit n is inside no structure
   outside : (v : Unit) → get units n ≡ Some v → v.structure ≡ 0
   outside v there = sym (ap (λ (x : Unit). x.structure) (same_Some (gone 0 to u) v (sym here ∙ there)))
 
   -- ---- the structures
 
-  -- unit numbers begin at 1
   low : Every (λ k v. 1 ≤ k) c.units
   low k v there = (steady.numbers.units k v there).0
 
-  -- no structure has the number 0
   not_first : (q : ℕ) (y : Structure) → get c.structures q ≡ Some y → q ≢ 0
   not_first q y there zero = none_some y (sym steady.next.structures.first ∙ ap (get c.structures) (sym zero) ∙ there)
 
@@ -109,7 +98,6 @@ module _ (w : WorldValue) (c : CampaignValue) (n : ℕ) (u : Unit) (to : ℕ) (i
     abbrev after : CampaignValue
     after = travelled w c units structures f (λ q y. y)
 
-    -- a structure that unit n doesn't own has its right owner (`IsOwned`) after the walk too
     still_owned : (q : ℕ) (y : Structure) → get c.structures q ≡ Some y → y.owner ≢ n → IsOwned after q y
     still_owned q y there other = owner_stays c after n away q y (steady.owners q y there) other (λ none v at inside. not_first q y there (sym inside ∙ outside v at))
 
@@ -121,18 +109,15 @@ module _ (w : WorldValue) (c : CampaignValue) (n : ℕ) (u : Unit) (to : ℕ) (i
     -- g gives the structures, which stay in their regions
     module _ (g : ℕ → Structure → Structure) (at : (k : ℕ) → get structures k ≡ option_map (g k) (get c.structures k)) (count : len structures ≡ len c.structures)
         (same : Every (λ k y. IsSameStructure y (g k y) × ((g k y).region ≡ y.region)) c.structures) (owned : Every (λ k y. IsOwned after k (g k y)) c.structures) where
-      -- each structure of c is in the campaign after the walk, as what `g` makes of it
       forth : (k : ℕ) (y : Structure) → get c.structures k ≡ Some y → get structures k ≡ Some (g k y)
       forth k y there = at k ∙ ap (option_map (g k)) there
 
-      -- each unit is in a region that is there, and inside a structure of that region or none, after the walk (`IsPut`)
       put_by : (k : ℕ) (x : Unit) → get c.units k ≡ Some x → (b : Bool) → IsPut w c units structures f g (gone_if 0 to b x)
       put_by k x there true = record { region = (steady.known.regions to).1 (land_is_there w to land); structure = λ some. absurd (some refl) }
       put_by k x there false =
           let p = steady.known.units k x there in
           record { region = p.region; structure = λ some. let (s, was, near) = p.structure some in (g x.structure s, forth x.structure s was, (same x.structure s was).1 ∙ near) }
 
-      -- each unit on water is inside a ship after the walk
       aboard_by : (k : ℕ) (x : Unit) → get c.units k ≡ Some x → (b : Bool) → is_land_at w (gone_if 0 to b x).region ≡ false
           → (s : Structure) × (get structures (gone_if 0 to b x).structure ≡ Some s) × (is_ship w s ≡ true)
       aboard_by k x there true wet = absurd (true≢false (sym land ∙ wet))
@@ -140,7 +125,6 @@ module _ (w : WorldValue) (c : CampaignValue) (n : ℕ) (u : Unit) (to : ℕ) (i
           let (s, was, ship) = steady.water.units k x there wet in
           (g x.structure s, forth x.structure s was, rw (same x.structure s was).0.kind ship)
 
-      -- the units and structures after the walk are such that the campaign is steady (`AreTravelled`)
       walked_travelled : AreTravelled w c units structures f g
       walked_travelled = record {
         units_at = units_at;
@@ -167,12 +151,9 @@ module _ (w : WorldValue) (c : CampaignValue) (n : ℕ) (u : Unit) (to : ℕ) (i
 
   -- ---- a unit that was inside no structure
 
-  -- each structure has its right owner (`IsOwned`) after the walk, if the unit was inside none
   unowned : old_place ≡ 0 → (q : ℕ) (y : Structure) → get c.structures q ≡ Some y → IsOwned (after c.structures) q y
   unowned outside q y there = still_owned c.structures q y there (owns_no_other w c n u is steady q y there (λ same. not_first q y there (same ∙ outside)))
 
-  -- If the unit was inside no structure, a walk keeps a steady campaign steady, with the same month, reports and set of
-  -- factions, and with balanced books still balanced (`StepsWell`).
   outside_well : old_place ≡ 0 → StepsWell IsSteady nothing_remaining w c (after c.structures)
   outside_well outside =
       after_well c.structures (λ q y. y) (λ k. sym (option_map_id (get c.structures k))) refl
@@ -197,26 +178,21 @@ module _ (w : WorldValue) (c : CampaignValue) (n : ℕ) (u : Unit) (to : ℕ) (i
   abbrev with_both_handovers : (a e b : Bool) → Structure → Structure
   with_both_handovers a e b y = let x = if a && e then owned_by next y else y in if b && x.owner == 0 then owned_by n x else x
 
-  -- a structure whose number isn't 0 is the same but for its owner after both handovers
   given_same : (a e b : Bool) (y : Structure) → b ≡ false → IsSameStructure y (with_both_handovers a e b y) × ((with_both_handovers a e b y).region ≡ y.region)
   given_same true true b y high = rw high (record { kind = refl; done = refl; name = refl }, refl)
   given_same true false b y high = rw high (record { kind = refl; done = refl; name = refl }, refl)
   given_same false e b y high = rw high (record { kind = refl; done = refl; name = refl }, refl)
 
-  -- each structure but 0 has its right owner (`IsOwned`) after both handovers, if the unit was inside a structure
   given_owned : old_place ≢ 0 → (q : ℕ) (y : Structure) → get c.structures q ≡ Some y → (a e b : Bool) → (q == old_place) ≡ a → (y.owner == n) ≡ e → b ≡ false → IsOwned (after gone_off.structures) q (with_both_handovers a e b y)
   given_owned some q y there true true b p r high = rw high (subst (λ k. IsOwned (after gone_off.structures) k (owned_by next y)) (sym (is_equal q old_place p)) (left_owned gone_off.structures some y))
   given_owned some q y there true false b p r high = rw high (still_owned gone_off.structures q y there (is_unequal y.owner n r))
   given_owned some q y there false e b p r high = rw high (still_owned gone_off.structures q y there (owns_no_other w c n u is steady q y there (is_unequal q old_place p)))
 
-  -- a look-up of a structure after both handovers finds what was there before, with its owner after both
   given_at : (q : ℕ) → get gone_off.structures q ≡ option_map (λ y. handed_on 0 0 n q (handed_on old_place n next q y)) (get c.structures q)
   given_at q =
       get-after_handover gone_out 0 0 n q ∙ ap (option_map (handed_on 0 0 n q)) (get-after_handover begun old_place n next q)
       ∙ mapped_twice (handed_on 0 0 n q) (handed_on old_place n next q) (get c.structures q)
 
-  -- If the unit was inside a structure, a walk keeps a steady campaign steady, with the same month, reports and set of
-  -- factions, and with balanced books still balanced (`StepsWell`).
   inside_well : old_place ≢ 0 → StepsWell IsSteady nothing_remaining w c (after gone_off.structures)
   inside_well some =
       after_well gone_off.structures (λ q y. handed_on 0 0 n q (handed_on old_place n next q y)) given_at
@@ -224,14 +200,11 @@ module _ (w : WorldValue) (c : CampaignValue) (n : ℕ) (u : Unit) (to : ℕ) (i
       (λ q y there. given_same (q == old_place) (y.owner == n) (q == 0) y (other_number q 0 (not_first q y there)))
       (λ q y there. given_owned some q y there (q == old_place) (y.owner == n) (q == 0) refl refl (other_number q 0 (not_first q y there)))
 
-  -- the handovers of the walk change nothing but structures
   off_is : gone_off ≡ record begun { structures = gone_off.structures }
   off_is = handed_is gone_out 0 0 n ∙ ap (λ (d : CampaignValue). record d { structures = gone_off.structures }) (handed_is begun old_place n next)
 
   -- ---- both
 
-  -- For `walked_well`: a walk keeps a steady campaign steady and balanced books balanced (`StepsWell`), whether the
-  -- unit was inside no structure (`b`) or in one. The month, the reports and the set of factions stay.
   by_place : (b : Bool) → (old_place == 0) ≡ b → StepsWell IsSteady nothing_remaining w c (with_guard (if b then begun else gone_off) n false)
   by_place true t = subst (StepsWell IsSteady nothing_remaining w c) (sym (elsewhere_is 0 to c n)) (outside_well (is_equal old_place 0 t))
   by_place false t =
@@ -246,7 +219,6 @@ module _ (w : WorldValue) (c : CampaignValue) (n : ℕ) (u : Unit) (to : ℕ) (i
 
 -- ---- an order
 
--- the test of each fault in a list is false, if `first_fault` finds no fault in the list of faults with their tests
 pub none_fit : (faults : List (Bool × EventFault)) → first_fault faults ≡ None → AllByRecursion (λ fault. fault.0 ≡ false) faults
 none_fit [] is = tt
 none_fit ((fits, fault) ∷ more) is = let (none, others) = none_fits fits fault more is in (none, none_fit more others)
@@ -257,7 +229,6 @@ pub in_each_direction : (P : OrderEffect → Type 0) (effect : Direction → Ord
 in_each_direction P effect (operands.Direction direction) each = each direction
 in_each_direction P effect other each = tt
 
--- the region that the unit walks to has land, if the test for a neighbour with land (`is_land_there`) holds
 land_to : (w : WorldValue) (to : Option ℕ) → not (is_land_there w to) ≡ false → is_land_at w (unwrap_or to 0) ≡ true
 land_to w None dry = false_true (sym dry)
 land_to w (Some r) dry = not-false (is_land_at w r) dry
@@ -268,7 +239,6 @@ walk_cases : (P : CampaignValue → Type 0) (w : WorldValue) (c : CampaignValue)
 unfolding walk
 walk_cases P w c n u direction same gone = by_fault (neighbour w u.region direction) (walk_fault w u (neighbour w u.region direction)) refl
   where
-    -- for `walk_cases`: P holds of the campaign after an order of MOVE, whether the order has a fault or not
     by_fault : (to : Option ℕ) (o : Option EventFault) → walk_fault w u to ≡ o → P (unless c o (with_unit_moved 0 (unwrap_or to 0) c n, Done 0)).0
     by_fault to (Some fault) e = same
     by_fault to None e =
@@ -276,14 +246,11 @@ walk_cases P w c n u direction same gone = by_fault (neighbour w u.region direct
         let fine = none_fit ((u.holding.men == 0, NoMen) ∷ (not (is_land_at w u.region), AtSea) ∷ no_way) e in
         gone (unwrap_or to 0) (land_to w to fine.1.1.0)
 
--- An order of MOVE keeps a steady campaign steady, with the same month, reports and set of factions, and with balanced
--- books still balanced (`StepsWell`).
 walk_well : (w : WorldValue) (c : CampaignValue) (n : ℕ) (u : Unit) → get c.units n ≡ Some u → (direction : Direction) → IsSteady w c → StepsWell IsSteady nothing_remaining w c (walk w n direction c u).0
 walk_well w c n u is direction steady = walk_cases (λ d. StepsWell IsSteady nothing_remaining w c d) w c n u direction (well_same w c steady) (λ to land. walked_well w c n u to is steady land)
 
 -- ---- other units stay
 
--- an order of MOVE leaves every other unit as it was
 walk_stays : (w : WorldValue) (c : CampaignValue) (n : ℕ) (u : Unit) (direction : Direction) (k : ℕ) → k ≢ n → get (walk w n direction c u).0.units k ≡ get c.units k
 walk_stays w c n u direction k apart =
     walk_cases (λ d. get d.units k ≡ get c.units k) w c n u direction refl (λ to land.

@@ -60,11 +60,8 @@ learners w c m = fold (with_learner w c) empty (study_tasks m)
 -- unit n, which has men and the fee for all of them, learns this skill by an order of STUDY that counts, from its own
 -- faction
 pub record IsLearning (w : WorldValue) (c : CampaignValue) (m : MonthValue) (n skill : ℕ) : Type 0 where
-  -- the order of STUDY by which the unit learns
   pub order : Task
-  -- the order is one of those of the month that count
   pub counts : Contains (study_tasks m) order
-  -- the order is for unit n
   pub for_unit : order.unit ≡ n
   -- the order names the skill
   pub says : skill_of order.order_value.operands ≡ Some skill

@@ -103,25 +103,18 @@ sail_step w aliases t = by_direction (sail w t.unit) t.order_value.operands
 -- Unit `after` is unit `before`, which at most went along with its structure: it keeps faction, structure and name,
 -- has no less of anything, and doesn't begin to guard. Inside no structure it keeps its region and its guard flag.
 pub record IsAtMostMoved (before after : Unit) : Type 0 where
-  -- the unit keeps its faction
   pub faction : after.faction ≡ before.faction
-  -- the unit stays inside its structure, or inside none
   pub structure : after.structure ≡ before.structure
   -- a unit inside no structure keeps its region
   pub region : before.structure ≡ 0 → after.region ≡ before.region
-  -- the unit keeps its name
   pub name : after.holding.name ≡ before.holding.name
   -- a unit inside no structure keeps its guard flag
   pub guard : before.structure ≡ 0 → after.holding.guard ≡ before.holding.guard
   -- a unit without a guard flag gets none
   pub no_flag : before.holding.guard ≡ false → after.holding.guard ≡ false
-  -- the unit has no fewer men than before
   pub men : before.holding.men ≤ after.holding.men
-  -- the unit has no less money than before
   pub money : before.holding.money ≤ after.holding.money
-  -- the unit has no less of any item than before
   pub items : (i : ℕ) → amount_of before.holding.items i ≤ amount_of after.holding.items i
-  -- the unit has no fewer days of any skill than before
   pub days : (s : ℕ) → amount_of before.holding.days s ≤ amount_of after.holding.days s
 
 -- each unit is still there, and at most went along with the structure that it is inside

@@ -19,15 +19,10 @@ use Rattle.atl_action.specs.Teach.{after_lessons}
 
 -- an order of STUDY of this skill counts for unit n, and this faction wrote it
 pub record IsOwnStudy (m : MonthValue) (n faction skill : ℕ) : Type 0 where
-  -- the order of STUDY
   pub order : Task
-  -- the order is one of those of the month that count
   pub counts : Contains (study_tasks m) order
-  -- the order is for unit n
   pub for_unit : order.unit ≡ n
-  -- the faction wrote the order
   pub own : order.faction ≡ faction
-  -- the order is STUDY of the skill
   pub says : order.order_value ≡ order_of Study (Skill skill)
 
 -- how many men of unit n are taught in the phase

@@ -1,6 +1,5 @@
 -- TEACH: people teach units that are learning. See docs/RULES.md, "Learning".
 use Rattle.std.specs.Prelude.{◌≤◌, ◌+◌, ◌-◌, ◌*◌, ◌==◌, ◌&&◌, ℕ, min, nat_lt, not, is_some, Bool, true, false, List, [], ◌∷◌, filter, fold, length, map, sum_by, Option, Some, if◌then◌else◌}
-use Rattle.std.specs.List.{before_first, list_any}
 use Rattle.std.specs.Option.{option_map_or}
 use Rattle.std.specs.FinMap.{get}
 use Rattle.atl_orders.specs.declared.order.Operands.TheVariants as operands
@@ -20,7 +19,6 @@ use Rattle.atl_phase.specs.Inside.{region_of}
 use Rattle.atl_phase.specs.Outcomes.{first_fault}
 use Rattle.atl_phase.specs.PhaseOrders.{Task, orders_by_unit, unit_of}
 use Rattle.atl_phase.specs.OrderEffects.{is_own, with_event_of}
-use Rattle.atl_phase.specs.InTurn.{amount_in_turn}
 use Rattle.atl_action.specs.Learners.{Learning}
 use Rattle.atl_action.specs.Limits.{pupils_per_teacher}
 
@@ -73,13 +71,13 @@ men_at c n = option_map_or (λ u. u.holding.men) (get c.units n) 0
 abbrev pub untaught_men : CampaignValue → TaughtMen → (n : ℕ) → ℕ
 untaught_men c taught n = men_at c n - taught n
 
--- How many men of unit n are taught in a lesson for `places` men.
--- The listed units take turns: each gets what the units before it leave, up to its men who weren't taught yet.
+-- How many men of unit n are taught in a lesson for `places` men. The listed units take turns: each gets the places that
+-- the units before it leave, up to its men who weren't taught yet.
 abbrev pub taught_in_lesson : CampaignValue → TaughtMen → (places : ℕ) → List ℕ → (n : ℕ) → ℕ
-taught_in_lesson c taught places ns n =
-    if list_any (λ k. n == k) ns
-    then amount_in_turn places (sum_by (untaught_men c taught) (before_first (λ k. n == k) ns)) (untaught_men c taught n)
-    else 0
+taught_in_lesson c taught places [] n = 0
+taught_in_lesson c taught places (k ∷ ns) n =
+    let untaught = untaught_men c taught k in
+    if n == k then min places untaught else taught_in_lesson c taught (places - untaught) ns n
 
 -- How many men of each unit were taught so far once a lesson for `places` men is over; and the lesson's outcome, Done
 -- with how many men it taught.

@@ -25,8 +25,6 @@ impl Phase for LearnPhase {
 
     ghost keeps = { learn_keeps };
 
-    /// Plays TEACH and then STUDY, and returns the campaign and the month after them.
-    /// AllocError without memory.
     fn run(
         &self,
         alloc: Global,

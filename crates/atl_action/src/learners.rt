@@ -15,17 +15,14 @@ use std::alloc::{AllocError, Global};
 /// The verb STUDY, whose orders say which units are learning.
 pub(crate) struct StudyVerbs;
 
-/// Selects orders with the verb STUDY alone.
 impl PhaseVerbs for StudyVerbs {
     ghost is_of = { is_studying };
 
-    /// Whether the verb is STUDY.
     fn has(&self, verb: Verb) -> bool {
         matches!(verb, Verb::Study)
     }
 }
 
-/// The skill that an order of STUDY names; None for operands of any other form.
 fn skill_of(what: &Operands) -> Option<u16>
     ensures { (text : List ℕ) → result ≡ skill_of (named text what.now) }
 {
@@ -42,7 +39,6 @@ pub(crate) fn cost_of(world: &World, skill: u16, men: u32) -> u64
     u64::from(world.fee_of(skill)) * u64::from(men)
 }
 
-/// Whether a unit can learn a skill: it has men, and money for the skill's fee for each of them.
 fn can_learn(world: &World, skill: u16, holding: &Holding) -> bool
     ensures { result ≡ can_learn world.now skill holding.now }
 {
@@ -50,8 +46,6 @@ fn can_learn(world: &World, skill: u16, holding: &Holding) -> bool
     0 < men && cost_of(world, skill, men) <= u64::from(holding.money())
 }
 
-/// Adds the unit of an order of STUDY, with its skill, to those that are learning, if it learns by
-/// the order.
 fn add_learner(
     world: &World,
     campaign: &Campaign,

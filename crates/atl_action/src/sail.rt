@@ -23,7 +23,6 @@ use std::alloc::{AllocError, Global};
 #[derive(Drop, Clone, Copy)]
 pub struct SailPhase;
 
-/// Whether a structure is there, is a ship, and is complete.
 fn is_complete_ship(world: &World, structure: Option<&Structure>) -> bool
     ensures { result ≡ is_complete_ship world.now (option_copied structure.entry) }
 {
@@ -31,8 +30,6 @@ fn is_complete_ship(world: &World, structure: Option<&Structure>) -> bool
         if world.is_ship(ship.kind) && ship.done == world.size_of(ship.kind))
 }
 
-/// The crew that a ship's kind needs, and the load that it can take; 0 each where the structure or
-/// its kind isn't there.
 fn crew_and_capacity(world: &World, structure: Option<&Structure>) -> (u32, u32)
     ensures crew { result.0 ≡ crew_needed world.now (option_copied structure.entry) }
     ensures capacity { result.1 ≡ capacity world.now (option_copied structure.entry) }
@@ -46,22 +43,18 @@ fn crew_and_capacity(world: &World, structure: Option<&Structure>) -> (u32, u32)
     }
 }
 
-/// Whether a structure is there, and this unit owns it.
 fn is_owned_by(structure: Option<&Structure>, unit: u32) -> bool
     ensures { result ≡ is_owned_by (option_copied structure.entry) unit }
 {
     matches!(structure, Some(found) if found.owner == unit)
 }
 
-/// What the men of a unit are worth as a crew: their number times the unit's level in the world's
-/// skill of sailing; 0 where the world names no such skill.
 fn crew_of(world: &World, holding: &Holding) -> u64
     ensures { result ≡ crew_of world.now holding.now }
 {
     u64::from(holding.men()) * u64::from(level_in_any(holding, world.rules().sailing))
 }
 
-/// What all units inside a structure are worth as a crew together, and what they weigh together.
 fn crew_and_load(world: &World, campaign: &Campaign, structure: u32) -> (u128, u128)
     ensures crew { result.0 ≡ sum_inside (crew_of world.now) campaign.now.value structure }
     ensures load { result.1 ≡ sum_inside (load_of world.now) campaign.now.value structure }
@@ -77,8 +70,6 @@ fn crew_and_load(world: &World, campaign: &Campaign, structure: u32) -> (u128, u
     (crew, weight)
 }
 
-/// Whether a ship can sail from region `from` to its neighbour `to`: the world has `to`, and the
-/// two aren't both land.
 fn is_way(world: &World, from: u32, to: Option<u32>) -> bool
     ensures { result ≡ is_way world.now from to }
 {
@@ -86,8 +77,6 @@ fn is_way(world: &World, from: u32, to: Option<u32>) -> bool
         && !(world.is_land_at(from) && world.is_land_at(region)))
 }
 
-/// Why a unit can't sail what it is inside to a neighbouring region: the first that fits of NoMen,
-/// NotInside, NotOwner, NotComplete, NoWay, NoCrew and TooHeavy; None where it can.
 fn sail_fault(
     world: &World,
     campaign: &Campaign,
@@ -135,8 +124,6 @@ fn move_ship(alloc: Global, campaign: &mut Campaign, ship: u32, to: u32) -> Resu
     Ok(())
 }
 
-/// Carries out SAIL: the ship goes in the direction with all units inside, or nothing changes where
-/// a fault applies.
 #[tactic(auto, unfolding(crate::specs::Sail::sail))]
 fn sail(
     alloc: Global,
@@ -163,11 +150,9 @@ fn sail(
     Ok(Outcome::Done(0))
 }
 
-/// The phase carries out orders with the verb SAIL alone.
 impl PhaseVerbs for SailPhase {
     ghost is_of = { is_sailing };
 
-    /// Whether the verb is SAIL.
     fn has(&self, verb: Verb) -> bool {
         matches!(verb, Verb::Sail)
     }
@@ -213,8 +198,6 @@ impl Phase for SailPhase {
 
     ghost keeps = { sail_keeps };
 
-    /// Plays SAIL, and returns the campaign and the month after it.
-    /// AllocError without memory.
     fn run(
         &self,
         alloc: Global,

@@ -35,7 +35,6 @@ pub(crate) struct StudyPhase {
     pub(crate) taught: Numbered<u32>,
 }
 
-/// Whether a structure is there, is complete, and is of a kind that helps the study of a skill.
 fn is_helpful(world: &World, skill: u16, structure: Option<&Structure>) -> bool
     ensures { result ≡ is_helpful world.now skill (option_copied structure.entry) }
 {
@@ -49,8 +48,6 @@ fn is_helpful(world: &World, skill: u16, structure: Option<&Structure>) -> bool
     }
 }
 
-/// The days of a skill that a unit has after a month of study, those of before (`old`) and those
-/// that it gained, at most 450 for each man.
 fn days_after(men: u32, old: u32, taught: u32, helped: bool) -> u32
     requires { men ≤ men_limit }
     ensures { result ≡ days_after men old taught helped }
@@ -61,7 +58,6 @@ fn days_after(men: u32, old: u32, taught: u32, helped: bool) -> u32
     days.min(u64::from(MOST_DAYS) * men) as u32
 }
 
-/// Why a unit can't study: NoMen or NoFee; None where it can.
 fn study_fault(holding: &Holding, cost: u64) -> Option<EventFault>
     ensures { result ≡ study_fault holding.now cost }
 {
@@ -95,7 +91,6 @@ fn pay_and_set_days(
     campaign.set_days(unit, u32::from(skill), days)
 }
 
-/// Takes the cost from a unit's money, sets its days of a skill, and books the cost as study.
 fn put_study(
     world: &World,
     campaign: &mut Campaign,
@@ -118,7 +113,6 @@ fn put_study(
     Ok(())
 }
 
-/// Carries out an order of STUDY, or changes nothing where it has a fault.
 #[tactic(auto, unfolding(crate::specs::Study::study))]
 fn study(
     world: &World,
@@ -150,11 +144,9 @@ fn study(
     Ok(Outcome::Done(u64::from(days - old)))
 }
 
-/// The phase carries out orders with the verb STUDY alone.
 impl PhaseVerbs for StudyPhase {
     ghost is_of = { is_studying };
 
-    /// Whether the verb is STUDY.
     fn has(&self, verb: Verb) -> bool {
         matches!(verb, Verb::Study)
     }

@@ -20,17 +20,14 @@ use std::alloc::{AllocError, Global};
 /// The verb TEACH, whose orders the phase of TEACH and STUDY carries out first.
 struct TeachVerbs;
 
-/// Selects orders with the verb TEACH alone.
 impl PhaseVerbs for TeachVerbs {
     ghost is_of = { is_teaching };
 
-    /// Whether the verb is TEACH.
     fn has(&self, verb: Verb) -> bool {
         matches!(verb, Verb::Teach)
     }
 }
 
-/// The units that an order of TEACH lists; none for operands of any other form.
 fn listed_units(what: &Operands) -> &[UnitRef]
     ensures { (text : List ℕ) → result.now ≡ listed_units (named text what.now) }
 {
@@ -40,7 +37,6 @@ fn listed_units(what: &Operands) -> &[UnitRef]
     }
 }
 
-/// The level of a unit in a skill; 0 where it isn't there.
 fn level_at(campaign: &Campaign, unit: u32, skill: u32) -> u32
     ensures { result ≡ level_at campaign.now.value unit skill }
 {
@@ -50,14 +46,12 @@ fn level_at(campaign: &Campaign, unit: u32, skill: u32) -> u32
     }
 }
 
-/// Whether a unit is learning, and is in this region.
 fn is_pupil(campaign: &Campaign, learning: &Numbered<u32>, region: u32, unit: u32) -> bool
     ensures { result ≡ is_pupil campaign.now.value learning.now region unit }
 {
     learning.get(unit).is_some() && region_of(campaign, unit) == region
 }
 
-/// Whether a unit's level in the skill that it learns is lower than the teacher's.
 fn is_below(campaign: &Campaign, learning: &Numbered<u32>, teacher: u32, unit: u32) -> bool
     ensures { result ≡ is_below campaign.now.value learning.now teacher unit }
 {
@@ -65,8 +59,6 @@ fn is_below(campaign: &Campaign, learning: &Numbered<u32>, teacher: u32, unit: u
         if level_at(campaign, unit, *skill) < level_at(campaign, teacher, *skill))
 }
 
-/// The units that an order of TEACH lists and that are learning in the teacher's region, in the
-/// order of the list.
 fn pupils_of(
     alloc: Global,
     campaign: &Campaign,
@@ -89,7 +81,6 @@ fn pupils_of(
     Ok(list)
 }
 
-/// The pupils whose level in the skill that they learn is lower than the teacher's.
 fn pupils_below(
     alloc: Global,
     campaign: &Campaign,
@@ -132,7 +123,6 @@ pub(crate) fn taught_at(taught: &Numbered<u32>, unit: u32) -> u32
     taught.get(unit).copied().unwrap_or(0)
 }
 
-/// How many men a unit has; 0 where it isn't there.
 fn men_at(campaign: &Campaign, unit: u32) -> u32
     ensures value { result ≡ men_at campaign.now.value unit }
     ensures few { result ≤ men_limit }
@@ -143,7 +133,6 @@ fn men_at(campaign: &Campaign, unit: u32) -> u32
     }
 }
 
-/// How many men of a unit weren't taught yet in this month; 0 where the unit isn't there.
 fn untaught_men(campaign: &Campaign, taught: &Numbered<u32>, unit: u32) -> u32
     ensures value { result ≡ untaught_men campaign.now.value (amount_of taught.now) unit }
     ensures room { amount_of taught.now unit + result ≤ 4294967295 }

@@ -16,15 +16,12 @@ use std::alloc::{AllocError, Global};
 #[derive(Drop, Clone, Copy)]
 pub struct MovePhase;
 
-/// Whether there is a neighbouring region (`Some`), and it is land.
 fn is_land_there(world: &World, to: Option<u32>) -> bool
     ensures { result ≡ is_land_there world.now to }
 {
     matches!(to, Some(region) if world.is_land_at(region))
 }
 
-/// Why a unit can't walk to a neighbouring region: NoMen, AtSea, NoWay or TooHeavy; None where it
-/// can.
 fn walk_fault(world: &World, unit: &Unit, to: Option<u32>) -> Option<EventFault>
     ensures { result ≡ walk_fault world.now unit.now to }
 {
@@ -58,7 +55,6 @@ pub(crate) fn put_unit(
     Ok(())
 }
 
-/// Carries out MOVE: the unit walks in the direction, or nothing changes where a fault applies.
 #[tactic(auto, unfolding(crate::specs::Walk::walk))]
 fn walk(
     world: &World,
@@ -83,11 +79,9 @@ fn walk(
     Ok(Outcome::Done(0))
 }
 
-/// The phase carries out orders with the verb MOVE alone.
 impl PhaseVerbs for MovePhase {
     ghost is_of = { is_walking };
 
-    /// Whether the verb is MOVE.
     fn has(&self, verb: Verb) -> bool {
         matches!(verb, Verb::Move)
     }
@@ -114,16 +108,11 @@ impl OrderPhase for MovePhase {
         }
     }
 
-    /// The law that an order of MOVE keeps the campaign steady, books nothing, and leaves each unit
-    /// but its own no worse off (`IsOrderly`). Does nothing.
     fn is_orderly(&self) {}
 }
 
-/// Makes MOVE a `Phase`, which carries out its orders (`carry_out_orders`), and does nothing else.
 impl PlainPhase for MovePhase {
     ghost makes = { walk_step };
 
-    /// The law that the phase does nothing but carry out each order as `walk_step` says. Does
-    /// nothing itself.
     fn is_plain(&self) {}
 }

@@ -7,32 +7,28 @@ use Rattle.std.specs.FinMap.{FinMap, get, insert, empty, get-empty, same_map, na
 use Rattle.std.proofs.lemmas.Bool.{cases_eq}
 use Rattle.std.proofs.lemmas.Bool.Decides.{nat_tests}
 use Rattle.atl_world.specs.Sums.{with_changed_value, with_changed_option}
-use Rattle.atl_campaign.specs.declared.parts.StoredHas.{StoredHas}
-use Rattle.atl_campaign.specs.declared.parts.StoredMarket.{StoredMarket}
-use Rattle.atl_campaign.specs.declared.parts.StoredRegion.{StoredRegion}
-use Rattle.atl_campaign.specs.declared.parts.StoredUnit.{StoredUnit}
+use Rattle.atl_rows.specs.declared.parts.StoredHas.{StoredHas}
+use Rattle.atl_rows.specs.declared.parts.StoredMarket.{StoredMarket}
+use Rattle.atl_rows.specs.declared.parts.StoredRegion.{StoredRegion}
+use Rattle.atl_rows.specs.declared.parts.StoredUnit.{StoredUnit}
 use Rattle.atl_campaign.specs.Assembling.{bare_unit, bare_region, with_has_row, with_market_row, with_rows_added}
 use Rattle.atl_campaign.specs.FromRows.{as_u32, is_of_unit_and_sort, put_rows, by_number, unit_with_goods, unit_of, region_with_stocks, region_of}
 use Rattle.atl_campaign.proofs.AssemblyLaws.{get_same, get_other, taken_or_not, is_same}
 
 -- ---- what may be there
 
--- mapping an option by the identity changes nothing
 map_none : {V : Type 0} (o : Option V) → o ≡ option_map (λ v. v) o
 map_none None = refl
 map_none (Some v) = refl
 
--- mapping an option by g and then by f is mapping it once by both
 map_twice : {V : Type 0} (f g : V → V) (o : Option V) → option_map f (option_map g o) ≡ option_map (λ v. f (g v)) o
 map_twice f g None = refl
 map_twice f g (Some v) = refl
 
--- once f changes the value of number k (`with_changed_option`), k has f of its old value, or none where it had none
 at_same : {V : Type 0} (f : V → V) (m : FinMap nat_cmp V) (k : ℕ) (o : Option V) → get m k ≡ o → get (with_changed_option f m k o) k ≡ option_map f o
 at_same f m k None e = e
 at_same f m k (Some v) e = get_same m k (f v)
 
--- changing the value of number k (`with_changed_option`) changes nothing under another number n
 at_other : {V : Type 0} (f : V → V) (m : FinMap nat_cmp V) (k n : ℕ) (o : Option V) → n ≢ k → get (with_changed_option f m k o) n ≡ get m n
 at_other f m k n None apart = refl
 at_other f m k n (Some v) apart = get_other m k n (f v) apart
@@ -43,7 +39,6 @@ module _ {R V : Type 0} (owner : R → ℕ) (more : R → V → V) where
   value_with_rows n [] v = v
   value_with_rows n (r ∷ rows) v = value_with_rows n rows (cond (owner r == n) (more r v) v)
 
-  -- adding one row to a map of values changes the value under the row's number alone
   get-changed : (r : R) (m : FinMap nat_cmp V) (n : ℕ) → get (with_changed_value (more r) m (owner r)) n ≡ option_map (λ v. cond (owner r == n) (more r v) v) (get m n)
   get-changed r m n =
       let k = owner r in
@@ -56,7 +51,6 @@ module _ {R V : Type 0} (owner : R → ℕ) (more : R → V → V) where
             at_other (more r) m k n (get m k) (λ e. apart (sym e)) ∙ map_none (get m n) ∙ ap (λ b. option_map (λ v. cond b (more r v) v) (get m n)) (sym other)
       ]
 
-  -- adding rows to a map of values adds to each value the rows of its number (`value_with_rows`)
   get-with_rows_added : (rows : List R) (m : FinMap nat_cmp V) (n : ℕ) → get (with_rows_added owner more rows m) n ≡ option_map (value_with_rows n rows) (get m n)
   get-with_rows_added [] m n = map_none (get m n)
   get-with_rows_added (r ∷ rows) m n = get-with_rows_added rows (with_changed_value (more r) m (owner r)) n ∙ ap (option_map (value_with_rows n rows)) (get-changed r m n) ∙ map_twice (value_with_rows n rows) (λ v. cond (owner r == n) (more r v) v) (get m n)
@@ -78,8 +72,6 @@ module _ {R V : Type 0} (owner : R → ℕ) (more : R → V → V) where
           | inr apart ↦ ap (option_map (value_with_rows n rows)) (get_other m k n (before t) (λ e. apart (sym e))) ∙ all n ∙ sym (get_other l k n (after t) (λ e. apart (sym e)))
         ]
 
-    -- if adding the rows to m gives l (Becomes), it also does once all ts are put into m without their rows, and into l
-    -- with them
     put_each : (ts : List T) (m l : FinMap nat_cmp V) → Becomes m l → Becomes (put_rows number before ts m) (put_rows number after ts l)
     put_each [] m l all = all
     put_each (t ∷ ts) m l all = put_each ts (insert m (number t) (before t)) (insert l (number t) (after t)) (put_one t m l all)
@@ -93,11 +85,9 @@ module _ {R V : Type 0} (owner : R → ℕ) (more : R → V → V) where
 
 -- ---- units
 
--- the number of the item or skill in a row of `has`, as it is read
 abbrev thing_of : StoredHas → ℕ
 thing_of r = as_u32 r.thing
 
--- the amount in a row of `has`, as it is read
 abbrev amount_of : StoredHas → ℕ
 amount_of r = as_u32 r.amount
 
@@ -114,7 +104,6 @@ picked r items items' days days' true false false h = refl
 no_skill : (s : ℕ) → (s == 0) ≡ true → (s == 1) ≡ false
 no_skill s h = ap (λ k. k == 1) (is_same s 0 h)
 
--- once the rows of `has` of unit n are added to a unit, the unit has also the items and days that these rows name
 unit_given : (r : StoredUnit) (n : ℕ) (has : List StoredHas) (items days : FinMap nat_cmp ℕ)
     → value_with_rows (λ h. as_u32 h.unit) with_has_row n has (unit_with_goods r items days) ≡ unit_with_goods r (put_rows thing_of amount_of (filter (is_of_unit_and_sort n 0) has) items) (put_rows thing_of amount_of (filter (is_of_unit_and_sort n 1) has) days)
 unit_given r n [] items days = refl
@@ -132,21 +121,16 @@ units_with_rows has rows = with_rows_added-by_number (λ (h : StoredHas). as_u32
 
 -- ---- regions
 
--- the item's number in a row of `market`, as it is read
 abbrev item_of : StoredMarket → ℕ
 item_of r = as_u32 r.item
 
--- the stock in a row of `market`, as it is read
 abbrev stock_of : StoredMarket → ℕ
 stock_of r = as_u32 r.stock
 
--- for region_given: choosing (`mine`) between a region with new stocks and with the old ones gives the region with the
--- chosen stocks
 stocked : (r : StoredRegion) (stocks stocks' : FinMap nat_cmp ℕ) (mine : Bool) → cond mine (region_with_stocks r stocks') (region_with_stocks r stocks) ≡ region_with_stocks r (cond mine stocks' stocks)
 stocked r stocks stocks' true = refl
 stocked r stocks stocks' false = refl
 
--- once the rows of `market` of region n are added to a region, the region has also the stocks that these rows name
 region_given : (r : StoredRegion) (n : ℕ) (markets : List StoredMarket) (stocks : FinMap nat_cmp ℕ)
     → value_with_rows (λ m. as_u32 m.region) with_market_row n markets (region_with_stocks r stocks) ≡ region_with_stocks r (put_rows item_of stock_of (filter (λ m. as_u32 m.region == n) markets) stocks)
 region_given r n [] stocks = refl

@@ -23,26 +23,18 @@ use Rattle.atl_records.proofs.EveryLaws.{each-from_every}
 use Rattle.atl_campaign.proofs.RuleLaws.{free_from}
 use Rattle.atl_campaign.proofs.MarketLaws.{market_known}
 
--- ---- items that no world has
-
--- the sum of a function over the values of some entries is 0, if the function gives 0 for each of them
 pub sum_of_zeros_is_zero : {V : Type 0} (f : V → ℕ) (es : List (ℕ × V)) → EachEntry (λ _ v. f v ≡ 0) es → sum_by (λ e. f e.1) es ≡ 0
 sum_of_zeros_is_zero f [] each = refl
 sum_of_zeros_is_zero {V} f (e ∷ es) each = let more = sum_by-cons (λ (e : ℕ × V). f e.1) e es in omega (arith, more, each.0, sum_of_zeros_is_zero f es each.1)
 
--- an item from number `count` on has the amount 0 in a map of amounts, if the map lists only items with numbers below
--- `count`
 unlisted_amount_is_zero : (items : FinMap nat_cmp ℕ) (count i : ℕ) → Every (λ k amount. k < count) items → count ≤ i → amount_of items i ≡ 0
 unlisted_amount_is_zero items count i known l = ap (λ o. unwrap_or o 0) (free_from items i (λ there. let few = known i there.0 there.1 in omega (arith, few)))
 
 module _ (w : WorldValue) (c : CampaignValue) (world : IsWorld w) (are : AreBooks (thing_count w) c.books) (known : Every (λ n u. Every (λ i amount. i < length w.items) u.holding.items) c.units)
     (stocks : Every (λ n r. AreOfMarkets w n r.stocks) c.regions) where
-  -- no region has an item in stock that is not in the world, if regions stock only items that have a market there
   none_kept : (i : ℕ) → length w.items ≤ i → EachEntry (λ _ r. region_amount (Item i) r ≡ 0) (entries c.regions)
   none_kept i l = each-from_every (λ _ r. region_amount (Item i) r ≡ 0) c.regions (λ n r is. unlisted_amount_is_zero r.stocks (length w.items) i (λ k amount at. market_known w world n k (stocks n r is k amount at)) l)
 
-  -- the total of an item not in the world is 0, if units hold only items of the world, and regions stock only items
-  -- that have a market there
   unknown_total : (i : ℕ) → length w.items ≤ i → total c (Item i) ≡ 0
   unfolding total
   unknown_total i l =
@@ -50,8 +42,6 @@ module _ (w : WorldValue) (c : CampaignValue) (world : IsWorld w) (are : AreBook
       let regions = sum_of_zeros_is_zero (λ (r : Region). region_amount (Item i) r) (entries c.regions) (none_kept i l) in
       ap (λ n. n + sum_over (λ (r : Region). region_amount (Item i) r) c.regions) units ∙ ap (λ n. 0 + n) regions
 
-  -- the sum booked of an item not in the world is 0, if the books have the world's things, and list only amounts of
-  -- these, none of them 0 (AreBooks)
   unknown_booked : (i : ℕ) → length w.items ≤ i → booked c.books (Item i) ≡ pos 0
   unknown_booked i l = booked_past (thing_count w) c.books are (Item i) (omega arith)
 

@@ -25,17 +25,12 @@ or_there n k there P h itself others = elim (nat_cmp k n) as (λ r. nat_cmp k n 
   | Greater ↦ λ _ yes. others yes
 ] refl h
 
--- the number of an amount of one of the first `things` things is below entry_count * things
 number_small : (things : ℕ) (e : BooksEntry) (t : Thing) → thing_index t < things → amount_number e t < entry_count * things
 number_small things e t small = omega (arith, small, entry_small e)
 
--- an empty dirty set with room for all amounts of the first `things` things has no amount of another thing
--- (MarksAmounts)
 pub none_marked : (things room : ℕ) → entry_count * things ≤ room → MarksAmounts things (record { numbers = set.empty; room = room })
 none_marked things room enough = record { room = enough; numbers = λ k there. absurd (false≢true (sym (set.contains-empty nat_cmp k) ∙ there)) }
 
--- a dirty set with only amounts of the first `things` things still has no others once an amount of one of these things
--- is added
 more_of_things : (things : ℕ) (s : set.FinSet nat_cmp) (e : BooksEntry) (t : Thing) → thing_index t < things → AreOfThings things s → AreOfThings things (amount_marked s e t)
 more_of_things things s e t small are k there =
     or_there (amount_number e t) k (set.contains s k) (λ n. n < entry_count * things) (sym (set.contains-insert nat_cmp_total s (amount_number e t) k) ∙ there) (number_small things e t small) (are k)
@@ -45,7 +40,6 @@ more_of_things things s e t small are k there =
 pub more_marked : (things : ℕ) (marks : RoomySet) (e : BooksEntry) (t : Thing) → thing_index t < things → MarksAmounts things marks → MarksAmounts things (record marks { numbers = amount_marked marks.numbers e t })
 more_marked things marks e t small are = record { room = are.room; numbers = more_of_things things marks.numbers e t small are.numbers }
 
--- a dirty set with only amounts of the first `things` things, and room for all (MarksAmounts), has room for any of them
 pub fits_amount : (things : ℕ) (marks : RoomySet) (e : BooksEntry) (t : Thing) → thing_index t < things → MarksAmounts things marks → set.len (amount_marked marks.numbers e t) ≤ marks.room
 fits_amount things marks e t small are =
     let few = len-below (entry_count * things) (amount_marked marks.numbers e t) (more_of_things things marks.numbers e t small are.numbers) in

@@ -8,7 +8,7 @@ use Rattle.std.specs.Cmp.{nat_cmp_total, eq_by_cmp_equiv}
 use Rattle.std.specs.FinMap.{FinMap, get, insert, empty, get-insert, get-empty, nat_cmp-IsAntisymmetric}
 use Rattle.std.proofs.lemmas.Bool.{cases_eq, and_parts, false≢true}
 use Rattle.std.proofs.lemmas.Bool.Decides.{nat_tests}
-use Rattle.atl_campaign.specs.declared.parts.StoredHas.{StoredHas}
+use Rattle.atl_rows.specs.declared.parts.StoredHas.{StoredHas}
 use Rattle.atl_campaign.specs.FromRows.{as_u32, is_of_unit_and_sort, put_rows, things_had}
 use Rattle.atl_records.specs.Holdings.{AreAmounts}
 use Rattle.atl_records.specs.Limits.{holding_limit, most_u32}
@@ -16,11 +16,9 @@ use Rattle.atl_campaign.specs.RowRules.{is_from, has_in_range}
 
 -- ---- what a map has under a number after an insertion
 
--- a map has the value v under k once v is put in under k
 pub get_same : {V : Type 0} (m : FinMap nat_cmp V) (k : ℕ) (v : V) → get (insert m k v) k ≡ Some v
 get_same m k v = get-insert nat_cmp_total m k v k ∙ ap (λ b. cond b (Some v) (get m k)) ((eq_by_cmp_equiv nat_cmp_total).refl k)
 
--- different numbers do not compare equal
 distinct_compare_unequal : (n k : ℕ) → n ≢ k → eq_by_cmp nat_cmp n k ≡ false
 distinct_compare_unequal n k h = elim (nat_cmp n k) as (λ r. nat_cmp n k ≡ r → is_eq r ≡ false) [
   | Less ↦ λ _. refl
@@ -28,7 +26,6 @@ distinct_compare_unequal n k h = elim (nat_cmp n k) as (λ r. nat_cmp n k ≡ r 
   | Greater ↦ λ _. refl
 ] refl
 
--- putting a value in under k changes nothing under another number n
 pub get_other : {V : Type 0} (m : FinMap nat_cmp V) (k n : ℕ) (v : V) → n ≢ k → get (insert m k v) n ≡ get m n
 get_other m k n v h = get-insert nat_cmp_total m k v n ∙ ap (λ b. cond b (Some v) (get m n)) (distinct_compare_unequal n k h)
 
@@ -43,7 +40,6 @@ module _ {R : Type 0} (thing amount : R → ℕ) (test : R → Bool) where
 
 -- ---- rows in their ranges
 
--- the minimum of n and `most` is n, if n is at most `most`
 pub min_small : (n most : ℕ) → n ≤ most → min n most ≡ n
 min_small n most h = grind arith
 
@@ -58,11 +54,9 @@ from_range low high (pos n) h e =
     (ap pos (sym same), rw same least, rw same most)
 from_range low high (negsuc n) h e = absurd (false≢true e)
 
--- the number of the item or skill in a row of `has`, as it is read
 abbrev thing_of : StoredHas → ℕ
 thing_of r = as_u32 r.thing
 
--- the amount in a row of `has`, as it is read
 abbrev amount_of : StoredHas → ℕ
 amount_of r = as_u32 r.amount
 
@@ -72,12 +66,10 @@ not_skill (pos zero) h = refl
 not_skill (pos (suc n)) h = absurd (grind arith)
 not_skill (negsuc n) h = refl
 
--- for item_amount: if `b || c` is true and b is false, c is true
 or_right : (b c : Bool) → b ≡ false → (b || c) ≡ true → c ≡ true
 or_right true c h e = absurd (false≢true (sym h))
 or_right false c h e = e
 
--- numbers that pass the test of equality are equal
 pub is_same : (m n : ℕ) → (m == n) ≡ true → m ≡ n
 is_same m n h = grind (arith, nat_tests)
 
@@ -88,15 +80,12 @@ item_amount r h sort =
     let range = from_range 1 holding_limit r.amount (omega arith) (and_parts (is_from 0 0 r.sort) (is_from 1 holding_limit r.amount) item).1 in
     (range.1, range.2)
 
--- a row of `has` that gives unit n an item, and is in range, has an amount from 1 to holding_limit
 amount_in_range : (n : ℕ) (r : StoredHas) → has_in_range r ≡ true → is_of_unit_and_sort n 0 r ≡ true → (1 ≤ amount_of r) × (amount_of r ≤ holding_limit)
 amount_in_range n r h of = item_amount r h (is_same (as_u32 r.sort) 0 (and_parts (as_u32 r.unit == n) (as_u32 r.sort == 0) of).1)
 
--- for AreAmounts-insert: if Some a and Some b are equal, a and b are equal
 some_same : (a b : ℕ) → Some a ≡ Some b → a ≡ b
 some_same a b e = cc
 
--- if each amount of a map is from 1 to holding_limit (AreAmounts), each still is once one more such amount is put in
 AreAmounts-insert : (m : FinMap nat_cmp ℕ) (k v : ℕ) → (1 ≤ v) × (v ≤ holding_limit) → AreAmounts m → AreAmounts (insert m k v)
 AreAmounts-insert m k v h old item amount e =
     elim (cases_eq item k) [
@@ -112,23 +101,18 @@ amounts_stay_in_range : (n : ℕ) (r : StoredHas) (m : FinMap nat_cmp ℕ) (b : 
 amounts_stay_in_range n r m true of h old = AreAmounts-insert m (thing_of r) (amount_of r) (amount_in_range n r h of) old
 amounts_stay_in_range n r m false of h old = old
 
--- a map's amounts stay from 1 to holding_limit (AreAmounts) once the rows of unit n's items are put in, if all rows are
--- in range
 put_in_range : (n : ℕ) (rows : List StoredHas) (m : FinMap nat_cmp ℕ) → list_all has_in_range rows ≡ true → AreAmounts m → AreAmounts (put_rows thing_of amount_of (filter (is_of_unit_and_sort n 0) rows) m)
 put_in_range n [] m h old = old
 put_in_range n (r ∷ rows) m h old =
     let parts = and_parts (has_in_range r) (list_all has_in_range rows) h in
     subst AreAmounts (sym (taken_or_not thing_of amount_of (is_of_unit_and_sort n 0) r rows (is_of_unit_and_sort n 0 r) m refl)) (put_in_range n rows (cond (is_of_unit_and_sort n 0 r) (insert m (thing_of r) (amount_of r)) m) parts.1 (amounts_stay_in_range n r m (is_of_unit_and_sort n 0 r) refl parts.0 old))
 
--- for none_held: None is not Some of a number
 no_some : (x : ℕ) → None ≡ Some x → ⊥
 no_some x e = cc
 
--- each amount that the empty map lists is from 1 to holding_limit, as it lists none
 pub none_held : (item amount : ℕ) → get (empty {X = ℕ} {R = nat_cmp}) item ≡ Some amount → (1 ≤ amount) × (amount ≤ holding_limit)
 none_held item amount e = absurd (no_some amount (sym (get-empty nat_cmp item) ∙ e))
 
--- the items that rows of `has`, all in range, give unit n have amounts from 1 to holding_limit (AreAmounts)
 pub AreAmounts-had : (n : ℕ) (rows : List StoredHas) → list_all has_in_range rows ≡ true → AreAmounts (things_had n 0 rows)
 AreAmounts-had n rows h = put_in_range n rows empty h none_held
 
@@ -141,7 +125,6 @@ IfOk-text (Err x) some bytes e h f = tt
 
 -- ---- a test that all rows pass
 
--- the row at index i passes a test, if all rows do
 pub row_passes_test : {R : Type 0} (p : R → Bool) (rows : List R) (i : ℕ) (r : R) → i < length rows → r ≡ get_or rows i r → list_all p rows ≡ true → p r ≡ true
 row_passes_test p [] i r h is all = absurd (omega arith)
 row_passes_test p (x ∷ rows) zero r h is all = ap p is ∙ (and_parts (p x) (list_all p rows) all).0

@@ -27,27 +27,18 @@ use Rattle.atl_campaign.proofs.RegionLaws.{changed-known, get-insert_same, same_
 -- a structure that can be begun: validly named, without owner, of a kind of the world, in a land region of the
 -- campaign, and with 1 to the kind's size done
 pub record IsFresh (w : WorldValue) (c : CampaignValue) (s : Structure) : Type 0 where
-  -- the structure's kind exists in the world
   pub kind : s.kind < length w.kinds
-  -- the structure's name keeps the rule of names
   pub name : IsTrue (name_ok s.name)
-  -- the structure's region exists
   pub region : HasValue c.regions s.region
-  -- the structure's region is on land
   pub land : is_land_at w s.region ≡ true
-  -- at least 1 of the structure is done
   pub least : 1 ≤ s.done
-  -- at most the size of the structure's kind is done
   pub most : s.done ≤ size_of w s.kind
-  -- the structure has no owner
   pub ownerless : s.owner ≡ 0
 
 module _ (w : WorldValue) (c : CampaignValue) (s : Structure) (fresh : IsFresh w c s) (room : c.next_structure ≤ most_structures) (old : IsSteady w c) where
-  -- the number that a structure which is begun gets: the next structure number
   abbrev next : ℕ
   next = c.next_structure
 
-  -- the campaign's structures with s put under the next structure number
   abbrev structures : FinMap nat_cmp Structure
   structures = insert c.structures next s
 
@@ -55,20 +46,15 @@ module _ (w : WorldValue) (c : CampaignValue) (s : Structure) (fresh : IsFresh w
   abbrev pub raised : CampaignValue
   raised = with_structure_begun c s
 
-  -- no structure has the next structure number yet
   free : get c.structures next ≡ None
   free = old.next.structures.free next (omega arith)
 
-  -- beginning a structure leaves each structure that was there unchanged
   stays : (k : ℕ) (y : Structure) → get c.structures k ≡ Some y → get structures k ≡ Some y
   stays k y there = get-insert_other c.structures next k s (λ same. none_some y (sym free ∙ ap (get c.structures) (sym same) ∙ there)) ∙ there
 
-  -- once a structure is begun, there is one structure more
   one_more : len structures ≡ len c.structures + 1
   one_more = len-insert nat_cmp_total c.structures next s ∙ ap (λ o. cond (is_some o) (len c.structures) (len c.structures + 1)) free
 
-  -- once a structure is begun, the campaign's counts and numbers are still in their ranges (AreInRange), if the
-  -- structure's number is at most most_structures
   numbers_kept : AreInRange w raised
   numbers_kept = record {
     month = old.numbers.month;
@@ -89,7 +75,6 @@ module _ (w : WorldValue) (c : CampaignValue) (s : Structure) (fresh : IsFresh w
   nobody : {P : Type 0} → s.owner ≢ 0 → P
   nobody some = absurd (some fresh.ownerless)
 
-  -- once a structure is begun, everything that the campaign names by number still exists (AreKnown)
   known_kept : AreKnown w raised
   known_kept = record {
     regions = old.known.regions;
@@ -102,8 +87,6 @@ module _ (w : WorldValue) (c : CampaignValue) (s : Structure) (fresh : IsFresh w
     posts = old.known.posts;
   }
 
-  -- once a structure is begun, factions and structures are still numbered without a gap, and all units have numbers
-  -- below the next unit number (AreNumbered)
   next_kept : AreNumbered raised
   next_kept =
       let numbered = old.next.structures in
@@ -117,19 +100,16 @@ module _ (w : WorldValue) (c : CampaignValue) (s : Structure) (fresh : IsFresh w
         units = old.next.units;
       }
 
-  -- no unit is inside a structure with the next structure number
   pub nobody_inside : Every (λ m v. v.structure ≢ next) c.units
   nobody_inside m v there here =
       let (y, at, region) = (old.known.units m v there).structure (λ none. omega (arith, none, here, old.next.structures.count)) in
       none_some y (sym free ∙ ap (get c.structures) (sym here) ∙ at)
 
-  -- once a structure is begun, structures are still owned by units inside them, or by nobody where no unit is inside
   owners_kept : AreOwned raised
   owners_kept =
       every-insert (λ k x. IsOwned raised k x) c.structures next s (record { owned = λ some. nobody some; ownerless = λ none. nobody_inside })
       old.owners
 
-  -- once a structure is begun, units on water are still in ships, and structures there are complete ships
   water_kept : AreAfloat w raised
   water_kept = record {
     units = λ k x there wet. let (y, at, ship) = old.water.units k x there wet in (y, stays x.structure y at, ship);
@@ -157,16 +137,13 @@ module _ (w : WorldValue) (c : CampaignValue) (s : Structure) (fresh : IsFresh w
     guarded = old.guarded;
   }
 
-  -- the total of each thing stays as it is when a structure is begun
   pub total_raised : (t : Thing) → total raised t ≡ total c t
   unfolding total
   total_raised t = refl
 
-  -- once structure s is begun, it is there under the next structure number
   pub raised_there : get raised.structures next ≡ Some s
   raised_there = get-insert_same c.structures next s
 
--- beginning a structure, with it and the campaign row marked, marks all that changes (MarksChanges)
 pub marks-structure_begun : (c : MarkedCampaign) (s : Structure) → MarksChanges c (record { value = with_structure_begun c.value s; marks = mark_structure_begun c })
 marks-structure_begun c s =
     let n = c.value.next_structure in
@@ -182,7 +159,6 @@ marks-structure_begun c s =
 -- ---- more of a structure is done
 
 module _ (w : WorldValue) (c : CampaignValue) (k : ℕ) (s : Structure) (done : ℕ) (is : get c.structures k ≡ Some s) where
-  -- structure s, but with `done` of it done
   abbrev further : Structure
   further = record s { done = done }
 
@@ -190,7 +166,6 @@ module _ (w : WorldValue) (c : CampaignValue) (k : ℕ) (s : Structure) (done : 
   abbrev pub built : CampaignValue
   built = record c { structures = insert c.structures k further }
 
-  -- with_done gives the campaign in which structure k is s, but with `done` of it done (`built`)
   pub built_is : with_done c k done ≡ built
   built_is = ap (λ m. record c { structures = m }) (changed-known (λ x. record x { done = done }) c.structures k s is)
 
@@ -205,7 +180,6 @@ module _ (w : WorldValue) (c : CampaignValue) (k : ℕ) (s : Structure) (done : 
       | inr apart ↦ (y, get-insert_other c.structures k j further apart ∙ there, p)
     ]
 
-    -- after building on a structure, the campaign's counts and numbers are still in their ranges (AreInRange)
     numbers_built : AreInRange w built
     numbers_built = record {
       month = was.numbers.month;
@@ -222,7 +196,6 @@ module _ (w : WorldValue) (c : CampaignValue) (k : ℕ) (s : Structure) (done : 
       books = was.numbers.books;
     }
 
-    -- after building on a structure, everything that the campaign names by number still exists (AreKnown)
     known_built : AreKnown w built
     known_built = record {
       regions = was.known.regions;
@@ -235,12 +208,9 @@ module _ (w : WorldValue) (c : CampaignValue) (k : ℕ) (s : Structure) (done : 
       posts = was.known.posts;
     }
 
-    -- after building on structure k, a number without a structure still has none
     apart_free : (j : ℕ) → get c.structures j ≡ None → get built.structures j ≡ None
     apart_free j none = get-insert_other c.structures k j further (λ same. none_some s (sym none ∙ ap (get c.structures) same ∙ is)) ∙ none
 
-    -- after building on a structure, factions and structures are still numbered without a gap, and all units have
-    -- numbers below the next unit number (AreNumbered)
     next_built : AreNumbered built
     next_built = record {
       factions = was.next.factions;
@@ -252,18 +222,14 @@ module _ (w : WorldValue) (c : CampaignValue) (k : ℕ) (s : Structure) (done : 
       units = was.next.units;
     }
 
-    -- after building on a structure, structures are still owned by units inside them, or by nobody where no unit is
-    -- inside
     owners_built : AreOwned built
     owners_built =
         every-insert (λ j x. IsOwned built j x) c.structures k further (let o = was.owners k s is in record { owned = o.owned; ownerless = o.ownerless })
         was.owners
 
-    -- if structure s is complete, it is still complete after building on it
     complete : s.done ≡ size_of w s.kind → done ≡ size_of w s.kind
     complete e = omega (arith, e, more, most)
 
-    -- after building on a structure, units on water are still in ships, and structures there are complete ships
     water_built : AreAfloat w built
     water_built = record {
       units = λ j x there wet. still (λ y. is_ship w y ≡ true) (λ ship. ship) x.structure (was.water.units j x there wet);
@@ -291,7 +257,6 @@ module _ (w : WorldValue) (c : CampaignValue) (k : ℕ) (s : Structure) (done : 
       guarded = was.guarded;
     }
 
-    -- the total of each thing stays as it is when more of a structure is done
     pub total_built : (t : Thing) → total built t ≡ total c t
     unfolding total
     total_built t = refl

@@ -21,24 +21,21 @@ use Rattle.atl_records.specs.declared.records.Unit.{Unit}
 use Rattle.atl_records.specs.Books.{amount_in, amount_number}
 use Rattle.atl_records.specs.Holdings.{amount_of, with_amount_of}
 use Rattle.atl_campaign.specs.Covers.{Covers, ThingsStayMarked, StaysMarked, StayMarked, MarksChanges, without_goods, days_under, items_under, said_by_campaign_row, unstocked}
-use Rattle.atl_campaign.specs.Marking.{MarksStock, mark_amount, mark_faction, mark_region, mark_unit_added}
+use Rattle.atl_campaign.specs.Marking.{MarksStock, mark_amount, mark_faction, mark_peasants, mark_region, mark_region_money, mark_unit_added}
 use Rattle.atl_campaign.specs.Marks.{Marks, MarkedThings, is_thing_marked, thing_marked, with_thing}
 use Rattle.atl_campaign.specs.Stocks.{stock_of}
-use Rattle.atl_campaign.specs.Campaign.{CampaignValue, MarkedCampaign, faction_changed, region_changed, with_booking, with_stock}
+use Rattle.atl_campaign.specs.Campaign.{CampaignValue, MarkedCampaign, faction_changed, region_changed, with_booking, with_peasants, with_region_money, with_stock}
 use Rattle.atl_records.proofs.EveryLaws.{get-insert_other}
 use Rattle.atl_records.proofs.HoldingLaws.{amount_after_setting, set_other}
 use Rattle.atl_campaign.proofs.RegionLaws.{booking-other_amount}
 
--- a is false, if b is false, and b is true whenever a is
 contrapositive : (a b : Bool) → (a ≡ true → b ≡ true) → b ≡ false → a ≡ false
 contrapositive true b stays free = absurd (true≢false (sym (stays refl) ∙ free))
 contrapositive false b stays free = refl
 
--- if no mark is lost, a number that is not marked after a change was not marked before
 pub was_unmarked : (before after : FinSet nat_cmp) → StaysMarked before after → (n : ℕ) → contains after n ≡ false → contains before n ≡ false
 was_unmarked before after stays n free = contrapositive (contains before n) (contains after n) (stays n) free
 
--- StayMarked is transitive: if two changes each lose no mark, both together lose none
 pub stay-trans : {a b c : Marks} → StayMarked a b → StayMarked b c → StayMarked a c
 stay-trans one two = record {
   factions = λ n h. two.factions n (one.factions n h);
@@ -74,30 +71,24 @@ covers-trans {m} {n} a b c stay one two = record {
   row = λ free. two.row free ∙ one.row (contrapositive m.row n.row stay.row free);
 }
 
--- MarksChanges is transitive: if two changes each mark all that they change, both together do
 pub marks-trans : (a b c : MarkedCampaign) → MarksChanges a b → MarksChanges b c → MarksChanges a c
 marks-trans a b c one two = record { stay = stay-trans one.stay two.stay; covers = covers-trans a.value b.value c.value two.stay one.covers two.covers }
 
 -- ---- one change at a time
 
--- for put_stays, both_stay and thing_stays: `b || true` is true, whatever b is
 or-true : (b : Bool) → (b || true) ≡ true
 or-true true = refl
 or-true false = refl
 
--- marking a number leaves all numbers marked that were marked before
 pub put_stays : (marks : FinSet nat_cmp) (n : ℕ) → StaysMarked marks (insert marks n)
 put_stays marks n k h = contains-insert nat_cmp_total marks n k ∙ ap (λ b. eq_by_cmp nat_cmp k n || b) h ∙ or-true (eq_by_cmp nat_cmp k n)
 
--- equal numbers compare equal by nat_cmp
 equal_numbers_compare_equal : (k n : ℕ) → k ≡ n → eq_by_cmp nat_cmp k n ≡ true
 equal_numbers_compare_equal k n e = sym (unsigned_ties k n) ∙ (let t : (k == n) ≡ true = grind (arith, nat_tests) in t)
 
--- a number is marked once it was put into the dirty set
 put_there : (marks : FinSet nat_cmp) (n k : ℕ) → k ≡ n → contains (insert marks n) k ≡ true
 put_there marks n k e = contains-insert nat_cmp_total marks n k ∙ ap (λ b. b || contains marks k) (equal_numbers_compare_equal k n e)
 
--- a number that is not marked once n is marked differs from n
 pub unmarked_differs_from_put : (marks : FinSet nat_cmp) (n k : ℕ) → contains (insert marks n) k ≡ false → k ≢ n
 unmarked_differs_from_put marks n k free same = absurd (true≢false (sym (put_there marks n k same) ∙ free))
 
@@ -108,16 +99,13 @@ both_stay : (a b c d : Bool) → (a ≡ true → b ≡ true) → (c ≡ true →
 both_stay true b c d one two h = ap (λ x. x || d) (one refl)
 both_stay false b c d one two h = ap (λ x. b || x) (two h) ∙ or-true b
 
--- for apart_by_whole and apart_by_thing: if `a || b` is false, so are a and b
 neither : (a b : Bool) → (a || b) ≡ false → (a ≡ false) × (b ≡ false)
 neither true b h = absurd (true≢false h)
 neither false b h = (refl, h)
 
--- each item, skill or stock that was marked still is once all goods of unit n, or all stocks of region n, are marked
 pub whole_stays : (goods : FinSet nat_cmp) (things : MarkedThings) (n : ℕ) → ThingsStayMarked goods things (insert goods n) things
 whole_stays goods things n k t = both_stay (contains goods k) (contains (insert goods n) k) (is_some (get (group_of things k) t)) (is_some (get (group_of things k) t)) (put_stays goods n k) (λ h. h)
 
--- unit or region k differs from n, if thing t of k is not marked once all things of n are
 pub apart_by_whole : (goods : FinSet nat_cmp) (things : MarkedThings) (n k t : ℕ) → is_thing_marked (insert goods n) things k t ≡ false → k ≢ n
 apart_by_whole goods things n k t free = unmarked_differs_from_put goods n k (neither (contains (insert goods n) k) (is_some (get (group_of things k) t)) free).0
 
@@ -129,29 +117,22 @@ module _ (goods : FinSet nat_cmp) (things : MarkedThings) (n thing : ℕ) where
       ap (λ (o : Option (FinMap nat_cmp (Prim.Unit {0}))). is_some (get (unwrap_or o map.empty) t)) (get-insert nat_cmp_total things n (map.insert (group_of things n) thing tt) k)
       ∙ by_unit (eq_by_cmp nat_cmp k n)
     where
-      -- for by_unit: once a new mark replaces the mark o where b is true, there is a mark exactly if b is true or o was
-      -- one
       by_thing : (b : Bool) (o : Option (Prim.Unit {0})) → is_some (cond b (Some tt) o) ≡ (b || is_some o)
       by_thing true o = refl
       by_thing false o = refl
 
-      -- for put_in: if k is n (b), the things marked of k are those of n and `thing`; else those of k are unchanged
       by_unit : (b : Bool) → is_some (get (unwrap_or (cond b (Some (map.insert (group_of things n) thing tt)) (get things k)) map.empty) t)
           ≡ cond b (eq_by_cmp nat_cmp t thing || is_some (get (group_of things n) t)) (is_some (get (group_of things k) t))
       by_unit true = ap is_some (get-insert nat_cmp_total (group_of things n) thing tt t) ∙ by_thing (eq_by_cmp nat_cmp t thing) (get (group_of things n) t)
       by_unit false = refl
 
-  -- each item, skill or stock that was marked still is once one more gets a mark of its own
   pub thing_stays : ThingsStayMarked goods things goods (with_thing things n thing)
   thing_stays k t = both_stay (contains goods k) (contains goods k) (is_some (get (group_of things k) t)) (is_some (get (group_of (with_thing things n thing) k) t)) (λ h. h) (λ h. put_in k t ∙ by_unit h (eq_by_cmp nat_cmp k n) refl)
     where
-      -- for thing_stays: thing t of unit or region k that had a mark of its own still has it once `thing` of n is
-      -- marked, whether k is n (b) or not
       by_unit : is_some (get (group_of things k) t) ≡ true → (b : Bool) → eq_by_cmp nat_cmp k n ≡ b → cond b (eq_by_cmp nat_cmp t thing || is_some (get (group_of things n) t)) (is_some (get (group_of things k) t)) ≡ true
       by_unit h true e = ap (λ q. eq_by_cmp nat_cmp t thing || is_some (get (group_of things q) t)) (sym (same_key k n e)) ∙ ap (λ b. eq_by_cmp nat_cmp t thing || b) h ∙ or-true (eq_by_cmp nat_cmp t thing)
       by_unit h false e = h
 
-  -- if t of unit or region n is not marked once `thing` of n is, t is not `thing`
   pub apart_by_thing : (k t : ℕ) → is_thing_marked goods (with_thing things n thing) k t ≡ false → k ≡ n → t ≢ thing
   apart_by_thing k t free same_unit same =
       let there = put_in k t ∙ ap (λ b. cond b (eq_by_cmp nat_cmp t thing || is_some (get (group_of things n) t)) (is_some (get (group_of things k) t))) (equal_numbers_compare_equal k n same_unit)
@@ -160,22 +141,15 @@ module _ (goods : FinSet nat_cmp) (things : MarkedThings) (n thing : ℕ) where
 
 -- ---- the parts of a campaign, which are marked each for itself
 
--- the 14 parts of a campaign that have marks of their own: more than the ten tables, as units, goods and stocks have
--- several
 pub data MarkedPart : Type 0 where
-  -- the factions, marked by their numbers
   Factions : MarkedPart
   -- the rows of regions, without their stocks, marked by the regions' numbers
   Regions : MarkedPart
   -- the regions of which a stock is marked; the stocks themselves are the part Stocks
   Markets : MarkedPart
-  -- the stocks in regions, marked by region and item
   Stocks : MarkedPart
-  -- the structures, marked by their numbers
   Structures : MarkedPart
-  -- the mail of factions, marked by the factions' numbers
   Mail : MarkedPart
-  -- the reports of factions, marked by the factions' numbers
   Reports : MarkedPart
   -- the units of which something is marked; the parts Rows, Goods, Items and Skills say what
   Units : MarkedPart
@@ -184,13 +158,10 @@ pub data MarkedPart : Type 0 where
   -- the units all of whose items and days are marked at once; their single items and days are the parts Items and
   -- Skills
   Goods : MarkedPart
-  -- the items of units, marked by unit and item
   Items : MarkedPart
-  -- the days of study of units, marked by unit and skill
   Skills : MarkedPart
   -- the amounts of the books, marked by the amounts' numbers (amount_number)
   Books : MarkedPart
-  -- the campaign row, with month, pass text and next numbers; it has one mark
   Row : MarkedPart
 
 -- what names one mark of a part: region and item for Stocks, unit and thing for Items and Skills, nothing for Row,
@@ -310,7 +281,6 @@ part_by_part a b stays says = record {
   };
 }
 
--- from a campaign to itself no mark is lost, and all that changes, which is nothing, is marked (MarksChanges)
 pub marks-refl : (a : MarkedCampaign) → MarksChanges a a
 marks-refl a = part_by_part a a (λ p k h. h) (λ p k free. refl)
 
@@ -320,13 +290,10 @@ pub holds_of_changed : {V : Type 0} (P : FinMap nat_cmp V → Option V → Type 
     → P values None → ((v : V) → get values n ≡ Some v → P (map.insert values n (f v)) (Some v)) → P (with_changed_value f values n) (get values n)
 holds_of_changed {V} P f values n none some = by_value (get values n) refl
   where
-    -- for holds_of_changed: P holds of the map with f applied to n's value, and of that value as it was, o, whether o
-    -- is None or Some
     by_value : (o : Option V) → get values n ≡ o → P (with_changed_option f values n o) o
     by_value None is = none
     by_value (Some v) is = some v is
 
--- a change of faction n, with the faction marked, marks all that changes (MarksChanges)
 pub marks-faction : (f : Faction → Faction) (c : MarkedCampaign) (n : ℕ) → MarksChanges c (record { value = faction_changed f c.value n; marks = mark_faction c n })
 marks-faction f c n =
     let after : FinMap nat_cmp Faction → Option Faction → MarkedCampaign = λ m o. record { value = record c.value { factions = m }; marks = record c.marks { factions = marked_with c.marks.factions n o } } in
@@ -341,18 +308,16 @@ marks-faction f c n =
 pub shown_still : {V X : Type 0} (shows : Option V → X) (values : FinMap nat_cmp V) (n k : ℕ) (v w : V) → get values n ≡ Some v → (k ≡ n → shows (Some w) ≡ shows (Some v)) → shows (get (map.insert values n w) k) ≡ shows (get values k)
 shown_still shows values n k v w is same = ap shows (get-insert nat_cmp_total values n w k) ∙ by_number (eq_by_cmp nat_cmp k n) refl
   where
-    -- for shown_still: `shows` gives the same of k's value as before w replaced n's value v, whether k is n (b) or not
     by_number : (b : Bool) → eq_by_cmp nat_cmp k n ≡ b → shows (cond b (Some w) (get values k)) ≡ shows (get values k)
     by_number true e = let here = same_key k n e in same here ∙ sym (ap shows (ap (get values) here ∙ is))
     by_number false e = refl
 
--- how much of an item a region has in stock; 0 for None
 abbrev in_stock : ℕ → Option Region → ℕ
 in_stock item o = option_map_or (λ r. amount_of r.stocks item) o 0
 
--- a change of region n that leaves its stocks alone, with its row marked, marks all that changes (MarksChanges)
-pub marks-region : (f : Region → Region) → ((r : Region) → (f r).stocks ≡ r.stocks) → (c : MarkedCampaign) (n : ℕ) → MarksChanges c (record { value = region_changed f c.value n; marks = mark_region c n })
-marks-region f same c n =
+row-marked : (f : Region → Region) → ((r : Region) → (f r).stocks ≡ r.stocks) → (c : MarkedCampaign) (n : ℕ)
+    → MarksChanges c (record { value = region_changed f c.value n; marks = record c.marks { regions = marked_with c.marks.regions n (get c.value.regions n) } })
+row-marked f same c n =
     let after : FinMap nat_cmp Region → Option Region → MarkedCampaign = λ m o. record { value = record c.value { regions = m }; marks = record c.marks { regions = marked_with c.marks.regions n o } } in
     holds_of_changed (λ m o. MarksChanges c (after m o)) f c.value.regions n (marks-refl c) (λ v is.
     let next = after (map.insert c.value.regions n (f v)) (Some v) in
@@ -364,39 +329,70 @@ marks-region f same c n =
       | _ ↦ λ k free. refl
     ]))
 
+-- numbers that pass the test of equality are equal
+equal : (a b : ℕ) → (a == b) ≡ true → a ≡ b
+equal a b same = grind (arith, nat_tests)
+
+-- a number of region n, which `of` reads, is set to x by f; if it was another, the region's row is marked
+module _ (of : Region → ℕ) (f : Region → Region) (x : ℕ) (same : (r : Region) → (f r).stocks ≡ r.stocks) (again : (r : Region) → of r ≡ x → f r ≡ r) (c : MarkedCampaign) (n : ℕ) where
+  -- setting a region's number to what it is already needs no mark (MarksChanges)
+  number_stays : (v : Region) → get c.value.regions n ≡ Some v → of v ≡ x → MarksChanges c (record c { value = record c.value { regions = map.insert c.value.regions n (f v) } })
+  number_stays v is was =
+      let next : MarkedCampaign = record c { value = record c.value { regions = map.insert c.value.regions n (f v) } } in
+      part_by_part c next (λ p k h. h)
+      (λ p. elim p as (KeepsUnmarked next.marks c.value next.value) [
+        | Regions ↦ λ k free. shown_still (option_map unstocked) c.value.regions n k v (f v) is (λ _. ap (λ r. Some (unstocked r)) (again v was))
+        | Stocks ↦ λ k free. shown_still (in_stock k.1) c.value.regions n k.0 v (f v) is (λ _. ap (λ s. amount_of s k.1) (same v))
+        | _ ↦ λ k free. refl
+      ])
+
+  -- setting the number, with the region's row marked if it was another (`mark_region`), marks all that changes
+  marks-region : MarksChanges c (record { value = region_changed f c.value n; marks = mark_region of c n x })
+  marks-region = by_number (option_map_or of (get c.value.regions n) 0 == x) refl
+    where
+      -- for marks-region: all that changes is marked, whether the region has the number x already (b) or not
+      by_number : (b : Bool) → (option_map_or of (get c.value.regions n) 0 == x) ≡ b
+          → MarksChanges c (record { value = region_changed f c.value n; marks = record c.marks { regions = marked_with c.marks.regions n (if b then None else get c.value.regions n) } })
+      by_number true was =
+          holds_of_changed (λ m o. MarksChanges c (record c { value = record c.value { regions = m } })) f c.value.regions n (marks-refl c)
+          (λ v is. number_stays v is (sym (ap (λ o. option_map_or of o 0) is) ∙ equal (option_map_or of (get c.value.regions n) 0) x was))
+      by_number false was = row-marked f same c n
+
+-- setting the peasants of a region, with its row marked if they were others (`mark_peasants`), marks all that changes
+pub marks-peasants : (c : MarkedCampaign) (n peasants : ℕ) → MarksChanges c (record { value = with_peasants c.value n peasants; marks = mark_peasants c n peasants })
+marks-peasants c n peasants =
+    marks-region (λ r. r.peasants) (λ r. record r { peasants = peasants }) peasants (λ r. refl) (λ r was. ap (λ p. record r { peasants = p }) (sym was)) c n
+
+-- setting the money of a region, with its row marked if it was another amount (`mark_region_money`), marks all that
+-- changes
+pub marks-region-money : (c : MarkedCampaign) (n money : ℕ) → MarksChanges c (record { value = with_region_money c.value n money; marks = mark_region_money c n money })
+marks-region-money c n money =
+    marks-region (λ r. r.money) (λ r. record r { money = money }) money (λ r. refl) (λ r was. ap (λ m. record r { money = m }) (sym was)) c n
+
 -- the stock of an item is set in a region; if it was another amount, it is marked, alone or with all of the region
 module _ (c : MarkedCampaign) (n item amount : ℕ) where
-  -- the region with its stock of the item set to the amount
   abbrev stocked : Region → Region
   stocked r = record r { stocks = with_amount_of r.stocks item amount }
 
-  -- the campaign c with the given regions in place of its own
   abbrev with_regions : FinMap nat_cmp Region → CampaignValue
   with_regions m = record c.value { regions = m }
 
-  -- the campaign in which region n is the given region with its stock of the item set
   abbrev there_after : Region → CampaignValue
   there_after v = with_regions (map.insert c.value.regions n (stocked v))
 
-  -- each region, without its stocks, is the same before and after the stock of the item in region n is set
   unstocked_stays : (v : Region) → get c.value.regions n ≡ Some v → (k : ℕ) → option_map unstocked (get (there_after v).regions k) ≡ option_map unstocked (get c.value.regions k)
   unstocked_stays v is k = shown_still (option_map unstocked) c.value.regions n k v (stocked v) is (λ _. refl)
 
-  -- setting a stock leaves the stocks of other items and other regions unchanged
   other_stays : (v : Region) → get c.value.regions n ≡ Some v → (k i : ℕ) → (k ≡ n → i ≢ item) → stock_of (there_after v) k i ≡ stock_of c.value k i
   other_stays v is k i other = shown_still (in_stock i) c.value.regions n k v (stocked v) is (λ here. set_other v.stocks item amount i (other here))
 
-  -- setting an item's amount in a map of stocks to what it is already changes the amount of no item
   set_again : (stocks : FinMap nat_cmp ℕ) (i : ℕ) → amount_of stocks item ≡ amount → amount_of (with_amount_of stocks item amount) i ≡ amount_of stocks i
   set_again stocks i was = amount_after_setting stocks item amount i ∙ by_item (eq_by_cmp nat_cmp i item) refl
     where
-      -- for set_again: if the stock of `item` is `amount` already, setting it to that changes the stock of no item i,
-      -- whether i is `item` (b) or not
       by_item : (b : Bool) → eq_by_cmp nat_cmp i item ≡ b → cond b amount (amount_of stocks i) ≡ amount_of stocks i
       by_item true e = sym was ∙ ap (amount_of stocks) (sym (same_key i item e))
       by_item false e = refl
 
-  -- setting a stock to the amount that it has needs no mark (MarksChanges)
   stock_stays : (v : Region) → get c.value.regions n ≡ Some v → amount_of v.stocks item ≡ amount → MarksChanges c (record c { value = there_after v })
   stock_stays v is was =
       let next : MarkedCampaign = record c { value = there_after v } in
@@ -407,7 +403,6 @@ module _ (c : MarkedCampaign) (n item amount : ℕ) where
         | _ ↦ λ k free. refl
       ])
 
-  -- setting a stock, with that stock alone marked, marks all that changes (MarksChanges)
   item_changes : (v : Region) → get c.value.regions n ≡ Some v
       → MarksChanges c (record { value = there_after v; marks = record c.marks { markets = insert c.marks.markets n; stock_items = with_thing c.marks.stock_items n item } })
   item_changes v is =
@@ -424,7 +419,6 @@ module _ (c : MarkedCampaign) (n item amount : ℕ) where
         | _ ↦ λ k free. refl
       ])
 
-  -- setting a stock, with all stocks of its region marked, marks all that changes (MarksChanges)
   stocks_change : (v : Region) → get c.value.regions n ≡ Some v
       → MarksChanges c (record { value = there_after v; marks = record c.marks { markets = insert c.marks.markets n; stocks = insert c.marks.stocks n } })
   stocks_change v is =
@@ -441,19 +435,15 @@ module _ (c : MarkedCampaign) (n item amount : ℕ) where
         | _ ↦ λ k free. refl
       ])
 
-  -- the given marks mark all that changes from the campaign to one with the given regions (MarksChanges)
   abbrev after_regions : FinMap nat_cmp Region → Marks → Type 0
   after_regions regions marks = MarksChanges c (record { value = with_regions regions; marks = marks })
 
-  -- the marks with the stock of the item in region n added, unless None is given for the region
   abbrev item_alone : Option Region → Marks
   item_alone o = record c.marks { markets = marked_with c.marks.markets n o; stock_items = thing_marked c.marks.stock_items n item o }
 
-  -- the marks with all stocks of region n added, unless None is given for the region
   abbrev all_of_region : Option Region → Marks
   all_of_region o = record c.marks { markets = marked_with c.marks.markets n o; stocks = marked_with c.marks.stocks n o }
 
-  -- the region to mark: None if the stock keeps its amount, else region n, if there is one
   abbrev to_restock : Bool → Option Region
   to_restock b = if b then None else get c.value.regions n
 
@@ -462,17 +452,9 @@ module _ (c : MarkedCampaign) (n item amount : ℕ) where
   pub marks-stock : (m : Marks) → MarksStock c n item amount m → MarksChanges c (record { value = with_stock c.value n item amount; marks = m })
   marks-stock m how = by_amount (stock_of c.value n item == amount) refl
     where
-      -- numbers that pass the test of equality are equal
-      equal : (a b : ℕ) → (a == b) ≡ true → a ≡ b
-      equal a b same = grind (arith, nat_tests)
-
-      -- if the stock of the item in region n, which is v, passes the test of being `amount`, v has `amount` of the item
-      -- in stock
       was : (v : Region) → get c.value.regions n ≡ Some v → (stock_of c.value n item == amount) ≡ true → amount_of v.stocks item ≡ amount
       was v is same = sym (ap (in_stock item) is) ∙ equal (stock_of c.value n item) amount same
 
-      -- setting the stock marks all that changes, both with the marks of that stock alone and with those of all stocks
-      -- of its region; where it has the new amount already (b), nothing changes, and nothing is marked
       either : (b : Bool) → (stock_of c.value n item == amount) ≡ b → after_regions (with_changed_value stocked c.value.regions n) (item_alone (to_restock b)) × after_regions (with_changed_value stocked c.value.regions n) (all_of_region (to_restock b))
       either true same =
           let still = holds_of_changed (λ regions o. after_regions regions c.marks) stocked c.value.regions n (marks-refl c) (λ v is. stock_stays v is (was v is same)) in
@@ -482,15 +464,12 @@ module _ (c : MarkedCampaign) (n item amount : ℕ) where
         holds_of_changed (λ regions o. after_regions regions (all_of_region o)) stocked c.value.regions n (marks-refl c) stocks_change,
       )
 
-      -- the marks m, which are either those of that stock alone or those of all stocks of its region (MarksStock), mark
-      -- all that changes, whether the stock had the new amount already (b) or not
       by_amount : (b : Bool) → (stock_of c.value n item == amount) ≡ b → after_regions (with_changed_value stocked c.value.regions n) m
       by_amount b is = elim how [
         | inl e ↦ subst (after_regions (with_changed_value stocked c.value.regions n)) (sym (e ∙ ap (λ k. item_alone (to_restock k)) is)) (either b is).0
         | inr e ↦ subst (after_regions (with_changed_value stocked c.value.regions n)) (sym (e ∙ ap (λ k. all_of_region (to_restock k)) is)) (either b is).1
       ]
 
--- a change of unit n alone, with the unit, its row and all its goods marked, marks all that changes (MarksChanges)
 pub marks-unit : (c : MarkedCampaign) (units : FinMap nat_cmp Unit) (n : ℕ) → ((k : ℕ) → k ≢ n → get units k ≡ get c.value.units k)
     → MarksChanges c (record { value = record c.value { units = units }; marks = mark_unit_added c n })
 marks-unit c units n others =
@@ -511,7 +490,6 @@ marks-unit c units n others =
       | _ ↦ λ k free. refl
     ])
 
--- adding to an amount of the books, with that amount marked, marks all that changes (MarksChanges)
 pub marks-amount : (c : MarkedCampaign) (f : BooksEntry) (u : Thing) (z : ℤ) → MarksChanges c (record { value = with_booking c.value f u z; marks = mark_amount c f u })
 marks-amount c f u z =
     let next : MarkedCampaign = record { value = with_booking c.value f u z; marks = mark_amount c f u } in

@@ -6,7 +6,6 @@ use Rattle.std.specs.Int.RustNames.{FitsSigned}
 use Rattle.std.proofs.lemmas.Int.{ints}
 use Rattle.atl_records.specs.Books.{LeavesRoomForJoining}
 
--- an amount from -9 * 10^18 to 9 * 10^18 is in the range of signed 64-bit numbers
 fits_64_bits : (z : ℤ) → z ≤ℤ pos 9000000000000000000 → pos 0 ≤ℤ (z +ℤ pos 9000000000000000000) → FitsSigned w64 z
 fits_64_bits (pos n) most less = record { sfits = omega (arith, ints, most) }
 fits_64_bits (negsuc n) most less = record { sfits = omega (arith, ints, less) }
@@ -16,6 +15,5 @@ fits_64_bits (negsuc n) most less = record { sfits = omega (arith, ints, less) }
 pub more_fits : (z : ℤ) (n : ℕ) → LeavesRoomForJoining z → n ≤ 4000000000000000000 → FitsSigned w64 (z +ℤ pos n)
 more_fits z n small few = fits_64_bits (z +ℤ pos n) (omega (arith, ints, small.0, few)) (omega (arith, ints, small.1))
 
--- 0 plus at most 4 * 10^18 is in the range of signed 64-bit numbers
 pub first_fits : (n : ℕ) → n ≤ 4000000000000000000 → FitsSigned w64 (pos 0 +ℤ pos n)
 first_fits n few = more_fits (pos 0) n (omega (arith, ints), omega (arith, ints)) few

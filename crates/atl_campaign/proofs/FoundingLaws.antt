@@ -47,30 +47,24 @@ use Rattle.atl_records.proofs.BookLaws.{booked-after_booking, booked-no_amounts,
 pub AreKept-without_marks : (things : ℕ) (units : FinMap nat_cmp Unit) (lists : UnitLists) → AreUnitLists units lists → AreListsAndMarksKept units lists things (record { numbers = set.empty; room = entry_count * things })
 AreKept-without_marks things units lists listed = record { unit_lists = listed; amounts = none_marked things (entry_count * things) (omega arith) }
 
--- once founding has booked money and people, books of `things` things, at least two, list only amounts of these, none
--- of them 0 (AreBooks)
 AreBooks-founding : (things money people : ℕ) → 2 ≤ things → AreBooks things (after_booking (after_booking (no_amounts things) Founding Money (pos money)) Founding People (pos people))
 AreBooks-founding things money people l =
     AreBooks-after_booking things (after_booking (no_amounts things) Founding Money (pos money)) Founding People (pos people) (AreBooks-after_booking things (no_amounts things) Founding Money (pos money) (AreBooks-no_amounts things) (omega arith)) (omega arith)
 
--- the total of a thing over no units is 0
 total_of_no_units_is_zero : (t : Thing) → sum_over (λ (u : Unit). unit_amount t u.holding) (empty {X = Unit} {R = nat_cmp}) ≡ 0
 total_of_no_units_is_zero t = rw (entries-empty {X = Unit}) refl
 
--- the regions of a founded campaign have 0 of each item in stock together
 no_items : (w : WorldValue) (i : ℕ) → sum_over (λ (r : Region). region_amount (Item i) r) (map_values founded_region w.regions) ≡ 0
 no_items w i =
     let founded = map_values founded_region w.regions in
     let nothing : Every (λ n r. region_amount (Item i) r ≡ 0) founded = every-mapped founded_region (λ n r. region_amount (Item i) r ≡ 0) w.regions (λ n p is. ap (λ o. unwrap_or o 0) (get-empty nat_cmp i)) in
     sum_of_zeros_is_zero (λ (r : Region). region_amount (Item i) r) (entries founded) (each-from_every (λ n r. region_amount (Item i) r ≡ 0) founded nothing)
 
--- what founding books of a thing is the given money for money, the given people for people, and 0 for each item
 founding_booked : (things money people : ℕ) (t : Thing) → booked (after_booking (after_booking (no_amounts things) Founding Money (pos money)) Founding People (pos people)) t ≡ booked_for t Money (pos money) +ℤ booked_for t People (pos people)
 founding_booked things money people t =
     booked-after_booking (after_booking (no_amounts things) Founding Money (pos money)) Founding People (pos people) t
     ∙ ap (λ z. z +ℤ booked_for t People (pos people)) (booked-after_booking (no_amounts things) Founding Money (pos money) t ∙ ap (λ z. z +ℤ booked_for t Money (pos money)) (booked-no_amounts things t) ∙ from_nothing (booked_for t Money (pos money)))
   where
-    -- for founding_booked: 0 plus the integer z is z
     from_nothing : (z : ℤ) → pos 0 +ℤ z ≡ z
     from_nothing z = omega (arith, ints)
 
@@ -79,17 +73,12 @@ founding_booked things money people t =
 held_money : (a m : ℕ) → a ≡ 0 → pos (a + m) ≡ pos m +ℤ pos 0
 held_money a m h = omega (arith, ints)
 
--- for founded-balances: the people of units (a) and regions (p) together are what founding books of people, p, if units
--- have none
 held_people : (a p : ℕ) → a ≡ 0 → pos (a + p) ≡ pos 0 +ℤ pos p
 held_people a p h = omega (arith, ints)
 
--- for founded-balances: the pieces of item i that units (a) and regions (b) have together are what founding books of
--- it, 0, if neither have any
 held_items : (a b i m p : ℕ) → a ≡ 0 → b ≡ 0 → (2 + i == 0) ≡ false → (2 + i == 1) ≡ false → pos (a + b) ≡ cond (2 + i == 0) (pos m) (pos 0) +ℤ cond (2 + i == 1) (pos p) (pos 0)
 held_items a b i m p h g e f = ap (λ n. pos (n + b)) h ∙ ap (λ n. pos (0 + n)) g ∙ sym (ap (λ q. cond q (pos m) (pos 0) +ℤ cond (2 + i == 1) (pos p) (pos 0)) e ∙ ap (λ q. pos 0 +ℤ cond q (pos p) (pos 0)) f)
 
--- the books of a founded campaign balance
 pub founded-balances : (w : WorldValue) (pass : List ℕ) → Balances (founded_of w pass)
 unfolding founded_of total
 founded-balances w pass Money = held_money _ _ (total_of_no_units_is_zero Money) ∙ sym (founding_booked (thing_count w) _ _ Money)
@@ -99,32 +88,25 @@ founded-balances w pass (Item i) =
     (total_of_no_units_is_zero (Item i)) (no_items w i) (grind (arith, nat_tests)) (grind (arith, nat_tests))
     ∙ sym (founding_booked (thing_count w) _ _ (Item i))
 
--- each amount of empty books is 0
 none_within : (things : ℕ) (e : BooksEntry) (t : Thing) → IsWithin 0 (amount_in (no_amounts things) e t)
 none_within things e t = rw (amount-no_amounts things e t) record { most = omega (arith, ints); least = omega (arith, ints) }
 
--- the peasants, the money and the stocks of a region that is founded by a valid plan are in their ranges (IsRegion)
 founded_region_in_range : (w : WorldValue) (p : RegionPlan) (terrains items n : ℕ) → IsRegionPlan terrains items n p → IsRegion w n (founded_region p)
 founded_region_in_range w p terrains items n plan = record { peasants = plan.peasants; money = plan.money; stocks = every-empty (λ i amount. (1 ≤ amount) × (amount ≤ stock_limit w n i)) }
 
--- the empty map is numbered from 1 without a gap, and its next number is 1 (IsNumbered)
 numbered_none : {V : Type 0} → IsNumbered (empty {X = V} {R = nat_cmp}) 1
 numbered_none {V} = record { first = get-empty nat_cmp 0; count = ap (λ n. n + 1) (sym (len-empty nat_cmp V)); free = λ n _. get-empty nat_cmp n }
 
 module _ (w : WorldValue) (pass : List ℕ) (world : IsWorld w) where
-  -- the regions of the campaign when it is founded
   abbrev regions : FinMap nat_cmp Region
   regions = map_values founded_region w.regions
 
-  -- the money of all regions together when the campaign is founded
   abbrev money : ℕ
   money = sum_over (λ (r : Region). region_amount Money r) regions
 
-  -- the peasants of all regions together when the campaign is founded
   abbrev people : ℕ
   people = sum_over (λ (r : Region). region_amount People r) regions
 
-  -- the counts and numbers of a campaign that is founded are in their ranges (AreInRange)
   founded-numbers : AreInRange w (founded_of w pass)
   unfolding founded_of
   founded-numbers = record {
@@ -142,7 +124,6 @@ module _ (w : WorldValue) (pass : List ℕ) (world : IsWorld w) where
     books = AreBooks-founding (thing_count w) money people (omega arith);
   }
 
-  -- names and pass texts of a campaign that is founded keep their rules, if its pass text does
   founded-names : IsTrue (pass_ok pass) → AreNamed (founded_of w pass)
   unfolding founded_of
   founded-names passes = record {
@@ -153,7 +134,6 @@ module _ (w : WorldValue) (pass : List ℕ) (world : IsWorld w) where
     structures = every-empty (λ n s. IsTrue (name_ok s.name));
   }
 
-  -- everything that a campaign names by number exists when it is founded
   founded-known : AreKnown w (founded_of w pass)
   unfolding founded_of
   founded-known = record {
@@ -164,7 +144,6 @@ module _ (w : WorldValue) (pass : List ℕ) (world : IsWorld w) where
     posts = AreOfFactions-empty;
   }
 
-  -- a campaign is steady when it is founded, if its pass text keeps its rule
   founded-steady : IsTrue (pass_ok pass) → IsSteady w (founded_of w pass)
   unfolding founded_of
   founded-steady passes = record {

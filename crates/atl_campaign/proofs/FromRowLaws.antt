@@ -14,15 +14,15 @@ use Rattle.atl_world.specs.Limits.{most_amount, most_regions}
 use Rattle.atl_world.specs.Worlds.{WorldValue}
 use Rattle.atl_world.specs.ByNumber.{size_of}
 use Rattle.atl_orders.specs.Limits.{last_faction}
-use Rattle.atl_campaign.specs.declared.parts.Parts.{Parts}
-use Rattle.atl_campaign.specs.declared.parts.StoredCampaignRow.{StoredCampaignRow}
-use Rattle.atl_campaign.specs.declared.parts.StoredFaction.{StoredFaction}
-use Rattle.atl_campaign.specs.declared.parts.StoredRegion.{StoredRegion}
-use Rattle.atl_campaign.specs.declared.parts.StoredUnit.{StoredUnit}
-use Rattle.atl_campaign.specs.declared.parts.StoredHas.{StoredHas}
-use Rattle.atl_campaign.specs.declared.parts.StoredStructure.{StoredStructure}
-use Rattle.atl_campaign.specs.declared.parts.StoredBooks.{StoredBooks}
-use Rattle.atl_campaign.specs.declared.parts.StoredMarket.{StoredMarket}
+use Rattle.atl_rows.specs.declared.parts.Parts.{Parts}
+use Rattle.atl_rows.specs.declared.parts.StoredCampaignRow.{StoredCampaignRow}
+use Rattle.atl_rows.specs.declared.parts.StoredFaction.{StoredFaction}
+use Rattle.atl_rows.specs.declared.parts.StoredRegion.{StoredRegion}
+use Rattle.atl_rows.specs.declared.parts.StoredUnit.{StoredUnit}
+use Rattle.atl_rows.specs.declared.parts.StoredHas.{StoredHas}
+use Rattle.atl_rows.specs.declared.parts.StoredStructure.{StoredStructure}
+use Rattle.atl_rows.specs.declared.parts.StoredBooks.{StoredBooks}
+use Rattle.atl_rows.specs.declared.parts.StoredMarket.{StoredMarket}
 use Rattle.atl_records.specs.declared.books.BooksEntry.{BooksEntry}
 use Rattle.atl_records.specs.Books.{AreBooks, BooksValue, entry_numbered, no_amounts, thing_at, with_amount}
 use Rattle.atl_campaign.specs.Founding.{thing_count}
@@ -52,33 +52,27 @@ module _ {R V : Type 0} (number : R → ℕ) (value : R → V) where
       let parts = and_parts (p r) (list_all p rows) all in
       put-every P p each rows (insert m (number r) (value r)) parts.1 (every-insert P m (number r) (value r) (each r parts.0) old)
 
-  -- if all rows pass a test, and P holds for the value of each row that does, it holds for all values of the rows' map
   pub by_number-every : (P : ℕ → V → Type 0) (p : R → Bool) → ((r : R) → p r ≡ true → P (number r) (value r)) → (rows : List R) → list_all p rows ≡ true → Every P (by_number number value rows)
   by_number-every P p each rows all = put-every P p each rows empty all (every-empty P)
 
-  -- for put-len: n or n + 1, whichever b picks, is at most n + 1
   at_most : (b : Bool) (n : ℕ) → cond b n (n + 1) ≤ n + 1
   at_most true n = omega arith
   at_most false n = omega arith
 
-  -- putting rows into a map adds at most one value for each row
   put-len : (rows : List R) (m : FinMap nat_cmp V) → len (put_rows number value rows m) ≤ length rows + len m
   put-len [] m = omega arith
   put-len (r ∷ rows) m =
       let more : len (insert m (number r) (value r)) ≤ len m + 1 = rw (len-insert nat_cmp_total m (number r) (value r)) (at_most (contains_key m (number r)) (len m)) in
       omega (arith, put-len rows (insert m (number r) (value r)), more)
 
-  -- a map made of rows has no more values than there are rows
   pub by_number-len : (rows : List R) → len (by_number number value rows) ≤ length rows
   by_number-len rows = omega (arith, put-len rows empty, len-empty nat_cmp V)
 
 -- ---- numbers
 
--- for in_range: the minimum of n and `most` is at least `low`, if both are
 min_low : (low n most : ℕ) → low ≤ n → low ≤ most → low ≤ min n most
 min_low low n most h k = grind arith
 
--- for in_range: the minimum of n and `most` is at most `high`, if n is
 min_high : (n high most : ℕ) → n ≤ high → min n most ≤ high
 min_high n high most h = grind arith
 
@@ -92,7 +86,6 @@ in_range low high most (pos n) h e =
     (min_low low n most least h, min_high n high most highest)
 in_range low high most (negsuc n) h e = absurd (false≢true e)
 
--- m is at most n, if nat_le m n is true
 pub from_le : (m n : ℕ) → nat_le m n ≡ true → m ≤ n
 from_le m n h = grind (arith, nat_tests)
 
@@ -107,42 +100,35 @@ row_put things books e r true inside are =
     AreBooks-with_amount books e (thing_at (as_u32 r.thing)) r.amount things are (omega (arith, few, location, are.count))
 row_put things books e r false inside are = are
 
--- books of `things` things (AreBooks) are still books of `things` things once a row is read into them
 row_read : (things : ℕ) (books : BooksValue) (r : StoredBooks) → AreBooks things books → AreBooks things (with_books_row books r)
 row_read things books r are =
     let put = λ (e : BooksEntry). cond (nat_lt (as_u32 r.thing) books.things) (with_amount books e (thing_at (as_u32 r.thing)) r.amount) books in
     elim (entry_numbered (as_u32 r.entry)) as (λ o. AreBooks things (option_map_or put o books)) [ None ↦ are | Some e ↦ row_put things books e r (nat_lt (as_u32 r.thing) books.things) refl are ]
 
--- reading a row whose thing is not one of the books' leaves the books unchanged
 pub row_unread : (books : BooksValue) (r : StoredBooks) → books.things ≤ as_u32 r.thing → with_books_row books r ≡ books
 row_unread books r past =
     let none : nat_lt (as_u32 r.thing) books.things ≡ false = grind (arith, nat_tests) in
     let put = λ (e : BooksEntry). with_amount books e (thing_at (as_u32 r.thing)) r.amount in
     elim (entry_numbered (as_u32 r.entry)) as (λ o. option_map_or (λ e. cond (nat_lt (as_u32 r.thing) books.things) (put e) books) o books ≡ books) [ None ↦ refl | Some e ↦ ap (λ b. cond b (put e) books) none ]
 
--- books of `things` things (AreBooks) are still books of `things` things once rows are read into them
 pub put-books : (things : ℕ) (rows : List StoredBooks) (books : BooksValue) → AreBooks things books → AreBooks things (with_books_rows rows books)
 put-books things [] books are = are
 put-books things (r ∷ rows) books are = put-books things rows (with_books_row books r) (row_read things books r are)
 
 -- ---- the ranges
 
--- a row's stock is from 1 to its item's stock limit in region n (stock_limit)
 abbrev IsStockInRange : WorldValue → ℕ → StoredMarket → Type 0
 IsStockInRange w n m = (1 ≤ as_u32 m.stock) × (as_u32 m.stock ≤ stock_limit w n (as_u32 m.item))
 
--- a row of region n whose stock is in its range has a stock from 1 to its item's stock limit there (InStock)
 row_stock_in_range : (w : WorldValue) (n : ℕ) (m : StoredMarket) → market_in_range w m ≡ true → (as_u32 m.region == n) ≡ true → IsStockInRange w n m
 row_stock_in_range w n m range of =
     subst (λ k. IsStockInRange w k m) (is_same (as_u32 m.region) n of) (in_range 1 (stock_limit w (as_u32 m.region) (as_u32 m.item)) most_u32 m.stock (omega arith) range)
 
--- each stock that rows in range give region n is from 1 to its item's stock limit there (stock_limit)
 stocks_in_range : (w : WorldValue) (n : ℕ) (markets : List StoredMarket) → list_all (market_in_range w) markets ≡ true → Every (λ i amount. (1 ≤ amount) × (amount ≤ stock_limit w n i)) (stocks_of n markets)
 stocks_in_range w n markets all =
     every_by (λ m. as_u32 m.item) (λ m. as_u32 m.stock) (λ i amount. (1 ≤ amount) × (amount ≤ stock_limit w n i)) (filter (λ m. as_u32 m.region == n) markets)
     (kept (λ m. as_u32 m.region == n) (IsStockInRange w n) markets (each_passes (market_in_range w) (λ m. (as_u32 m.region == n) ≡ true → IsStockInRange w n m) (row_stock_in_range w n) markets all))
 
--- a region assembled from rows in range has peasants, money and stocks in their ranges
 region_ranges : (w : WorldValue) (markets : List StoredMarket) (r : StoredRegion) → list_all (market_in_range w) markets ≡ true → region_in_range r ≡ true → IsRegion w (as_u32 r.number) (region_of markets r)
 region_ranges w markets r all h =
     let parts = and_parts (is_from 0 most_amount r.peasants) (is_from 0 most_amount r.money) h in
@@ -152,7 +138,6 @@ region_ranges w markets r all h =
       stocks = stocks_in_range w (as_u32 r.number) markets all;
     }
 
--- how much is done of a structure assembled from a row in range is at least 1, and at most its kind's size
 structure_ranges : (w : WorldValue) (r : StoredStructure) → structure_in_range w r ≡ true → (1 ≤ (structure_of r).done) × ((structure_of r).done ≤ size_of w (structure_of r).kind)
 structure_ranges w r h =
     let size = size_of w (as_u16 r.kind) in
@@ -160,16 +145,11 @@ structure_ranges w r h =
 
 -- the number, the men, the money and the guard flag of a row of `unit` are in their ranges
 pub record UnitRanges (r : StoredUnit) : Type 0 where
-  -- the unit's number is from 1 to last_unit
   pub number : is_from 1 last_unit r.number ≡ true
-  -- the unit has from 1 to men_limit men
   pub men : is_from 1 men_limit r.men ≡ true
-  -- the unit's money is from 0 to holding_limit
   pub money : is_from 0 holding_limit r.money ≡ true
-  -- the unit's guard flag is 0 or 1
   pub guard : is_from 0 1 r.guard ≡ true
 
--- a row of `unit` that passes unit_in_range has number, men, money and guard flag in their ranges (UnitRanges)
 pub unit_ranges : (r : StoredUnit) → unit_in_range r ≡ true → UnitRanges r
 unit_ranges r h =
     let number = is_from 1 last_unit r.number in
@@ -180,7 +160,6 @@ unit_ranges r h =
     let inner = and_parts number men middle.0 in
     record { number = inner.0; men = inner.1; money = middle.1; guard = outer.1 }
 
--- a unit assembled from rows in range has a number from 1 and a holding within the limits
 unit_ranges_read : (has : List StoredHas) (r : StoredUnit) → list_all has_in_range has ≡ true → unit_in_range r ≡ true → (1 ≤ as_u32 r.number) × IsHolding (unit_of has r).holding
 unit_ranges_read has r all h =
     let ranges = unit_ranges r h in (
@@ -194,24 +173,15 @@ unit_ranges_read has r all h =
 
 -- the campaign row and all rows of the other tables, but for mail and reports, pass the test of their ranges
 pub record NumberRanges (w : WorldValue) (p : Parts) : Type 0 where
-  -- the month and the next numbers of the campaign row are in their ranges
   pub head : campaign_row_in_range (campaign_row_of p) ≡ true
-  -- the number and the flag of each row of `faction` are in their ranges
   pub factions : list_all faction_in_range p.factions ≡ true
-  -- the peasants and the money of each row of `region` are in their ranges
   pub regions : list_all region_in_range p.regions ≡ true
-  -- the number, men, money and guard flag of each row of `unit` are in their ranges
   pub units : list_all unit_in_range p.units ≡ true
-  -- each row of `has` is of sort 1, or of sort 0 with an amount in its range
   pub has : list_all has_in_range p.has ≡ true
-  -- the number of each row of `structure`, and how much of the structure is done, are in their ranges
   pub structures : list_all (structure_in_range w) p.structures ≡ true
-  -- the amount of each row of `books` is not 0, and within the bound for the month and the factions
   pub books : list_all (books_in_range (books_bound p)) p.books ≡ true
-  -- the stock of each row of `market` is from 1 to its limit
   pub markets : list_all (market_in_range w) p.markets ≡ true
 
--- if rows pass numbers_in_range, all rows but those of mail and reports pass the test of their ranges (NumberRanges)
 pub number_ranges : (w : WorldValue) (p : Parts) → numbers_in_range w p ≡ true → NumberRanges w p
 number_ranges w p h =
     let head = campaign_row_in_range (campaign_row_of p) in
@@ -234,16 +204,11 @@ number_ranges w p h =
 
 -- the month and the next numbers of a campaign row are in their ranges
 pub record HeadRanges (h : StoredCampaignRow) : Type 0 where
-  -- the month last closed is from 0 to last_month
   pub month : is_from 0 last_month h.month ≡ true
-  -- the next faction number is from 1 to one above last_faction
   pub next_faction : is_from 1 (last_faction + 1) h.next_faction ≡ true
-  -- the next unit number is from 1 to one above last_unit
   pub next_unit : is_from 1 (last_unit + 1) h.next_unit ≡ true
-  -- the next structure number is from 1 to one above most_structures
   pub next_structure : is_from 1 (most_structures + 1) h.next_structure ≡ true
 
--- a campaign row that passes campaign_row_in_range has its month and next numbers in their ranges (HeadRanges)
 pub head_ranges : (h : StoredCampaignRow) → campaign_row_in_range h ≡ true → HeadRanges h
 head_ranges h e =
     let month = is_from 0 last_month h.month in
@@ -257,16 +222,11 @@ head_ranges h e =
 
 -- the tables of factions, regions, units and structures have no more rows than their limits
 pub record HaveFewRows (p : Parts) : Type 0 where
-  -- there are at most last_faction rows of `faction`
   pub factions : length p.factions ≤ last_faction
-  -- there are at most most_regions rows of `region`
   pub regions : length p.regions ≤ most_regions
-  -- there are at most most_units rows of `unit`
   pub units : length p.units ≤ most_units
-  -- there are at most most_structures rows of `structure`
   pub structures : length p.structures ≤ most_structures
 
--- if rows pass are_few, the tables of factions, regions, units and structures have no more rows than their limits
 pub counts : (p : Parts) → are_few p ≡ true → HaveFewRows p
 counts p h =
     let factions = nat_le (length p.factions) last_faction in
@@ -279,7 +239,6 @@ counts p h =
     record { factions = from_le _ _ inner.0; regions = from_le _ _ inner.1; units = from_le _ _ middle.1; structures = from_le _ _ outer.1 }
 
 module _ (w : WorldValue) (p : Parts) (h : AreRowsInRange w p) where
-  -- every unit of the campaign assembled from rows in range has men
   pub HaveMen-said : HaveMen (campaign_of w p)
   unfolding campaign_of
   HaveMen-said =

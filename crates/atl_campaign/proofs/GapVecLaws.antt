@@ -16,8 +16,6 @@ module _ {A : Type 0} (xs : List A) (free position : ℕ) where
   count : free + position - free ≡ position
   count = omega arith
 
-  -- ---- the elements before an index moved, towards it or away from it
-
   -- moving the elements between the free slots and an index up by one removes the element at that index from the list
   pub closed : free + position < length xs → drop (free + 1) (copy_within xs free (free + position) (free + 1)) ≡ remove (drop free xs) position
   closed l =
@@ -33,16 +31,12 @@ module _ {A : Type 0} (xs : List A) (free position : ℕ) where
       rw (drop-set-add (free - 1) (copy_within xs free (free + position) (free - 1)) position x, list_after_copy xs free (free + position) (free - 1) (omega arith), count, drop_more xs (free - 1 + position) x (omega arith), after)
       (set_at (take position (drop free xs)) (get_or xs (free - 1 + position) x) (drop (free + position) xs) x position (length-take-le position (drop free xs) long) ∙ ap (λ ys. take position (drop free xs) ++ x ∷ ys) (sym (drop-drop position free xs)))
 
-  -- ---- the elements after an index moved
-
-  -- removing an element past the free slots from the vector removes it from the list that follows these slots
   pub removed : free + position ≤ length xs → drop free (remove xs (free + position)) ≡ remove (drop free xs) position
   removed l =
       let long : free ≤ length (take (free + position) xs) = omega (arith, length-take-le (free + position) xs l) in
       let after : suc (free + position) ≡ free + suc position = omega arith in
       drop-append-le free (take (free + position) xs) (drop (suc (free + position)) xs) long ∙ rw (drop-take free position xs, after) (ap (λ ys. take position (drop free xs) ++ ys) (sym (drop-drop (suc position) free xs)))
 
-  -- inserting an element past the free slots into the vector inserts it into the list that follows these slots
   pub inserted : (x : A) → free + position ≤ length xs → drop free (insert xs (free + position) x) ≡ insert (drop free xs) position x
   inserted x l =
       let long : free ≤ length (take (free + position) xs) = omega (arith, length-take-le (free + position) xs l) in

@@ -24,27 +24,21 @@ abbrev pub as_gone : Faction → Faction
 as_gone f = record f { gone = true }
 
 module _ (c : CampaignValue) (n : ℕ) (x : Faction) (is : get c.factions n ≡ Some x) where
-  -- the campaign's factions with faction n set gone
   abbrev factions : FinMap nat_cmp Faction
   factions = insert c.factions n (as_gone x)
 
-  -- the campaign with faction n set gone
   abbrev left : CampaignValue
   left = record c { factions = factions }
 
-  -- a number without a faction is not n, which has one
   free_apart : (k : ℕ) → get c.factions k ≡ None → k ≢ n
   free_apart k free same = none_some x (sym free ∙ ap (get c.factions) same ∙ is)
 
-  -- a number without a faction still has none when faction n is set gone
   none_kept : (k : ℕ) → get c.factions k ≡ None → get factions k ≡ None
   none_kept k none = get-insert_other c.factions n k (as_gone x) (free_apart k none) ∙ none
 
-  -- a faction that was there still is when faction n is set gone
   there : (k : ℕ) → HasValue c.factions k → HasValue factions k
   there k h = there-insert c.factions n k (as_gone x) h
 
-  -- the campaign's counts and numbers stay in their ranges (AreInRange) when faction n is set gone
   numbers_kept : (w : WorldValue) → AreInRange w c → AreInRange w left
   numbers_kept w old = record {
     month = old.month;
@@ -65,7 +59,6 @@ module _ (c : CampaignValue) (n : ℕ) (x : Faction) (is : get c.factions n ≡ 
   abbrev JoinedOnce : ℕ → Faction → ℕ → Faction → Type 0
   JoinedOnce k f m g = f.joined_as ≡ g.joined_as → k ≡ m
 
-  -- names and pass texts keep their rules, and no two factions joined under the same name, when faction n is set gone
   names_kept : AreNamed c → AreNamed left
   names_kept old = record {
     pass = old.pass;
@@ -77,7 +70,6 @@ module _ (c : CampaignValue) (n : ℕ) (x : Faction) (is : get c.factions n ≡ 
     structures = old.structures;
   }
 
-  -- everything that the campaign names by number still exists when faction n is set gone
   known_kept : (w : WorldValue) → AreKnown w c → AreKnown w left
   known_kept w old = record {
     regions = old.regions;
@@ -87,8 +79,6 @@ module _ (c : CampaignValue) (n : ℕ) (x : Faction) (is : get c.factions n ≡ 
     posts = posted-there there old.posts;
   }
 
-  -- with faction n set gone, factions and structures stay numbered without a gap, and units have numbers below the next
-  -- unit number (AreNumbered)
   next_kept : AreNumbered c → AreNumbered left
   next_kept old = record {
     factions = record { first = none_kept 0 old.factions.first; count = old.factions.count ∙ ap (λ l. l + 1) (sym (same_len c.factions n x (as_gone x) is)); free = λ k l. none_kept k (old.factions.free k l) };
@@ -96,7 +86,6 @@ module _ (c : CampaignValue) (n : ℕ) (x : Faction) (is : get c.factions n ≡ 
     units = old.units;
   }
 
-  -- the campaign stays steady with faction n set gone (`left`), if the faction has no units
   steady_gone : (w : WorldValue) → numbers_of_faction n c.units ≡ [] → IsSteady w c → IsSteady w left
   steady_gone w none old = record {
     numbers = numbers_kept w old.numbers;
@@ -110,7 +99,6 @@ module _ (c : CampaignValue) (n : ℕ) (x : Faction) (is : get c.factions n ≡ 
     guarded = old.guarded;
   }
 
-  -- with_gone gives the campaign with faction n set gone
   gone-known : with_gone c n ≡ left
   gone-known = ap (λ m. record c { factions = m }) (changed-known as_gone c.factions n x is)
 
@@ -118,35 +106,27 @@ module _ (c : CampaignValue) (n : ℕ) (x : Faction) (is : get c.factions n ≡ 
   pub steady-gone : (w : WorldValue) → numbers_of_faction n c.units ≡ [] → IsSteady w c → IsSteady w (with_gone c n)
   steady-gone w none old = subst (IsSteady w) (sym gone-known) (steady_gone w none old)
 
-  -- setting a faction gone does not change how many factions there are
   pub count-gone : len (with_gone c n).factions ≡ len c.factions
   count-gone = ap (λ (d : CampaignValue). len d.factions) gone-known ∙ same_len c.factions n x (as_gone x) is
 
-  -- a faction that is there once n is set gone was there before
   was_there : (k : ℕ) → HasValue factions k → HasValue c.factions k
   was_there k (f, here) = every-insert (λ k f. HasValue c.factions k) c.factions n (as_gone x) (x, is) (λ k f here. (f, here)) k f here
 
-  -- each faction that with_gone leaves was there before
   pub known-gone : (k : ℕ) → HasValue (with_gone c n).factions k → HasValue c.factions k
   known-gone k h = was_there k (subst (λ (d : CampaignValue). HasValue d.factions k) gone-known h)
 
-  -- once faction n is set gone, it is found with the flag gone
   pub get-gone : get (with_gone c n).factions n ≡ Some (as_gone x)
   get-gone = ap (λ (d : CampaignValue). get d.factions n) gone-known ∙ get-insert_same c.factions n (as_gone x)
 
-  -- setting faction n gone changes no other faction
   pub get-gone_other : (k : ℕ) → k ≢ n → get (with_gone c n).factions k ≡ get c.factions k
   get-gone_other k apart = ap (λ (d : CampaignValue). get d.factions k) gone-known ∙ get-insert_other c.factions n k (as_gone x) apart
 
--- with_gone changes nothing where there is no faction n
 pub none-gone : (c : CampaignValue) (n : ℕ) → get c.factions n ≡ None → with_gone c n ≡ c
 none-gone c n is = ap (λ o. record c { factions = with_changed_option as_gone c.factions n o }) is
 
--- the total of each thing stays as it is when a faction is set gone
 pub total-gone : (c : CampaignValue) (n : ℕ) (t : Thing) → total (with_gone c n) t ≡ total c t
 unfolding total
 total-gone c n t = refl
 
--- setting a faction gone, with its mark, marks all that changes (MarksChanges)
 pub marks-gone_faction : (c : MarkedCampaign) (n : ℕ) → MarksChanges c (record { value = with_gone c.value n; marks = mark_faction c n })
 marks-gone_faction = marks-faction as_gone

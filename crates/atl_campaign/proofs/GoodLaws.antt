@@ -20,26 +20,19 @@ use Rattle.atl_records.proofs.EveryLaws.{every-empty, every-insert, there-new, t
 
 -- ---- mail and reports
 
--- mail and reports that are of factions of one map (AreOfFactions) are of factions of a later map too, if the later one
--- has all factions of the first
 pub posted-there : {factions later : FinMap nat_cmp Faction} {mail reports : FinMap nat_cmp (List ℕ)} → ((n : ℕ) → HasValue factions n → HasValue later n) → AreOfFactions factions mail reports → AreOfFactions later mail reports
 posted-there stays posts = record { mail = λ n text is. stays n (posts.mail n text is); reports = λ n text is. stays n (posts.reports n text is) }
 
--- once all mail is removed, the mail, which is empty then, and the reports are still of factions that exist
--- (AreOfFactions)
 pub posted-unsent : {factions : FinMap nat_cmp Faction} {mail reports : FinMap nat_cmp (List ℕ)} → AreOfFactions factions mail reports → AreOfFactions factions empty reports
 posted-unsent posts = record { mail = every-empty _; reports = posts.reports }
 
--- empty mail and empty reports are of factions that exist (AreOfFactions)
 pub AreOfFactions-empty : {factions : FinMap nat_cmp Faction} → AreOfFactions factions empty empty
 AreOfFactions-empty = record { mail = every-empty _; reports = every-empty _ }
 
 module _ (w : WorldValue) (c : CampaignValue) (month : ℕ) (mail reports : FinMap nat_cmp (List ℕ)) where
-  -- the campaign with the given month, mail and reports in place of its own
   abbrev posted : CampaignValue
   posted = record c { month = month; mail = mail; reports = reports }
 
-  -- counts and numbers stay in their ranges (AreInRange) with the given month, up to last_month, mail and reports
   posted-numbers : month ≤ last_month → AreInRange w c → AreInRange w posted
   posted-numbers early old = record {
     month = early;
@@ -56,12 +49,10 @@ module _ (w : WorldValue) (c : CampaignValue) (month : ℕ) (mail reports : FinM
     books = old.books;
   }
 
-  -- names and pass texts still keep their rules (AreNamed) with the given month, mail and reports
   posted-names : AreNamed c → AreNamed posted
   posted-names old = record { pass = old.pass; factions = old.factions; joined = old.joined; units = old.units; structures = old.structures }
 
   module _ (early : month ≤ last_month) (posts : AreOfFactions c.factions mail reports) where
-    -- all that the campaign names by number still exists (AreKnown) with the given mail and reports of its factions
     posted-known : AreKnown w c → AreKnown w posted
     posted-known old = record { regions = old.regions; markets = old.markets; units = old.units; structures = old.structures; posts = posts }
 
@@ -79,8 +70,6 @@ module _ (w : WorldValue) (c : CampaignValue) (month : ℕ) (mail reports : FinM
       guarded = old.guarded;
     }
 
--- a sound campaign stays sound with the given mail and reports of its factions, if each mail is a mailing of a faction
--- that is not gone
 posted-sound : (w : WorldValue) (c : CampaignValue) (mail reports : FinMap nat_cmp (List ℕ)) → AreOfFactions c.factions mail reports
     → Every (λ n text. IsMailingOf n text × IsActive c n) mail → IsSound w c → IsSound w (record c { mail = mail; reports = reports })
 unfolding total
@@ -93,21 +82,17 @@ posted-sound w c mail reports posts sent old = record {
   mail = sent;
 }
 
--- storing a report of a faction that is there keeps a campaign sound
 pub IsSound-with_report : (w : WorldValue) (c : CampaignValue) (faction : ℕ) (text : List ℕ) → HasValue c.factions faction → IsSound w c → IsSound w (with_report c faction text)
 IsSound-with_report w c faction text there old =
     let posts = old.steady.known.posts in
     posted-sound w c c.mail (insert c.reports faction text) (record { mail = posts.mail; reports = every-insert (λ n text. HasValue c.factions n) c.reports faction text there posts.reports }) old.mail old
 
--- storing a report of a faction that is there keeps a campaign good
 pub IsGood-with_report : (w : WorldValue) (c : CampaignValue) (faction : ℕ) (text : List ℕ) → HasValue c.factions faction → IsGood w c → IsGood w (with_report c faction text)
 IsGood-with_report w c faction text there good = record {
   sound = IsSound-with_report w c faction text there good.sound;
   reported = λ n f is. there-insert c.reports faction n text (good.reported n f is);
 }
 
--- storing, for a faction that is there and not gone (IsActive), a text that is short enough and has the faction's
--- number in its header (IsMailingOf) keeps a campaign good
 pub IsGood-with_mail : (w : WorldValue) (c : CampaignValue) (faction : ℕ) (text : List ℕ) → IsMailingOf faction text → IsActive c faction → IsGood w c → IsGood w (with_mail c faction text)
 IsGood-with_mail w c faction text sent active good =
     let posts = good.sound.steady.known.posts in
@@ -138,17 +123,14 @@ IsGood-joined w name pass word c d faction unit text is good sound =
 
 -- ---- a sound campaign is early, and so a good one
 
--- a unit with men whose guard flag is set guards
 set_guards : (flag : Bool) (men : ℕ) → 1 ≤ men → flag ≡ true → (flag && nat_lt 0 men) ≡ true
 set_guards flag men h set = let some : nat_lt 0 men ≡ true = grind (arith, nat_tests) in both_true set some
 
--- each sound campaign is early: in each region all guard flags set are of one faction
 pub sound_early : SoundAreEarly
 sound_early w c sound = record {
   steady = sound.steady;
   flags = λ n u is m v there e f. sound.steady.guarded n u is m v there (set_guards u.holding.guard u.holding.men (sound.men n u is) e) (set_guards v.holding.guard v.holding.men (sound.men m v there) f);
 }
 
--- each good campaign is early: in each region all guard flags set are of one faction
 pub IsEarly-good : GoodAreEarly
 IsEarly-good w c good = sound_early w c good.sound

@@ -19,43 +19,34 @@ module _ {R : Type 0} (test : R → Bool) where
   first_kept P r rows true e one all = (one e, all)
   first_kept P r rows false e one all = all
 
-  -- P holds of the filtered rows, if it holds of each row that passes the test
   pub kept : (P : R → Type 0) (rows : List R) → AllByRecursion (λ r. test r ≡ true → P r) rows → AllByRecursion P (filter test rows)
   kept P [] all = tt
   kept P (r ∷ rows) all = first_kept P r (filter test rows) (test r) refl all.0 (kept P rows all.1)
 
-  -- if P holds of rows with r in front where r passes the test (b), it holds of the rows, and of r if r passes
   first_unkept : (P : R → Type 0) (r : R) (rows : List R) (b : Bool) → test r ≡ b → AllByRecursion P (cond b (r ∷ rows) rows) → (test r ≡ true → P r) × AllByRecursion P rows
   first_unkept P r rows true e all = (λ _. all.0, all.1)
   first_unkept P r rows false e all = (λ passes. absurd (false≢true (sym e ∙ passes)), all)
 
-  -- if P holds of the filtered rows, it holds of each row that passes the test
   pub unkept : (P : R → Type 0) (rows : List R) → AllByRecursion P (filter test rows) → AllByRecursion (λ r. test r ≡ true → P r) rows
   unkept P [] all = tt
   unkept P (r ∷ rows) all = let first = first_unkept P r (filter test rows) (test r) refl all in (first.0, unkept P rows first.1)
 
-  -- if P holds of each row, it holds of the filtered rows
   pub filter_each : (P : R → Type 0) (rows : List R) → AllByRecursion P rows → AllByRecursion P (filter test rows)
   filter_each P rows all = kept P rows (each_follows P (λ r. test r ≡ true → P r) (λ r h _. h) rows all)
 
-  -- distinct rows are still distinct once they are filtered
   pub filter_apart : (e : R → R → Bool) (rows : List R) → IsDistinct e rows → IsDistinct e (filter test rows)
   unfolding IsDistinct
   filter_apart e [] d = tt
   filter_apart e (r ∷ rows) d = either (filter_apart e rows d.1) (test r)
     where
-      -- for filter_apart: if the filtered rows are distinct, they still are with r in front where r passes the test (b)
       either : IsDistinct e (filter test rows) → (b : Bool) → IsDistinct e (cond b (r ∷ filter test rows) (filter test rows))
       either rest true = (filter_each (λ s. e r s ≡ false) rows d.0, rest)
       either rest false = rest
 
-  -- filtering rows by `test` and then by `other` is filtering them by both at once
   pub filter_both : (other : R → Bool) (rows : List R) → filter other (filter test rows) ≡ filter (λ r. test r && other r) rows
   filter_both other [] = refl
   filter_both other (r ∷ rows) = either (filter_both other rows) (test r)
     where
-      -- for filter_both: if filtering `rows` in turn and at once gives the same, so it does with r in front, whether r
-      -- passes the first test (b) or not
       either : filter other (filter test rows) ≡ filter (λ r. test r && other r) rows → (b : Bool)
           → filter other (cond b (r ∷ filter test rows) (filter test rows)) ≡ cond (b && other r) (r ∷ filter (λ r. test r && other r) rows) (filter (λ r. test r && other r) rows)
       either rest true = ap (λ rs. cond (other r) (r ∷ rs) rs) rest
@@ -79,11 +70,9 @@ module _ {R U : Type 0} (group : R → ℕ) (number : U → ℕ) where
   abbrev pub of_group : ℕ → List R → List R
   of_group n rows = filter (λ r. group r == n) rows
 
-  -- the rows whose group has another number than n
   abbrev others : ℕ → List R → List R
   others n rows = filter (λ r. not (group r == n)) rows
 
-  -- the rows of group m are the same once the rows of another group n are left out
   same_group : (n m : ℕ) → m ≢ n → (rows : List R) → of_group m rows ≡ of_group m (others n rows)
   same_group n m apart [] = refl
   same_group n m apart (r ∷ rows) =
@@ -97,13 +86,11 @@ module _ {R U : Type 0} (group : R → ℕ) (number : U → ℕ) where
             ap (λ rs. cond (group r == m) (r ∷ rs) rs) (same_group n m apart rows) ∙ sym (ap (λ b. of_group m (cond (not b) (r ∷ others n rows) (others n rows))) elsewhere)
       ]
 
-  -- the rows of groups other than n, joined, are the same once the rows of group n are left out
   same_groups : (n : ℕ) (rows : List R) (units : List U) → AllByRecursion (λ u. number u ≢ n) units → flat_map (λ u. of_group (number u) rows) units ≡ flat_map (λ u. of_group (number u) (others n rows)) units
   same_groups n rows [] apart = refl
   same_groups n rows (u ∷ units) apart =
       ap (λ rs. rs ++ flat_map (λ u. of_group (number u) rows) units) (same_group n (number u) apart.0 rows) ∙ ap (λ rs. of_group (number u) (others n rows) ++ rs) (same_groups n rows units apart.1)
 
-  -- if g is n or some unit's number, and g is not n, g is some unit's number
   of_others : (n g : ℕ) (units : List U) → (n ≡ g) ⊎ HasNumber number units g → not (g == n) ≡ true → HasNumber number units g
   of_others n g units (inl e) other =
       let same : (g == n) ≡ true = grind (arith, nat_tests) in
@@ -125,7 +112,6 @@ module _ {R U : Type 0} (group : R → ℕ) (number : U → ℕ) where
       (IsPermutation-trans (mine ++ theirs) (mine ++ left) rows (IsPermutation-append_right mine theirs left (by_group units left apart.1 of))
       (IsPermutation-sym rows (mine ++ left) (IsPermutation-filter_both (λ r. group r == n) (λ r. not (group r == n)) (λ r. refl) rows)))
 
-  -- if f u and g u are the same rows in some order for each unit u, so are the rows of f and of g for all units, joined
   each_group : (f g : U → List R) → ((u : U) → IsPermutation (f u) (g u)) → (units : List U) → IsPermutation (flat_map f units) (flat_map g units)
   each_group f g same [] = IsPermutation-refl []
   each_group f g same (u ∷ units) = IsPermutation-append (f u) (g u) (flat_map f units) (flat_map g units) (same u) (each_group f g same units)
@@ -145,18 +131,14 @@ module _ {R K : Type 0} (key : R → K) (same : K → K → Bool) (itself : (k :
   abbrev pub IsOfGroupWithP : R → Type 0
   IsOfGroupWithP r = P r × (mine r ≡ true)
 
-  -- if P holds of each row, the rows that the test `mine` lets through are rows of the group for which P holds
-  -- (IsOfGroupWithP)
   pub all_mine : (rows : List R) → AllByRecursion P rows → AllByRecursion IsOfGroupWithP (filter mine rows)
   all_mine rows all = kept mine IsOfGroupWithP rows (each_follows P (λ r. mine r ≡ true → IsOfGroupWithP r) (λ r one passes. (one, passes)) rows all)
 
   -- if rows of one thing have one key, no thing occurs twice among rows with different keys
   module _ (same_key : (r s : R) → IsOfGroupWithP r → IsOfGroupWithP s → thing r ≡ thing s → ◌≡◌ {A = K} (key s) (key r)) where
-    -- rows of the group with different keys are of different things, if rows of one thing have one key
     other_thing : (r s : R) → IsOfGroupWithP r → IsOfGroupWithP s → same (key s) (key r) ≡ false → thing r ≢ thing s
     other_thing r s a b d e = false≢true (sym (ap (same (key s)) (same_key r s a b e) ∙ d) ∙ itself (key s))
 
-    -- no two rows of the group are of one thing, if rows of one thing have one key and no two rows have equal keys
     pub things_apart : (rows : List R) → AllByRecursion P rows → IsDistinct same (map key rows) → HaveDistinctNumbers thing (filter mine rows)
     things_apart rows all d =
         let keys = IsDistinct-map key same (filter mine rows) (filter_apart mine (λ r s. same (key r) (key s)) rows (IsDistinct-of_map key same rows d)) in
@@ -170,7 +152,6 @@ module _ {R : Type 0} (thing amount : R → ℕ) where
     abbrev line : ℕ × ℕ → List R
     line e = filter some (row e.0 e.1 ∷ [])
 
-    -- if each row is the one written for its thing and amount, writing all rows' things and amounts gives the rows
     row_lines : (rows : List R) → AllByRecursion (λ r. (row (thing r) (amount r) ≡ r) × (some r ≡ true)) rows → flat_map (λ r. line (thing r, amount r)) rows ≡ rows
     row_lines [] all = refl
     row_lines (r ∷ rows) all =

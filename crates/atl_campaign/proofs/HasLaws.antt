@@ -10,8 +10,8 @@ use Rattle.std.specs.List.Sorted.{IsPermutation}
 use Rattle.std.proofs.lemmas.Bool.{and_parts}
 use Rattle.std.proofs.lemmas.List.{append-nil}
 use Rattle.std.proofs.lemmas.List.Sorted.{IsPermutation-refl, IsPermutation-sym, IsPermutation-trans, IsPermutation-append}
-use Rattle.atl_campaign.specs.declared.parts.StoredHas.{StoredHas}
-use Rattle.atl_campaign.specs.declared.parts.StoredUnit.{StoredUnit}
+use Rattle.atl_rows.specs.declared.parts.StoredHas.{StoredHas}
+use Rattle.atl_rows.specs.declared.parts.StoredUnit.{StoredUnit}
 use Rattle.atl_records.specs.declared.records.Unit.{Unit}
 use Rattle.atl_campaign.specs.FromRows.{as_u32, is_of_unit_and_sort, things_had, unit_of, by_number}
 use Rattle.atl_campaign.specs.RowRules.{Key, key_cmp, has_key}
@@ -25,11 +25,9 @@ use Rattle.atl_campaign.proofs.MapOfRowsLaws.{HaveDistinctNumbers, HasNumber, ea
 abbrev pub IsOfUnits : List StoredUnit → StoredHas → Type 0
 IsOfUnits units h = HasNumber (λ r. as_u32 r.number) units (as_u32 h.unit) × ((as_u32 h.sort ≡ 0) ⊎ (as_u32 h.sort ≡ 1))
 
--- the given rows of `has` that are of unit n
 abbrev rows_of_unit : ℕ → List StoredHas → List StoredHas
 rows_of_unit n has = of_group (λ h. as_u32 h.unit) (λ (r : StoredUnit). as_u32 r.number) n has
 
--- a unit's rows of items followed by its rows of days are all its rows, in some order, if each row is of one of these
 items_and_days_are_all : (n : ℕ) (has : List StoredHas) → AllByRecursion (λ h. (as_u32 h.sort ≡ 0) ⊎ (as_u32 h.sort ≡ 1)) has → IsPermutation (filter (is_of_unit_and_sort n 0) has ++ filter (is_of_unit_and_sort n 1) has) (rows_of_unit n has)
 items_and_days_are_all n has sorts =
     let mine = rows_of_unit n has in
@@ -38,16 +36,12 @@ items_and_days_are_all n has sorts =
     subst (λ hs. IsPermutation hs mine) (ap (λ hs. of_sort 0 ++ hs) (append-nil (of_sort 1)) ∙ ap (λ hs. hs ++ of_sort 1) (both 0) ∙ ap (λ hs. filter (is_of_unit_and_sort n 0) has ++ hs) (both 1))
     (gathered (λ h. as_u32 h.sort) (λ s. s) of_sort (0 ∷ 1 ∷ []) mine (λ s. IsPermutation-refl (of_sort s)) (((λ e. absurd (omega arith)), tt), (tt, tt)) all)
   where
-    -- the sort of a row of items or days is one of 0 and 1
     among : (h : StoredHas) → (as_u32 h.sort ≡ 0) ⊎ (as_u32 h.sort ≡ 1) → HasNumber (λ s. s) (0 ∷ 1 ∷ []) (as_u32 h.sort)
     among h (inl item) = inl (sym item)
     among h (inr skill) = inr (inl (sym skill))
 
-    -- filtering unit n's rows by a sort is filtering all rows by unit n and that sort
     both : (s : ℕ) → filter (λ h. as_u32 h.sort == s) (rows_of_unit n has) ≡ filter (is_of_unit_and_sort n s) has
     both s = filter_both (λ h. as_u32 h.unit == n) (λ h. as_u32 h.sort == s) has
-
--- ---- the things of a unit
 
 -- a number of a row that is read as it is: it fits 32 bits
 abbrev pub FitsU32 : ℤ → Type 0
@@ -55,27 +49,19 @@ FitsU32 z = z ≡ pos (as_u32 z)
 
 -- a row of `has` whose unit, sort and thing are read as they are: they fit 32 bits
 pub record KeyFitsU32 (h : StoredHas) : Type 0 where
-  -- the row's unit number is read as it is: it fits 32 bits
   pub unit : FitsU32 h.unit
-  -- the row's sort is read as it is: it fits 32 bits
   pub sort : FitsU32 h.sort
-  -- the number of the row's item or skill is read as it is: it fits 32 bits
   pub thing : FitsU32 h.thing
 
 -- a row of `has` whose key and amount are read as they are, with an amount other than 0
 pub record IsExactGoods (h : StoredHas) : Type 0 where
-  -- the row's unit, sort and thing are read as they are: they fit 32 bits
   pub keys : KeyFitsU32 h
-  -- the row's amount is read as it is: it fits 32 bits
   pub amount : FitsU32 h.amount
-  -- the row's amount is not 0
   pub some : is_zero h.amount ≡ false
 
--- the number of the item or skill in a row of `has`, as it is read
 abbrev thing_of : StoredHas → ℕ
 thing_of h = as_u32 h.thing
 
--- the amount in a row of `has`, as it is read
 abbrev amount_of : StoredHas → ℕ
 amount_of h = as_u32 h.amount
 
@@ -83,19 +69,15 @@ amount_of h = as_u32 h.amount
 abbrev IsRowOfUnit : ℕ → ℕ → StoredHas → Type 0
 IsRowOfUnit n sort h = KeyFitsU32 h × (is_of_unit_and_sort n sort h ≡ true)
 
--- a row that is read as one of unit n, and whose key is read as it is, has the unit number n
 its_unit : (n sort : ℕ) (h : StoredHas) → IsRowOfUnit n sort h → h.unit ≡ pos n
 its_unit n sort h (exact, of) = exact.unit ∙ ap pos (is_same (as_u32 h.unit) n (and_parts (as_u32 h.unit == n) (as_u32 h.sort == sort) of).0)
 
--- a row that is read as one of a sort, and whose key is read as it is, has the number of that sort
 its_sort : (n sort : ℕ) (h : StoredHas) → IsRowOfUnit n sort h → h.sort ≡ pos sort
 its_sort n sort h (exact, of) = exact.sort ∙ ap pos (is_same (as_u32 h.sort) sort (and_parts (as_u32 h.unit == n) (as_u32 h.sort == sort) of).1)
 
--- a row of `has` is the row made of its unit, sort, thing and amount, if all are read as they are
 same_row : (n sort : ℕ) (h : StoredHas) → IsRowOfUnit n sort h → FitsU32 h.amount → has_row n sort (thing_of h) (amount_of h) ≡ h
 same_row n sort h had amount = λ i. record { unit = sym (its_unit n sort h had) i; sort = sym (its_sort n sort h had) i; thing = sym had.0.thing i; amount = sym amount i }
 
--- rows of `has` of one unit, sort and thing have the same key, if their keys are read as they are
 same_key : (n sort : ℕ) (g h : StoredHas) → IsRowOfUnit n sort g → IsRowOfUnit n sort h → thing_of g ≡ thing_of h → ◌≡◌ {A = Key} (has_key h) (has_key g)
 same_key n sort g h a b e =
     let unit = its_unit n sort h b ∙ sym (its_unit n sort g a) in
@@ -103,11 +85,9 @@ same_key n sort g h a b e =
     let thing = b.0.thing ∙ sym (ap pos e) ∙ sym a.0.thing in
     λ i. (unit i, kind i, thing i)
 
--- whether two keys compare equal
 abbrev pub is_same_key : Key → Key → Bool
 is_same_key a b = eq_by_cmp key_cmp a b
 
--- a key compares equal to itself
 pub ties_itself : (k : Key) → is_same_key k k ≡ true
 ties_itself k = (eq_by_cmp_equiv (then_total (then_total (on_total (λ (t : Key). t.0) int_cmp_total) (on_total (λ (t : Key). t.1) int_cmp_total)) (on_total (λ (t : Key). t.2) int_cmp_total))).refl k
 
@@ -116,15 +96,11 @@ ties_itself k = (eq_by_cmp_equiv (then_total (then_total (on_total (λ (t : Key)
 pub things_apart : (n sort : ℕ) (has : List StoredHas) → AllByRecursion KeyFitsU32 has → IsDistinct is_same_key (map has_key has) → HaveDistinctNumbers thing_of (filter (is_of_unit_and_sort n sort) has)
 things_apart n sort = group.things_apart has_key is_same_key ties_itself thing_of (is_of_unit_and_sort n sort) KeyFitsU32 (same_key n sort)
 
--- the goods of one sort (0 items, 1 days) that rows of `has` give unit n are written as the rows of unit n and that
--- sort, in some order. Each row has to be exact (IsExactGoods), and no two may have equal keys.
 goods_of_sort_are_rewritten : (n sort : ℕ) (has : List StoredHas) → AllByRecursion IsExactGoods has → IsDistinct is_same_key (map has_key has) → IsPermutation (rows_of_sort n sort (entries (things_had n sort has))) (filter (is_of_unit_and_sort n sort) has)
 goods_of_sort_are_rewritten n sort has all d =
     lines_order thing_of amount_of (has_row n sort) (λ h. not (is_zero h.amount)) (filter (is_of_unit_and_sort n sort) has) (things_apart n sort has (each_follows IsExactGoods KeyFitsU32 (λ h one. one.keys) has all) d)
     (each_follows (λ h. IsExactGoods h × (is_of_unit_and_sort n sort h ≡ true)) (λ h. (has_row n sort (thing_of h) (amount_of h) ≡ h) × (not (is_zero h.amount) ≡ true)) (λ h had. (same_row n sort h (had.0.keys, had.1) had.0.amount, ap not had.0.some)) (filter (is_of_unit_and_sort n sort) has) (group.all_mine has_key is_same_key ties_itself thing_of (is_of_unit_and_sort n sort) IsExactGoods has all))
 
--- the items and days that rows of `has` give unit n are written as the rows of unit n, in some order. Each row has to
--- be exact (IsExactGoods) and of one of the two sorts, and no two may have equal keys.
 goods_of_unit_are_rewritten : (n : ℕ) (has : List StoredHas) → AllByRecursion (λ h. (as_u32 h.sort ≡ 0) ⊎ (as_u32 h.sort ≡ 1)) has → AllByRecursion IsExactGoods has → IsDistinct is_same_key (map has_key has)
     → IsPermutation (rows_of_sort n 0 (entries (things_had n 0 has)) ++ rows_of_sort n 1 (entries (things_had n 1 has))) (rows_of_unit n has)
 goods_of_unit_are_rewritten n has sorts all d =
@@ -133,7 +109,6 @@ goods_of_unit_are_rewritten n has sorts all d =
     let rows = filter (is_of_unit_and_sort n 0) has ++ filter (is_of_unit_and_sort n 1) has in
     IsPermutation-trans (items ++ days) rows (rows_of_unit n has) (IsPermutation-append items (filter (is_of_unit_and_sort n 0) has) days (filter (is_of_unit_and_sort n 1) has) (goods_of_sort_are_rewritten n 0 has all d) (goods_of_sort_are_rewritten n 1 has all d)) (items_and_days_are_all n has sorts)
 
--- the rows of `has` that a unit's items and days are written as
 abbrev unit_lines : ℕ × Unit → List StoredHas
 unit_lines e = held_rows e.0 e.1.holding
 

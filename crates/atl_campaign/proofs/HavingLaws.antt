@@ -19,29 +19,21 @@ use Rattle.atl_campaign.proofs.HoldingLaws.{known_kept, next_kept, numbers_kept,
 -- a holding that a unit may have: with a valid name, men, money, items and days within their limits, and only items and
 -- skills of the world
 pub record MayHave (w : WorldValue) (h : HoldingValue) : Type 0 where
-  -- the men, the money and each item of the holding are within their limits
   pub limits : IsHolding h
-  -- the holding's name keeps the rule of names
   pub name : IsTrue (name_ok h.name)
-  -- each item that the holding lists exists in the world
   pub items : Every (λ i amount. i < length w.items) h.items
-  -- each skill that the holding lists exists in the world
   pub skills : Every (λ s days. s < length w.skills) h.days
-  -- each skill that the holding lists has at least 1 day, and at most most_days for each of the holding's men
   pub days : Every (λ s days. (1 ≤ days) × (days ≤ most_days * h.men)) h.days
 
--- the holding of a unit of a steady campaign is one that a unit may have (MayHave)
 pub may_have : (w : WorldValue) (c : CampaignValue) (n : ℕ) (u : Unit) → get c.units n ≡ Some u → IsSteady w c → MayHave w u.holding
 may_have w c n u is steady =
     let location = steady.known.units n u is in
     record { limits = (steady.numbers.units n u is).1; name = steady.names.units n u is; items = location.items; skills = location.skills; days = steady.days n u is }
 
 module _ (w : WorldValue) (c : CampaignValue) (n : ℕ) (u : Unit) (h : HoldingValue) (is : get c.units n ≡ Some u) where
-  -- unit u with the holding h in place of its own
   abbrev new_unit : Unit
   new_unit = record u { holding = h }
 
-  -- the campaign in which unit n has the holding h
   abbrev with_new_holding : CampaignValue
   with_new_holding = record c { units = insert c.units n new_unit }
 
@@ -71,6 +63,5 @@ module _ (w : WorldValue) (c : CampaignValue) (n : ℕ) (u : Unit) (h : HoldingV
       let flags = of_one_faction_kept w c n u h is (λ x. x.holding.guard) flag early.flags in
       record { steady = steady-having may (λ k x here m y there g k2 same. flags k x here m y there (flagged x g) (flagged y k2) same) early.steady; flags = flags }
     where
-      -- a unit that guards has its guard flag set
       flagged : (x : Unit) → guards x ≡ true → x.holding.guard ≡ true
       flagged x g = (and_parts x.holding.guard (nat_lt 0 x.holding.men) g).0

@@ -33,17 +33,11 @@ use Rattle.atl_campaign.proofs.RegionLaws.{get-insert_same, same_len}
 -- a holding that a unit may get: validly named, with men, money, items and days within limits, only items and skills of
 -- the world, and guarding only if the unit did
 pub record MayHaveWithoutNewGuard (w : WorldValue) (u : Unit) (h : HoldingValue) : Type 0 where
-  -- the men, the money and each item of the holding are within their limits
   pub limits : IsHolding h
-  -- the holding's name keeps the rule of names
   pub name : IsTrue (name_ok h.name)
-  -- each item that the holding lists exists in the world
   pub items : Every (λ i amount. i < length w.items) h.items
-  -- each skill that the holding lists exists in the world
   pub skills : Every (λ s days. s < length w.skills) h.days
-  -- each skill that the holding lists has at least 1 day, and at most most_days for each of the holding's men
   pub days : Every (λ s days. (1 ≤ days) × (days ≤ most_days * h.men)) h.days
-  -- the unit guards with the holding only if the unit guarded before
   pub guard : guards (record u { holding = h }) ≡ true → guards u ≡ true
 
 -- a unit of a steady campaign may get any money up to holding_limit, with the rest of its holding unchanged
@@ -67,19 +61,15 @@ structure_in (Some y) z = y.structure
 structure_in None z = z.structure
 
 module _ (w : WorldValue) (c : CampaignValue) (n : ℕ) (u : Unit) (h : HoldingValue) (is : get c.units n ≡ Some u) where
-  -- unit u with the holding h in place of its own
   abbrev new_unit : Unit
   new_unit = record u { holding = h }
 
-  -- the campaign in which unit n has the holding h
   abbrev with_new_holding : CampaignValue
   with_new_holding = record c { units = insert c.units n new_unit }
 
-  -- a number without a unit is not n, which has one
   free_apart : (k : ℕ) → get c.units k ≡ None → k ≢ n
   free_apart k free same = none_some u (sym free ∙ ap (get c.units) same ∙ is)
 
-  -- counts and numbers stay in their ranges (AreInRange) when unit n gets the holding h, if h is within the limits
   pub numbers_kept : IsHolding h → AreInRange w c → AreInRange w with_new_holding
   numbers_kept limits old = record {
     month = old.month;
@@ -96,7 +86,6 @@ module _ (w : WorldValue) (c : CampaignValue) (n : ℕ) (u : Unit) (h : HoldingV
     books = old.books;
   }
 
-  -- all that is named by its number still exists when unit n gets holding h, if h's items and skills are the world's
   pub known_kept : Every (λ i amount. i < length w.items) h.items → Every (λ s days. s < length w.skills) h.days → AreKnown w c → AreKnown w with_new_holding
   known_kept items skills old = record {
     regions = old.regions;
@@ -108,8 +97,6 @@ module _ (w : WorldValue) (c : CampaignValue) (n : ℕ) (u : Unit) (h : HoldingV
     posts = old.posts;
   }
 
-  -- with h held by unit n, factions and structures stay numbered without a gap, and units have numbers below the next
-  -- unit number (AreNumbered)
   pub next_kept : AreNumbered c → AreNumbered with_new_holding
   next_kept old = record {
     factions = old.factions;
@@ -117,11 +104,9 @@ module _ (w : WorldValue) (c : CampaignValue) (n : ℕ) (u : Unit) (h : HoldingV
     units = λ k above. get-insert_other c.units n k new_unit (free_apart k (old.units k above)) ∙ old.units k above;
   }
 
-  -- factions that are gone still have no units when unit n gets the holding h
   gone_kept : GoneHaveNone c → GoneHaveNone with_new_holding
   gone_kept old m f there gone = numbers_where-insert_known (λ x. x.faction == m) c.units n u new_unit is refl ∙ old m f there gone
 
-  -- a unit inside a structure is still inside it when unit n gets the holding h
   inside_still : (k m : ℕ) → (x : Unit) × (get c.units k ≡ Some x) × (x.structure ≡ m) → (x : Unit) × (get with_new_holding.units k ≡ Some x) × (x.structure ≡ m)
   inside_still k m (x, there, inside) =
       elim (nat_cmp k n) as (λ o. nat_cmp k n ≡ o → (y : Unit) × (get with_new_holding.units k ≡ Some y) × (y.structure ≡ m)) [
@@ -133,8 +118,6 @@ module _ (w : WorldValue) (c : CampaignValue) (n : ℕ) (u : Unit) (h : HoldingV
         | Greater ↦ λ o. (x, get-insert_other c.units n k new_unit (λ same. let l = ranked k n Greater (sym o) in absurd (omega arith)) ∙ there, inside)
       ] refl
 
-  -- structures are still owned by units inside them, or by nobody where no unit is inside, when unit n gets the holding
-  -- h
   pub owners_kept : AreOwned c → AreOwned with_new_holding
   owners_kept old m s there =
       let o = old m s there in
@@ -143,8 +126,6 @@ module _ (w : WorldValue) (c : CampaignValue) (n : ℕ) (u : Unit) (h : HoldingV
         ownerless = λ none. every-insert (λ k x. x.structure ≢ m) c.units n new_unit (o.ownerless none n u is) (o.ownerless none);
       }
 
-  -- units on water are still inside ships, and structures there complete ships (AreAfloat), when unit n gets the
-  -- holding h
   water_kept : AreAfloat w c → AreAfloat w with_new_holding
   water_kept old = record {
     units = every-insert _ c.units n new_unit (old.units n u is) old.units;
@@ -153,12 +134,9 @@ module _ (w : WorldValue) (c : CampaignValue) (n : ℕ) (u : Unit) (h : HoldingV
 
   -- for a test that the unit passes with the holding h only if it did before
   module _ (test : Unit → Bool) (only : test new_unit ≡ true → test u ≡ true) where
-    -- if two units pass the test and are in one region, they are of one faction
     abbrev Agree : Unit → Unit → Type 0
     Agree x y = test x ≡ true → test y ≡ true → x.region ≡ y.region → x.faction ≡ y.faction
 
-    -- in each region all units that pass a test are still of one faction when unit n gets the holding h, if n passes
-    -- with h only where it did before
     pub of_one_faction_kept : AreOfOneFaction test c → AreOfOneFaction test with_new_holding
     of_one_faction_kept old =
         every-insert (λ k x. Every (λ m y. Agree x y) with_new_holding.units) c.units n new_unit
@@ -186,7 +164,6 @@ module _ (w : WorldValue) (c : CampaignValue) (n : ℕ) (u : Unit) (h : HoldingV
     guarded = of_one_faction_kept guards may.guard old.guarded;
   }
 
-  -- for `total-new_holding`: an equation of two sums still holds with the same number r added on each side
   regrouped : (r a b p q : ℕ) → a + p ≡ b + q → (a + r) + p ≡ (b + r) + q
   regrouped r a b p q e = omega arith
 
@@ -198,13 +175,9 @@ module _ (w : WorldValue) (c : CampaignValue) (n : ℕ) (u : Unit) (h : HoldingV
       regrouped (sum_over (λ (r : Region). region_amount t r) c.regions) (sum_over there with_new_holding.units) (sum_over there c.units) (unit_amount t u.holding) (unit_amount t h)
       (sum_over-insert_known there c.units n u new_unit is)
 
--- ---- what is marked
-
--- the items and the days of a unit
 abbrev goods_of : Unit → FinMap nat_cmp ℕ × FinMap nat_cmp ℕ
 goods_of u = (u.holding.items, u.holding.days)
 
--- a change of a unit that leaves its goods alone, with its row marked, marks all that changes (MarksChanges)
 pub marks-unit_row : (f : Unit → Unit) → ((u : Unit) → goods_of (f u) ≡ goods_of u) → (c : MarkedCampaign) (n : ℕ) → MarksChanges c (record { value = unit_changed f c.value n; marks = mark_unit_row c n })
 marks-unit_row f same c n =
     let after : FinMap nat_cmp Unit → Option Unit → MarkedCampaign = λ m o. record { value = record c.value { units = m }; marks = record c.marks { units = marked_with c.marks.units n o; rows = marked_with c.marks.rows n o } } in
@@ -220,15 +193,12 @@ marks-unit_row f same c n =
     ]))
 
 module _ (c : MarkedCampaign) (n item amount : ℕ) where
-  -- the unit with the amount of the item set
   abbrev with_other : Unit → Unit
   with_other u = record u { holding = record u.holding { items = with_amount_of u.holding.items item amount } }
 
-  -- the campaign with the given units, and the item of unit n marked, unless None is given for the unit
   abbrev after_item : FinMap nat_cmp Unit → Option Unit → MarkedCampaign
   after_item units o = record { value = record c.value { units = units }; marks = record c.marks { units = marked_with c.marks.units n o; items = thing_marked c.marks.items n item o } }
 
-  -- setting an item of unit u, which is n, with its mark, marks all that changes (MarksChanges)
   other_amount : (u : Unit) → get c.value.units n ≡ Some u → MarksChanges c (after_item (insert c.value.units n (with_other u)) (Some u))
   other_amount u is =
       let next = after_item (insert c.value.units n (with_other u)) (Some u) in
@@ -241,20 +211,15 @@ module _ (c : MarkedCampaign) (n item amount : ℕ) where
         | _ ↦ λ k free. refl
       ])
 
-  -- setting an item of a unit, with its mark if the amount is another than before, marks all that changes
-  -- (MarksChanges)
   pub marks-item : MarksChanges c (record { value = with_item c.value n item amount; marks = mark_item c n item amount })
   marks-item = holds_of_changed (λ units o. MarksChanges c (after_item units (unit_if_other_amount item amount o))) with_other c.value.units n (marks-refl c) (λ u is. by_amount u is (has_amount u.holding.items item amount) refl)
     where
-      -- for marks-item: setting the item of unit u, which is n, marks all that changes (MarksChanges), whether u has
-      -- the amount already (b) or not
       by_amount : (u : Unit) → get c.value.units n ≡ Some u → (b : Bool) → has_amount u.holding.items item amount ≡ b → MarksChanges c (after_item (insert c.value.units n (with_other u)) (if b then None else Some u))
       by_amount u is true has =
           let same : with_other u ≡ u = ap (λ items. record u { holding = record u.holding { items = items } }) (set_again u.holding.items item amount has) in
           subst (λ units. MarksChanges c (after_item units None)) (sym (put_same c.value.units n u (with_other u) is same)) (marks-refl c)
       by_amount u is false other = other_amount u is
 
--- setting the days of a skill of a unit, with its mark, marks all that changes (MarksChanges)
 pub marks-skill : (c : MarkedCampaign) (n skill days : ℕ) → MarksChanges c (record { value = with_skill c.value n skill days; marks = mark_skill c n skill })
 marks-skill c n skill days =
     let with_other : Unit → Unit = λ u. record u { holding = record u.holding { days = with_amount_of u.holding.days skill days } } in

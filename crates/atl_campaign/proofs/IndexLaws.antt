@@ -25,11 +25,9 @@ use Rattle.atl_world.proofs.TrackLaws.{get_inserted, remove_none}
 use Rattle.atl_campaign.specs.declared.index.IndexEntry.{IndexEntry}
 use Rattle.atl_campaign.specs.Index.{index_numbers, slots_of}
 
--- Some x is not None, so anything, P, follows if it is
 pub some_none : {X : Type 0} (x : X) {P : Type 0} → Some x ≡ None → P
 some_none x e = cc
 
--- the numbers of the index entries are strictly ascending
 abbrev IsSortedIndex : List IndexEntry → Type 0
 IsSortedIndex ps = IsStrictlySortedBy nat_cmp (index_numbers ps)
 
@@ -39,39 +37,33 @@ as_map ps = from_entries (slots_of ps)
 
 -- ---- lists with one more, and one less
 module _ {X : Type 0} where
-  -- removing an element of a list and inserting it again at its index gives the list
   put_back : (xs : List X) (i : ℕ) (d : X) → i < length xs → insert (remove xs i) i (get_or xs i d) ≡ xs
   put_back [] i d l = absurd (omega (arith, l))
   put_back (x ∷ xs) zero d l = refl
   put_back (x ∷ xs) (suc i) d l = ap (λ ys. x ∷ ys) (put_back xs i d (omega (arith, l)))
 
 module _ {X Y : Type 0} (f : X → Y) where
-  -- mapping a list into which x is inserted is inserting f x into the mapped list
   map-insert : (xs : List X) (i : ℕ) (x : X) → map f (insert xs i x) ≡ insert (map f xs) i (f x)
   map-insert xs zero x = refl
   map-insert [] (suc i) x = refl
   map-insert (y ∷ xs) (suc i) x = ap (λ ys. f y ∷ ys) (map-insert xs i x)
 
-  -- mapping a list from which an element is removed is removing that element from the mapped list
   map-remove : (xs : List X) (i : ℕ) → map f (remove xs i) ≡ remove (map f xs) i
   map-remove [] zero = refl
   map-remove [] (suc i) = refl
   map-remove (y ∷ xs) zero = refl
   map-remove (y ∷ xs) (suc i) = ap (λ ys. f y ∷ ys) (map-remove xs i)
 
--- the keys of index entries, taken as pairs of number and slot, are the entries' numbers
 keys_are : (ps : List IndexEntry) → keys_of (slots_of ps) ≡ index_numbers ps
 keys_are [] = refl
 keys_are (p ∷ ps) = ap (λ ns. p.number ∷ ns) (keys_are ps)
 
 -- ---- an entry whose number is new, at any index of a list
 module _ {X : Type 0} where
-  -- for find-insert: if `cond b (Some x) o` is None, b is false
   first_apart : (b : Bool) (x : X) (o : Option X) → cond b (Some x) o ≡ None → b ≡ false
   first_apart true x o h = some_none x h
   first_apart false x o h = refl
 
-  -- for find-insert: if `cond b (Some x) o` is None, o is None
   rest_none : (b : Bool) (x : X) (o : Option X) → cond b (Some x) o ≡ None → o ≡ None
   rest_none true x o h = some_none x h
   rest_none false x o h = h
@@ -92,7 +84,6 @@ module _ {X : Type 0} where
   find-insert (e ∷ es) (suc i) n v q h =
       ap (cond (eq_by_cmp nat_cmp q e.0) (Some e.1)) (find-insert es i n v q (rest_none _ _ _ h)) ∙ turned q n e.0 (Some v) (Some e.1) (find nat_cmp q es) (first_apart _ _ _ h)
 
-  -- inserting an entry with a new number at any index of a list puts it into the map of the list
   from_entries-insert : (es : List (ℕ × X)) (i n : ℕ) (v : X) → finmap.get (from_entries {R = nat_cmp} es) n ≡ None → from_entries {R = nat_cmp} (insert es i (n, v)) ≡ finmap.insert (from_entries es) n v
   from_entries-insert es i n v h = finmap.same_map nat_cmp_total nat_cmp-IsAntisymmetric _ _ (λ q.
       finmap.get-from_entries nat_cmp_total (insert es i (n, v)) q ∙ find-insert es i n v q (sym (finmap.get-from_entries nat_cmp_total es n) ∙ h)
@@ -100,40 +91,32 @@ module _ {X : Type 0} where
 
 -- ---- what the index has under a number
 
--- an option that is not Some is None
 pub not_some_is_none : {X : Type 0} (o : Option X) → is_some o ≡ false → o ≡ None
 not_some_is_none None h = refl
 not_some_is_none (Some x) h = absurd (false≢true (sym h))
 
--- a number that no index entry has is not in the map that the index entries stand for
 unlisted : (ps : List IndexEntry) (n : ℕ) → set.contains {R = nat_cmp} (set.from_list (index_numbers ps)) n ≡ false → finmap.get (as_map ps) n ≡ None
 unlisted ps n h =
     finmap.get-from_entries nat_cmp_total (slots_of ps) n
     ∙ not_some_is_none _ (is_some-find nat_cmp n (slots_of ps) ∙ ap (list_any (eq_by_cmp nat_cmp n)) (keys_are ps) ∙ sym (set.contains-from_list nat_cmp_total (index_numbers ps) n) ∙ h)
 
--- a number that no index entry has, and that would be inserted at index i (BelongsAt), is not in the entries' map
 pub get-belongs : (ps : List IndexEntry) (n i : ℕ) → IsSortedIndex ps → BelongsAt (index_numbers ps) n i → finmap.get (as_map ps) n ≡ None
 get-belongs ps n i s b = unlisted ps n (contains-belongs (index_numbers ps) n i s b)
 
--- a number removed from a set is not in it
 removed_is_absent : (t : set.FinSet nat_cmp) (n : ℕ) → set.contains (set.remove t n) n ≡ false
 removed_is_absent t n = set.contains-remove nat_cmp_total t n n ∙ ap (λ b. not b && set.contains t n) (key_itself n)
 
--- once the entry of a number is removed from sorted index entries, their map doesn't have the number
 removed_entry_is_absent : (ps : List IndexEntry) (n i : ℕ) → IsSortedIndex ps → IsAt (index_numbers ps) n i → finmap.get (as_map (remove ps i)) n ≡ None
 removed_entry_is_absent ps n i s h =
     unlisted (remove ps i) n (ap (λ ns. set.contains {R = nat_cmp} (set.from_list ns) n) (map-remove (λ (p : IndexEntry). p.number) ps i) ∙ ap (λ t. set.contains t n) (from_list-remove (index_numbers ps) n i s h) ∙ removed_is_absent (set.from_list (index_numbers ps)) n)
 
--- the index at which the index entries have a number (IsAt) is below how many entries there are
 index_is_within : (ps : List IndexEntry) (n i : ℕ) → IsAt (index_numbers ps) n i → i < length ps
 index_is_within ps n i h = let size = length-map ps (λ (p : IndexEntry). p.number) in let l = h.within in omega (arith, size, l)
 
--- the index entry at the index of a number (IsAt) has that number
 number_at_index : (ps : List IndexEntry) (n i : ℕ) (d : IndexEntry) → IsAt (index_numbers ps) n i → (get_or ps i d).number ≡ n
 number_at_index ps n i d h =
     sym (get_or-map (λ (p : IndexEntry). p.number) ps i d d.number (index_is_within ps n i h)) ∙ get_or_default (index_numbers ps) i d.number 0 h.within ∙ h.number_there
 
--- the map of the index entries is their map without a number's entry, with the slot of that entry put in again
 put_again : (ps : List IndexEntry) (n i : ℕ) (d : IndexEntry) → IsSortedIndex ps → IsAt (index_numbers ps) n i → as_map ps ≡ finmap.insert (as_map (remove ps i)) n (get_or ps i d).slot
 put_again ps n i d s h =
     let p = get_or ps i d in
@@ -146,34 +129,28 @@ get-at_index ps n i d s h = ap (λ m. finmap.get m n) (put_again ps n i d s h) �
 
 -- ---- an entry that is inserted
 
--- inserting an index entry where its number belongs puts it into the map of the entries
 pub map-added : (ps : List IndexEntry) (n i k : ℕ) → IsSortedIndex ps → BelongsAt (index_numbers ps) n i → as_map (insert ps i (record { number = n; slot = k })) ≡ finmap.insert (as_map ps) n k
 map-added ps n i k s b =
     ap from_entries (map-insert (λ (p : IndexEntry). (p.number, p.slot)) ps i (record { number = n; slot = k })) ∙ from_entries-insert (slots_of ps) i n k (get-belongs ps n i s b)
 
--- sorted index entries stay sorted when one is inserted where its number belongs
 pub sorted-added : (ps : List IndexEntry) (n i k : ℕ) → IsSortedIndex ps → BelongsAt (index_numbers ps) n i → IsSortedIndex (insert ps i (record { number = n; slot = k }))
 sorted-added ps n i k s b = rw (map-insert (λ (p : IndexEntry). p.number) ps i (record { number = n; slot = k })) (sorted-insert (index_numbers ps) n i s b)
 
 -- ---- an entry that is removed
 
--- removing the index entry with a number removes the number from the map of the entries
 pub map-without : (ps : List IndexEntry) (n i : ℕ) → IsSortedIndex ps → IsAt (index_numbers ps) n i → as_map (remove ps i) ≡ finmap.remove (as_map ps) n
 map-without ps n i s h =
     let d : IndexEntry = record { number = 0; slot = 0 } in
     sym (ap (λ m. finmap.remove m n) (put_again ps n i d s h) ∙ remove_undoes_insert (as_map (remove ps i)) n (get_or ps i d).slot (removed_entry_is_absent ps n i s h))
 
--- sorted index entries stay sorted when one is removed
 pub sorted-without : (ps : List IndexEntry) (n i : ℕ) → IsSortedIndex ps → IsAt (index_numbers ps) n i → IsSortedIndex (remove ps i)
 sorted-without ps n i s h = rw (map-remove (λ (p : IndexEntry). p.number) ps i) (sorted-remove (index_numbers ps) i s h.within)
 
--- removing a number that no index entry has from the map of the entries changes nothing
 pub map-missing : (ps : List IndexEntry) (n i : ℕ) → IsSortedIndex ps → BelongsAt (index_numbers ps) n i → as_map ps ≡ finmap.remove (as_map ps) n
 map-missing ps n i s b = sym (remove_none (as_map ps) n (get-belongs ps n i s b))
 
 -- ---- the whole index
 
--- the empty list of index entries is sorted
 pub sorted-none : IsSortedIndex []
 sorted-none = sorted-empty
 
@@ -181,13 +158,11 @@ sorted-none = sorted-empty
 pub entries-index : (ps : List IndexEntry) → IsSortedIndex ps → finmap.entries (as_map ps) ≡ slots_of ps
 entries-index ps s = entries_of (slots_of ps) (rw (keys_are ps) s)
 
--- the map that sorted index entries stand for has as many numbers as there are entries
 pub len-index : (ps : List IndexEntry) → IsSortedIndex ps → finmap.len (as_map ps) ≡ length ps
 len-index ps s = len_of (slots_of ps) (rw (keys_are ps) s) ∙ length-map ps (λ (p : IndexEntry). (p.number, p.slot))
 
 -- ---- the index that a search gives: of a number, or where it belongs
 
--- if the binary search for a number finds an index, the index entry there has the number (IsAt)
 pub found-by_search : (ps : List IndexEntry) (n : ℕ) (r : Result ℕ ℕ) → IsSearchInRange r (length ps) → IsBinarySearchResult (λ p. nat_cmp p.number n) ps r → IfOk r (λ i. IsAt (index_numbers ps) n i)
 found-by_search ps n (Ok i) l h =
     let d : IndexEntry = record { number = 0; slot = 0 } in
@@ -207,7 +182,6 @@ searchable ps n s = searchable_from_sorted nat_cmp_total (λ (p : IndexEntry). p
     let up = Less-from_sorted nat_cmp ns k (k + 1) d.number s (omega arith) (omega arith) in
     ap is_lt (λ i. nat_cmp (sym (at (k + 1) h) i) (sym (at k (omega arith)) i)) ∙ ap is_lt (nat_cmp_total.antisymm (get_or ns (k + 1) d.number) (get_or ns k d.number)) ∙ ap (λ r. is_lt (ordering_reverse r)) up)
 
--- if the binary search doesn't find a number, the number belongs at the index that it gives (BelongsAt)
 pub missing-by_search : (ps : List IndexEntry) (n : ℕ) (r : Result ℕ ℕ) → IsSortedIndex ps → IsSearchInRange r (length ps) → IsBinarySearchResult (λ p. nat_cmp p.number n) ps r → IfErr r (λ i. BelongsAt (index_numbers ps) n i)
 missing-by_search ps n (Ok i) s l h = tt
 missing-by_search ps n (Err i) s l h =
@@ -221,7 +195,6 @@ missing-by_search ps n (Err i) s l h =
       after = λ k m w. let more = ranked (get_or ps k d).number n Greater (sym (parts.1 k d m (omega (arith, w, size)))) in let same = at k (omega (arith, w, size)) in omega (arith, more, same);
     }
 
--- a number above that of the last of sorted index entries belongs at their end (BelongsAt)
 pub BelongsAt-above : (ps : List IndexEntry) (p : IndexEntry) (n : ℕ) → IsSortedIndex ps → slice_get ps (length ps - 1) ≡ Some p → p.number < n → BelongsAt (index_numbers ps) n (length ps)
 BelongsAt-above ps p n s is above =
     record {
@@ -230,27 +203,21 @@ BelongsAt-above ps p n s is above =
       after = λ k m w. absurd (omega (arith, size, m, w));
     }
   where
-    -- for BelongsAt-above: the numbers of the index entries ps
     ns : List ℕ
     ns = index_numbers ps
 
-    -- there are as many numbers `ns` as index entries ps
     size : length ns ≡ length ps
     size = length-map ps (λ (p : IndexEntry). p.number)
 
-    -- for BelongsAt-above: the index of the last of the index entries ps
     last : ℕ
     last = length ps - 1
 
-    -- `last` is below the length of ps, so ps has an entry
     some : last < length ps
     some = slice_get_within ps last p is
 
-    -- the last of the numbers `ns` is that of entry p, which is the last of ps
     end : get_or ns last 0 ≡ p.number
     end = get_or-map (λ (p : IndexEntry). p.number) ps last p 0 some ∙ ap (λ (q : IndexEntry). q.number) (get_or_from_slice_get ps last p p is)
 
-    -- for BelongsAt-above: the number of `ns` at index k is below n, whether k is the last index or a lower one
     by_order : (k : ℕ) → (k ≡ last) ⊎ ((k < last) ⊎ (last < k)) → k < length ps → get_or ns k 0 < n
     by_order k (inl e) m = let same : get_or ns k 0 ≡ p.number = ap (λ i. get_or ns i 0) e ∙ end in omega (arith, same, above)
     by_order k (inr (inl before)) m =

@@ -11,7 +11,6 @@ use Rattle.atl_campaign.specs.Campaign.{numbers_inside}
 use Rattle.atl_records.proofs.EveryLaws.{none_some, other_number, same_number}
 use Rattle.atl_campaign.proofs.NumberListLaws.{IsListed, listed_passing, passing_listed}
 
--- a unit on the list of the units inside structure s is inside it
 pub listed_is_inside : (s : ℕ) (units : FinMap nat_cmp Unit) (k : ℕ) → IsListed k (numbers_inside s units) → (v : Unit) × (get units k ≡ Some v) × (v.structure ≡ s)
 listed_is_inside s units k listed =
     elim (s == 0) as (λ b. IsListed k (cond b [] (numbers_where (λ u. u.structure == s) units)) → (v : Unit) × (get units k ≡ Some v) × (v.structure ≡ s)) [
@@ -19,14 +18,11 @@ listed_is_inside s units k listed =
       | false ↦ λ h. let (v, is, t) = listed_passing (λ u. u.structure == s) units k h in (v, is, is_equal v.structure s t)
     ] listed
 
--- a unit inside structure s, which is not 0, is on the list of the units inside it
 pub inside_is_listed : (s : ℕ) (units : FinMap nat_cmp Unit) → s ≢ 0 → Every (λ k v. v.structure ≡ s → IsListed k (numbers_inside s units)) units
 inside_is_listed s units some k v is inside = rw (other_number s 0 some) (passing_listed (λ u. u.structure == s) units k v is (ap (λ q. q == s) inside ∙ same_number s))
 
--- two maps of units give structure s the same list of units inside, if units of the same numbers are inside it in both
 pub inside_as_before : (s : ℕ) (units others : FinMap nat_cmp Unit) → numbers_where (λ u. u.structure == s) others ≡ numbers_where (λ u. u.structure == s) units → numbers_inside s others ≡ numbers_inside s units
 inside_as_before s units others same = ap (λ ns. cond (s == 0) [] ns) same
 
--- a number that has a value is not 0, in a map numbered from 1
 pub is_no_zero : {V : Type 0} (m : FinMap nat_cmp V) (next : ℕ) → IsNumbered m next → (k : ℕ) (v : V) → get m k ≡ Some v → k ≢ 0
 is_no_zero m next numbered k v is zero = none_some v (sym numbered.first ∙ ap (get m) (sym zero) ∙ is)

@@ -45,18 +45,15 @@ use Rattle.atl_campaign.proofs.TotalLaws.{total-with_unit}
 total_after_join : (x n : ℕ) (b p q : ℤ) → pos x ≡ b → pos n ≡ p +ℤ q → pos (x + n) ≡ (b +ℤ p) +ℤ q
 total_after_join x n b p q h g = omega (arith, ints)
 
--- the first unit of a faction that joins has 0 of each item, which is what the join books of the item
 no_item_is_booked : (w : WorldValue) (word : ℕ) (c : CampaignValue) (i : ℕ) → (2 + i == 0) ≡ false → (2 + i == 1) ≡ false → pos (unit_amount (Item i) (first_unit w word c).holding) ≡ booked_for (Item i) Money (pos w.rules.start_money) +ℤ booked_for (Item i) People (pos 1)
 no_item_is_booked w word c i a b =
     ap (λ o. pos (unwrap_or o 0)) (get-empty nat_cmp i) ∙ sym (ap (λ q. cond q (pos w.rules.start_money) (pos 0) +ℤ cond (2 + i == 1) (pos 1) (pos 0)) a ∙ ap (λ q. pos 0 +ℤ cond q (pos 1) (pos 0)) b)
 
--- what the first unit of a faction that joins holds of a thing is what the join books of the thing
 held_booked : (w : WorldValue) (word : ℕ) (c : CampaignValue) (t : Thing) → pos (unit_amount t (first_unit w word c).holding) ≡ booked_for t Money (pos w.rules.start_money) +ℤ booked_for t People (pos 1)
 held_booked w word c Money = omega (arith, ints)
 held_booked w word c People = refl
 held_booked w word c (Item i) = no_item_is_booked w word c i (grind (arith, nat_tests)) (grind (arith, nat_tests))
 
--- the books still balance once a faction joined, if no unit has the next unit's number
 pub joined-balances : (w : WorldValue) (name pass : List ℕ) (word : ℕ) (c : CampaignValue) → get c.units c.next_unit ≡ None → Balances c → Balances (after_join w name pass word c)
 unfolding after_join total
 joined-balances w name pass word c free h t =
@@ -78,7 +75,6 @@ joining_small w c sound =
 
 -- ---- the numbers
 
--- a map has one value more once a value is put under a new number
 len_new : {V : Type 0} (m : FinMap nat_cmp V) (k : ℕ) (v : V) → get m k ≡ None → len (insert m k v) ≡ len m + 1
 len_new m k v h = len-insert nat_cmp_total m k v ∙ ap (λ o. cond (is_some o) (len m) (len m + 1)) h
 
@@ -87,15 +83,12 @@ len_new m k v h = len-insert nat_cmp_total m k v ∙ ap (λ o. cond (is_some o) 
 counts_below_limits : (f u n : ℕ) → ((nat_le last_faction f || nat_le most_units u) || nat_lt last_unit n) ≡ false → (f < last_faction) × (u < most_units) × (n ≤ last_unit)
 counts_below_limits f u n h = (grind (arith, nat_tests), grind (arith, nat_tests), grind (arith, nat_tests))
 
--- a campaign that is not full has fewer factions and units than the limits, and a unit number left
 pub room_to_join : (c : CampaignValue) → is_full c ≡ false → (len c.factions < last_faction) × (len c.units < most_units) × (c.next_unit ≤ last_unit)
 room_to_join c h = counts_below_limits (len c.factions) (len c.units) c.next_unit h
 
--- the numbers from n on still have no value in a map once a value is put under a number below n
 still_free : {V : Type 0} (m : FinMap nat_cmp V) (n k : ℕ) (v : V) → ((q : ℕ) → n ≤ q → get m q ≡ None) → k < n → (q : ℕ) → n ≤ q → get (insert m k v) q ≡ None
 still_free m n k v free below q h = get-insert_other m k q v (λ same. omega arith) ∙ free q h
 
--- a map numbered from 1 without a gap (IsNumbered) is still so numbered once a value is put under the next number
 still_numbered : {V : Type 0} (m : FinMap nat_cmp V) (n : ℕ) (v : V) → IsNumbered m n → IsNumbered (insert m n v) (n + 1)
 still_numbered m n v old = record {
   first = get-insert_other m n 0 v (λ same. omega (arith, old.count)) ∙ old.first;
@@ -103,22 +96,18 @@ still_numbered m n v old = record {
   free = still_free m (n + 1) n v (λ q l. old.free q (omega arith)) (omega arith);
 }
 
--- a value that was there is still there once one is put under a new number
 still_there : {V : Type 0} (m : FinMap nat_cmp V) (k q : ℕ) (v x : V) → get m k ≡ None → get m q ≡ Some x → get (insert m k v) q ≡ Some x
 still_there m k q v x free is = get-insert_other m k q v (λ same. none_some x (sym free ∙ ap (get m) (sym same) ∙ is)) ∙ is
 
--- a number that has a value differs from one that has none
 other_key : {V : Type 0} (m : FinMap nat_cmp V) (k n : ℕ) (v : V) → get m k ≡ None → get m n ≡ Some v → (k == n) ≡ false
 other_key m k n v free is = let apart : k ≢ n = λ same. none_some v (sym free ∙ ap (get m) same ∙ is) in grind (arith, nat_tests)
 
 -- ---- each rule
 
--- a list into which a number was put is not empty
 some_put : {P : Type 0} (n : ℕ) (xs : List ℕ) → put_number n xs ≡ [] → P
 unfolding put_number
 some_put n xs e = absurd (omega (arith, ap length e, length-append (take (first_not_below n xs) xs) (n ∷ drop (first_not_below n xs) xs)))
 
--- no faction joined under a name of which name_taken is false
 name_is_free : (c : CampaignValue) (name : List ℕ) → name_taken c name ≡ false → Every (λ n f. f.joined_as ≢ name) c.factions
 name_is_free c name h n f is same =
     let differs = every-from_none (λ (g : Faction). pointwise nat_eq g.joined_as name) c.factions h n f is in
@@ -126,23 +115,18 @@ name_is_free c name h n f is same =
     absurd (true≢false (sym equal ∙ differs))
 
 module _ (w : WorldValue) (name pass : List ℕ) (word : ℕ) (c : CampaignValue) where
-  -- the faction that joins
   abbrev member : Faction
   member = new_faction c.next_faction name pass
 
-  -- the first unit of the faction that joins
   abbrev unit : Unit
   unit = first_unit w word c
 
-  -- the campaign's factions, with the one that joins (`member`) under the next faction number
   abbrev factions : FinMap nat_cmp Faction
   factions = insert c.factions c.next_faction member
 
-  -- the campaign's units, with the first one of the faction that joins (`unit`) under the next unit number
   abbrev units : FinMap nat_cmp Unit
   units = insert c.units c.next_unit unit
 
-  -- in a campaign that isn't full, counts and numbers stay in their ranges (AreInRange) once a faction joined
   joined-numbers : is_full c ≡ false → IsWorld w → AreNumbered c → AreInRange w c → AreInRange w (after_join w name pass word c)
   unfolding after_join
   joined-numbers full world next old =
@@ -163,8 +147,6 @@ module _ (w : WorldValue) (name pass : List ℕ) (word : ℕ) (c : CampaignValue
         books = AreBooks-after_booking (thing_count w) one Joining People (pos 1) (AreBooks-after_booking (thing_count w) c.books Joining Money (pos w.rules.start_money) old.books (omega arith)) (omega arith);
       }
 
-  -- names and pass texts still keep their rules (AreNamed) once a faction joined, if its own name and pass text do, and
-  -- the name is not taken
   joined-names : is_full c ≡ false → name_taken c name ≡ false → IsTrue (name_ok name) → IsTrue (pass_ok pass) → AreNamed c → AreNamed (after_join w name pass word c)
   unfolding after_join
   joined-names full free named passes old =
@@ -179,11 +161,9 @@ module _ (w : WorldValue) (name pass : List ℕ) (word : ℕ) (c : CampaignValue
         structures = old.structures;
       }
 
-  -- the new faction's home is a land region of the world
   home_there : IsWorld w → (p : RegionPlan) × (get w.regions (home_of w word) ≡ Some p) × (is_land w.terrains p ≡ true)
   home_there world = passes-listed (is_land w.terrains) w.regions (word % length (land_of w)) 0 (omega (arith, world.some_land))
 
-  -- everything that a campaign names by number still exists once a faction joined
   joined-known : IsWorld w → AreKnown w c → AreKnown w (after_join w name pass word c)
   unfolding after_join
   joined-known world old =
@@ -208,8 +188,6 @@ module _ (w : WorldValue) (name pass : List ℕ) (word : ℕ) (c : CampaignValue
         posts = posted-there (λ n. there-insert c.factions c.next_faction n member) old.posts;
       }
 
-  -- after a join, factions and structures are still numbered without a gap, and units have numbers below the next unit
-  -- number (AreNumbered)
   joined-next : AreNumbered c → AreNumbered (after_join w name pass word c)
   unfolding after_join
   joined-next old = record {
@@ -218,41 +196,33 @@ module _ (w : WorldValue) (name pass : List ℕ) (word : ℕ) (c : CampaignValue
     units = still_free c.units (c.next_unit + 1) c.next_unit unit (λ q l. old.units q (omega arith)) (omega arith);
   }
 
-  -- days of study stay within their limits when a faction joins
   joined-days : AreDays c → AreDays (after_join w name pass word c)
   unfolding after_join
   joined-days old = every-insert (λ n u. Every (λ s days. (1 ≤ days) × (days ≤ most_days * u.holding.men)) u.holding.days) c.units c.next_unit unit (every-empty (λ s days. (1 ≤ days) × (days ≤ most_days * 1))) old
 
   module _ (next : AreNumbered c) where
-    -- no faction has the next faction number yet
     free_faction : get c.factions c.next_faction ≡ None
     free_faction = next.factions.free c.next_faction (omega arith)
 
-    -- no unit has the next unit number yet
     free_unit : get c.units c.next_unit ≡ None
     free_unit = next.units c.next_unit (omega arith)
 
-    -- each faction that was there before another joined still has the same units
     same_units : (n : ℕ) (f : Faction) → get c.factions n ≡ Some f → numbers_of_faction n units ≡ numbers_of_faction n c.units
     same_units n f is = numbers_where-insert_other (λ (u : Unit). u.faction == n) c.units c.next_unit unit free_unit (other_key c.factions c.next_faction n f free_faction is)
 
-    -- factions that are gone still have no units when another joins
     joined-gone : GoneHaveNone c → GoneHaveNone (after_join w name pass word c)
     unfolding after_join
     joined-gone old = every-insert (λ n f. f.gone ≡ true → numbers_of_faction n units ≡ []) c.factions c.next_faction member (λ e. absurd (false≢true e)) (λ n f is gone. same_units n f is ∙ old n f is gone)
 
-    -- the faction that joins has a unit
     own_unit : numbers_of_faction c.next_faction units ≡ [] → false ≡ true
     own_unit none =
         let same : (c.next_faction == c.next_faction) ≡ true = grind (arith, nat_tests) in
         some_put c.next_unit (numbers_of_faction c.next_faction c.units) (sym (numbers_where-insert_new (λ (u : Unit). u.faction == c.next_faction) c.units c.next_unit unit free_unit same) ∙ none)
 
-    -- all factions without units are still gone when a faction joins
     joined-none : UnitlessAreGone c → UnitlessAreGone (after_join w name pass word c)
     unfolding after_join
     joined-none old = every-insert (λ n f. numbers_of_faction n units ≡ [] → f.gone ≡ true) c.factions c.next_faction member own_unit (λ n f is none. old n f is (sym (same_units n f is) ∙ none))
 
-    -- structures are still owned by units inside them, or by nobody where no unit is inside, when a faction joins
     joined-owners : AreOwned c → AreOwned (after_join w name pass word c)
     unfolding after_join
     joined-owners old n s is = let o = old n s is in record {
@@ -260,13 +230,10 @@ module _ (w : WorldValue) (name pass : List ℕ) (word : ℕ) (c : CampaignValue
       ownerless = λ none. every-insert (λ m u. u.structure ≢ n) c.units c.next_unit unit (λ same. none_some s (sym next.structures.first ∙ ap (get c.structures) same ∙ is)) (o.ownerless none);
     }
 
-    -- when a faction joins, each mail is still of a faction that is there and not gone, short enough, and with the
-    -- faction's number in its header (IsMail)
     joined-mail : HasValidMail c → HasValidMail (after_join w name pass word c)
     unfolding after_join
     joined-mail old n text is = let (own, active) = old n text is in let (f, there, stays) = active in (own, (f, still_there c.factions c.next_faction n member f free_faction there, stays))
 
-  -- when a faction joins, units on water are still inside ships, and structures there are complete ships (AreAfloat)
   joined-water : IsWorld w → AreAfloat w c → AreAfloat w (after_join w name pass word c)
   unfolding after_join
   joined-water world old =
@@ -277,18 +244,15 @@ module _ (w : WorldValue) (name pass : List ℕ) (word : ℕ) (c : CampaignValue
         structures = old.structures;
       }
 
-  -- guards stay of one faction in each region when a faction joins
   joined-guarded : AreOfOneFaction guards c → AreOfOneFaction guards (after_join w name pass word c)
   unfolding after_join
   joined-guarded old = every-insert (λ n u. Every (λ m v. guards u ≡ true → guards v ≡ true → u.region ≡ v.region → u.faction ≡ v.faction) units) c.units c.next_unit unit (λ m v is e. absurd (true≢false (sym e)))
       (λ n u is. every-insert (λ m v. guards u ≡ true → guards v ≡ true → u.region ≡ v.region → u.faction ≡ v.faction) c.units c.next_unit unit (λ _ e. absurd (true≢false (sym e))) (old n u is))
 
-  -- every unit still has men when a faction joins
   joined-men : HaveMen c → HaveMen (after_join w name pass word c)
   unfolding after_join
   joined-men old = every-insert (λ n u. 1 ≤ u.holding.men) c.units c.next_unit unit (omega arith) old
 
-  -- the amounts of the books are still within their bound (`amount_bound`) when a faction joins
   joined-amounts : IsWorld w → AreNumbered c → AreAmountsWithin c → AreAmountsWithin (after_join w name pass word c)
   unfolding after_join
   joined-amounts world next old =
@@ -298,7 +262,6 @@ module _ (w : WorldValue) (name pass : List ℕ) (word : ℕ) (c : CampaignValue
       (IsWithin-after_booking c.books Joining Money w.rules.start_money (amount_bound c) (amount_bound c + w.rules.start_money) old (omega arith)) (omega (arith, more, world.rules.start_money))
 
   module _ (full : is_full c ≡ false) (free : name_taken c name ≡ false) (named : IsTrue (name_ok name)) (passes : IsTrue (pass_ok pass)) (world : IsWorld w) where
-    -- a campaign stays steady when a faction joins, if the join is not refused, and name and pass text keep their rules
     joined-steady : IsSteady w c → IsSteady w (after_join w name pass word c)
     joined-steady old = record {
       numbers = joined-numbers full world old.next old.numbers;

@@ -36,45 +36,34 @@ abbrev pub owned_by : ℕ → Structure → Structure
 owned_by n s = record s { owner = n }
 
 module _ (w : WorldValue) (c : CampaignValue) (n : ℕ) (u : Unit) (is : get c.units n ≡ Some u) where
-  -- the campaign's units without unit n
   abbrev left : FinMap nat_cmp Unit
   left = remove c.units n
 
-  -- the campaign without unit n, and with the given structures in place of its own
   abbrev reduced : FinMap nat_cmp Structure → CampaignValue
   reduced structures = record c { units = left; structures = structures }
 
   -- structures that differ from the campaign's at most in owners: each is owned by a unit left inside, or by nobody
   -- where no unit is left inside
   pub record AreReowned (structures : FinMap nat_cmp Structure) : Type 0 where
-    -- there are as many of the given structures as the campaign has
     pub count : len structures ≡ len c.structures
-    -- each of the given structures is the campaign's of the same number, but perhaps for its owner
     pub back : Every (λ k x. (y : Structure) × (o : ℕ) × (get c.structures k ≡ Some y) × (owned_by o y ≡ x)) structures
-    -- each of the campaign's structures is among the given ones under its number, but perhaps for its owner
     pub forth : Every (λ k y. (o : ℕ) × (get structures k ≡ Some (owned_by o y))) c.structures
-    -- each of the given structures is owned by a unit left inside it, or by nobody where no unit is left inside
     pub owned : Every (λ k x. IsOwned (reduced structures) k x) structures
 
   module _ (structures : FinMap nat_cmp Structure) (re : AreReowned structures) where
-    -- the campaign without unit n, and with structures that differ at most in owners (AreReowned)
     abbrev after : CampaignValue
     after = reduced structures
 
-    -- if P holds of every structure, whoever owns it, it holds of structures that differ at most in owners (AreReowned)
     every_owned : (P : ℕ → Structure → Type 0) → ((k o : ℕ) (y : Structure) → P k y → P k (owned_by o y)) → Every P c.structures → Every P structures
     every_owned P free old k x there = let (y, o, was, same) = re.back k x there in subst (P k) same (free k o y (old k y was))
 
-    -- a number without a structure has none among structures that differ at most in owners (AreReowned)
     none_kept : (k : ℕ) → get c.structures k ≡ None → get structures k ≡ None
     none_kept k none = by_option (get structures k) refl
       where
-        -- for none_kept: what `structures` (AreReowned) have under a number k without a structure, o, is None too
         by_option : (o : Option Structure) → get structures k ≡ o → o ≡ None
         by_option None e = refl
         by_option (Some x) e = let (y, p, was, same) = re.back k x e in none_some y (sym none ∙ was)
 
-    -- counts and numbers stay in their ranges (AreInRange) once unit n is removed
     numbers_left : AreInRange w c → AreInRange w after
     numbers_left old = record {
       month = old.month;
@@ -91,7 +80,6 @@ module _ (w : WorldValue) (c : CampaignValue) (n : ℕ) (u : Unit) (is : get c.u
       books = old.books;
     }
 
-    -- all that the other units name by number still exists once unit n is removed
     placed_left : AreKnown w c → Every (λ k v. IsPlaced w after v) left
     placed_left old k v there =
         let p = old.units k v (still c.units n k v there).1 in
@@ -103,7 +91,6 @@ module _ (w : WorldValue) (c : CampaignValue) (n : ℕ) (u : Unit) (is : get c.u
           skills = p.skills;
         }
 
-    -- all that the structures name by number still exists once unit n is removed
     built_left : AreKnown w c → Every (λ k s. IsBuilt w after s) structures
     built_left old k x there =
         let (y, o, was, same) = re.back k x there in
@@ -114,8 +101,6 @@ module _ (w : WorldValue) (c : CampaignValue) (n : ℕ) (u : Unit) (is : get c.u
           owner = λ some. let (v, here, inside) = (re.owned k x there).owned some in (v, here);
         }
 
-    -- once unit n is removed, factions and structures stay numbered without a gap, and units have numbers below the
-    -- next unit number (AreNumbered)
     next_left : AreNumbered c → AreNumbered after
     next_left old = record {
       factions = old.factions;
@@ -123,22 +108,18 @@ module _ (w : WorldValue) (c : CampaignValue) (n : ℕ) (u : Unit) (is : get c.u
       units = λ k l. none_left k (old.units k l);
     }
       where
-        -- a number without a unit has none among the units left
         none_left : (k : ℕ) → get c.units k ≡ None → get left k ≡ None
         none_left k none = by_option (get left k) refl
           where
-            -- for none_left: what the units left have under a number k without a unit, o, is None too
             by_option : (o : Option Unit) → get left k ≡ o → o ≡ None
             by_option None e = refl
             by_option (Some x) e = none_some x (sym none ∙ (still c.units n k x e).1)
 
-    -- factions that are gone still have no units once unit n is removed
     gone_left : GoneHaveNone c → GoneHaveNone after
     gone_left old m f there gone =
         let test = λ (v : Unit). v.faction == m in
         nothing_listed test left (every-remove c.units n (λ k v. test v ≡ false) (none_passing test c.units (old m f there gone)))
 
-    -- units on water are still inside ships, and structures there complete ships (AreAfloat), once unit n is removed
     water_left : AreAfloat w c → AreAfloat w after
     water_left old = record {
       units = λ k v there sea.
@@ -179,7 +160,6 @@ module _ (w : WorldValue) (c : CampaignValue) (n : ℕ) (u : Unit) (is : get c.u
         let one : Some v ≡ Some u = sym at ∙ ap (get c.units) own ∙ is in
         sym (ap (λ o. structure_in o u) one) ∙ inside
 
-    -- a structure that unit n does not own still has its owner inside, or no unit inside (IsOwned), once n is removed
     still_owned : (k : ℕ) (x : Structure) (structures : FinMap nat_cmp Structure) → get c.structures k ≡ Some x → x.owner ≢ n → IsOwned (reduced structures) k x
     still_owned k x structures there apart =
         let o = old k x there in
@@ -198,7 +178,6 @@ module _ (w : WorldValue) (c : CampaignValue) (n : ℕ) (u : Unit) (is : get c.u
       owned = λ k x there. still_owned k x c.structures there (λ own. not_owner k x there own);
     }
       where
-        -- for not_owner: if o is a structure x that n owns, the test is_owned_by of o and n is not false
         owner_test : (o : Option Structure) (x : Structure) → o ≡ Some x → x.owner ≡ n → is_owned_by o n ≡ false → ⊥
         owner_test None x e own f = none_some x e
         owner_test (Some y) x e own f =
@@ -212,7 +191,6 @@ module _ (w : WorldValue) (c : CampaignValue) (n : ℕ) (u : Unit) (is : get c.u
             owner_in (Some z) d = z.owner
             owner_in None d = d.owner
 
-        -- if unit n does not own the structure that it is inside (`free`), it owns no structure
         not_owner : (k : ℕ) (x : Structure) → get c.structures k ≡ Some x → x.owner ≡ n → ⊥
         not_owner k x there own = owner_test (get c.structures u.structure) x (ap (get c.structures) (owns_own k x there own) ∙ there) own free
 
@@ -222,32 +200,25 @@ module _ (w : WorldValue) (c : CampaignValue) (n : ℕ) (u : Unit) (is : get c.u
       abbrev next : ℕ
       next = heir c u.structure n
 
-      -- the campaign's structures once unit n's structure has its next owner
       abbrev handed_on : FinMap nat_cmp Structure
       handed_on = insert c.structures u.structure (owned_by next mine)
 
-      -- the numbers of the units inside unit n's structure
       abbrev among : List ℕ
       among = numbers_inside u.structure c.units
 
-      -- for heir_owns: a number k that passes the test of not being n is not n
       is_other : (k : ℕ) → not (k == n) ≡ true → k ≢ n
       is_other k t same = let e : (k == n) ≡ true = grind (arith, nat_tests) in other_not (k == n) t e
         where
-          -- for is_other: a test b and its negation are not both true
           other_not : (b : Bool) → not b ≡ true → b ≡ true → ⊥
           other_not true a b = cc
           other_not false a b = cc
 
-      -- for heir_owns: a number k that fails the test of not being n is n
       is_same : (k : ℕ) → not (k == n) ≡ false → k ≡ n
       is_same k t = let e : (k == n) ≡ true = not-false (k == n) t in grind (arith, nat_tests)
 
-      -- the units inside unit n's structure have numbers from 1 on, as all units have
       listed_low : (k : ℕ) → IsListed k among → 1 ≤ k
       listed_low k h = let (v, at, inside) = listed_is_inside u.structure c.units k h in low k v at
 
-      -- the next owner of unit n's structure is one of the units left inside, or 0 if none is left (IsOwned)
       heir_owns : IsOwned (reduced handed_on) u.structure (owned_by next mine)
       heir_owns =
           let first = first_of (λ k. not (k == n)) among listed_low in
@@ -261,8 +232,6 @@ module _ (w : WorldValue) (c : CampaignValue) (n : ℕ) (u : Unit) (is : get c.u
                 apart (is_same k (first.1 none k (inside_is_listed u.structure c.units some_place k v at within)));
           }
 
-      -- once unit n's structure has its next owner, each structure is still owned by a unit left inside, or by nobody
-      -- where none is left (AreReowned)
       as_handed_on : AreReowned handed_on
       as_handed_on = record {
         count = same_len c.structures u.structure mine (owned_by next mine) here;
@@ -272,7 +241,6 @@ module _ (w : WorldValue) (c : CampaignValue) (n : ℕ) (u : Unit) (is : get c.u
             (λ k x apart there. still_owned k x handed_on there (λ own. apart (sym (owns_own k x there own))));
       }
         where
-          -- for as_handed_on: each of the campaign's structures is in `handed_on` under its number, with some owner
           new_owner : (k : ℕ) (y : Structure) → get c.structures k ≡ Some y → (o : ℕ) × (get handed_on k ≡ Some (owned_by o y))
           new_owner k y there =
               elim (nat_cmp k u.structure) as (λ o. nat_cmp k u.structure ≡ o → (p : ℕ) × (get handed_on k ≡ Some (owned_by p y))) [
@@ -286,7 +254,6 @@ module _ (w : WorldValue) (c : CampaignValue) (n : ℕ) (u : Unit) (is : get c.u
 
   -- ---- the campaign without the unit
 
-  -- the campaign without unit n, in which no structure gets another owner
   abbrev gone_from : CampaignValue
   gone_from = record c { units = left }
 
@@ -295,16 +262,12 @@ module _ (w : WorldValue) (c : CampaignValue) (n : ℕ) (u : Unit) (is : get c.u
   unfolding without_unit
   without-known = ap (without_unit_at c n) is
 
-  -- the campaign stays steady without unit n, with the structure that n owned handed to its next owner (`heir`)
   steady_handed : IsSteady w c → IsSteady w (after_handover gone_from u.structure n (heir c u.structure n))
   steady_handed old = by_owner (get c.structures u.structure) refl
     where
-      -- for steady_handed: all units of a steady campaign have numbers from 1 on
       low : Every (λ k v. 1 ≤ k) c.units
       low k v there = (old.numbers.units k v there).0
 
-      -- for steady_handed: without unit n the campaign stays steady, whether n owns the structure s that it is inside
-      -- (b) or not
       by_test : (s : Structure) → get c.structures u.structure ≡ Some s → (b : Bool) → is_owned_by (get c.structures u.structure) n ≡ b
           → IsSteady w (if b then with_owner gone_from u.structure (heir c u.structure n) else gone_from)
       by_test s here true t =
@@ -312,28 +275,21 @@ module _ (w : WorldValue) (c : CampaignValue) (n : ℕ) (u : Unit) (is : get c.u
           (steady_left (insert c.structures u.structure (owned_by (heir c u.structure n) s)) (as_handed_on old.owners low s here (is_no_zero c.structures c.next_structure old.next.structures u.structure s here)) old)
       by_test s here false t = steady_left c.structures (AreReowned-unchanged old.owners low t) old
 
-      -- for steady_handed: without unit n the campaign stays steady, whether the structure that n is inside is there
-      -- (o) or not
       by_owner : (o : Option Structure) → get c.structures u.structure ≡ o → IsSteady w (if is_owned_by o n then with_owner gone_from u.structure (heir c u.structure n) else gone_from)
       by_owner None here = steady_left c.structures (AreReowned-unchanged old.owners low (ap (λ o. is_owned_by o n) here)) old
       by_owner (Some s) here = by_test s here (is_owned_by (Some s) n) (ap (λ o. is_owned_by o n) here)
 
-  -- a steady campaign stays steady when a unit is removed
   pub steady-without : IsSteady w c → IsSteady w (without_unit c n)
   steady-without old = subst (IsSteady w) (sym without-known) (steady_handed old)
 
-  -- removing unit n lowers the total of each thing by what the unit held of it
   pub total-without : (t : Thing) → total (without_unit c n) t + unit_amount t u.holding ≡ total c t
   unfolding total
   total-without t =
       ap (λ (d : CampaignValue). total d t + unit_amount t u.holding) without-known ∙ by_test (is_owned_by (get c.structures u.structure) n)
     where
-      -- for total-without: an equation of sums still holds with the same number s added on each side
       regrouped : (a b s h : ℕ) → a + h ≡ b → (a + s) + h ≡ b + s
       regrouped a b s h e = omega arith
 
-      -- for total-without: the total of thing t loses what unit n held of it, whether n's structure gets another owner
-      -- (b) or not
       by_test : (b : Bool) → total (if b then with_owner gone_from u.structure (heir c u.structure n) else gone_from) t + unit_amount t u.holding ≡ total c t
       by_test true = regrouped _ _ _ _ (sum_over-remove c.units n (λ (x : Unit). unit_amount t x.holding) u is)
       by_test false = regrouped _ _ _ _ (sum_over-remove c.units n (λ (x : Unit). unit_amount t x.holding) u is)
@@ -341,32 +297,22 @@ module _ (w : WorldValue) (c : CampaignValue) (n : ℕ) (u : Unit) (is : get c.u
   -- the campaign d has the units of the campaign c but unit n, and the same factions, regions, books, month and reports
   -- as c
   pub record IsOnlyReduced (d : CampaignValue) : Type 0 where
-    -- the campaign d has the units of c, but not unit n
     pub units : d.units ≡ remove c.units n
-    -- the campaign d, which lacks unit n, has the same factions as the campaign c, which has the unit
     pub factions : d.factions ≡ c.factions
-    -- the campaign d, which lacks unit n, has the same regions as the campaign c, which has the unit
     pub regions : d.regions ≡ c.regions
-    -- the campaign d, which lacks unit n, has the same books as the campaign c, which has the unit
     pub books : d.books ≡ c.books
-    -- the campaign d, which lacks unit n, has the same month as the campaign c, which has the unit
     pub month : d.month ≡ c.month
-    -- the campaign d, which lacks unit n, has the same reports as the campaign c, which has the unit
     pub reports : d.reports ≡ c.reports
 
-  -- removing unit n changes no faction, region, report or amount of the books, and not the month
   pub only_reduced : IsOnlyReduced (without_unit c n)
   only_reduced = subst IsOnlyReduced (sym without-known) (by_test (is_owned_by (get c.structures u.structure) n))
     where
-      -- for only_reduced: only units and structures change when unit n is removed, whether n's structure gets another
-      -- owner (b) or not
       by_test : (b : Bool) → IsOnlyReduced (if b then with_owner gone_from u.structure (heir c u.structure n) else gone_from)
       by_test true = record { units = refl; factions = refl; regions = refl; books = refl; month = refl; reports = refl }
       by_test false = record { units = refl; factions = refl; regions = refl; books = refl; month = refl; reports = refl }
 
 -- ---- what is marked
 
--- a change of a structure, with the structure marked, marks all that changes (MarksChanges)
 pub marks-structure : (f : Structure → Structure) (c : MarkedCampaign) (n : ℕ) → MarksChanges c (record { value = structure_changed f c.value n; marks = mark_structure c n })
 marks-structure f c n =
     let after : FinMap nat_cmp Structure → Option Structure → MarkedCampaign = λ m o. record { value = record c.value { structures = m }; marks = record c.marks { structures = marked_with c.marks.structures n o } } in
@@ -376,28 +322,22 @@ marks-structure f c n =
     (λ p. elim p as (PartStaysMarked c.marks next.marks) [ Structures ↦ put_stays c.marks.structures n | _ ↦ λ k h. h ])
     (λ p. elim p as (KeepsUnmarked next.marks c.value next.value) [ Structures ↦ λ k free. get-insert_other c.value.structures n k (f v) (unmarked_differs_from_put c.marks.structures n k free) | _ ↦ λ k free. refl ]))
 
--- handing a structure on, with its mark, marks all that changes (MarksChanges)
 pub marks-after_handover : (c : MarkedCampaign) (s from to : ℕ) → MarksChanges c (handed_marked c s from to)
 marks-after_handover c s from to = by_test (is_owned_by (get c.value.structures s) from)
   where
-    -- handing structure s on marks all that changes (MarksChanges), whether it gets another owner (b) or not
     by_test : (b : Bool) → MarksChanges c (if b then record { value = with_owner c.value s to; marks = mark_structure c s } else c)
     by_test true = marks-structure (owned_by to) c s
     by_test false = marks-refl c
 
--- removing a unit without handing its structure on, with the unit, its row and all its goods marked, marks all that
--- changes (MarksChanges)
 pub marks-taken : (c : MarkedCampaign) (n : ℕ) → MarksChanges c (taken_marked c n)
 marks-taken c n = by_unit (get c.value.units n) refl
   where
-    -- removing unit n marks all that changes (MarksChanges), whether the unit is there (o) or not
     by_unit : (o : Option Unit) → get c.value.units n ≡ o → MarksChanges c (taken_marked c n)
     by_unit None is = subst (MarksChanges c) (taken_none c n is) (marks-refl c)
     by_unit (Some u) is =
         subst (λ (o : Option Unit). MarksChanges c (record { value = record c.value { units = remove c.value.units n }; marks = whole_marked c.marks n o })) (sym is)
         (marks-unit c (remove c.value.units n) n (λ k apart. get-remove_other c.value.units n k apart))
 
--- removing a unit and handing its structure on, with their marks, marks all that changes (MarksChanges)
 marks_gone : (c : MarkedCampaign) (n : ℕ) (o : Option Unit) → MarksChanges c (gone_marked_at c n o)
 marks_gone c n None = marks-refl c
 marks_gone c n (Some u) = marks-trans c (taken_marked c n) (gone_marked_at c n (Some u)) (marks-taken c n) (marks-after_handover (taken_marked c n) u.structure n (heir c.value u.structure n))

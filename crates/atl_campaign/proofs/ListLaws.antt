@@ -18,7 +18,6 @@ use Rattle.atl_records.specs.declared.records.Unit.{Unit}
 use Rattle.atl_campaign.proofs.OrderedLaws.{numbers_where-insert_new, numbers_where-lost, numbers_where-gained, taken_put}
 use Rattle.atl_records.proofs.EveryLaws.{same_number, other_number}
 
--- for removed_unit_is_absent and others: a number compares equal to itself
 number_compares_equal : (k : ℕ) → is_eq (nat_cmp k k) ≡ true
 number_compares_equal k = elim (nat_cmp k k) as (λ o. nat_cmp k k ≡ o → is_eq o ≡ true) [
   | Less ↦ λ e. let l = ranked k k Less (sym e) in absurd (omega arith)
@@ -26,11 +25,9 @@ number_compares_equal k = elim (nat_cmp k k) as (λ o. nat_cmp k k ≡ o → is_
   | Greater ↦ λ e. let l = ranked k k Greater (sym e) in absurd (omega arith)
 ] refl
 
--- a unit that is removed is not found any more
 removed_unit_is_absent : (units : FinMap nat_cmp Unit) (k : ℕ) → get (remove units k) k ≡ None
 removed_unit_is_absent units k = get-remove nat_cmp_total units k k ∙ ap (λ b. cond b None (get units k)) (number_compares_equal k)
 
--- P holds of each list once a list is put under k, if it holds of that list, and of each old list under another key
 each_list_after_put : (lists : FinMap nat_cmp (List ℕ)) (k : ℕ) (xs : List ℕ) (P : ℕ → List ℕ → Type 0) → P k xs → ((r : ℕ) → k ≢ r → P r (list_of lists r)) → (r : ℕ) → P r (list_of (insert lists k xs) r)
 each_list_after_put lists k xs P here there r =
     rw (get-insert nat_cmp_total lists k xs r)
@@ -41,7 +38,6 @@ each_list_after_put lists k xs P here there r =
     ] refl)
 
 module _ (belongs_to : Unit → ℕ) where
-  -- lists that have just the units of each key (AreLists) still do once a new unit is put into the list of its key
   pub AreLists-added : (units : FinMap nat_cmp Unit) (lists : FinMap nat_cmp (List ℕ)) (k : ℕ) (u : Unit) → get units k ≡ None → AreLists belongs_to units lists
       → AreLists belongs_to (insert units k u) (insert lists (belongs_to u) (put_number k (list_of lists (belongs_to u))))
   AreLists-added units lists k u fresh old =
@@ -50,13 +46,10 @@ module _ (belongs_to : Unit → ℕ) where
       (ap (put_number k) (old own) ∙ sym (numbers_where-insert_new (λ v. belongs_to v == own) units k u fresh (same_number own)))
       (λ r ne. old r ∙ sym (numbers_where-insert_other (λ v. belongs_to v == r) units k u fresh (other_number own r ne)))
 
-  -- the lists still have just the units of each key (AreLists) when a unit changes and its key does not
   pub AreLists-kept : (units : FinMap nat_cmp Unit) (lists : FinMap nat_cmp (List ℕ)) (k : ℕ) (u v : Unit) → get units k ≡ Some u → belongs_to u ≡ belongs_to v → AreLists belongs_to units lists → AreLists belongs_to (insert units k v) lists
   AreLists-kept units lists k u v is same old r =
       old r ∙ sym (numbers_where-insert_known (λ w. belongs_to w == r) units k u v is (ap (λ q. q == r) same))
 
-  -- if lists have just the units of each key (AreLists), unit u among them, they have those without u once u is taken
-  -- out of the list of its key
   AreLists-undone : (units : FinMap nat_cmp Unit) (lists : FinMap nat_cmp (List ℕ)) (k : ℕ) (u : Unit) → get units k ≡ None → AreLists belongs_to (insert units k u) lists
       → AreLists belongs_to units (insert lists (belongs_to u) (take_number k (list_of lists (belongs_to u))))
   AreLists-undone units lists k u fresh old =
@@ -65,7 +58,6 @@ module _ (belongs_to : Unit → ℕ) where
       (ap (take_number k) (old own ∙ numbers_where-insert_new (λ v. belongs_to v == own) units k u fresh (same_number own)) ∙ taken_put k _)
       (λ r ne. old r ∙ numbers_where-insert_other (λ v. belongs_to v == r) units k u fresh (other_number own r ne))
 
-  -- lists that have just the units of each key (AreLists) still do once a removed unit is taken out of its key's list
   pub AreLists-removed : (units : FinMap nat_cmp Unit) (lists : FinMap nat_cmp (List ℕ)) (k : ℕ) (u : Unit) → get units k ≡ Some u → AreLists belongs_to units lists
       → AreLists belongs_to (remove units k) (insert lists (belongs_to u) (take_number k (list_of lists (belongs_to u))))
   AreLists-removed units lists k u is old =
@@ -73,7 +65,6 @@ module _ (belongs_to : Unit → ℕ) where
 
 -- ---- lists under a key, and those of the same numbers
 
--- if lists have just the units of each key (AreLists), so do lists with the same numbers under each key
 pub AreLists-same : (belongs_to : Unit → ℕ) (units : FinMap nat_cmp Unit) (old new : FinMap nat_cmp (List ℕ)) → SameLists new old → AreLists belongs_to units old → AreLists belongs_to units new
 AreLists-same belongs_to units old new same is k = same k ∙ is k
 
@@ -84,23 +75,17 @@ module _ (belongs_to : Unit → ℕ) (units : FinMap nat_cmp Unit) (old new : Fi
   AreLists-came u own fresh put is =
       subst (λ l. AreLists belongs_to (insert units n u) l) (sym (put ∙ ap (λ k. insert old k (put_number n (list_of old k))) (sym own))) (AreLists-added belongs_to units old n u fresh is)
 
-  -- if the lists `old` have just the units of each key (AreLists), so do the lists `new`, which are `old` with a
-  -- removed unit taken out of the list of its key, `key`
   pub AreLists-went : (u : Unit) → belongs_to u ≡ key → get units n ≡ Some u → SameLists new (insert old key (take_number n (list_of old key))) → AreLists belongs_to units old → AreLists belongs_to (remove units n) new
   AreLists-went u own there same is =
       AreLists-same belongs_to (remove units n) (insert old key (take_number n (list_of old key))) new same
       (subst (λ k. AreLists belongs_to (remove units n) (insert old k (take_number n (list_of old k)))) own (AreLists-removed belongs_to units old n u there is))
 
--- putting a list under a key changes no list under another key
 pub listed_else : (lists : FinMap nat_cmp (List ℕ)) (k : ℕ) (xs : List ℕ) (r : ℕ) → k ≢ r → list_of (insert lists k xs) r ≡ list_of lists r
 listed_else lists k xs r = each_list_after_put lists k xs (λ q ys. k ≢ q → ys ≡ list_of lists q) (λ apart. absurd (apart refl)) (λ q _ _. refl) r
 
--- a list put under a key is found there
 pub listed_there : (lists : FinMap nat_cmp (List ℕ)) (k : ℕ) (xs : List ℕ) → list_of (insert lists k xs) k ≡ xs
 listed_there lists k xs = ap (λ o. unwrap_or o []) (get-insert nat_cmp_total lists k xs k ∙ ap (λ b. cond b (Some xs) (get lists k)) (number_compares_equal k))
 
--- lists that have just the units of each key (AreLists) have them again once a number is put into one list and taken
--- out of it
 pub AreLists-undone_at : (belongs_to : Unit → ℕ) (units : FinMap nat_cmp Unit) (old mid new : FinMap nat_cmp (List ℕ)) (n key : ℕ) → mid ≡ insert old key (put_number n (list_of old key)) → SameLists new (insert mid key (take_number n (list_of mid key)))
     → AreLists belongs_to units old → AreLists belongs_to units new
 AreLists-undone_at belongs_to units old mid new n key put same is =
@@ -109,7 +94,6 @@ AreLists-undone_at belongs_to units old mid new n key put same is =
     (ap (take_number n) (ap (λ l. list_of l key) put ∙ listed_there old key (put_number n (list_of old key))) ∙ taken_put n (list_of old key) ∙ is key)
     (λ r ne. ap (λ l. list_of l r) put ∙ listed_else old key (put_number n (list_of old key)) r ne ∙ is r))
 
--- taking a number out where there is no list changes no list
 pub none_taken : (lists : FinMap nat_cmp (List ℕ)) (key n : ℕ) → get lists key ≡ None → SameLists lists (insert lists key (take_number n (list_of lists key)))
 unfolding take_number
 none_taken lists key n none k =
@@ -135,7 +119,6 @@ AreListsBut0-changed f some all key bare =
     ]
 
 module _ (units : FinMap nat_cmp Unit) (lists : FinMap nat_cmp (List ℕ)) (are : AreInsideLists units lists) where
-  -- the numbers of the units that are inside no structure
   outside : List ℕ
   outside = numbers_where (λ u. u.structure == 0) units
 
@@ -143,24 +126,18 @@ module _ (units : FinMap nat_cmp Unit) (lists : FinMap nat_cmp (List ℕ)) (are 
   whole : FinMap nat_cmp (List ℕ)
   whole = insert lists 0 outside
 
-  -- the lists `whole` have just the units of each structure number, and under 0 those inside no structure
   whole_listed : AreLists (λ u. u.structure) units whole
   unfolding whole outside
   whole_listed = each_list_after_put lists 0 outside (λ r xs. xs ≡ numbers_where (λ u. u.structure == r) units) refl (λ r ne. rw (other_number r 0 (λ e. ne (sym e))) at (are r))
 
-  -- the lists by structure (`lists`) are those of `whole`, but under 0, where they have none (AreListsBut0)
   AreListsBut0-whole : AreListsBut0 lists whole
   unfolding whole
   AreListsBut0-whole = each_list_after_put lists 0 outside (λ r xs. list_of lists r ≡ cond (r == 0) [] xs) (are 0) (λ r ne. rw (other_number r 0 (λ e. ne (sym e))) refl)
 
--- lists with just the units of each structure number, but an empty list under 0, are lists of the units inside
--- (AreInsideLists)
 bare_inside : (units : FinMap nat_cmp Unit) (some all : FinMap nat_cmp (List ℕ)) → AreListsBut0 some all → AreLists (λ u. u.structure) units all → AreInsideLists units some
 bare_inside units some all bare are k = bare k ∙ ap (cond (k == 0) []) (are k)
 
 module _ (units : FinMap nat_cmp Unit) (old new : FinMap nat_cmp (List ℕ)) (n key : ℕ) (u : Unit) (own : u.structure ≡ key) where
-  -- the lists by structure still have just the units inside (AreInsideLists) once a new unit is put into the list of
-  -- its structure, if it is inside one
   pub AreInsideLists-came : get units n ≡ None → new ≡ listed_unless old n key 0 → AreInsideLists units old → AreInsideLists (insert units n u) new
   AreInsideLists-came fresh put is =
       let all = whole units old is in
@@ -168,8 +145,6 @@ module _ (units : FinMap nat_cmp Unit) (old new : FinMap nat_cmp (List ℕ)) (n 
       (bare_inside (insert units n u) _ (insert all key (put_number n (list_of all key))) (AreListsBut0-changed (put_number n) old all key (AreListsBut0-whole units old is))
       (AreLists-came (λ v. v.structure) units all _ n key u own fresh refl (whole_listed units old is)))
 
-  -- the lists by structure still have just the units inside (AreInsideLists) once a unit is removed and taken out of
-  -- the list of its structure, if it is inside one
   pub AreInsideLists-went : get units n ≡ Some u → SameLists new (unlisted_unless old n key 0) → AreInsideLists units old → AreInsideLists (remove units n) new
   AreInsideLists-went there same is k =
       let all = whole units old is in
@@ -177,25 +152,21 @@ module _ (units : FinMap nat_cmp Unit) (old new : FinMap nat_cmp (List ℕ)) (n 
       ∙ bare_inside (remove units n) _ (insert all key (take_number n (list_of all key))) (AreListsBut0-changed (take_number n) old all key (AreListsBut0-whole units old is))
       (AreLists-went (λ v. v.structure) units all _ n key u own there (λ r. refl) (whole_listed units old is)) k
 
--- the lists by structure still have just the units inside (AreInsideLists) when a unit changes, but not its structure
 AreInsideLists-kept : (units : FinMap nat_cmp Unit) (lists : FinMap nat_cmp (List ℕ)) (n : ℕ) (u v : Unit) → get units n ≡ Some u → u.structure ≡ v.structure → AreInsideLists units lists → AreInsideLists (insert units n v) lists
 AreInsideLists-kept units lists n u v there same is =
     bare_inside (insert units n v) lists (whole units lists is) (AreListsBut0-whole units lists is) (AreLists-kept (λ w. w.structure) units _ n u v there same (whole_listed units lists is))
 
 -- ---- nobody is listed
 
--- where there are no units, empty lists have just the units of each key (AreLists)
 nobody_listed : (belongs_to : Unit → ℕ) → AreLists belongs_to empty empty
 nobody_listed belongs_to k = ap (λ o. unwrap_or o []) (get-empty nat_cmp k) ∙ sym (ap (λ es. map (λ e. e.0) (filter (λ e. belongs_to e.1 == k) es)) entries-empty)
 
--- for AreUnitLists-nobody: the empty map has the lists of the empty map, and none under 0 (AreListsBut0)
 nobody_bare : AreListsBut0 empty empty
 nobody_bare k = elim (k == 0) as (λ b. list_of empty k ≡ cond b [] (list_of empty k)) [
   | true ↦ ap (λ o. unwrap_or o []) (get-empty nat_cmp k)
   | false ↦ refl
 ]
 
--- where there are no units, empty lists by region, faction and structure have just the units of each (AreUnitLists)
 pub AreUnitLists-nobody : AreUnitLists empty (record { by_region = empty; by_faction = empty; by_structure = empty })
 AreUnitLists-nobody = record {
   regions = nobody_listed (λ u. u.region);
@@ -214,7 +185,6 @@ AreUnitLists-kept units lists n u v is same old = record {
   structures = AreInsideLists-kept units lists.by_structure n u v is (ap (λ (l : ListKeys). l.structure) same) old.structures;
 }
 
--- a unit inserted under a number is found under that number
 put_there : (units : FinMap nat_cmp Unit) (n : ℕ) (u : Unit) → get (insert units n u) n ≡ Some u
 put_there units n u = get-insert nat_cmp_total units n u n ∙ ap (λ b. cond b (Some u) (get units n)) (number_compares_equal n)
 
@@ -227,8 +197,6 @@ AreUnitLists-back units n u l old mid new fresh own puts takes is =
 -- ---- a unit that is listed elsewhere
 
 module _ (belongs_to : Unit → ℕ) where
-  -- the lists still have just the units of each key (AreLists) once a unit whose key changed is moved to its new key's
-  -- list
   AreLists-moved : (units : FinMap nat_cmp Unit) (lists : FinMap nat_cmp (List ℕ)) (k : ℕ) (u v : Unit) → get units k ≡ Some u → belongs_to u ≢ belongs_to v → AreLists belongs_to units lists
       → AreLists belongs_to (insert units k v) (insert (insert lists (belongs_to v) (put_number k (list_of lists (belongs_to v)))) (belongs_to u) (take_number k (list_of lists (belongs_to u))))
   AreLists-moved units lists k u v is apart old =
@@ -240,8 +208,6 @@ module _ (belongs_to : Unit → ℕ) where
       (λ _. ap (put_number k) (old to) ∙ sym (numbers_where-gained (λ w. belongs_to w == to) units k u v is (other_number from to apart) (same_number to)))
       (λ q ne2 ne3. old q ∙ sym (numbers_where-insert_known (λ w. belongs_to w == q) units k u v is (other_number from q ne3 ∙ sym (other_number to q ne2)))) r ne)
 
-  -- the lists still have just the units of each key (AreLists) once a changed unit is moved to its new key's list,
-  -- whether that key differs from the old one or not
   relisted : (units : FinMap nat_cmp Unit) (lists : FinMap nat_cmp (List ℕ)) (k : ℕ) (u v : Unit) → get units k ≡ Some u → AreLists belongs_to units lists
       → AreLists belongs_to (insert units k v) (unlisted_unless (listed_unless lists k (belongs_to v) (belongs_to u)) k (belongs_to u) (belongs_to v))
   relisted units lists k u v is old =
@@ -262,8 +228,6 @@ module _ (belongs_to : Unit → ℕ) where
       (subst (λ q. AreLists belongs_to (insert units n v) (unlisted_unless (listed_unless old n to q) n q to)) own
       (subst (λ q. AreLists belongs_to (insert units n v) (unlisted_unless (listed_unless old n q (belongs_to u)) n (belongs_to u) q)) goes (relisted units old n u v is lists))))
 
-  -- lists that have just the units of each key (AreLists) have them again once a number is put under a key and taken
-  -- out again, or neither where the key is `other`
   pub AreLists-apart : (units : FinMap nat_cmp Unit) (old mid new : FinMap nat_cmp (List ℕ)) (n key other : ℕ) → mid ≡ listed_unless old n key other → SameLists new (unlisted_unless mid n key other) → AreLists belongs_to units old → AreLists belongs_to units new
   AreLists-apart units old mid new n key other put same is =
       elim (key == other) as (λ b. mid ≡ cond b old (insert old key (put_number n (list_of old key))) → SameLists new (cond b mid (insert mid key (take_number n (list_of mid key)))) → AreLists belongs_to units new) [
@@ -271,8 +235,6 @@ module _ (belongs_to : Unit → ℕ) where
         | false ↦ λ p s. AreLists-undone_at belongs_to units old mid new n key p s is
       ] put same
 
--- the lists by structure still have just the units inside (AreInsideLists) once a unit is moved from its old
--- structure's list to its new one's
 pub AreInsideLists-relisted : (units : FinMap nat_cmp Unit) (old new : FinMap nat_cmp (List ℕ)) (n from to : ℕ) (u v : Unit) → get units n ≡ Some u → u.structure ≡ from → v.structure ≡ to → SameLists new (relisted_inside old n from to)
     → AreInsideLists units old → AreInsideLists (insert units n v) new
 AreInsideLists-relisted units old new n from to u v is own goes same lists =
@@ -289,13 +251,9 @@ AreInsideLists-relisted units old new n from to u v is own goes same lists =
           (AreLists-relisted (λ w. w.structure) units all put taken n from to u v is own goes (rw (other_number to from (λ e. apart (sym e))) refl) (λ r. rw (other_number from to apart) refl) (whole_listed units old lists)) k)
     ]
 
--- the lists by region, faction and structure still have just the units of each (AreUnitLists) when unit n, if it is
--- there, changes, but none of these three
 pub AreUnitLists-changed : (f : Unit → Unit) → ((u : Unit) → list_keys_of u ≡ list_keys_of (f u)) → (units : FinMap nat_cmp Unit) (lists : UnitLists) (n : ℕ) → AreUnitLists units lists → AreUnitLists (with_changed_value f units n) lists
 AreUnitLists-changed f stays units lists n is = by_unit (get units n) refl
   where
-    -- for AreUnitLists-changed: the lists still have just the units of each region, faction and structure once unit n,
-    -- if it is there (o), changes, but none of these three
     by_unit : (o : Option Unit) → get units n ≡ o → AreUnitLists (with_changed_option f units n o) lists
     by_unit None e = is
     by_unit (Some u) e = AreUnitLists-kept units lists n u (f u) e (stays u) is

@@ -19,24 +19,19 @@ use Rattle.atl_records.specs.Every.{Every, HasValue}
 use Rattle.atl_campaign.proofs.AssemblyLaws.{get_same, get_other}
 use Rattle.atl_records.proofs.EveryLaws.{none_some, there-new, there-insert}
 
--- no two rows have the same number
 abbrev pub HaveDistinctNumbers : {R : Type 0} → (R → ℕ) → List R → Type 0
 HaveDistinctNumbers number [] = ⊤
 HaveDistinctNumbers number (r ∷ rows) = AllByRecursion (λ s. number s ≢ number r) rows × HaveDistinctNumbers number rows
 
--- some row has the number n
 abbrev pub HasNumber : {R : Type 0} → (R → ℕ) → List R → ℕ → Type 0
 HasNumber number [] n = ⊥
 HasNumber number (r ∷ rows) n = (number r ≡ n) ⊎ HasNumber number rows n
 
--- exchanging two lists in front of a third gives a permutation
 pub exchange : {A : Type 0} (a b c : List A) → IsPermutation (a ++ (b ++ c)) (b ++ (a ++ c))
 exchange a b c =
     subst (λ xs. IsPermutation xs (b ++ (a ++ c))) (append_assoc a b c) (subst (λ ys. IsPermutation ((a ++ b) ++ c) ys) (append_assoc b a c) (IsPermutation-append_left c (a ++ b) (b ++ a) (IsPermutation-append_comm a b)))
 
 module _ {V A : Type 0} (f : ℕ × V → List A) where
-  -- the lists that f makes of entries, joined, have f's list of (k, v) too, in some order, once v is put under a new
-  -- number k
   flat_put : (k : ℕ) (v : V) (es : List (ℕ × V)) → find nat_cmp k es ≡ None → IsPermutation (f (k, v) ++ flat_map f es) (flat_map f (put nat_cmp k v es))
   flat_put k v [] h = IsPermutation-refl (f (k, v) ++ [])
   flat_put k v (e ∷ es) h =
@@ -48,18 +43,14 @@ module _ {V A : Type 0} (f : ℕ × V → List A) where
             (IsPermutation-append_right (f e) (f (k, v) ++ flat_map f es) (flat_map f (put nat_cmp k v es)) (flat_put k v es g))
       ] h
 
-  -- the lists that f makes of a map's entries, joined, have f's list of (k, v) too, in some order, once v is inserted
-  -- under a new number k
   flat_insert : (m : FinMap nat_cmp V) (k : ℕ) (v : V) → get m k ≡ None → IsPermutation (f (k, v) ++ flat_map f (entries m)) (flat_map f (entries (insert m k v)))
   flat_insert m k v h = subst (λ es. IsPermutation (f (k, v) ++ flat_map f (entries m)) (flat_map f es)) (sym (entries-insert nat_cmp_total m k v)) (flat_put k v (entries m) (sym (get-entries m k) ∙ h))
 
 module _ {R V : Type 0} (number : R → ℕ) (value : R → V) where
-  -- rows whose numbers are not k and have no value in a map still have none once a value is put under k
   still_none : (m : FinMap nat_cmp V) (k : ℕ) (v : V) (rows : List R) → AllByRecursion (λ s. number s ≢ k) rows → AllByRecursion (λ s. get m (number s) ≡ None) rows → AllByRecursion (λ s. get (insert m k v) (number s) ≡ None) rows
   still_none m k v [] h n = tt
   still_none m k v (s ∷ rows) h n = (get_other m k (number s) v h.0 ∙ n.0, still_none m k v rows h.1 n.1)
 
-  -- no row's number is in the empty map
   all_none : (rows : List R) → AllByRecursion (λ s. get (empty {X = V} {R = nat_cmp}) (number s) ≡ None) rows
   all_none [] = tt
   all_none (s ∷ rows) = (get-empty nat_cmp (number s), all_none rows)
@@ -69,8 +60,6 @@ module _ {R V : Type 0} (number : R → ℕ) (value : R → V) where
     abbrev pub flat_of : List R → List A
     flat_of rows = flat_map (λ r. f (number r, value r)) rows
 
-    -- the lists that f makes of a map's entries, joined, have those of `rows` too, in some order, once the rows, which
-    -- have new numbers, are put in
     put_order : (rows : List R) (m : FinMap nat_cmp V) → HaveDistinctNumbers number rows → AllByRecursion (λ s. get m (number s) ≡ None) rows → IsPermutation (flat_map f (entries m) ++ flat_of rows) (flat_map f (entries (put_rows number value rows m)))
     put_order [] m h n = subst (λ xs. IsPermutation xs (flat_map f (entries m))) (sym (append-nil (flat_map f (entries m)))) (IsPermutation-refl (flat_map f (entries m)))
     put_order (r ∷ rows) m h n =
@@ -89,7 +78,6 @@ module _ {R V : Type 0} (number : R → ℕ) (value : R → V) where
     flat_order rows h =
         subst (λ es. IsPermutation (flat_map f es ++ flat_of rows) (flat_map f (entries (by_number number value rows)))) (entries-empty {X = V}) (put_order rows empty h (all_none rows))
 
-  -- if each row is the one written for its number and value, writing all rows' numbers and values gives the rows
   same_rows : (row : ℕ → V → R) (rows : List R) → AllByRecursion (λ r. row (number r) (value r) ≡ r) rows → flat_map (λ r. row (number r) (value r) ∷ []) rows ≡ rows
   same_rows row [] h = refl
   same_rows row (r ∷ rows) h = ap (λ s. s ∷ flat_map (λ r. row (number r) (value r) ∷ []) rows) h.0 ∙ ap (λ rs. r ∷ rs) (same_rows row rows h.1)
@@ -122,7 +110,6 @@ HaveDistinctNumbers-keys key number same P apart (r ∷ rows) h d = (each_apart 
 
 -- ---- tests of each row
 
--- P holds of each row, if all rows pass a test, and P holds of whatever passes it
 pub each_passes : {R : Type 0} (p : R → Bool) (P : R → Type 0) → ((r : R) → p r ≡ true → P r) → (rows : List R) → list_all p rows ≡ true → AllByRecursion P rows
 each_passes p P good [] h = tt
 each_passes p P good (r ∷ rows) h = let parts = and_parts (p r) (list_all p rows) h in (good r parts.0, each_passes p P good rows parts.1)
@@ -130,44 +117,35 @@ each_passes p P good (r ∷ rows) h = let parts = and_parts (p r) (list_all p ro
 -- ---- rows and the values under their numbers
 
 module _ {R V : Type 0} (number : R → ℕ) (value : R → V) where
-  -- putting rows with numbers other than k into a map changes nothing under k
   put_keep : (rows : List R) (m : FinMap nat_cmp V) (k : ℕ) → AllByRecursion (λ s. number s ≢ k) rows → get (put_rows number value rows m) k ≡ get m k
   put_keep [] m k h = refl
   put_keep (r ∷ rows) m k h = put_keep rows (insert m (number r) (value r)) k h.1 ∙ get_other m (number r) k (value r) (λ e. h.0 (sym e))
 
-  -- once rows with different numbers are put into a map, each row's value is found under its number
   put_found : (rows : List R) (m : FinMap nat_cmp V) → HaveDistinctNumbers number rows → AllByRecursion (λ r. get (put_rows number value rows m) (number r) ≡ Some (value r)) rows
   put_found [] m h = tt
   put_found (r ∷ rows) m h = (put_keep rows (insert m (number r) (value r)) (number r) h.0 ∙ get_same m (number r) (value r), put_found rows (insert m (number r) (value r)) h.1)
 
-  -- each row's value is found under its number in the map made of rows with different numbers
   pub rows_found : (rows : List R) → HaveDistinctNumbers number rows → AllByRecursion (λ r. get (by_number number value rows) (number r) ≡ Some (value r)) rows
   rows_found rows h = put_found rows empty h
 
-  -- if P holds of every value of a map, it holds of each row whose value is found under its number
   every_row : (P : ℕ → V → Type 0) (m : FinMap nat_cmp V) (rows : List R) → Every P m → AllByRecursion (λ r. get m (number r) ≡ Some (value r)) rows → AllByRecursion (λ r. P (number r) (value r)) rows
   every_row P m [] every h = tt
   every_row P m (r ∷ rows) every h = (every (number r) (value r) h.0, every_row P m rows every h.1)
 
-  -- if P holds of every value of the map made of rows with different numbers, it holds of each row
   pub each_row : (P : ℕ → V → Type 0) (rows : List R) → HaveDistinctNumbers number rows → Every P (by_number number value rows) → AllByRecursion (λ r. P (number r) (value r)) rows
   each_row P rows h every = every_row P (by_number number value rows) rows every (rows_found rows h)
 
-  -- a number that has a value in a map still has one once rows are put into the map
   pub put_there : (rows : List R) (m : FinMap nat_cmp V) (k : ℕ) → HasValue m k → HasValue (put_rows number value rows m) k
   put_there [] m k h = h
   put_there (r ∷ rows) m k h = put_there rows (insert m (number r) (value r)) k (there-insert m (number r) k (value r) h)
 
-  -- the number of each row has a value once the rows are put into a map
   all_there : (rows : List R) (m : FinMap nat_cmp V) → AllByRecursion (λ r. HasValue (put_rows number value rows m) (number r)) rows
   all_there [] m = tt
   all_there (r ∷ rows) m = (put_there rows (insert m (number r) (value r)) (number r) (there-new m (number r) (value r)), all_there rows (insert m (number r) (value r)))
 
-  -- the number of each row has a value in the map made of rows
   pub rows_there : (rows : List R) → AllByRecursion (λ r. HasValue (by_number number value rows) (number r)) rows
   rows_there rows = all_there rows empty
 
-  -- a number that has a value once rows are put into a map is that of a row, or had a value before
   came_from : (rows : List R) (m : FinMap nat_cmp V) (n : ℕ) → HasValue (put_rows number value rows m) n → HasNumber number rows n ⊎ HasValue m n
   came_from [] m n h = inr h
   came_from (r ∷ rows) m n h =
@@ -180,39 +158,32 @@ module _ {R V : Type 0} (number : R → ℕ) (value : R → V) where
             ]
       ]
 
-  -- no number has a value in the empty map
   nothing_there : {P : Type 0} (n : ℕ) → HasValue (empty {X = V} {R = nat_cmp}) n → P
   nothing_there n h = none_some h.0 (sym (get-empty nat_cmp n) ∙ h.1)
 
-  -- a number that has a value in the map made of rows is a row's
   pub row_of : (rows : List R) (n : ℕ) → HasValue (by_number number value rows) n → HasNumber number rows n
   row_of rows n h = elim (came_from rows empty n h) [ inl row ↦ row | inr there ↦ nothing_there n there ]
 
-  -- the list of pairs made of rows is as long as the list of rows
   count : (rows : List R) → length {A = ℕ × V} (flat_map (λ r. (number r, value r) ∷ []) rows) ≡ length rows
   count [] = refl
   count (r ∷ rows) = ap suc (count rows)
 
-  -- the map made of rows with different numbers has as many values as rows
   pub same_count : (rows : List R) → HaveDistinctNumbers number rows → len (by_number number value rows) ≡ length rows
   same_count rows h =
       let es = entries (by_number number value rows) in
       let order = flat_order number value (λ e. e ∷ []) rows h in
       len-entries (by_number number value rows) ∙ ap length (sym (flat_same es)) ∙ length_permutation (flat_map (λ r. (number r, value r) ∷ []) rows) (flat_map (λ e. e ∷ []) es) order ∙ count rows
     where
-      -- joining a list of one entry for each entry gives the entries
       flat_same : (es : List (ℕ × V)) → flat_map (λ e. e ∷ []) es ≡ es
       flat_same [] = refl
       flat_same (e ∷ es) = ap (λ xs. e ∷ xs) (flat_same es)
 
 -- ---- facts of each row
 
--- S holds of each row, if P and Q hold of each row, and S follows from both
 pub each_follows_from_two : {R : Type 0} (P Q S : R → Type 0) → ((r : R) → P r → Q r → S r) → (rows : List R) → AllByRecursion P rows → AllByRecursion Q rows → AllByRecursion S rows
 each_follows_from_two P Q S f [] p q = tt
 each_follows_from_two P Q S f (r ∷ rows) p q = (f r p.0 q.0, each_follows_from_two P Q S f rows p.1 q.1)
 
--- Q holds of each row, if P holds of each row, and Q follows from P
 pub each_follows : {R : Type 0} (P Q : R → Type 0) → ((r : R) → P r → Q r) → (rows : List R) → AllByRecursion P rows → AllByRecursion Q rows
 each_follows P Q f [] p = tt
 each_follows P Q f (r ∷ rows) p = (f r p.0, each_follows P Q f rows p.1)

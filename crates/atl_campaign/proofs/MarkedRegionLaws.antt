@@ -13,38 +13,28 @@ use Rattle.atl_campaign.specs.Marks.{AreStocksWithin, MarkedThings}
 use Rattle.atl_campaign.specs.Regions.{AreRegions}
 use Rattle.atl_campaign.proofs.UnitLaws.{within_both, within_more, within_things}
 
--- an empty dirty set with the given room
 abbrev nothing_marked : ℕ → RoomySet
 nothing_marked room = record { numbers = set.empty; room = room }
 
--- the given dirty set with no number left in it, and its room unchanged
 abbrev cleared : RoomySet → RoomySet
 cleared marks = record marks { numbers = set.empty }
 
--- the given dirty set with region n added, if that region is there
 abbrev with_region_marked : FinMap nat_cmp Region → RoomySet → ℕ → RoomySet
 with_region_marked regions marks n = record marks { numbers = marked_with marks.numbers n (get regions n) }
 
--- empty dirty sets mark no stock, so each marked stock is of a marked region (AreStocksWithin)
 within-none : AreStocksWithin set.empty set.empty empty
 within-none = record { stocks_within = λ q e. e; items_within = nothing }
   where
-    -- for within-none: a number with marks in the empty map of marked things is in the empty set, as there is none
     nothing : (q : ℕ) → is_some (get {X = FinMap nat_cmp (Prim.Unit {0})} {R = nat_cmp} empty q) ≡ true → set.contains {R = nat_cmp} set.empty q ≡ true
     nothing q e = absurd (false≢true (sym (ap is_some (get-empty nat_cmp q)) ∙ e))
 
--- if there are no regions, empty dirty sets need no room for marks, and mark no stock (AreRegions)
 pub AreRegions-none : AreRegions empty (nothing_marked 0) (nothing_marked 0) (nothing_marked 0) empty
 AreRegions-none = record { within = within-none; rows_fit = Room-empty Region; markets_fit = Room-empty Region; stocks_fit = Room-empty Region }
 
--- empty dirty sets with room for as many numbers as there are regions have room for all marks, and mark no stock
--- (AreRegions)
 pub AreRegions-of : (regions : FinMap nat_cmp Region) → AreRegions regions (nothing_marked (len regions)) (nothing_marked (len regions)) (nothing_marked (len regions)) empty
 AreRegions-of regions = record { within = within-none; rows_fit = Room-of regions; markets_fit = Room-of regions; stocks_fit = Room-of regions }
 
 module _ (regions : FinMap nat_cmp Region) (rows markets stocks : RoomySet) (items : MarkedThings) (h : AreRegions regions rows markets stocks items) where
-  -- once all dirty sets are emptied, there is still room for all marks, and no stock is marked without its region
-  -- (AreRegions)
   pub AreRegions-without_marks : AreRegions regions (cleared rows) (cleared markets) (cleared stocks) empty
   AreRegions-without_marks = record {
     within = within-none;
@@ -53,8 +43,6 @@ module _ (regions : FinMap nat_cmp Region) (rows markets stocks : RoomySet) (ite
     stocks_fit = Room-unmarked regions stocks.numbers stocks.room h.stocks_fit;
   }
 
-  -- once a region's row is marked, there is still room for all marks, and still no stock is marked without its region
-  -- (AreRegions)
   pub AreRegions-row : (n : ℕ) → AreRegions regions (with_region_marked regions rows n) markets stocks items
   AreRegions-row n = record { within = h.within; rows_fit = Room-put regions rows.numbers rows.room n (get regions n) refl h.rows_fit; markets_fit = h.markets_fit; stocks_fit = h.stocks_fit }
 
@@ -72,8 +60,6 @@ module _ (regions : FinMap nat_cmp Region) (rows markets stocks : RoomySet) (ite
       stocks_fit = h.stocks_fit;
     }
 
-    -- once all stocks of a region, and so the region, are marked, there is still room for all marks, and still no stock
-    -- is marked without its region (AreRegions)
     pub AreRegions-stocks : AreRegions regions rows (with_region_marked regions markets n) (with_region_marked regions stocks n) items
     AreRegions-stocks = record {
       within = subst (λ o. AreStocksWithin (marked_with markets.numbers n o) (marked_with stocks.numbers n o) items) (sym is) (record {
@@ -85,8 +71,6 @@ module _ (regions : FinMap nat_cmp Region) (rows markets stocks : RoomySet) (ite
       stocks_fit = Room-put regions stocks.numbers stocks.room n (get regions n) refl h.stocks_fit;
     }
 
-  -- once the region under a number is replaced by another, there is still room for all marks, and still no stock is
-  -- marked without its region (AreRegions)
   pub AreRegions-over : (n : ℕ) (r s : Region) → get regions n ≡ Some r → AreRegions (insert regions n s) rows markets stocks items
   AreRegions-over n r s is = record {
     within = h.within;

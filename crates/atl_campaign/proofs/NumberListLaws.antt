@@ -15,7 +15,6 @@ abbrev pub IsListed : ℕ → List ℕ → Type 0
 IsListed k [] = ⊥
 IsListed k (n ∷ ns) = (k ≡ n) ⊎ IsListed k ns
 
--- a number on a list is at some index of it
 place_in : (k d : ℕ) (ns : List ℕ) → IsListed k ns → (i : ℕ) × (i < length ns) × (get_or ns i d ≡ k)
 place_in k d [] h = absurd h
 place_in k d (n ∷ ns) (inl same) = (0, omega arith, sym same)
@@ -36,22 +35,18 @@ first_of q (n ∷ ns) low =
       | false ↦ λ t. (λ some. let found = rest.0 some in (inr found.0, found.1), λ none k h. passed t (rest.1 none) k h)
     ] refl
   where
-    -- for first_of: if n does not pass the test q, and no number of ns does, no number of n ∷ ns does
     passed : q n ≡ false → ((k : ℕ) → IsListed k ns → q k ≡ false) → (k : ℕ) → IsListed k (n ∷ ns) → q k ≡ false
     passed t others k (inl same) = ap q same ∙ t
     passed t others k (inr h) = others k h
 
 module _ {V : Type 0} (p : V → Bool) where
-  -- the numbers of the entries whose values pass the test
   abbrev chosen : List (ℕ × V) → List ℕ
   chosen es = map (λ e. e.0) (filter (λ e. p e.1) es)
 
-  -- for each_listed: a number k on the list ns is still on it, whether n is put in front (b) or not
   further : (n : ℕ) (ns : List ℕ) (b : Bool) (k : ℕ) → IsListed k ns → IsListed k (cond b (n ∷ ns) ns)
   further n ns true k h = inr h
   further n ns false k h = h
 
-  -- for each_listed: where n is put in front of the list ns (b is true), n is on the list
   foremost : (n : ℕ) (ns : List ℕ) (b : Bool) → b ≡ true → IsListed n (cond b (n ∷ ns) ns)
   foremost n ns true h = inl refl
   foremost n ns false h = cc
@@ -61,7 +56,6 @@ module _ {V : Type 0} (p : V → Bool) where
   all_further ks ns more [] h = tt
   all_further ks ns more (e ∷ es) h = (λ t. more e.0 (h.0 t), all_further ks ns more es h.1)
 
-  -- the number of each entry whose value passes the test p is on the list of such numbers (`chosen`)
   each_listed : (es : List (ℕ × V)) → EachEntry (λ n v. p v ≡ true → IsListed n (chosen es)) es
   each_listed [] = tt
   each_listed (e ∷ es) =
@@ -70,30 +64,24 @@ module _ {V : Type 0} (p : V → Bool) where
         all_further (chosen es) (chosen (e ∷ es)) (λ k h. subst (IsListed k) same (further e.0 (chosen es) (p e.1) k h)) es (each_listed es),
       )
 
-  -- each number of a map whose value passes the test is on the list numbers_where
   pub passing_listed : (m : FinMap nat_cmp V) → Every (λ n v. p v ≡ true → IsListed n (numbers_where p m)) m
   passing_listed m = every-from_each (λ n v. p v ≡ true → IsListed n (numbers_where p m)) m (each_listed (entries m))
 
-  -- each number on the list numbers_where has a value in the map, which passes the test
   pub listed_passing : (m : FinMap nat_cmp V) (k : ℕ) → IsListed k (numbers_where p m) → (v : V) × (get m k ≡ Some v) × (p v ≡ true)
   listed_passing m k h =
       let (i, l, at) = place_in k 0 (numbers_where p m) h in
       let (v, is, t) = passes-listed p m i 0 l in
       (v, ap (get m) (sym at) ∙ is, t)
 
-  -- if the list numbers_where is empty, no value of the map passes the test
   pub none_passing : (m : FinMap nat_cmp V) → numbers_where p m ≡ [] → Every (λ n v. p v ≡ false) m
   none_passing m none n v is = false_from_ne_true (p v) (λ t. subst (IsListed n) none (passing_listed m n v is t))
 
-  -- a list that has no number is empty
   none_listed : (ns : List ℕ) → ((k : ℕ) → IsListed k ns → ⊥) → ns ≡ []
   none_listed [] h = refl
   none_listed (n ∷ ns) h = absurd (h n (inl refl))
 
-  -- for nothing_listed: a test b is not both true and false
   true_not_false : {P : Type 0} (b : Bool) → b ≡ true → b ≡ false → P
   true_not_false b t f = cc
 
-  -- if no value of the map passes the test, the list numbers_where is empty
   pub nothing_listed : (m : FinMap nat_cmp V) → Every (λ n v. p v ≡ false) m → numbers_where p m ≡ []
   nothing_listed m none = none_listed (numbers_where p m) (λ k h. let (v, is, t) = listed_passing m k h in true_not_false (p v) t (none k v is))

@@ -11,59 +11,42 @@ use Rattle.std.proofs.Math.Seq.{get_or-append_seam}
 use Rattle.atl_world.specs.Names.{name_ok, is_name_byte, has_allowed_length, has_no_edge_space}
 use Rattle.atl_records.specs.Limits.{last_unit}
 
--- a decimal digit is a byte that may be in a name
 digit_ok : (d : ℕ) → 48 ≤ d → d ≤ 57 → is_name_byte d ≡ true
 digit_ok d h k = grind (arith, nat_tests)
 
 -- bytes that may all be in a name, the last of which is a decimal digit
 record EndsInDigit (ds : List ℕ) : Type 0 where
-  -- the bytes of `ds` before its last one
   front : List ℕ
-  -- the last byte of `ds`, a decimal digit
   last : ℕ
-  -- `ds` is the bytes before its last one, and then the last one
   is : ds ≡ front ++ last ∷ []
-  -- each byte before the last one may be in a name
   digits : list_all is_name_byte front ≡ true
-  -- the last byte is not below 48, the digit 0
   least : 48 ≤ last
-  -- the last byte is not above 57, the digit 9
   most : last ≤ 57
 
--- bytes that end in a digit (EndsInDigit) may all be in a name
 all_name_bytes : (ds : List ℕ) → EndsInDigit ds → list_all is_name_byte ds ≡ true
 all_name_bytes ds e =
     ap (list_all is_name_byte) e.is ∙ list_all-append is_name_byte e.front (e.last ∷ []) ∙ both_true e.digits (both_true (digit_ok e.last e.least e.most) refl)
 
--- the bytes of a decimal number below 2^64 end in a digit (EndsInDigit)
 decimal_ends : (n : ℕ) → n < 2 ^ 64 → EndsInDigit (decimal n)
 decimal_ends n h = decimal_by_steps (λ _ ds. EndsInDigit ds) one more n h
   where
-    -- a number below 10 is written as one byte, a digit, so its bytes end in a digit (EndsInDigit)
     one : (n : ℕ) → n < 10 → EndsInDigit ((48 + n) ∷ [])
     one n h = record { front = []; last = 48 + n; is = refl; digits = refl; least = omega arith; most = omega arith }
 
-    -- for decimal_ends: bytes that end in a digit (EndsInDigit) still do with one digit more
     more : (n : ℕ) (ds : List ℕ) → 10 ≤ n → EndsInDigit ds → EndsInDigit (ds ++ (48 + n % 10) ∷ [])
     more n ds h e = record { front = ds; last = 48 + n % 10; is = refl; digits = all_name_bytes ds e; least = omega arith; most = omega arith }
 
--- 1 to 40 bytes pass is_short, the test of how long a name is
 length_is_short : (bs : List ℕ) → 1 ≤ length bs → length bs ≤ 40 → has_allowed_length bs ≡ true
 length_is_short bs h k = grind (arith, nat_tests)
 
 -- a word that can be the front of a name: 1 to 20 bytes that may be in names, the first of which is not a space
 pub record IsNamePrefix (word : List ℕ) : Type 0 where
-  -- each byte of the word may be in a name
   pub bytes : list_all is_name_byte word ≡ true
-  -- the word does not begin with a space
   pub begins : (get_or word 0 0 == 32) ≡ false
-  -- the word has at least 1 byte
   pub some : 1 ≤ length word
-  -- the word has at most 20 bytes
   pub few : length word ≤ 20
 
 module _ (word : List ℕ) (front : IsNamePrefix word) where
-  -- a word that can be the front of a name (IsFront), followed by digits, neither begins nor ends with a space
   open_ends : (digits : List ℕ) (last : ℕ) → 48 ≤ last → has_no_edge_space (word ++ (digits ++ last ∷ [])) ≡ true
   open_ends digits last h =
       let bs = word ++ (digits ++ last ∷ []) in
@@ -74,7 +57,6 @@ module _ (word : List ℕ) (front : IsNamePrefix word) where
       let end : get_or bs (length (word ++ digits)) 0 ≡ last = ap (λ l. get_or l (length (word ++ digits)) 0) (sym whole) ∙ get_or-append_seam (word ++ digits) last [] 0 in
       both_true (ap not first) (ap (λ i. not (get_or bs i 0 == 32)) place ∙ ap (λ b. not (b == 32)) end ∙ ap not other)
 
-  -- a word that can be the front of a name (IsFront), followed by a number up to last_unit, keeps the rule of names
   pub numbered_name_ok : (n : ℕ) → n ≤ last_unit → name_ok (word ++ decimal n) ≡ true
   numbered_name_ok n h =
       let e = decimal_ends n (omega arith) in
@@ -83,6 +65,5 @@ module _ (word : List ℕ) (front : IsNamePrefix word) where
       both_true (both_true (length_is_short (word ++ decimal n) (omega (arith, size, front.some)) (omega (arith, size, few, front.few))) (ap (λ ds. has_no_edge_space (word ++ ds)) e.is ∙ open_ends e.front e.last e.least))
       (list_all-append is_name_byte word (decimal n) ∙ both_true front.bytes (all_name_bytes (decimal n) e))
 
--- `Unit ` followed by a number up to last_unit keeps the rule of names
 pub unit_name_ok : (n : ℕ) → n ≤ last_unit → name_ok (codes "Unit " ++ decimal n) ≡ true
 unit_name_ok n h = numbered_name_ok (codes "Unit ") (record { bytes = refl; begins = refl; some = lit≤ tt; few = lit≤ tt }) n h

@@ -24,12 +24,10 @@ unfolding put_number
 put_step true n x xs = refl
 put_step false n x xs = let e : 1 + first_not_below n xs ≡ suc (first_not_below n xs) = omega arith in ap (λ i. take i (x ∷ xs) ++ n ∷ drop i (x ∷ xs)) e
 
--- put_number puts n in front of a list's first element x if n is at most x, and else into the rest of the list
 pub put_number-cons : (n x : ℕ) (xs : List ℕ) → put_number n (x ∷ xs) ≡ cond (nat_le n x) (n ∷ x ∷ xs) (x ∷ put_number n xs)
 unfolding put_number
 put_number-cons n x xs = put_step (nat_le n x) n x xs
 
--- putting a number into the empty list gives the list of that number alone
 pub put_number-nil : (n : ℕ) → put_number n [] ≡ n ∷ []
 unfolding put_number
 put_number-nil n = refl
@@ -41,25 +39,20 @@ unfolding take_number
 take_step true n x xs = refl
 take_step false n x xs = let e : 1 + first_not_below n xs ≡ suc (first_not_below n xs) = omega arith in ap (remove (x ∷ xs)) e
 
--- take_number removes a list's first element x if n is at most x, and else takes n out of the rest of the list
 pub take_number-cons : (n x : ℕ) (xs : List ℕ) → take_number n (x ∷ xs) ≡ cond (nat_le n x) xs (x ∷ take_number n xs)
 unfolding take_number
 take_number-cons n x xs = take_step (nat_le n x) n x xs
 
--- taking a number out of the empty list leaves it empty
 pub take_number-nil : (n : ℕ) → take_number n [] ≡ []
 unfolding take_number
 take_number-nil n = refl
 
--- for taken_first: a number is at most itself (nat_le)
 number_at_most_itself : (n : ℕ) → nat_le n n ≡ true
 number_at_most_itself n = grind (arith, nat_tests)
 
--- taking n out of a list that begins with n leaves the rest
 taken_first : (n : ℕ) (xs : List ℕ) → take_number n (n ∷ xs) ≡ xs
 taken_first n xs = take_number-cons n n xs ∙ ap (λ b. cond b xs (n ∷ take_number n xs)) (number_at_most_itself n)
 
--- putting a number in and taking it out again gives the list back
 pub taken_put : (n : ℕ) (xs : List ℕ) → take_number n (put_number n xs) ≡ xs
 taken_put n [] = ap (take_number n) (put_number-nil n) ∙ taken_first n []
 taken_put n (x ∷ xs) =
@@ -70,7 +63,6 @@ taken_put n (x ∷ xs) =
 
 -- ---- the numbers whose values pass a test
 
--- k is less than q, if comparing k with q gives less
 pub less_by_cmp : (k q : ℕ) → is_lt (nat_cmp k q) ≡ true → k < q
 less_by_cmp k q h =
     elim (nat_cmp k q) as (λ r. nat_cmp k q ≡ r → is_lt r ≡ true → k < q) [
@@ -90,7 +82,6 @@ later_step : (n x : ℕ) (t : Bool) (ys zs : List ℕ) → x < n → zs ≡ put_
 later_step n x true ys zs l h = let e : nat_le n x ≡ false = grind (arith, nat_tests) in ap (λ q. x ∷ q) h ∙ sym (put_number-cons n x ys ∙ ap (λ b. cond b (n ∷ x ∷ ys) (x ∷ put_number n ys)) e)
 later_step n x false ys zs l h = h
 
--- for removed: a number compares equal to itself
 ties : (k : ℕ) → is_eq (nat_cmp k k) ≡ true
 ties k = elim (nat_cmp k k) as (λ o. nat_cmp k k ≡ o → is_eq o ≡ true) [
   | Less ↦ λ e. let l = ranked k k Less (sym e) in absurd (omega arith)
@@ -99,19 +90,15 @@ ties k = elim (nat_cmp k k) as (λ o. nat_cmp k k ≡ o → is_eq o ≡ true) [
 ] refl
 
 module _ {X : Type 0} (p : X → Bool) where
-  -- the numbers of the entries whose values pass the test
   abbrev chosen : List (ℕ × X) → List ℕ
   chosen es = map (λ e. e.0) (filter (λ e. p e.1) es)
 
-  -- a number k below those of all entries comes first once it is put among the numbers of those that pass (`chosen`)
   put_first : (k : ℕ) (es : List (ℕ × X)) → is_sorted nat_cmp es ≡ true → (e : ℕ × X) → k < e.0 → below_all nat_cmp e.0 es ≡ true → put_number k (chosen (e ∷ es)) ≡ k ∷ chosen (e ∷ es)
   put_first k [] s e l b = ap (put_number k) (chosen-cons p e []) ∙ first_holds k e.0 (p e.1) [] [] l (put_number-nil k) ∙ ap (λ ns. k ∷ ns) (sym (chosen-cons p e []))
   put_first k (f ∷ es) s e l b =
       let rest : put_number k (chosen (f ∷ es)) ≡ k ∷ chosen (f ∷ es) = put_first k es (and_parts _ _ s).1 f (omega (arith, less_by_cmp e.0 f.0 (and_parts _ _ b).0)) (and_parts _ _ s).0 in
       ap (put_number k) (chosen-cons p e (f ∷ es)) ∙ first_holds k e.0 (p e.1) [] (chosen (f ∷ es)) l rest ∙ ap (λ ns. k ∷ ns) (sym (chosen-cons p e (f ∷ es)))
 
-  -- putting a new entry that passes the test into sorted entries puts its number among the numbers of those that pass
-  -- (`chosen`)
   chosen-put_new : (k : ℕ) (v : X) → p v ≡ true → (es : List (ℕ × X)) → is_sorted nat_cmp es ≡ true → find nat_cmp k es ≡ None → chosen (put nat_cmp k v es) ≡ put_number k (chosen es)
   chosen-put_new k v h [] s g = chosen-cons p (k, v) [] ∙ ap (λ b. cond b (k ∷ []) []) h ∙ sym (put_number-nil k)
   chosen-put_new k v h (e ∷ es) s g =
@@ -121,16 +108,13 @@ module _ {X : Type 0} (p : X → Bool) where
         | Greater ↦ λ l g. chosen-cons p e (put nat_cmp k v es) ∙ later_step k e.0 (p e.1) (chosen es) (chosen (put nat_cmp k v es)) (ranked k e.0 Greater (sym l)) (chosen-put_new k v h es (and_parts _ _ s).1 g) ∙ ap (put_number k) (sym (chosen-cons p e es))
       ] refl g
 
-  -- inserting a value that passes the test under a new number puts the number into the list numbers_where
   pub numbers_where-insert_new : (m : FinMap nat_cmp X) (k : ℕ) (v : X) → get m k ≡ None → p v ≡ true → numbers_where p (insert m k v) ≡ put_number k (numbers_where p m)
   numbers_where-insert_new m k v fresh h =
       ap chosen (entries-insert nat_cmp_total m k v) ∙ chosen-put_new k v h (entries m) (is_true _ (entries_sorted m)) (sym (get-entries m k) ∙ fresh)
 
-  -- a number that is removed from a map has no value there
   removed : (m : FinMap nat_cmp X) (k : ℕ) → get (keyed.remove m k) k ≡ None
   removed m k = get-remove nat_cmp_total m k k ∙ ap (λ b. cond b None (get m k)) (ties k)
 
-  -- replacing a value that passed the test by one that doesn't takes its number out of the list numbers_where
   pub numbers_where-lost : (m : FinMap nat_cmp X) (k : ℕ) (u v : X) → get m k ≡ Some u → p u ≡ true → p v ≡ false → numbers_where p (insert m k v) ≡ take_number k (numbers_where p m)
   numbers_where-lost m k u v is passed fails =
       let base = keyed.remove m k in
@@ -138,7 +122,6 @@ module _ {X : Type 0} (p : X → Bool) where
       let after : numbers_where p (insert m k v) ≡ numbers_where p base = ap (numbers_where p) (put_over m k v) ∙ numbers_where-insert_other p base k v (removed m k) fails in
       after ∙ sym (taken_put k (numbers_where p base)) ∙ ap (take_number k) (sym before)
 
-  -- replacing a value that didn't pass the test by one that does puts its number into the list numbers_where
   pub numbers_where-gained : (m : FinMap nat_cmp X) (k : ℕ) (u v : X) → get m k ≡ Some u → p u ≡ false → p v ≡ true → numbers_where p (insert m k v) ≡ put_number k (numbers_where p m)
   numbers_where-gained m k u v is failed passes =
       let base = keyed.remove m k in

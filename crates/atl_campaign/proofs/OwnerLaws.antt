@@ -14,14 +14,11 @@ use Rattle.atl_campaign.specs.Campaign.{MarkedCampaign, with_owner}
 abbrev with_units_marked : MarkedCampaign → ℕ → FinMap nat_cmp Unit → Option Unit → MarkedCampaign
 with_units_marked c n units o = record { value = record c.value { units = units }; marks = whole_marked c.marks n o }
 
--- removing a unit that is not there, without handing a structure on (`taken_marked`), changes nothing
 pub taken_none : (c : MarkedCampaign) (n : ℕ) → get c.value.units n ≡ None → c ≡ taken_marked c n
 taken_none c n none = sym (ap (λ m. with_units_marked c n m (get c.value.units n)) (remove_none c.value.units n none) ∙ ap (with_units_marked c n c.value.units) none)
 
 -- ---- what becomes of the campaign, but for its marks
 
--- for after_handover-what: choosing between the marked campaigns c and d, and taking the value, is choosing between
--- their values
 by_test : (b : Bool) (c d : MarkedCampaign) → (if b then d else c).value ≡ (if b then d.value else c.value)
 by_test true c d = refl
 by_test false c d = refl
@@ -30,36 +27,29 @@ by_test false c d = refl
 pub after_handover-what : (c : MarkedCampaign) (s from to : ℕ) → (handed_marked c s from to).value ≡ after_handover c.value s from to
 after_handover-what c s from to = by_test (is_owned_by (get c.value.structures s) from) c (record { value = with_owner c.value s to; marks = mark_structure c s })
 
--- handing structure s on from n to `next`, and then t from nobody to n, with their marks, does to the campaign's value
--- what `after_handover` does twice
 value-handed_twice : (c : MarkedCampaign) (s n next t : ℕ) → (handed_marked (handed_marked c s n next) t 0 n).value ≡ after_handover (after_handover c.value s n next) t 0 n
 value-handed_twice c s n next t = after_handover-what (handed_marked c s n next) t 0 n ∙ ap (λ d. after_handover d t 0 n) (after_handover-what c s n next)
 
--- moving the given unit with its marks (`place_marked_at`) does to the campaign's value what `with_place_at` does
 place_at : (c : MarkedCampaign) (n r s : ℕ) (o : Option Unit) → (place_marked_at c n r s o).value ≡ with_place_at c.value n r s o
 place_at c n r s None = refl
 place_at c n r s (Some u) =
     by_test (u.structure == s) (handed_marked (handed_marked (put_marked c n r s) u.structure n (heir c.value u.structure n)) s 0 n) (put_marked c n r s)
     ∙ ap (λ d. if u.structure == s then with_position c.value n r s else d) (value-handed_twice (put_marked c n r s) u.structure n (heir c.value u.structure n) s)
 
--- moving a unit with its marks (`place_marked`) does to the campaign's value what `with_place` does
 pub place-what : (c : MarkedCampaign) (n r s : ℕ) → (place_marked c n r s).value ≡ with_place c.value n r s
 unfolding place_marked with_place
 place-what c n r s = place_at c n r s (get c.value.units n)
 
--- removing the given unit with its marks (`gone_marked_at`) does to the campaign's value what `without_unit_at` does
 gone_at : (c : MarkedCampaign) (n : ℕ) (o : Option Unit) → (gone_marked_at c n o).value ≡ without_unit_at c.value n o
 gone_at c n None = refl
 gone_at c n (Some u) = after_handover-what (taken_marked c n) u.structure n (heir c.value u.structure n)
 
--- removing a unit with its marks (`gone_marked`) does to the campaign's value what `without_unit` does
 pub gone-what : (c : MarkedCampaign) (n : ℕ) → (gone_marked c n).value ≡ without_unit c.value n
 unfolding gone_marked without_unit
 gone-what c n = gone_at c n (get c.value.units n)
 
 -- ---- where the unit is known
 
--- moving a unit that is not there changes nothing
 pub place_none : (c : MarkedCampaign) (n r s : ℕ) → get c.value.units n ≡ None → c ≡ place_marked c n r s
 unfolding place_marked
 place_none c n r s none = sym (ap (place_marked_at c n r s) none)
@@ -75,7 +65,6 @@ pub place_leaves : (c : MarkedCampaign) (n r s : ℕ) (u : Unit) → get c.value
 unfolding place_marked
 place_leaves c n r s u is same = sym (ap (place_marked_at c n r s) is ∙ ap (λ b. if b then put_marked c n r s else handed_marked (handed_marked (put_marked c n r s) u.structure n (heir c.value u.structure n)) s 0 n) same)
 
--- removing a unit that is not there, with its marks (`gone_marked`), changes nothing
 pub gone_none : (c : MarkedCampaign) (n : ℕ) → get c.value.units n ≡ None → c ≡ gone_marked c n
 unfolding gone_marked
 gone_none c n none = sym (ap (gone_marked_at c n) none)

@@ -10,7 +10,6 @@ use Rattle.atl_campaign.specs.Campaign.{MarkedCampaign, with_month, with_report,
 use Rattle.atl_campaign.proofs.CoverLaws.{Mail, Reports, Row, PartStaysMarked, KeepsUnmarked, unmarked_differs_from_put, part_by_part, put_stays}
 use Rattle.atl_records.proofs.EveryLaws.{get-insert_other}
 
--- setting the month, with the mark of the campaign row, marks all that changes (MarksChanges)
 pub marks-month : (c : MarkedCampaign) (n : ℕ) → MarksChanges c (record { value = with_month c.value n; marks = mark_campaign_row c })
 marks-month c n =
     let next : MarkedCampaign = record { value = with_month c.value n; marks = mark_campaign_row c } in
@@ -18,7 +17,6 @@ marks-month c n =
     (λ p. elim p as (PartStaysMarked c.marks next.marks) [ Row ↦ λ k h. refl | _ ↦ λ k h. h ])
     (λ p. elim p as (KeepsUnmarked next.marks c.value next.value) [ Row ↦ λ k free. absurd (true≢false free) | _ ↦ λ k free. refl ])
 
--- storing a report, with its mark, marks all that changes (MarksChanges)
 pub marks-report : (c : MarkedCampaign) (n : ℕ) (text : List ℕ) → MarksChanges c (record { value = with_report c.value n text; marks = mark_report c n })
 marks-report c n text =
     let next : MarkedCampaign = record { value = with_report c.value n text; marks = mark_report c n } in
@@ -29,25 +27,20 @@ marks-report c n text =
 -- ---- the mail that is removed
 
 module _ (marks : FinSet nat_cmp) (mail : FinMap nat_cmp (List ℕ)) where
-  -- after all mail is removed, a faction's mail is marked exactly if it was marked before or the faction had mail
   either : (k : ℕ) → contains (union marks (from_list (keys mail))) k ≡ (contains marks k || contains_key mail k)
   either k = contains-union nat_cmp_total marks (from_list (keys mail)) k ∙ ap (λ b. contains marks k || b) (contains-from_list nat_cmp_total (keys mail) k ∙ sym (contains_key-keys mail k))
 
-  -- each faction whose mail was marked before all mail is removed still has it marked
   all_stay : StaysMarked marks (union marks (from_list (keys mail)))
   all_stay k h = either k ∙ ap (λ b. b || contains_key mail k) h
 
-  -- for all_gone: if `a || b` is false, where b says whether a faction has mail, o, it has none
   none_there : (a b : Bool) (o : Option (List ℕ)) → b ≡ is_some o → (a || b) ≡ false → None ≡ o
   none_there true b o is free = absurd (true≢false free)
   none_there false b None is free = refl
   none_there false b (Some text) is free = absurd (true≢false (sym is ∙ free))
 
-  -- a faction whose mail is not marked after all mail is removed had no mail before
   all_gone : SameBut (union marks (from_list (keys mail))) mail empty
   all_gone k free = get-empty nat_cmp k ∙ none_there (contains marks k) (contains_key mail k) (get mail k) refl (sym (either k) ∙ free)
 
--- removing all mail, with the marks of all factions that had some, marks all that changes (MarksChanges)
 pub marks-no_mail : (c : MarkedCampaign) → MarksChanges c (record { value = without_mail c.value; marks = mark_all_mail c })
 marks-no_mail c =
     let next : MarkedCampaign = record { value = without_mail c.value; marks = mark_all_mail c } in

@@ -28,32 +28,26 @@ use Rattle.atl_campaign.proofs.OrderedLaws.{less_by_cmp}
 
 -- ---- facts of each row, in another order
 
--- if P holds for each row of a list, it holds for each row of the list in another order
 pub each_permuted : {R : Type 0} (P : R → Type 0) (xs ys : List R) → IsPermutation xs ys → AllByRecursion P xs → AllByRecursion P ys
 each_permuted P xs ys h all = recursion_from_All P ys (All-permutation P xs ys h (All-from_recursion P xs all))
 
--- if P holds for each row of a list in another order, it holds for each row of the list
 pub each_back : {R : Type 0} (P : R → Type 0) (xs ys : List R) → IsPermutation xs ys → AllByRecursion P ys → AllByRecursion P xs
 each_back P xs ys h = each_permuted P ys xs (IsPermutation-sym xs ys h)
 
--- if P holds for each row, and each row for which P holds passes a test, all rows pass the test
 pub all_pass : {R : Type 0} (p : R → Bool) (P : R → Type 0) → ((r : R) → P r → p r ≡ true) → (rows : List R) → AllByRecursion P rows → list_all p rows ≡ true
 all_pass p P good [] h = refl
 all_pass p P good (r ∷ rows) h = ap (λ b. b && list_all p rows) (good r h.0) ∙ all_pass p P good rows h.1
 
 -- ---- numbers that are written and read
 
--- a number of at most 32 bits, written to a row, is read as itself
 pub written_is_read : (n : ℕ) → n ≤ most_u32 → as_u32 (pos n) ≡ n
 written_is_read n h = min_small n most_u32 h
 
--- a number of at most 32 bits, written to a row, is whole: one that is read as itself
 pub written_fits_u32 : (n : ℕ) → n ≤ most_u32 → FitsU32 (pos n)
 written_fits_u32 n h = ap pos (sym (written_is_read n h))
 
 -- ---- maps
 
--- two maps are equal if each has all values of the other under the same numbers
 pub equal_by_values : {V : Type 0} (m k : FinMap nat_cmp V) → Every (λ n v. get k n ≡ Some v) m → Every (λ n v. get m n ≡ Some v) k → m ≡ k
 equal_by_values {V} m k there back = same_map nat_cmp_total nat_cmp-IsAntisymmetric m k (λ n.
     elim (get m n) as (λ o. get m n ≡ o → get m n ≡ get k n) [
@@ -65,54 +59,43 @@ equal_by_values {V} m k there back = same_map nat_cmp_total nat_cmp-IsAntisymmet
     ] refl)
 
 module _ {R V : Type 0} (number : R → ℕ) (value : R → V) where
-  -- if P holds for a map's values and for the value of each row, it holds for every value once the rows are put in
   put_from_each : (P : ℕ → V → Type 0) (rows : List R) (m : FinMap nat_cmp V) → AllByRecursion (λ r. P (number r) (value r)) rows → Every P m → Every P (put_rows number value rows m)
   put_from_each P [] m all old = old
   put_from_each P (r ∷ rows) m all old = put_from_each P rows _ all.1 (every-insert P m (number r) (value r) all.0 old)
 
-  -- if P holds for the value of each row, it holds for every value of the map that the rows make
   pub every_by : (P : ℕ → V → Type 0) (rows : List R) → AllByRecursion (λ r. P (number r) (value r)) rows → Every P (by_number number value rows)
   every_by P rows all = put_from_each P rows _ all (every-empty P)
 
-  -- rows make the map m if their values are all in m, and the map that they make has all values of m
   pub by_number_is : (m : FinMap nat_cmp V) (rows : List R) → AllByRecursion (λ r. get m (number r) ≡ Some (value r)) rows → Every (λ n v. get (by_number number value rows) n ≡ Some v) m → by_number number value rows ≡ m
   by_number_is m rows there back = equal_by_values (by_number number value rows) m (every_by (λ n v. get m n ≡ Some v) rows there) back
 
 -- ---- a row for each entry
 
 module _ {V R : Type 0} (row : ℕ → V → R) where
-  -- if P holds for the row of the number and value of each entry, it holds for each row of the entries (rows_by)
   rows_each : (P : R → Type 0) (es : List (ℕ × V)) → EachEntry (λ n v. P (row n v)) es → AllByRecursion P (rows_by row es)
   rows_each P [] h = tt
   rows_each P (e ∷ es) h = (h.0, rows_each P es h.1)
 
-  -- if P holds for each row of entries (rows_by), it holds for the row of the number and value of each entry
   each_row : (P : R → Type 0) (es : List (ℕ × V)) → AllByRecursion P (rows_by row es) → EachEntry (λ n v. P (row n v)) es
   each_row P [] h = tt
   each_row P (e ∷ es) h = (h.0, each_row P es h.1)
 
-  -- if P holds for the row of every value of a map, it holds for each row of the map's entries
   pub rows_every : (P : R → Type 0) (m : FinMap nat_cmp V) → Every (λ n v. P (row n v)) m → AllByRecursion P (rows_by row (entries m))
   rows_every P m h = rows_each P (entries m) (each-from_every (λ n v. P (row n v)) m h)
 
-  -- if P holds for each row of a map's entries, it holds for the row of every value of the map
   pub every_row : (P : R → Type 0) (m : FinMap nat_cmp V) → AllByRecursion P (rows_by row (entries m)) → Every (λ n v. P (row n v)) m
   every_row P m h = every-from_each (λ n v. P (row n v)) m (each_row P (entries m) h)
 
-  -- for count_rows: entries have as many rows (rows_by) as there are entries
   count : (es : List (ℕ × V)) → length (rows_by row es) ≡ length es
   count [] = refl
   count (e ∷ es) = ap suc (count es)
 
-  -- a map has as many rows, in any order, as values
   pub count_rows : (m : FinMap nat_cmp V) (rows : List R) → IsPermutation (rows_by row (entries m)) rows → length rows ≡ len m
   count_rows m rows h = length_permutation (rows_by row (entries m)) rows h ∙ count (entries m) ∙ sym (len-entries m)
 
-  -- if P holds for the row of every value of a map, it holds for each of the rows in any order
   pub rows_so : (P : R → Type 0) (m : FinMap nat_cmp V) (rows : List R) → IsPermutation (rows_by row (entries m)) rows → Every (λ n v. P (row n v)) m → AllByRecursion P rows
   rows_so P m rows h every = each_permuted P (rows_by row (entries m)) rows h (rows_every P m every)
 
-  -- if the row of every value of a map passes a test, all the rows, in any order, pass it
   pub rows_pass : (p : R → Bool) (m : FinMap nat_cmp V) (rows : List R) → IsPermutation (rows_by row (entries m)) rows → Every (λ n v. p (row n v) ≡ true) m → list_all p rows ≡ true
   rows_pass p m rows h every = all_pass p (λ r. p r ≡ true) (λ r e. e) rows (rows_so (λ r. p r ≡ true) m rows h every)
 
@@ -132,13 +115,11 @@ module _ {V R : Type 0} (row : ℕ → V → R) where
 
 -- ---- keys
 
--- the orderings o and p are both Equal, if comparing by o and then by p (`ordering_then`) gives Equal
 then_eq : (o p : Ordering) → is_eq (ordering_then o p) ≡ true → (o ≡ Equal) × (is_eq p ≡ true)
 then_eq Less p h = absurd (false≢true h)
 then_eq Equal p h = (refl, h)
 then_eq Greater p h = absurd (false≢true h)
 
--- an ordering that passes is_eq is Equal
 is_equal : (o : Ordering) → is_eq o ≡ true → o ≡ Equal
 is_equal Less h = absurd (false≢true h)
 is_equal Equal h = refl
@@ -146,14 +127,10 @@ is_equal Greater h = absurd (false≢true h)
 
 -- two keys have the same three numbers
 pub record SameKey (a b : Key) : Type 0 where
-  -- the keys a and b have the same first number
   pub first : a.0 ≡ b.0
-  -- the keys a and b have the same second number
   pub second : a.1 ≡ b.1
-  -- the keys a and b have the same third number
   pub third : a.2 ≡ b.2
 
--- keys that compare equal have the same three numbers
 same_key : (a b : Key) → is_same_key a b ≡ true → SameKey a b
 same_key a b h =
     let outer = then_eq (ordering_then (int_cmp a.0 b.0) (int_cmp a.1 b.1)) (int_cmp a.2 b.2) h in
@@ -164,26 +141,21 @@ same_key a b h =
       third = int_cmp-IsAntisymmetric a.2 b.2 (is_equal (int_cmp a.2 b.2) outer.1);
     }
 
--- keys that don't have the same three numbers do not compare equal
 pub apart_keys : (a b : Key) → ¬ (SameKey a b) → is_same_key a b ≡ false
 apart_keys a b h = elim (is_same_key a b) as (λ t. is_same_key a b ≡ t → is_same_key a b ≡ false) [ true ↦ λ e. absurd (h (same_key a b e)) | false ↦ λ e. e ] refl
 
--- if the integers m and n are equal, so are the natural numbers m and n
 pub pos_is_injective : (m n : ℕ) → pos m ≡ pos n → m ≡ n
 pos_is_injective m n e = cc
 
--- keys of one number each, the first number below the second, do not compare equal
 pub apart_numbers : (m n : ℕ) → m < n → is_same_key (one_key (pos m)) (one_key (pos n)) ≡ false
 apart_numbers m n l = apart_keys (one_key (pos m)) (one_key (pos n)) (λ k. let e = pos_is_injective m n k.first in omega arith)
 
 -- ---- rows that are listed one after another
 
--- if P holds for each element of two lists, it holds for each element of both joined
 pub append_each : {A : Type 0} (P : A → Type 0) (xs ys : List A) → AllByRecursion P xs → AllByRecursion P ys → AllByRecursion P (xs ++ ys)
 append_each P [] ys h k = k
 append_each P (x ∷ xs) ys h k = (h.0, append_each P xs ys h.1 k)
 
--- if P holds for each element of two lists joined, it holds for each element of both lists
 pub each_appended : {A : Type 0} (P : A → Type 0) (xs ys : List A) → AllByRecursion P (xs ++ ys) → AllByRecursion P xs × AllByRecursion P ys
 each_appended P [] ys h = (tt, h)
 each_appended P (x ∷ xs) ys h = let rest = each_appended P xs ys h.1 in ((h.0, rest.0), rest.1)
@@ -194,7 +166,6 @@ InOrder Before [] = ⊤
 InOrder Before (x ∷ xs) = AllByRecursion (Before x) xs × InOrder Before xs
 
 module _ {A : Type 0} (e : A → A → Bool) where
-  -- two lists, each distinct by e, are distinct when joined, if e is false for each element of the first and the second
   pub append_apart : (xs ys : List A) → IsDistinct e xs → IsDistinct e ys → AllByRecursion (λ x. AllByRecursion (λ y. e x y ≡ false) ys) xs → IsDistinct e (xs ++ ys)
   unfolding IsDistinct
   append_apart [] ys d f h = f
@@ -208,13 +179,10 @@ module _ {A : Type 0} (e : A → A → Bool) where
     against x a [] mine h = tt
     against x a (y ∷ xs) mine h = append_each (λ b. e a b ≡ false) (f y) (flat_map f xs) (these (f y) (own y)) (against x a xs mine h.1)
       where
-        -- for against: e is false of row a and of each of the rows bs, which belong to y (Own), as x is before y
         these : (bs : List A) → AllByRecursion (Own y) bs → AllByRecursion (λ b. e a b ≡ false) bs
         these [] all = tt
         these (b ∷ bs) all = (apart x y a b h.0 mine all.0, these bs all.1)
 
-    -- for flat_apart: e is false of each of `rows`, which belong to x (Own), and of each row that f makes of the
-    -- elements xs, which come after x (Before)
     all_against : (x : X) (xs : List X) (rows : List A) → AllByRecursion (Own x) rows → AllByRecursion (Before x) xs → AllByRecursion (λ a. AllByRecursion (λ b. e a b ≡ false) (flat_map f xs)) rows
     all_against x xs [] mine h = tt
     all_against x xs (a ∷ rows) mine h = (against x a xs mine.0 h, all_against x xs rows mine.1 h)
@@ -232,23 +200,18 @@ module _ {A : Type 0} (e : A → A → Bool) where
 abbrev pub Rise : {V : Type 0} → List (ℕ × V) → Type 0
 Rise {V} es = InOrder (λ (e f : ℕ × V). e.0 < f.0) es
 
--- a number that below_all finds below all entries is less than the number of each
 below_each : {V : Type 0} (k : ℕ) (es : List (ℕ × V)) → below_all nat_cmp k es ≡ true → AllByRecursion (λ f. k < f.0) es
 below_each k [] h = tt
 below_each k (e ∷ es) h = (less_by_cmp k e.0 (and_parts _ _ h).0, below_each k es (and_parts _ _ h).1)
 
--- the numbers of entries that pass is_sorted are strictly rising (Rise)
 rise_sorted : {V : Type 0} (es : List (ℕ × V)) → is_sorted nat_cmp es ≡ true → Rise es
 rise_sorted [] h = tt
 rise_sorted (e ∷ es) h = (below_each e.0 es (and_parts _ _ h).0, rise_sorted es (and_parts _ _ h).1)
 
--- the numbers of a map's entries are strictly rising
 pub entries_rise : {V : Type 0} (m : FinMap nat_cmp V) → Rise (entries m)
 entries_rise m = rise_sorted (entries m) (sorted m)
 
 module _ {V R : Type 0} (row : ℕ → V → R) (e : R → R → Bool) (apart : (n k : ℕ) (v u : V) → n < k → e (row n v) (row k u) ≡ false) where
-  -- for rows_apart: e is false of the row of number n with value v and of the row of each entry of es, whose numbers
-  -- are higher
   others : (n : ℕ) (v : V) (es : List (ℕ × V)) → AllByRecursion (λ f. n < f.0) es → AllByRecursion (λ r. e (row n v) r ≡ false) (rows_by row es)
   others n v [] h = tt
   others n v (f ∷ es) h = (apart n f.0 v f.1 h.0, others n v es h.1)
@@ -262,10 +225,8 @@ module _ {V R : Type 0} (row : ℕ → V → R) (e : R → R → Bool) (apart : 
 
 -- ---- keys in another order
 
--- comparing two keys for equality gives the same result in either order
 same_symm : (a b : Key) → is_same_key a b ≡ is_same_key b a
 same_symm = (eq_by_cmp_equiv (then_total (then_total (on_total (λ (t : Key). t.0) int_cmp_total) (on_total (λ (t : Key). t.1) int_cmp_total)) (on_total (λ (t : Key). t.2) int_cmp_total))).symm
 
--- if rows have distinct keys, they have distinct keys in any order
 pub keys_permuted : {R : Type 0} (key : R → Key) (xs ys : List R) → IsPermutation xs ys → IsDistinct (λ a b. is_same_key (key a) (key b)) xs → HaveDistinctKeys key ys
 keys_permuted key xs ys h d = IsDistinct-map key is_same_key ys (IsDistinct-IsPermutation (λ a b. is_same_key (key a) (key b)) (λ a b. same_symm (key a) (key b)) xs ys h d)

@@ -27,13 +27,11 @@ use Rattle.atl_records.proofs.EveryLaws.{every-insert, there-insert}
 -- ---- other regions, other books
 
 module _ (w : WorldValue) (c : CampaignValue) (regions : FinMap nat_cmp Region) (books : BooksValue) where
-  -- the campaign with the given regions and the given books in place of its own
   abbrev stocked : CampaignValue
   stocked = record c { regions = regions; books = books }
 
   module _ (few : len regions ≡ len c.regions) (there : (n : ℕ) → HasValue c.regions n ↔ HasValue regions n)
       (within : Every (λ n r. IsRegion w n r) regions) (marketed : Every (λ n r. AreOfMarkets w n r.stocks) regions) (booked : AreBooks (thing_count w) books) where
-    -- counts and numbers stay in their ranges (AreInRange) with the given regions and books, which are in range
     stocked-numbers : AreInRange w c → AreInRange w stocked
     stocked-numbers old = record {
       month = old.month;
@@ -50,8 +48,6 @@ module _ (w : WorldValue) (c : CampaignValue) (regions : FinMap nat_cmp Region) 
       books = booked;
     }
 
-    -- all that is named by number still exists (AreKnown) with the given regions, which have the same numbers, and
-    -- stocks of their markets only
     stocked-known : AreKnown w c → AreKnown w stocked
     stocked-known old = record {
       regions = λ n. (λ h. (old.regions n).0 ((there n).1 h), λ h. (there n).0 ((old.regions n).1 h));
@@ -79,11 +75,9 @@ module _ (w : WorldValue) (c : CampaignValue) (regions : FinMap nat_cmp Region) 
 -- ---- a region
 
 module _ {V : Type 0} where
-  -- a map in which one value is replaced by another still has as many values
   pub same_len : (m : FinMap nat_cmp V) (n : ℕ) (u v : V) → get m n ≡ Some u → len (insert m n v) ≡ len m
   same_len m n u v is = len-insert nat_cmp_total m n v ∙ ap (λ o. cond (is_some o) (len m) (len m + 1)) is
 
-  -- a number that has a value in a map once another number's value, or its own, is replaced had one before
   there_again : (m : FinMap nat_cmp V) (k n : ℕ) (u v : V) → get m k ≡ Some u → HasValue (insert m k v) n → HasValue m n
   there_again m k n u v is (x, put) =
       elim (nat_cmp n k) as (λ o. nat_cmp n k ≡ o → cond (is_eq o) (Some v) (get m n) ≡ Some x → HasValue m n) [
@@ -92,7 +86,6 @@ module _ {V : Type 0} where
         | Greater ↦ λ _ e. (x, e)
       ] refl (sym (get-insert nat_cmp_total m k v n) ∙ put)
 
-  -- a value put under a number is found there
   pub get-insert_same : (m : FinMap nat_cmp V) (k : ℕ) (v : V) → get (insert m k v) k ≡ Some v
   get-insert_same m k v =
       get-insert nat_cmp_total m k v k ∙ elim (nat_cmp k k) as (λ o. nat_cmp k k ≡ o → cond (is_eq o) (Some v) (get m k) ≡ Some v) [
@@ -101,20 +94,16 @@ module _ {V : Type 0} where
         | Greater ↦ λ o. let l = ranked k k Greater (sym o) in absurd (omega arith)
       ] refl
 
-  -- changing a value that is there puts the changed value under its number
   pub changed-known : (f : V → V) (m : FinMap nat_cmp V) (n : ℕ) (v : V) → get m n ≡ Some v → with_changed_value f m n ≡ insert m n (f v)
   changed-known f m n v is = ap (with_changed_option f m n) is
 
--- a region's peasants, money and stocks stay in range (IsRegion) with another number of peasants, up to most_amount
 pub IsRegion-peasants : {w : WorldValue} {n : ℕ} (r : Region) (peasants : ℕ) → peasants ≤ most_amount → IsRegion w n r → IsRegion w n (record r { peasants = peasants })
 IsRegion-peasants r peasants few old = record { peasants = few; money = old.money; stocks = old.stocks }
 
--- a region's peasants, money and stocks stay in range (IsRegion) with other money, up to most_amount
 pub IsRegion-money : {w : WorldValue} {n : ℕ} (r : Region) (money : ℕ) → money ≤ most_amount → IsRegion w n r → IsRegion w n (record r { money = money })
 IsRegion-money r money few old = record { peasants = old.peasants; money = few; stocks = old.stocks }
 
 module _ (f : Region → Region) (c : CampaignValue) (n : ℕ) (r : Region) (is : get c.regions n ≡ Some r) where
-  -- the changed region is found under its number
   pub region-changed : get (region_changed f c n).regions n ≡ Some (f r)
   region-changed = ap (λ m. get m n) (changed-known f c.regions n r is) ∙ get-insert_same c.regions n (f r)
 
@@ -127,7 +116,6 @@ module _ (f : Region → Region) (c : CampaignValue) (n : ℕ) (r : Region) (is 
       (every-insert (λ k q. IsRegion w k q) c.regions n (f r) within old.numbers.regions)
       (every-insert (λ k q. AreOfMarkets w k q.stocks) c.regions n (f r) marketed old.known.markets) old.numbers.books old)
 
-  -- for total-region: an equation of two sums still holds with the same number u added on each side
   regrouped : (u a b p q : ℕ) → a + p ≡ b + q → (u + a) + p ≡ (u + b) + q
   regrouped u a b p q h = omega arith
 
@@ -142,17 +130,14 @@ module _ (f : Region → Region) (c : CampaignValue) (n : ℕ) (r : Region) (is 
 
 -- ---- the books
 
--- the campaign stays steady when an amount of one of the world's things is booked
 pub steady-amount : (w : WorldValue) (c : CampaignValue) (e : BooksEntry) (t : Thing) (n : ℤ) → thing_index t < thing_count w → IsSteady w c → IsSteady w (with_booking c e t n)
 steady-amount w c e t n there old =
     stocked-steady w c c.regions (after_booking c.books e t n) refl (λ k. (λ h. h, λ h. h)) old.numbers.regions old.known.markets (AreBooks-after_booking (thing_count w) c.books e t n old.numbers.books there) old
 
--- booking an amount doesn't change the total that regions and units have of any thing
 pub total-booking : (c : CampaignValue) (e : BooksEntry) (u t : Thing) (n : ℤ) → total (with_booking c e u n) t ≡ total c t
 unfolding total
 total-booking c e u t n = refl
 
--- booking an amount changes no amount of the books that has another number (`amount_number`)
 pub booking-other_amount : (books : BooksValue) (e f : BooksEntry) (t u : Thing) (n : ℤ) → amount_number e t ≢ amount_number f u → amount_in (after_booking books f u n) e t ≡ amount_in books e t
 booking-other_amount books e f t u n apart =
     elim (cases_account (e, t) (f, u)) [

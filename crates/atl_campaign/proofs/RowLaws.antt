@@ -4,31 +4,25 @@ use Rattle.std.specs.Prelude.{ℤ, pos}
 use Rattle.std.specs.List.{flat_map}
 use Rattle.std.proofs.lemmas.List.{append-nil, append_assoc}
 use Rattle.std.proofs.lemmas.List.FromFn.{map-range_with_len_more}
-use Rattle.atl_campaign.specs.declared.parts.StoredBooks.{StoredBooks}
+use Rattle.atl_rows.specs.declared.parts.StoredBooks.{StoredBooks}
 use Rattle.atl_records.specs.declared.books.BooksEntry.{BooksEntry}
 use Rattle.atl_records.specs.Books.{Account, BooksValue, amount_in, is_zero, thing_at}
 use Rattle.atl_records.specs.Grids.{accounts_under, listed_of}
 use Rattle.atl_records.proofs.BookLaws.{nonzero_fails_is_zero}
 use Rattle.atl_campaign.specs.Rows.{has_row, amounts_rows, books_row, amount_rows, rows_of_sort, rows_under}
 
--- numbers m and n that are equal as integers (pos m, pos n) are equal
 pos_is_injective : {m n : ℕ} → pos m ≡ pos n → m ≡ n
 pos_is_injective e = cc
 
 -- for rows of which `shown` gives the amount that `row` made them with
 module _ {R : Type 0} (shown : R → ℤ) (row : ℕ → ℕ → R) (shows : (thing amount : ℕ) → shown (row thing amount) ≡ pos amount) where
-  -- a first amount that is not 0 in a list of things with amounts gives one row, in front of the rows of the others
   pub amount_rows_one : (thing amount : ℕ) (es : List (ℕ × ℕ)) → amount ≢ 0 → amount_rows shown row ((thing, amount) ∷ es) ≡ row thing amount ∷ amount_rows shown row es
   amount_rows_one thing amount es h =
       ap (λ b. cond (not b) (row thing amount ∷ amount_rows shown row es) (amount_rows shown row es)) (ap is_zero (shows thing amount) ∙ nonzero_fails_is_zero (pos amount) (λ e. h (pos_is_injective e)))
 
--- a first amount that is not 0 among a unit's items, or its days of skills, gives one row, in front of the others' rows
 pub sort_rows_one : (n sort thing amount : ℕ) (es : List (ℕ × ℕ)) → amount ≢ 0 → rows_of_sort n sort ((thing, amount) ∷ es) ≡ has_row n sort thing amount ∷ rows_of_sort n sort es
 sort_rows_one n sort = amount_rows_one (λ r. r.amount) (has_row n sort) (λ i a. refl)
 
--- ---- rows of the books
-
--- the rows of the books for the accounts `some` and then `others` are those for `some` and then those for `others`
 pub rows_under-append : (books : BooksValue) (some others : List Account) → rows_under books (some ++ others) ≡ rows_under books some ++ rows_under books others
 rows_under-append books [] others = refl
 rows_under-append books (a ∷ some) others =
@@ -40,21 +34,17 @@ rows_under-append books (a ∷ some) others =
       | false ↦ ap (λ rows. books_row a.0 a.1 z ∷ rows) (rows_under-append books some others)
     ]
 
--- the rows of the books for one account (an entry with a thing) are its row, or none if its amount is 0
 rows_under_one : (books : BooksValue) (a : Account) → rows_under books (a ∷ []) ≡ cond (not (is_zero (amount_in books a.0 a.1))) (books_row a.0 a.1 (amount_in books a.0 a.1) ∷ []) []
 rows_under_one books a = elim (is_zero (amount_in books a.0 a.1)) as (λ b. amounts_rows (cond (not b) ((a, amount_in books a.0 a.1) ∷ []) []) ≡ cond (not b) (books_row a.0 a.1 (amount_in books a.0 a.1) ∷ []) []) [ true ↦ refl | false ↦ refl ]
 
--- the rows of an entry of the books for n + 1 things are those for n things, and then those for thing n, one or none
 more_under : (books : BooksValue) (entry : BooksEntry) (n : ℕ) → rows_under books (accounts_under (n + 1) entry) ≡ rows_under books (accounts_under n entry) ++ rows_under books ((entry, thing_at n) ∷ [])
 more_under books entry n = ap (rows_under books) (map-range_with_len_more (λ i. (entry, thing_at i)) 0 n n (omega arith)) ∙ rows_under-append books (accounts_under n entry) ((entry, thing_at n) ∷ [])
 
--- the rows of an entry of the books for n + 1 things are those for n things and thing n's row, if its amount is not 0
 pub rows_under-some : (books : BooksValue) (entry : BooksEntry) (n : ℕ) → amount_in books entry (thing_at n) ≢ pos 0 → rows_under books (accounts_under (n + 1) entry) ≡ rows_under books (accounts_under n entry) ++ books_row entry (thing_at n) (amount_in books entry (thing_at n)) ∷ []
 rows_under-some books entry n h =
     let z = amount_in books entry (thing_at n) in
     more_under books entry n ∙ ap (λ rows. rows_under books (accounts_under n entry) ++ rows) (rows_under_one books (entry, thing_at n) ∙ ap (λ b. cond (not b) (books_row entry (thing_at n) z ∷ []) []) (nonzero_fails_is_zero z h))
 
--- the rows of an entry of the books for n + 1 things are those for n things, if the amount of thing n is 0
 pub rows_under-none : (books : BooksValue) (entry : BooksEntry) (n : ℕ) → amount_in books entry (thing_at n) ≡ pos 0 → rows_under books (accounts_under (n + 1) entry) ≡ rows_under books (accounts_under n entry)
 rows_under-none books entry n h =
     more_under books entry n ∙ ap (λ rows. rows_under books (accounts_under n entry) ++ rows) (rows_under_one books (entry, thing_at n) ∙ ap (λ z. cond (not (is_zero z)) (books_row entry (thing_at n) z ∷ []) []) h) ∙ append-nil (rows_under books (accounts_under n entry))

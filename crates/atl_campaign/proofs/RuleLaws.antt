@@ -18,16 +18,13 @@ use Rattle.atl_records.specs.Every.{Every, HasValue, EachEntry}
 use Rattle.atl_campaign.specs.Good.{IsNumbered}
 use Rattle.atl_records.proofs.EveryLaws.{none_some, every-from_each, each-from_every}
 
--- whether a look-up finds a value decides whether the number is there (HasValue)
 pub Decides-there : {V : Type 0} (m : FinMap nat_cmp V) (n : ℕ) (b : Bool) → b ≡ is_some (get m n) → Decides b (HasValue m n)
 Decides-there {V} m n b is = (λ e. found (get m n) (sym is ∙ e), λ there. is ∙ ap is_some there.1)
   where
-    -- an option of which is_some is true is Some of a value
     found : (o : Option V) → is_some o ≡ true → (v : V) × (o ≡ Some v)
     found None e = absurd (false≢true e)
     found (Some v) e = (v, refl)
 
--- a copied option is Some just where the option is
 pub copied_some : {V : Type 0} (o : Option (Bor V)) → is_some (option_copied o) ≡ is_some o
 copied_some None = refl
 copied_some (Some v) = refl
@@ -35,18 +32,15 @@ copied_some (Some v) = refl
 -- ---- whether all entries are so, by `all` over them
 
 module _ {V : Type 0} (P : ℕ → V → Type 0) where
-  -- if P holds of each entry, it holds of the one at an index
   each_at : (es : List (ℕ × V)) (k : ℕ) (d : ℕ × V) → EachEntry P es → k < length es → P (get_or es k d).0 (get_or es k d).1
   each_at [] k d each inside = absurd (omega (arith, inside))
   each_at (e ∷ es) zero d each inside = each.0
   each_at (e ∷ es) (suc k) d each inside = each_at es k d each.1 (omega (arith, inside))
 
-  -- if P holds of the entry at each index, it holds of each entry
   at_each : (es : List (ℕ × V)) → AllWithin (λ e. P e.0 e.1) es 0 (length es) → EachEntry P es
   at_each [] within = tt
   at_each (e ∷ es) within = (within 0 e (omega arith) (omega arith), at_each es (λ k d least inside. within (suc k) d (omega arith) (omega (arith, inside))))
 
-  -- the answer of `all` over entries decides whether P holds of each (EachEntry)
   answered : (es : List (ℕ × V)) (r : Bool) → MatchBool r (AllWithin (λ e. P e.0 e.1) es 0 (length es)) ((k : ℕ) × (k < length es) × HoldsAt (λ e. ¬ (P e.0 e.1)) es k) → Decides r (EachEntry P es)
   answered es true within = (λ _. at_each es within, λ _. refl)
   answered es false found = (
@@ -54,7 +48,6 @@ module _ {V : Type 0} (P : ℕ → V → Type 0) where
     λ each. absurd (none_from_all_within (λ e. ¬ (P e.0 e.1)) es (λ k d least inside never. never (each_at es k d each inside)) found),
   )
 
-  -- the number and the value of an entry that has a borrow of the value
   abbrev shown : ℕ × Bor V → ℕ × V
   shown e = (e.0, e.1.now)
 
@@ -70,7 +63,6 @@ module _ {V : Type 0} (P : ℕ → V → Type 0) where
 
 -- ---- the numbers that come next
 
--- a look-up of a number that a map doesn't have (HasValue) gives None
 pub free_from : {V : Type 0} (m : FinMap nat_cmp V) (n : ℕ) → ¬ (HasValue m n) → get m n ≡ None
 free_from {V} m n none = elim (get m n) as (λ o. get m n ≡ o → o ≡ None) [ None ↦ λ _. refl | Some v ↦ λ is. absurd (none (v, is)) ] refl
 
@@ -79,24 +71,19 @@ module _ {V : Type 0} (m : FinMap nat_cmp V) (next : ℕ) where
   abbrev Between : ℕ → ℕ → V → Type 0
   Between least n v = (least ≤ n) × (n < next)
 
-  -- a number that has a value is below `next`, if the numbers from `next` on have none
   before : (n : ℕ) (v : V) → ((q : ℕ) → next ≤ q → get m q ≡ None) → get m n ≡ Some v → n < next
   before n v free is = elim (cases_lt n next) [ inl l ↦ l | inr l ↦ none_some v (sym (free n l) ∙ is) ]
 
-  -- a number that has a value is at least 1, if 0 has none
   from_one : (n : ℕ) (v : V) → get m 0 ≡ None → get m n ≡ Some v → 1 ≤ n
   from_one zero v first is = none_some v (sym first ∙ is)
   from_one (suc n) v first is = omega arith
 
-  -- the numbers from `next` on have no value, if all numbers of the map are below `next`
   pub free_from_next : Every (λ n v. n < next) m → (n : ℕ) → next ≤ n → get m n ≡ None
   free_from_next few n l = free_from m n (λ there. let low = few n there.0 there.1 in omega (arith, low))
 
-  -- all numbers of the map are below `next`, if the numbers from `next` on have no value
   pub every_before : ((n : ℕ) → next ≤ n → get m n ≡ None) → Every (λ n v. n < next) m
   every_before free n v is = before n v free is
 
-  -- a map is numbered from 1 without a gap, if its numbers are from 1 to below `next`, which is their count plus 1
   pub numbered : EachEntry (Between 1) (entries m) → next ≡ len m + 1 → IsNumbered m next
   numbered each count =
       let few = every-from_each (Between 1) m each in
@@ -106,6 +93,5 @@ module _ {V : Type 0} (m : FinMap nat_cmp V) (next : ℕ) where
         free = λ n l. free_from m n (λ there. let most = (few n there.0 there.1).1 in omega (arith, most));
       }
 
-  -- each number of a map that is numbered from 1 without a gap is from 1 to below `next`
   pub each_numbered : IsNumbered m next → EachEntry (Between 1) (entries m)
   each_numbered is = each-from_every (Between 1) m (λ n v there. (from_one n v is.first there, before n v is.free there))

@@ -19,11 +19,9 @@ use Rattle.atl_campaign.specs.Slots.{slot_entries, slot_entry_at, values_of, Are
 use Rattle.atl_records.proofs.EveryLaws.{sorted, each-from_every}
 use Rattle.atl_campaign.proofs.IndexLaws.{some_none}
 
--- if an option is both Some x and Some y, x is y
 same_some : {X : Type 0} {x y : X} {o : Option X} → o ≡ Some x → o ≡ Some y → x ≡ y
 same_some e h = cc
 
--- P holds of the result of the test whether q is n, if q ≡ n gives P true, and q ≢ n gives P false
 by_equality : (q n : ℕ) (P : Bool → Type 0) → (q ≡ n → P true) → (q ≢ n → P false) → P (eq_by_cmp nat_cmp q n)
 by_equality q n P same apart =
     elim (nat_cmp q n) as (λ r. nat_cmp q n ≡ r → P (is_eq r)) [
@@ -43,8 +41,6 @@ module _ {V : Type 0} where
   find_entry_step n q None rest h = absurd (false≢true h)
   find_entry_step n q (Some v) rest h = refl
 
-  -- for find_slot_entry: the value in slot k or that in slot o (`value_in_slot`), as b chooses, is the value in the
-  -- chosen slot
   value_in_slot_cond : (b : Bool) (s : slab.Slab V) (k : ℕ) (o : Option ℕ) → cond b (slab.get s k) (value_in_slot s o) ≡ value_in_slot s (cond b (Some k) o)
   value_in_slot_cond true s k o = refl
   value_in_slot_cond false s k o = refl
@@ -56,7 +52,6 @@ module _ {V : Type 0} where
       find_entry_step e.0 q (slab.get s e.1) (slot_entries es s) h.0 ∙ ap (cond (eq_by_cmp nat_cmp q e.0) (slab.get s e.1)) (find_slot_entry s q es h.1)
       ∙ value_in_slot_cond (eq_by_cmp nat_cmp q e.0) s e.1 (find nat_cmp q es)
 
-  -- each slot that a number of the index leads to is in use
   pub all_in_use : (i : FinMap nat_cmp ℕ) (s : slab.Slab V) → HaveOwnSlots i s → AreInUse (entries i) s
   all_in_use i s held = each-from_every (λ n k. is_some (slab.get s k) ≡ true) i held.in_use
 
@@ -67,41 +62,33 @@ module _ {V : Type 0} where
       ∙ find_slot_entry s q (entries i) (all_in_use i s held)
       ∙ ap (value_in_slot s) (sym (get-entries i q))
 
-  -- the value in the slot that a number leads to (`value_in_slot`) is the number's value in the map of values
   pub value_under : (i : FinMap nat_cmp ℕ) (s : slab.Slab V) (m : FinMap nat_cmp V) (n : ℕ) (o : Option ℕ) → HaveOwnSlots i s → values_of i s ≡ m → o ≡ get i n → value_in_slot s o ≡ get m n
   value_under i s m n o held is there = ap (value_in_slot s) there ∙ sym (get_values i s held n) ∙ ap (λ v. get v n) is
 
-  -- for leads_nowhere: what a slot holds, o, is not both a value and None
   empty_slot : (o : Option V) → is_some o ≡ true → o ≡ None → ⊥
   empty_slot None h e = false≢true h
   empty_slot (Some x) h e = some_none x e
 
-  -- a number for which the index and the slab give no value (`value_in_slot`) leads to no slot
   leads_nowhere : (i : FinMap nat_cmp ℕ) (s : slab.Slab V) (n : ℕ) (o : Option ℕ) → get i n ≡ o → HaveOwnSlots i s → value_in_slot s o ≡ None → o ≡ None
   leads_nowhere i s n None e held h = refl
   leads_nowhere i s n (Some k) e held h = absurd (empty_slot (slab.get s k) (held.in_use n k e) h)
 
-  -- a number that has no value in the map of values leads to no slot
   pub unindexed : (i : FinMap nat_cmp ℕ) (s : slab.Slab V) (n : ℕ) → HaveOwnSlots i s → get (values_of i s) n ≡ None → get i n ≡ None
   unindexed i s n held h = leads_nowhere i s n (get i n) refl held (sym (get_values i s held n) ∙ h)
 
-  -- slot j, which has a value, is not slot k, which has none
   vacant_slot : (s : slab.Slab V) (j k : ℕ) → j ≡ k → slab.get s k ≡ None → is_some (slab.get s j) ≡ true → ⊥
   vacant_slot s j k same vacant h = false≢true (sym (ap is_some (ap (slab.get s) same ∙ vacant)) ∙ h)
 
-  -- two slabs with the same values give the same numbers with values (slot_entries) for the same index entries
   slot_entries_same : (es : List (ℕ × ℕ)) (s t : slab.Slab V) → slab.SameValues s t → slot_entries es t ≡ slot_entries es s
   slot_entries_same [] s t same = refl
   slot_entries_same (e ∷ es) s t same = ap (λ o. slot_entry_at e.0 o (slot_entries es t)) (same e.1) ∙ ap (slot_entry_at e.0 (slab.get s e.1)) (slot_entries_same es s t same)
 
-  -- a number that leads to a slot other than the updated one keeps its value
   kept : (s t : slab.Slab V) (k : ℕ) (x : Option V) (o : Option ℕ) → slab.Updates s t k x → ((j : ℕ) → o ≡ Some j → j ≢ k) → value_in_slot t o ≡ value_in_slot s o
   kept s t k x None u h = refl
   kept s t k x (Some j) u h = u.others j (h j refl)
 
   -- ---- a value changed in its slot
 
-  -- the numbers of an index still lead to distinct slots in use (HaveOwnSlots) when the value in one changes
   pub HaveOwnSlots-changed : (i : FinMap nat_cmp ℕ) (s t : slab.Slab V) (k : ℕ) (x : V) → slab.Updates s t k (Some x) → HaveOwnSlots i s → HaveOwnSlots i t
   HaveOwnSlots-changed i s t k x u held = record {
     in_use = λ n j h. elim (cases_eq j k) [
@@ -111,7 +98,6 @@ module _ {V : Type 0} where
     by_one = held.by_one;
   }
 
-  -- changing the value in a number's slot changes the value under the number
   pub values_changed : (i : FinMap nat_cmp ℕ) (s t : slab.Slab V) (n k : ℕ) (x : V) → slab.Updates s t k (Some x) → HaveOwnSlots i s → get i n ≡ Some k → values_of i t ≡ insert (values_of i s) n x
   values_changed i s t n k x u held is = same_map nat_cmp_total nat_cmp-IsAntisymmetric _ _ (λ q.
       get_values i t (HaveOwnSlots-changed i s t k x u held) q
@@ -122,7 +108,6 @@ module _ {V : Type 0} where
 
   -- ---- a value put in
 
-  -- the numbers of an index still lead to distinct slots in use (HaveOwnSlots) when a vacant slot is used for a number
   pub HaveOwnSlots-added : (i : FinMap nat_cmp ℕ) (s t : slab.Slab V) (n k : ℕ) (x : V) → slab.Updates s t k (Some x) → slab.get s k ≡ None → HaveOwnSlots i s → HaveOwnSlots (insert i n k) t
   HaveOwnSlots-added i s t n k x u vacant held = record {
     in_use = λ m j h. by_equality m n (λ b. cond b (Some k) (get i m) ≡ Some j → is_some (slab.get t j) ≡ true)
@@ -153,7 +138,6 @@ module _ {V : Type 0} where
 
   -- ---- a value taken out
 
-  -- the numbers of an index still lead to distinct slots in use (HaveOwnSlots) when a number and its slot are given up
   pub HaveOwnSlots-removed : (i : FinMap nat_cmp ℕ) (s t : slab.Slab V) (n k : ℕ) → slab.Updates s t k None → get i n ≡ Some k → HaveOwnSlots i s → HaveOwnSlots (remove i n) t
   HaveOwnSlots-removed i s t n k u is held = record {
     in_use = λ m j h. by_equality m n (λ b. cond b None (get i m) ≡ Some j → is_some (slab.get t j) ≡ true)
@@ -169,7 +153,6 @@ module _ {V : Type 0} where
         (sym (get-remove nat_cmp_total i n a) ∙ h);
   }
 
-  -- giving up a number and its slot removes the value under the number
   pub values_removed : (i : FinMap nat_cmp ℕ) (s t : slab.Slab V) (n k : ℕ) → slab.Updates s t k None → get i n ≡ Some k → HaveOwnSlots i s → values_of (remove i n) t ≡ remove (values_of i s) n
   values_removed i s t n k u is held = same_map nat_cmp_total nat_cmp-IsAntisymmetric _ _ (λ q.
       get_values (remove i n) t (HaveOwnSlots-removed i s t n k u is held) q ∙ ap (value_in_slot t) (get-remove nat_cmp_total i n q)
@@ -178,37 +161,30 @@ module _ {V : Type 0} where
       (λ apart. kept s t k None (get i q) u (λ j h same. apart (held.by_one q n k (h ∙ ap Some same) is)))
       ∙ sym (get-remove nat_cmp_total (values_of i s) n q ∙ ap (cond (eq_by_cmp nat_cmp q n) None) (get_values i s held q)))
 
-  -- an index leads to the same map of values in two slabs with the same values
   pub nothing_changed : (i : FinMap nat_cmp ℕ) (s t : slab.Slab V) → slab.SameValues s t → values_of i t ≡ values_of i s
   nothing_changed i s t same = ap from_entries (slot_entries_same (entries i) s t same)
 
-  -- the numbers of an index lead to distinct slots in use (HaveOwnSlots) in slab t too, if t has the same values as s
   pub HaveOwnSlots-same : (i : FinMap nat_cmp ℕ) (s t : slab.Slab V) → slab.SameValues s t → HaveOwnSlots i s → HaveOwnSlots i t
   HaveOwnSlots-same i s t same held = record { in_use = λ n k h. ap is_some (same k) ∙ held.in_use n k h; by_one = held.by_one }
 
-  -- once a value is put into a vacant slot and taken out again, the slab has the values that it had before
   pub put_back : (s t r : slab.Slab V) (k : ℕ) (x : V) → slab.get s k ≡ None → slab.Updates s t k (Some x) → slab.Updates t r k None → slab.SameValues s r
   put_back s t r k x vacant u v j = elim (cases_eq j k) [
     | inl same ↦ ap (slab.get r) same ∙ v.changed ∙ sym (ap (slab.get s) same ∙ vacant)
     | inr apart ↦ v.others j apart ∙ u.others j apart
   ]
 
-  -- the number of a slot in use is below how many slots the slab has
   inside : (s : slab.Slab V) (k : ℕ) → is_some (slab.get s k) ≡ true → k < length s.slots
   inside s k h = elim (cases_lt k (length s.slots)) [
     | inl l ↦ l
     | inr l ↦ absurd (false≢true (sym (ap is_some (get_or_past s.slots k None l)) ∙ h))
   ]
 
-  -- writing a value into a slot in use updates that slot alone
   pub written : (s : slab.Slab V) (k : ℕ) (x : V) → is_some (slab.get s k) ≡ true → slab.Updates s (slab.with_value s k x) k (Some x)
   written s k x h = record { changed = get_or-set_same s.slots k (Some x) None (inside s k h); others = λ j ne. get_or-set_other s.slots k j (Some x) None ne }
 
--- an empty index gives the empty map of values
 pub no_values : {V : Type 0} (s : slab.Slab V) → values_of empty s ≡ empty
 no_values s = rw (entries-empty {X = ℕ}) refl
 
--- an empty index has no number, so each of its numbers leads to a slot of its own (HaveOwnSlots)
 pub HaveOwnSlots-empty : {V : Type 0} (s : slab.Slab V) → HaveOwnSlots empty s
 HaveOwnSlots-empty s = record {
   in_use = λ n k h. some_none k (sym h ∙ get-empty nat_cmp n);
@@ -217,7 +193,6 @@ HaveOwnSlots-empty s = record {
 
 -- ---- the arena's invariant: as many slots are in use as there are numbers that lead to one
 module _ {V : Type 0} where
-  -- writing a value into a slot in use leaves as many slots in use
   pub len_written : (s : slab.Slab V) (k : ℕ) (w : V) → is_some (slab.get s k) ≡ true → slab.slab_len (slab.with_value s k w) ≡ slab.slab_len s
   len_written s k w h =
       let change = sum_by-set (λ (o : Option V). cond (is_some o) 1 0) s.slots k (Some w) None (inside s k h) in
@@ -233,15 +208,12 @@ module _ {V : Type 0} where
       let size : len (insert i n k) ≡ len i + 1 = len-insert nat_cmp_total i n k ∙ ap (λ o. cond (is_some o) (len i) (len i + 1)) fresh in
       record { slots_used = HaveOwnSlots-added i s t n k x u vacant held.slots_used; none_idle = omega (arith, same, size, more) }
 
-  -- once a number and its slot are given up, each number still has a slot of its own, and no other slot is in use
-  -- (IsArena)
   pub IsArena-removed : (i : FinMap nat_cmp ℕ) (s t : slab.Slab V) (n k : ℕ) → slab.Updates s t k None → slab.slab_len t + 1 ≡ slab.slab_len s → get i n ≡ Some k → IsArena i s → IsArena (remove i n) t
   IsArena-removed i s t n k u less is held =
       let same = held.none_idle in
       let size : len (remove i n) ≡ len i - 1 = len-remove nat_cmp_total i n ∙ ap (λ o. cond (is_some o) (len i - 1) (len i)) is in
       record { slots_used = HaveOwnSlots-removed i s t n k u is held.slots_used; none_idle = omega (arith, same, size, less) }
 
-  -- when the value in a slot changes, each number still has a slot of its own, and no other slot is in use (IsArena)
   pub IsArena-changed : (i : FinMap nat_cmp ℕ) (s : slab.Slab V) (k : ℕ) (w : V) → is_some (slab.get s k) ≡ true → IsArena i s → IsArena i (slab.with_value s k w)
   IsArena-changed i s k w used held = record { slots_used = HaveOwnSlots-changed i s (slab.with_value s k w) k w (written s k w used) held.slots_used; none_idle = len_written s k w used ∙ held.none_idle }
 
@@ -250,49 +222,39 @@ module _ {V : Type 0} where
   pub IsArena-same : (i : FinMap nat_cmp ℕ) (s t : slab.Slab V) → slab.SameValues s t → slab.slab_len t ≡ slab.slab_len s → IsArena i s → IsArena i t
   IsArena-same i s t same as_many held = record { slots_used = HaveOwnSlots-same i s t same held.slots_used; none_idle = as_many ∙ held.none_idle }
 
-  -- an empty index and a slab without slots are an arena: no slot is in use without a number (IsArena)
   pub IsArena-empty : (s : slab.Slab V) → s.slots ≡ [] → IsArena empty s
   IsArena-empty s none = record { slots_used = HaveOwnSlots-empty s; none_idle = ap (count_by is_some) none ∙ sym (len-empty nat_cmp ℕ) }
 
--- if P holds, it holds in the case of an error (OnErr)
 pub on_err : {A E P : Type 0} (r : Result A E) → P → OnErr r P
 on_err (Ok a) p = tt
 on_err (Err e) p = p
 
--- two loans under one number are equal if they make the same of each value that is given back
 pub lent_same : {N W D E : Type 0} (n : N) (F G : W → D) → ((w : W) → F w ≡ G w) → ◌≡◌ {A = (N × (W → D)) ⊎ E} (inl (n, F)) (inl (n, G))
 lent_same n F G h j = inl (n, λ w. h w j)
 
 -- ---- sorted by number
 
--- a number that below_all finds below all entries is less than each of their numbers
 less_than_each_key : {V : Type 0} (k : ℕ) (es : List (ℕ × V)) → below_all nat_cmp k es ≡ true → AllByRecursion (λ n. nat_cmp k n ≡ Less) (keys_of es)
 less_than_each_key k [] h = tt
 less_than_each_key k (e ∷ es) h = (is_less (nat_cmp k e.0) (and_parts _ _ h).0, less_than_each_key k es (and_parts _ _ h).1)
 
--- the numbers of entries that pass is_sorted rise strictly
 pub keys_rise : {V : Type 0} (es : List (ℕ × V)) → is_sorted nat_cmp es ≡ true → IsStrictlySortedBy nat_cmp (keys_of es)
 unfolding IsStrictlySortedBy
 keys_rise [] h = tt
 keys_rise (e ∷ es) h = (less_than_each_key e.0 es (and_parts _ _ h).0, keys_rise es (and_parts _ _ h).1)
 
 module _ {V : Type 0} (s : slab.Slab V) where
-  -- putting the entry of number n, whose slot is in use, in front of entries puts n in front of their numbers
   key_step : (n : ℕ) (o : Option V) (rest : List (ℕ × V)) → is_some o ≡ true → keys_of (slot_entry_at n o rest) ≡ n ∷ keys_of rest
   key_step n None rest h = absurd (false≢true h)
   key_step n (Some v) rest h = refl
 
-  -- the numbers of the entries with values (slot_entries) are those of the index entries es, if all their slots are in
-  -- use
   keys_of_slot_entries : (es : List (ℕ × ℕ)) → AreInUse es s → keys_of (slot_entries es s) ≡ keys_of es
   keys_of_slot_entries [] h = refl
   keys_of_slot_entries (e ∷ es) h = key_step e.0 (slab.get s e.1) (slot_entries es s) h.0 ∙ ap (λ ns. e.0 ∷ ns) (keys_of_slot_entries es h.1)
 
-  -- the entries of the map of values are those of the index, with values for slots (slot_entries)
   pub entries_values : (i : FinMap nat_cmp ℕ) → HaveOwnSlots i s → entries (values_of i s) ≡ slot_entries (entries i) s
   entries_values i held = entries_of (slot_entries (entries i) s) (rw (keys_of_slot_entries (entries i) (all_in_use i s held)) (keys_rise (entries i) (sorted i)))
 
-  -- the map of values has as many values as the index has numbers
   pub len_values : (i : FinMap nat_cmp ℕ) → HaveOwnSlots i s → len (values_of i s) ≡ len i
   len_values i held =
       len-entries (values_of i s) ∙ ap length (entries_values i held)

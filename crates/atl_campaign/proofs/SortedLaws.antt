@@ -8,13 +8,11 @@ use Rattle.atl_campaign.specs.Ordered.{IsSorted, put_number, take_number}
 use Rattle.atl_campaign.proofs.OrderedLaws.{put_number-cons, put_number-nil, take_number-cons, take_number-nil}
 use Rattle.atl_campaign.proofs.MapOfRowsLaws.{each_follows}
 
--- if x is at most each number of a list, it is at most the one at index i
 at_most_indexed : (x : ℕ) (xs : List ℕ) (i d : ℕ) → AllByRecursion (λ y. x ≤ y) xs → i < length xs → x ≤ get_or xs i d
 at_most_indexed x [] i d h l = absurd (omega arith)
 at_most_indexed x (y ∷ xs) zero d h l = h.0
 at_most_indexed x (y ∷ xs) (suc i) d h l = at_most_indexed x xs i d h.1 (omega arith)
 
--- a sorted list has at a later index a number at least as great as at an earlier one
 rises : (xs : List ℕ) (i j d : ℕ) → IsSorted xs → i ≤ j → j < length xs → get_or xs i d ≤ get_or xs j d
 rises [] i j d h le l = absurd (omega arith)
 rises (x ∷ xs) zero zero d h le l = omega arith
@@ -22,68 +20,55 @@ rises (x ∷ xs) zero (suc j) d h le l = at_most_indexed x xs j d h.0 (omega ari
 rises (x ∷ xs) (suc i) zero d h le l = absurd (omega arith)
 rises (x ∷ xs) (suc i) (suc j) d h le l = rises xs i j d h.1 (omega arith) (omega arith)
 
--- a is below n, if it is at most b, and b is below n
 less_by_transitivity : (a b n : ℕ) → a ≤ b → nat_lt b n ≡ true → nat_lt a n ≡ true
 less_by_transitivity a b n le h = grind (arith, nat_tests)
 
--- in a sorted list the numbers below n come first
 pub sorted_is_partitioned : (n : ℕ) (xs : List ℕ) → IsSorted xs → IsPartitionedBy (λ y. nat_lt y n) xs
 sorted_is_partitioned n xs h i j d le l e = less_by_transitivity (get_or xs i d) (get_or xs j d) n (rises xs i j d h le l) e
 
 -- ---- a number put in
 
--- x is at most each number of a list once n is put in, if it is at most n, and at most each number of the old list
 put_least : (x n : ℕ) (xs : List ℕ) → x ≤ n → AllByRecursion (λ y. x ≤ y) xs → AllByRecursion (λ y. x ≤ y) (put_number n xs)
 put_least x n [] le h = subst (AllByRecursion (λ y. x ≤ y)) (sym (put_number-nil n)) (le, tt)
 put_least x n (y ∷ xs) le h = subst (AllByRecursion (λ y. x ≤ y)) (sym (put_number-cons n y xs)) (either (put_least x n xs le h.1) (nat_le n y))
   where
-    -- for put_least: x is at most each number of y ∷ xs with n put in, whether n comes before y (b) or after it
     either : AllByRecursion (λ y. x ≤ y) (put_number n xs) → (b : Bool) → AllByRecursion (λ y. x ≤ y) (cond b (n ∷ y ∷ xs) (y ∷ put_number n xs))
     either rest true = (le, h)
     either rest false = (h.0, rest)
 
--- n is at most each number of a list, if it is at most x, and x is at most each of them
 lower_all : (n x : ℕ) (xs : List ℕ) → n ≤ x → AllByRecursion (λ y. x ≤ y) xs → AllByRecursion (λ y. n ≤ y) xs
 lower_all n x xs le h = each_follows (λ y. x ≤ y) (λ y. n ≤ y) (λ y l. omega arith) xs h
 
--- a sorted list stays sorted when a number is put in
 pub IsSorted-put : (n : ℕ) (xs : List ℕ) → IsSorted xs → IsSorted (put_number n xs)
 IsSorted-put n [] h = subst IsSorted (sym (put_number-nil n)) (tt, tt)
 IsSorted-put n (x ∷ xs) h = subst IsSorted (sym (put_number-cons n x xs)) (either (IsSorted-put n xs h.1) (nat_le n x) refl)
   where
-    -- for IsSorted-put: x ∷ xs with n put in is sorted, whether n comes before x (b) or after it
     either : IsSorted (put_number n xs) → (b : Bool) → nat_le n x ≡ b → IsSorted (cond b (n ∷ x ∷ xs) (x ∷ put_number n xs))
     either rest true e = let le : n ≤ x = grind (arith, nat_tests) in ((le, lower_all n x xs le h.0), h)
     either rest false e = let le : x ≤ n = grind (arith, nat_tests) in (put_least x n xs le h.0, rest)
 
 -- ---- a number taken out
 
--- if x is at most each number of a list, it still is once a number is taken out
 take_least : (x n : ℕ) (xs : List ℕ) → AllByRecursion (λ y. x ≤ y) xs → AllByRecursion (λ y. x ≤ y) (take_number n xs)
 take_least x n [] h = subst (AllByRecursion (λ y. x ≤ y)) (sym (take_number-nil n)) tt
 take_least x n (y ∷ xs) h = subst (AllByRecursion (λ y. x ≤ y)) (sym (take_number-cons n y xs)) (either (take_least x n xs h.1) (nat_le n y))
   where
-    -- for take_least: x is at most each number of y ∷ xs with n taken out, whether that removes y (b) or a later number
     either : AllByRecursion (λ y. x ≤ y) (take_number n xs) → (b : Bool) → AllByRecursion (λ y. x ≤ y) (cond b xs (y ∷ take_number n xs))
     either rest true = h.1
     either rest false = (h.0, rest)
 
--- a sorted list stays sorted when a number is taken out
 pub IsSorted-take : (n : ℕ) (xs : List ℕ) → IsSorted xs → IsSorted (take_number n xs)
 IsSorted-take n [] h = subst IsSorted (sym (take_number-nil n)) tt
 IsSorted-take n (x ∷ xs) h = subst IsSorted (sym (take_number-cons n x xs)) (either (IsSorted-take n xs h.1) (nat_le n x))
   where
-    -- for IsSorted-take: x ∷ xs with n taken out is sorted, whether that removes x (b) or a later number
     either : IsSorted (take_number n xs) → (b : Bool) → IsSorted (cond b xs (x ∷ take_number n xs))
     either rest true = h.1
     either rest false = (take_least x n xs h.0, rest)
 
 -- ---- nat_lt and nat_le of two numbers
 
--- where x is below n, n is not at most x
 pub not_above : (n x : ℕ) → nat_lt x n ≡ true → nat_le n x ≡ false
 not_above n x h = grind (arith, nat_tests)
 
--- where x is not below n, n is at most x
 pub not_below : (n x : ℕ) → nat_lt x n ≡ false → nat_le n x ≡ true
 not_below n x h = grind (arith, nat_tests)

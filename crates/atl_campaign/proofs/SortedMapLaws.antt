@@ -10,23 +10,19 @@ use Rattle.std.specs.FinMap.Entries.{below_all}
 use Rattle.std.proofs.lemmas.Bool.{and_parts, false≢true}
 use Rattle.atl_records.proofs.EveryLaws.{is_true}
 
--- an ordering that passes is_lt is Less
 is_less : (o : Ordering) → is_lt o ≡ true → o ≡ Less
 is_less Less h = refl
 is_less Equal h = absurd (false≢true h)
 is_less Greater h = absurd (false≢true h)
 
--- a number above another does not compare equal to it
 above_compares_unequal : (k q : ℕ) → is_lt (nat_cmp q k) ≡ true → is_eq (nat_cmp k q) ≡ false
 above_compares_unequal k q h = ap is_eq (nat_cmp_total.antisymm k q) ∙ ap (λ o. is_eq (ordering_reverse o)) (is_less (nat_cmp q k) h)
 
 module _ {W : Type 0} where
-  -- a number below all entries is below one in their midst
   is_below : (q : ℕ) (es fs : List (ℕ × W)) (k : ℕ) (w : W) → below_all nat_cmp q (es ++ (k, w) ∷ fs) ≡ true → is_lt (nat_cmp q k) ≡ true
   is_below q [] fs k w h = (and_parts _ _ h).0
   is_below q (e ∷ es) fs k w h = is_below q es fs k w (and_parts _ _ h).1
 
-  -- the number of an entry of a sorted list is not found among those before it
   not_in_front : (es fs : List (ℕ × W)) (k : ℕ) (w : W) → is_sorted nat_cmp (es ++ (k, w) ∷ fs) ≡ true → find nat_cmp k es ≡ None
   not_in_front [] fs k w h = refl
   not_in_front (e ∷ es) fs k w h = ap (λ b. cond b (Some e.1) (find nat_cmp k es)) (above_compares_unequal k e.0 (is_below e.0 es fs k w (and_parts _ _ h).0)) ∙ not_in_front es fs k w (and_parts _ _ h).1

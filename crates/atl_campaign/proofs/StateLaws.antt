@@ -2,7 +2,6 @@
 use Rattle.std.proofs.Common.{◌≡◌}
 use Rattle.atl_campaign.specs.Campaign.{CampaignValue}
 
--- two campaigns are equal if their months, pass texts, next numbers, maps and books are
 pub same_state : (c d : CampaignValue) → c.month ≡ d.month → c.pass ≡ d.pass → c.next_faction ≡ d.next_faction → c.next_unit ≡ d.next_unit → c.next_structure ≡ d.next_structure
     → c.factions ≡ d.factions → c.regions ≡ d.regions → c.units ≡ d.units → c.structures ≡ d.structures → c.mail ≡ d.mail → c.reports ≡ d.reports → c.books ≡ d.books → c ≡ d
 same_state c d month pass next_faction next_unit next_structure factions regions units structures mail reports books i = record {

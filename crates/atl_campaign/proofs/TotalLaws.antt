@@ -10,11 +10,9 @@ use Rattle.atl_campaign.specs.Campaign.{CampaignValue, with_unit}
 use Rattle.atl_records.specs.Amounts.{region_amount, unit_amount}
 use Rattle.atl_campaign.specs.Totals.{total}
 
--- for total-with_unit: a term added to the first part of a sum can be added to the whole sum
 sum_is_regrouped : (a b n : ℕ) → (a + n) + b ≡ (a + b) + n
 sum_is_regrouped a b n = omega arith
 
--- a new unit raises the total of each thing by what it holds of the thing
 pub total-with_unit : (c : CampaignValue) (n : ℕ) (u : Unit) (t : Thing) → get c.units n ≡ None → total (with_unit c n u) t ≡ total c t + unit_amount t u.holding
 unfolding total
 total-with_unit c n u t fresh =

@@ -31,35 +31,28 @@ either_there : {V : Type 0} (b : Bool) (v : V) (o : Option V) (d : Bool) → (is
 either_there true v o d h e = refl
 either_there false v o d h e = h e
 
--- for within_more: `b || d` is true if d is
 or_of_true : (b d : Bool) → d ≡ true → (b || d) ≡ true
 or_of_true true d e = refl
 or_of_true false d e = e
 
--- if each number of set g is in set r, each still is once n is added to both
 pub within_both : (g r : set.FinSet nat_cmp) (n : ℕ) → ((q : ℕ) → set.contains g q ≡ true → set.contains r q ≡ true) → (q : ℕ) → set.contains (set.insert g n) q ≡ true → set.contains (set.insert r n) q ≡ true
 within_both g r n h q e =
     set.contains-insert nat_cmp_total r n q ∙ or_keeps_implication (eq_by_cmp nat_cmp q n) (set.contains g q) (set.contains r q) (h q) (sym (set.contains-insert nat_cmp_total g n q) ∙ e)
 
--- if each number of which `marked` is true is in set r, each is also in r with n added
 pub within_more : (marked : ℕ → Bool) (r : set.FinSet nat_cmp) (n : ℕ) → ((q : ℕ) → marked q ≡ true → set.contains r q ≡ true) → (q : ℕ) → marked q ≡ true → set.contains (set.insert r n) q ≡ true
 within_more marked r n h q e = set.contains-insert nat_cmp_total r n q ∙ or_of_true (eq_by_cmp nat_cmp q n) (set.contains r q) (h q e)
 
--- if each number that has a value in map g is in set r, each still is once n is added to both
 pub within_things : {V : Type 0} (g : FinMap nat_cmp V) (r : set.FinSet nat_cmp) (n : ℕ) (v : V) → ((q : ℕ) → is_some (get g q) ≡ true → set.contains r q ≡ true) → (q : ℕ) → is_some (get (insert g n v) q) ≡ true → set.contains (set.insert r n) q ≡ true
 within_things g r n v h q e =
     set.contains-insert nat_cmp_total r n q ∙ either_there (eq_by_cmp nat_cmp q n) v (get g q) (set.contains r q) (h q) (sym (ap is_some (get-insert nat_cmp_total g n v q)) ∙ e)
 
--- empty dirty sets mark no part of a unit, so each unit with a marked part is marked (AreWithin)
 within-none : AreUnitPartsWithin set.empty set.empty set.empty empty empty
 within-none = record { rows_within = λ q e. e; goods_within = λ q e. e; items_within = nothing; skills_within = nothing }
   where
-    -- for within-none: a number with marks in the empty map of marked things is in the empty set, as there is none
     nothing : (q : ℕ) → is_some (get {X = FinMap nat_cmp (Prim.Unit {0})} {R = nat_cmp} empty q) ≡ true → set.contains {R = nat_cmp} set.empty q ≡ true
     nothing q e = absurd (false≢true (sym (ap is_some (get-empty nat_cmp q)) ∙ e))
 
 module _ (marks rows goods : set.FinSet nat_cmp) (items skills : MarkedThings) (n : ℕ) (h : AreUnitPartsWithin marks rows goods items skills) where
-  -- each unit with a marked part is still marked (AreWithin) once a unit is marked with its row and its goods
   within-whole : AreUnitPartsWithin (set.insert marks n) (set.insert rows n) (set.insert goods n) items skills
   within-whole = record {
     rows_within = within_both rows marks n h.rows_within;
@@ -68,7 +61,6 @@ module _ (marks rows goods : set.FinSet nat_cmp) (items skills : MarkedThings) (
     skills_within = within_more _ marks n h.skills_within;
   }
 
-  -- each unit with a marked part is still marked (AreWithin) once a unit and its row are marked
   within-row : AreUnitPartsWithin (set.insert marks n) (set.insert rows n) goods items skills
   within-row = record {
     rows_within = within_both rows marks n h.rows_within;
@@ -77,7 +69,6 @@ module _ (marks rows goods : set.FinSet nat_cmp) (items skills : MarkedThings) (
     skills_within = within_more _ marks n h.skills_within;
   }
 
-  -- each unit with a marked part is still marked (AreWithin) once a unit and some items of it are marked
   within-item : (group : FinMap nat_cmp (Prim.Unit {0})) → AreUnitPartsWithin (set.insert marks n) rows goods (insert items n group) skills
   within-item group = record {
     rows_within = within_more _ marks n h.rows_within;
@@ -86,7 +77,6 @@ module _ (marks rows goods : set.FinSet nat_cmp) (items skills : MarkedThings) (
     skills_within = within_more _ marks n h.skills_within;
   }
 
-  -- each unit with a marked part is still marked (AreWithin) once a unit and some skills of it are marked
   within-skill : (group : FinMap nat_cmp (Prim.Unit {0})) → AreUnitPartsWithin (set.insert marks n) rows goods items (insert skills n group)
   within-skill group = record {
     rows_within = within_more _ marks n h.rows_within;
@@ -97,24 +87,18 @@ module _ (marks rows goods : set.FinSet nat_cmp) (items skills : MarkedThings) (
 
 -- ---- units
 
--- the given dirty set with number n added
 abbrev with_number_marked : RoomySet → ℕ → RoomySet
 with_number_marked marks n = record marks { numbers = set.insert marks.numbers n }
 
--- the given dirty set with no number left in it, and its room unchanged
 abbrev cleared : RoomySet → RoomySet
 cleared marks = record marks { numbers = set.empty }
 
--- an empty dirty set with the given room
 abbrev nothing_marked : ℕ → RoomySet
 nothing_marked room = record { numbers = set.empty; room = room }
 
--- if there are no units, empty dirty sets need no room for marks, and mark no part of a unit (AreUnits)
 pub AreUnits-none : AreUnits empty (nothing_marked 0) (nothing_marked 0) (nothing_marked 0) empty empty
 AreUnits-none = record { within = within-none; marks_fit = Room-empty Unit; rows_fit = Room-empty Unit; goods_fit = Room-empty Unit }
 
--- empty dirty sets with room for as many numbers as there are units have room for all marks, and mark no part of a unit
--- (AreUnits)
 pub AreUnits-of : (units : FinMap nat_cmp Unit) → AreUnits units (nothing_marked (len units)) (nothing_marked (len units)) (nothing_marked (len units)) empty empty
 AreUnits-of units = record { within = within-none; marks_fit = Room-of units; rows_fit = Room-of units; goods_fit = Room-of units }
 
@@ -123,8 +107,6 @@ module _ (units : FinMap nat_cmp Unit) (marks rows goods : RoomySet) (items skil
   abbrev Before : Type 0
   Before = AreUnits units marks rows goods items skills
 
-  -- once all dirty sets are emptied, there is still room for all marks, and no part of a unit is marked without the
-  -- unit (AreUnits)
   pub AreUnits-without_marks : Before → AreUnits units (cleared marks) (cleared rows) (cleared goods) empty empty
   AreUnits-without_marks h = record {
     within = within-none;
@@ -143,8 +125,6 @@ module _ (units : FinMap nat_cmp Unit) (marks rows goods : RoomySet) (items skil
     goods_fit = Room-lent units goods.numbers goods.room n (Some u) w is refl h.goods_fit;
   }
 
-  -- once a unit's row is changed and marked, there is still room for all marks, and still no part of a unit is marked
-  -- without the unit (AreUnits)
   pub AreUnits-row : (n : ℕ) (u w : Unit) → get units n ≡ Some u → Before → AreUnits (insert units n w) (with_number_marked marks n) (with_number_marked rows n) goods items skills
   AreUnits-row n u w is h = record {
     within = within-row marks.numbers rows.numbers goods.numbers items skills n h.within;
@@ -153,8 +133,6 @@ module _ (units : FinMap nat_cmp Unit) (marks rows goods : RoomySet) (items skil
     goods_fit = Room-over units goods.numbers goods.room n w (ap is_some is) h.goods_fit;
   }
 
-  -- once an item of a unit is changed and marked, there is still room for all marks, and still no part of a unit is
-  -- marked without the unit (AreUnits)
   pub AreUnits-item : (n : ℕ) (u w : Unit) (group : FinMap nat_cmp (Prim.Unit {0})) → get units n ≡ Some u → Before → AreUnits (insert units n w) (with_number_marked marks n) rows goods (insert items n group) skills
   AreUnits-item n u w group is h = record {
     within = within-item marks.numbers rows.numbers goods.numbers items skills n h.within group;
@@ -163,8 +141,6 @@ module _ (units : FinMap nat_cmp Unit) (marks rows goods : RoomySet) (items skil
     goods_fit = Room-over units goods.numbers goods.room n w (ap is_some is) h.goods_fit;
   }
 
-  -- once a skill of a unit is changed and marked, there is still room for all marks, and still no part of a unit is
-  -- marked without the unit (AreUnits)
   pub AreUnits-skill : (n : ℕ) (u w : Unit) (group : FinMap nat_cmp (Prim.Unit {0})) → get units n ≡ Some u → Before → AreUnits (insert units n w) (with_number_marked marks n) rows goods items (insert skills n group)
   AreUnits-skill n u w group is h = record {
     within = within-skill marks.numbers rows.numbers goods.numbers items skills n h.within group;
@@ -173,8 +149,6 @@ module _ (units : FinMap nat_cmp Unit) (marks rows goods : RoomySet) (items skil
     goods_fit = Room-over units goods.numbers goods.room n w (ap is_some is) h.goods_fit;
   }
 
-  -- once unit n, found as `o`, is removed and marked, there is still room for all marks, and still no part of a unit is
-  -- marked without the unit (AreUnits)
   gone_at : (n : ℕ) (o : Option Unit) → get units n ≡ o → is_some o ≡ true → Before → AreUnits (remove units n) (with_number_marked marks n) (with_number_marked rows n) (with_number_marked goods n) items skills
   gone_at n None is there h = absurd (false≢true there)
   gone_at n (Some u) is there h = record {
@@ -184,8 +158,6 @@ module _ (units : FinMap nat_cmp Unit) (marks rows goods : RoomySet) (items skil
     goods_fit = Room-without units goods.numbers goods.room n (Some u) is h.goods_fit;
   }
 
-  -- once a unit is removed and marked, there is still room for all marks, and still no part of a unit is marked without
-  -- the unit (AreUnits)
   pub AreUnits-gone : (n : ℕ) → is_some (get units n) ≡ true → Before → AreUnits (remove units n) (with_number_marked marks n) (with_number_marked rows n) (with_number_marked goods n) items skills
   AreUnits-gone n there h = gone_at n (get units n) refl there h
 
@@ -193,20 +165,15 @@ module _ (units : FinMap nat_cmp Unit) (marks rows goods : RoomySet) (items skil
 
 -- a dirty set with the same numbers as another, and room for one unit more
 pub record IsWider (units : FinMap nat_cmp Unit) (marks more : RoomySet) : Type 0 where
-  -- the set `more`, which has room for one unit more, has the same numbers as `marks`
   pub same : more.numbers ≡ marks.numbers
-  -- the wider set has room for the numbers it has, for all units, and for one unit more
   pub room : set.len marks.numbers + (len units + 1) ≤ more.room
 
--- a dirty set with room for one unit more (IsWider) has room for its numbers and for all units, a new one included
 room_inserted : (units : FinMap nat_cmp Unit) (marks more : RoomySet) (n : ℕ) (w : Unit) → IsWider units marks more → set.len more.numbers + len (insert units n w) ≤ more.room
 room_inserted units marks more n w h = let l = insert_adds_at_most_one units n w in let as_many = ap set.len h.same in omega (arith, h.room, l, as_many)
 
--- a dirty set with room for one unit more (IsWider) has room for a new number
 pub fits-new : (units : FinMap nat_cmp Unit) (marks more : RoomySet) (n : ℕ) (w : Unit) → IsWider units marks more → set.len (set.insert more.numbers n) ≤ more.room
 fits-new units marks more n w h = fits-inserted units more.numbers more.room n w (room_inserted units marks more n w h)
 
--- a dirty set with room for one unit more (IsWider) has room for all units once a new one is marked
 HasRoom-added : (units : FinMap nat_cmp Unit) (marks more : RoomySet) (n : ℕ) (w : Unit) → IsWider units marks more → HasRoomForMarks (insert units n w) (with_number_marked more n)
 HasRoom-added units marks more n w h = Room-inserted units more.numbers more.room n w (room_inserted units marks more n w h)
 
@@ -221,20 +188,16 @@ AreUnits-added units marks rows goods marks2 rows2 goods2 items skills n w wider
   goods_fit = HasRoom-added units goods goods2 n w wider3;
 }
 
--- replacing a roster's units by the same units changes nothing
 pub same_values : (r : Roster) (values : FinMap nat_cmp Unit) → values ≡ r.values → record r { values = values } ≡ r
 same_values r values e = ap (λ (v : FinMap nat_cmp Unit). record r { values = v }) e
 
 module _ (r : Roster) (n item amount : ℕ) where
-  -- the unit with the amount of the item set
   abbrev with_other : Unit → Unit
   with_other u = record u { holding = record u.holding { items = with_amount_of u.holding.items item amount } }
 
-  -- the roster with the given units, and the item of unit n marked, unless None is given for the unit
   abbrev after : FinMap nat_cmp Unit → Option Unit → Roster
   after units o = record r { values = units; marks = marked_with r.marks n o; items = thing_marked r.items n item o }
 
-  -- setting an item of a unit that has this amount of it already changes neither the units nor their marks
   pub with_item_again : (u : Unit) → get r.values n ≡ Some u → has_amount u.holding.items item amount ≡ true → with_item_at with_other r n item amount ≡ r
   with_item_again u is has =
       let same : with_other u ≡ u = ap (λ items. record u { holding = record u.holding { items = items } }) (set_again u.holding.items item amount has) in

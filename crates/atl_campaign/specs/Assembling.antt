@@ -6,11 +6,11 @@ use Rattle.std.specs.FinSet as set
 use Rattle.atl_world.specs.MarkedMaps.{MarkedMapValue}
 use Rattle.atl_world.specs.Sums.{with_changed_value}
 use Rattle.atl_campaign.specs.declared.assembly.maps.CampaignMaps.{CampaignMaps}
-use Rattle.atl_campaign.specs.declared.parts.Parts.{Parts}
-use Rattle.atl_campaign.specs.declared.parts.StoredHas.{StoredHas}
-use Rattle.atl_campaign.specs.declared.parts.StoredMarket.{StoredMarket}
-use Rattle.atl_campaign.specs.declared.parts.StoredRegion.{StoredRegion}
-use Rattle.atl_campaign.specs.declared.parts.StoredUnit.{StoredUnit}
+use Rattle.atl_rows.specs.declared.parts.Parts.{Parts}
+use Rattle.atl_rows.specs.declared.parts.StoredHas.{StoredHas}
+use Rattle.atl_rows.specs.declared.parts.StoredMarket.{StoredMarket}
+use Rattle.atl_rows.specs.declared.parts.StoredRegion.{StoredRegion}
+use Rattle.atl_rows.specs.declared.parts.StoredUnit.{StoredUnit}
 use Rattle.atl_records.specs.declared.records.Region.{Region}
 use Rattle.atl_records.specs.declared.records.Unit.{Unit}
 use Rattle.atl_campaign.specs.FromRows.{as_u32, by_number, faction_of, region_of, region_with_stocks, structure_of, unit_with_goods}
@@ -30,8 +30,6 @@ campaign_maps_of p = record {
   reports = without_marks (by_number (λ r. as_u32 r.faction) (λ r. r.text) p.reports);
 }
 
--- ---- units and regions without goods and stocks
-
 -- the unit that a row of `unit` says, without items and days of study
 abbrev pub bare_unit : StoredUnit → Unit
 bare_unit r = unit_with_goods r empty empty
@@ -39,8 +37,6 @@ bare_unit r = unit_with_goods r empty empty
 -- the region that a row of `region` says, with nothing in stock
 abbrev pub bare_region : StoredRegion → Region
 bare_region r = region_with_stocks r empty
-
--- ---- row by row
 
 -- a unit with the amount of a row of `has` put in: pieces of an item (sort 0) or days of a skill (sort 1)
 abbrev pub with_has_row : StoredHas → Unit → Unit

@@ -25,32 +25,21 @@ pub record CampaignValue : Type 0 where
   pub month : ℕ
   -- the bytes of the moderator's pass text
   pub pass : List ℕ
-  -- the number that the next faction to join gets
   pub next_faction : ℕ
-  -- the number that the next unit gets
   pub next_unit : ℕ
-  -- the number that the next structure gets
   pub next_structure : ℕ
   -- the factions by their numbers, also those that are gone
   pub factions : FinMap nat_cmp Faction
-  -- the regions by their numbers
   pub regions : FinMap nat_cmp Region
-  -- the units by their numbers
   pub units : FinMap nat_cmp Unit
-  -- the structures by their numbers
   pub structures : FinMap nat_cmp Structure
-  -- the bytes of the mail kept for each faction, by the faction's number
   pub mail : FinMap nat_cmp (List ℕ)
-  -- the bytes of each faction's report, by the faction's number
   pub reports : FinMap nat_cmp (List ℕ)
-  -- the books: what was booked of each thing under each entry
   pub books : BooksValue
 
 -- a campaign with its marks, which say what of it changed since it was last written
 pub record MarkedCampaign : Type 0 where
-  -- the campaign without its marks
   pub value : CampaignValue
-  -- the marks: what of the campaign changed since it was last written
   pub marks : Marks
 
 -- for proofs alone: a campaign encoded as nested pairs of its fields, as the kit asks of a type that contracts see

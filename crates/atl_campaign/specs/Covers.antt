@@ -47,7 +47,6 @@ said_by_campaign_row c = (c.month, (c.pass, (c.next_faction, (c.next_unit, c.nex
 
 -- all that is not marked in the marks m is the same in the campaigns `before` and `after`
 pub record Covers (m : Marks) (before after : CampaignValue) : Type 0 where
-  -- a faction that is not marked is the same in the campaigns before and after, or is in neither
   pub factions : SameBut m.factions before.factions after.factions
   -- A region whose row is not marked is the same in the campaigns before and after but for its stocks, or is in
   -- neither.
@@ -57,11 +56,8 @@ pub record Covers (m : Marks) (before after : CampaignValue) : Type 0 where
   -- A stock that is not marked is the same in the campaigns before and after.
   pub stocks :
       (n item : ℕ) → is_thing_marked m.stocks m.stock_items n item ≡ false → stock_of after n item ≡ stock_of before n item
-  -- a structure that is not marked is the same in the campaigns before and after, or is in neither
   pub structures : SameBut m.structures before.structures after.structures
-  -- the mail of a faction whose mail is not marked is the same in the campaigns before and after, or is in neither
   pub mail : SameBut m.mail before.mail after.mail
-  -- the report of a faction whose report is not marked is the same in the campaigns before and after, or is in neither
   pub reports : SameBut m.reports before.reports after.reports
   -- A unit whose row is not marked is the same in the campaigns before and after but for its goods, or is in neither.
   pub units : (n : ℕ) → contains m.rows n ≡ false → option_map without_goods (get after.units n) ≡ option_map without_goods (get before.units n)
@@ -70,7 +66,6 @@ pub record Covers (m : Marks) (before after : CampaignValue) : Type 0 where
   -- the days that a unit has of a skill that is not marked are the same in the campaigns before and after, or listed in
   -- neither
   pub days : SameThings m.goods m.skills days_under before.units after.units
-  -- an amount of the books that is not marked is the same in the campaigns before and after
   pub books :
       (e : BooksEntry) (t : Thing) → contains m.books (amount_number e t) ≡ false
       → amount_in after.books e t ≡ amount_in before.books e t
@@ -92,38 +87,22 @@ ThingsStayMarked goods things goods_after things_after =
 -- no mark is lost: all that is marked in `before`, the marks before some changes, is marked in `after`, those after
 -- them
 pub record StayMarked (before after : Marks) : Type 0 where
-  -- each faction that is marked before the changes is marked after them
   pub factions : StaysMarked before.factions after.factions
-  -- each region whose row is marked before the changes has its row marked after them
   pub regions : StaysMarked before.regions after.regions
-  -- each region of which a stock is marked before the changes is one of which a stock is marked after them (`markets`)
   pub markets : StaysMarked before.markets after.markets
-  -- each stock that is marked before the changes, alone or with all of its region, is marked after them
   pub stocks : ThingsStayMarked before.stocks before.stock_items after.stocks after.stock_items
-  -- each structure that is marked before the changes is marked after them
   pub structures : StaysMarked before.structures after.structures
-  -- each faction whose mail is marked before the changes has its mail marked after them
   pub mail : StaysMarked before.mail after.mail
-  -- each faction whose report is marked before the changes has its report marked after them
   pub reports : StaysMarked before.reports after.reports
-  -- each unit of which something is marked before the changes is one of which something is marked after them (`units`)
   pub units : StaysMarked before.units after.units
-  -- each unit whose row is marked before the changes has its row marked after them
   pub rows : StaysMarked before.rows after.rows
-  -- each unit all of whose goods are marked before the changes has all of its goods marked after them
   pub goods : StaysMarked before.goods after.goods
-  -- each item of a unit that is marked before the changes, alone or with all goods of the unit, is marked after them
   pub items : ThingsStayMarked before.goods before.items after.goods after.items
-  -- each skill of a unit that is marked before the changes, alone or with all goods of the unit, is marked after them
   pub skills : ThingsStayMarked before.goods before.skills after.goods after.skills
-  -- each amount of the books that is marked before the changes is marked after them
   pub books : StaysMarked before.books after.books
-  -- the campaign row is marked after the changes if it is marked before them
   pub row : before.row ≡ true → after.row ≡ true
 
 -- from one marked campaign to another no mark is lost, and all that changed is marked
 pub record MarksChanges (before after : MarkedCampaign) : Type 0 where
-  -- no mark is lost: all that is marked before the changes is marked after them
   pub stay : StayMarked before.marks after.marks
-  -- all that is not marked after the changes is the same in the campaigns before and after them
   pub covers : Covers after.marks before.value after.value

@@ -5,15 +5,15 @@ use Rattle.std.specs.Ordering.{nat_cmp}
 use Rattle.std.specs.FinMap.{FinMap, empty, insert}
 use Rattle.atl_world.specs.Worlds.{WorldValue}
 use Rattle.atl_records.specs.Limits.{most_u16, most_u32}
-use Rattle.atl_campaign.specs.declared.parts.Parts.{Parts}
-use Rattle.atl_campaign.specs.declared.parts.StoredCampaignRow.{StoredCampaignRow}
-use Rattle.atl_campaign.specs.declared.parts.StoredFaction.{StoredFaction}
-use Rattle.atl_campaign.specs.declared.parts.StoredRegion.{StoredRegion}
-use Rattle.atl_campaign.specs.declared.parts.StoredUnit.{StoredUnit}
-use Rattle.atl_campaign.specs.declared.parts.StoredHas.{StoredHas}
-use Rattle.atl_campaign.specs.declared.parts.StoredStructure.{StoredStructure}
-use Rattle.atl_campaign.specs.declared.parts.StoredBooks.{StoredBooks}
-use Rattle.atl_campaign.specs.declared.parts.StoredMarket.{StoredMarket}
+use Rattle.atl_rows.specs.declared.parts.Parts.{Parts}
+use Rattle.atl_rows.specs.declared.parts.StoredCampaignRow.{StoredCampaignRow}
+use Rattle.atl_rows.specs.declared.parts.StoredFaction.{StoredFaction}
+use Rattle.atl_rows.specs.declared.parts.StoredRegion.{StoredRegion}
+use Rattle.atl_rows.specs.declared.parts.StoredUnit.{StoredUnit}
+use Rattle.atl_rows.specs.declared.parts.StoredHas.{StoredHas}
+use Rattle.atl_rows.specs.declared.parts.StoredStructure.{StoredStructure}
+use Rattle.atl_rows.specs.declared.parts.StoredBooks.{StoredBooks}
+use Rattle.atl_rows.specs.declared.parts.StoredMarket.{StoredMarket}
 use Rattle.atl_records.specs.declared.records.Faction.{Faction}
 use Rattle.atl_records.specs.declared.records.Region.{Region}
 use Rattle.atl_records.specs.declared.records.Structure.{Structure}
@@ -22,8 +22,6 @@ use Rattle.atl_records.specs.Books.{BooksValue, entry_numbered, no_amounts, thin
 use Rattle.atl_campaign.specs.Founding.{thing_count}
 use Rattle.atl_campaign.specs.Rows.{is_zero}
 use Rattle.atl_campaign.specs.Campaign.{CampaignValue}
-
--- ---- one value
 
 -- a number from 0 to `most` as it is, and `most` for any other
 abbrev pub clamp : ℕ → ℤ → ℕ
@@ -42,8 +40,6 @@ as_u16 z = clamp most_u16 z
 abbrev pub is_set : ℤ → Bool
 is_set z = not (is_zero z)
 
--- ---- one row
-
 -- the faction that a row of `faction` says; it is gone if the row's flag is any number but 0
 abbrev pub faction_of : StoredFaction → Faction
 faction_of r = record { number = as_u32 r.number; joined_as = r.joined_as; name = r.name; pass = r.pass; gone = is_set r.gone }
@@ -52,8 +48,6 @@ faction_of r = record { number = as_u32 r.number; joined_as = r.joined_as; name 
 abbrev pub structure_of : StoredStructure → Structure
 structure_of r =
     record { kind = as_u16 r.kind; name = r.name; region = as_u32 r.region; done = as_u32 r.done; owner = as_u32 r.owner }
-
--- ---- the rows of a table
 
 -- the map with each row's value put under its number, in the order of the rows; a later row replaces an earlier one
 abbrev pub put_rows : {R V : Type 0} → (R → ℕ) → (R → V) → List R → FinMap nat_cmp V → FinMap nat_cmp V
@@ -115,8 +109,6 @@ with_books_row books r =
 abbrev pub with_books_rows : List StoredBooks → BooksValue → BooksValue
 with_books_rows [] books = books
 with_books_rows (r ∷ rs) books = with_books_rows rs (with_books_row books r)
-
--- ---- the whole campaign
 
 -- what is read where there is no campaign row: all numbers 0, and no pass text
 abbrev pub no_campaign_row : StoredCampaignRow

@@ -41,11 +41,8 @@ AreStocks w n stocks = Every (λ i amount. (1 ≤ amount) × (amount ≤ stock_l
 
 -- region n has at most 999,999,999 peasants, at most 999,999,999 money, and listed stocks in their ranges (AreStocks)
 pub record IsRegion (w : WorldValue) (n : ℕ) (r : Region) : Type 0 where
-  -- the region has at most 999,999,999 peasants
   pub peasants : r.peasants ≤ most_amount
-  -- the region has at most 999,999,999 money
   pub money : r.money ≤ most_amount
-  -- each listed stock of the region is from 1 to its limit
   pub stocks : AreStocks w n r.stocks
 
 -- there are not too many factions, regions, units and structures, and numbers are in range; a unit may have no men
@@ -288,14 +285,12 @@ pub record IsSteady (w : WorldValue) (c : CampaignValue) : Type 0 where
 
 -- a steady campaign in which all guard flags set in a region are of one faction, also those of units without men
 pub record IsEarly (w : WorldValue) (c : CampaignValue) : Type 0 where
-  -- the campaign is steady: it keeps the rules that hold also within a month (`IsSteady`)
   pub steady : IsSteady w c
   -- all units of a region whose guard flags are set, with men or without, are of one faction
   pub flags : AreOfOneFaction (λ u. u.holding.guard) c
 
 -- a campaign that keeps all rules of a good one, but that factions may lack reports, as one that has just joined does
 pub record IsSound (w : WorldValue) (c : CampaignValue) : Type 0 where
-  -- the campaign is steady: it keeps the rules that hold also within a month (`IsSteady`)
   pub steady : IsSteady w c
   -- each unit has at least one man
   pub men : HaveMen c
@@ -310,7 +305,5 @@ pub record IsSound (w : WorldValue) (c : CampaignValue) : Type 0 where
 
 -- a good campaign, as it is between commands: a sound one in which each faction has a report
 pub record IsGood (w : WorldValue) (c : CampaignValue) : Type 0 where
-  -- the campaign is sound: it keeps all rules of a good one, but maybe that each faction has a report (`IsSound`)
   pub sound : IsSound w c
-  -- each faction has a report
   pub reported : AreReported c

@@ -45,11 +45,8 @@ relisted_inside lists n from to = if from == to then lists else unlisted_unless 
 
 -- each unit is in the list of its region, of its faction, and of its structure unless that is 0, and in no other
 pub record AreUnitLists (units : FinMap nat_cmp Unit) (lists : UnitLists) : Type 0 where
-  -- under each region are the numbers of the units in it, in rising order
   pub regions : AreLists (λ u. u.region) units lists.by_region
-  -- under each faction are the numbers of its units, in rising order
   pub factions : AreLists (λ u. u.faction) units lists.by_faction
-  -- under each structure are the numbers of the units inside it, in rising order, and under 0 none
   pub structures : AreInsideLists units lists.by_structure
 
 -- the keys of the lists that a unit is in: its faction, region and structure
@@ -87,15 +84,11 @@ RelistsUnit n from to old new =
 
 -- only amounts of the books for the first `things` things are marked, and the dirty set has room for all of these
 pub record MarksAmounts (things : ℕ) (marks : RoomySet) : Type 0 where
-  -- the dirty set of the books has room for the amounts of all 16 entries, for each of the things
   pub room : entry_count * things ≤ marks.room
-  -- only amounts of the books for the first `things` things are marked
   pub numbers : AreOfThings things marks.numbers
 
 -- the invariant of a `Campaign`: its lists are those of its units, and only amounts of the books for the first `things`
 -- things are marked, with room for all of these
 pub record AreListsAndMarksKept (units : FinMap nat_cmp Unit) (lists : UnitLists) (things : ℕ) (marks : RoomySet) : Type 0 where
-  -- the lists are those of the units by region, by faction and by structure
   pub unit_lists : AreUnitLists units lists
-  -- only amounts of the books for the first `things` things are marked, and the dirty set has room for all of these
   pub amounts : MarksAmounts things marks

@@ -8,11 +8,12 @@ use Rattle.atl_records.specs.declared.books.BooksEntry.TheVariants.{Joining}
 use Rattle.atl_records.specs.declared.books.Thing.TheVariants.{Money, People}
 use Rattle.atl_records.specs.declared.books.BooksEntry.{BooksEntry}
 use Rattle.atl_records.specs.declared.books.Thing.{Thing}
+use Rattle.atl_records.specs.declared.records.Region.{Region}
 use Rattle.atl_records.specs.declared.records.Unit.{Unit}
 use Rattle.atl_campaign.specs.Marks.{Marks, amount_marked, thing_marked}
 use Rattle.atl_campaign.specs.Owners.{heir, is_owned_by, with_position}
 use Rattle.atl_campaign.specs.Campaign.{MarkedCampaign, with_owner}
-use Rattle.atl_campaign.specs.Regions.{MarkedRegions, region_to_restock}
+use Rattle.atl_campaign.specs.Regions.{MarkedRegions, region_to_restock, region_to_set}
 use Rattle.atl_campaign.specs.Roster.{Roster, unit_to_supply}
 
 -- the marks of a campaign, put together from those of its factions, regions, units and so on, and of the campaign row
@@ -87,9 +88,18 @@ skill_marked c n skill = record c { marks = mark_skill c n skill }
 abbrev pub mark_faction : MarkedCampaign → ℕ → Marks
 mark_faction c n = record c.marks { factions = marked_with c.marks.factions n (get c.value.factions n) }
 
--- the marks after the row of region n changed: its row is marked too, if it is there, and none of its stocks
-abbrev pub mark_region : MarkedCampaign → ℕ → Marks
-mark_region c n = record c.marks { regions = marked_with c.marks.regions n (get c.value.regions n) }
+-- the marks after a number of region n, which `of` reads, was set to x: if the region is there and had another number,
+-- its row is marked too, and none of its stocks
+abbrev pub mark_region : (of : Region → ℕ) → MarkedCampaign → ℕ → ℕ → Marks
+mark_region of c n x = record c.marks { regions = marked_with c.marks.regions n (region_to_set of c.value.regions n x) }
+
+-- the marks after the peasants of region n were set: its row is marked too, if it is there and had others
+abbrev pub mark_peasants : MarkedCampaign → ℕ → ℕ → Marks
+mark_peasants = mark_region (λ r. r.peasants)
+
+-- the marks after the money of region n was set: its row is marked too, if it is there and had another amount
+abbrev pub mark_region_money : MarkedCampaign → ℕ → ℕ → Marks
+mark_region_money = mark_region (λ r. r.money)
 
 -- the marks after a stock of a region was set: if the region is there and had another amount, that stock is marked too,
 -- and no other stock
@@ -133,8 +143,6 @@ mark_amount c e t = record c.marks { books = amount_marked c.marks.books e t }
 abbrev pub mark_all_mail : MarkedCampaign → Marks
 mark_all_mail c = record c.marks { mail = union c.marks.mail (from_list (keys c.value.mail)) }
 
--- ---- where units are: the campaign after each step, with its marks
-
 -- the campaign with structure s handed from owner `from` to `to` and marked; unchanged unless `from` owns it
 abbrev pub handed_marked : MarkedCampaign → ℕ → ℕ → ℕ → MarkedCampaign
 handed_marked c s from to =
@@ -174,8 +182,6 @@ gone_marked_at c n (Some u) = handed_marked (taken_marked c n) u.structure n (he
 -- gets another owner
 unfoldable pub gone_marked : MarkedCampaign → ℕ → MarkedCampaign
 gone_marked c n = gone_marked_at c n (get c.value.units n)
-
--- ---- mail, reports and joining
 
 -- the marks after a report of faction n was stored: the report of faction n is marked too
 abbrev pub mark_report : MarkedCampaign → ℕ → Marks

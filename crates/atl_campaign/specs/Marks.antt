@@ -31,35 +31,20 @@ thing_marked things n thing (Some v) = with_thing things n thing
 -- whose rows are, `goods` those all of whose items and days are, and `items` and `skills` single ones by unit.
 -- `row` says whether the campaign row is marked.
 pub record Marks : Type 0 where
-  -- the numbers of the factions that are marked
   pub factions : FinSet nat_cmp
-  -- the numbers of the regions whose rows are marked
   pub regions : FinSet nat_cmp
-  -- the numbers of the regions of which a stock is marked
   pub markets : FinSet nat_cmp
-  -- the numbers of the regions all of whose stocks are marked
   pub stocks : FinSet nat_cmp
-  -- the stocks that are marked one by one: the items' numbers, by the region's number
   pub stock_items : MarkedThings
-  -- the numbers of the units of which something is marked
   pub units : FinSet nat_cmp
-  -- the numbers of the units whose rows are marked
   pub rows : FinSet nat_cmp
-  -- the numbers of the units all of whose items and days are marked
   pub goods : FinSet nat_cmp
-  -- the items that are marked one by one: their numbers, by the unit's number
   pub items : MarkedThings
-  -- the skills whose days are marked one by one: their numbers, by the unit's number
   pub skills : MarkedThings
-  -- the numbers of the structures that are marked
   pub structures : FinSet nat_cmp
-  -- the numbers of the factions whose mail is marked
   pub mail : FinSet nat_cmp
-  -- the numbers of the factions whose reports are marked
   pub reports : FinSet nat_cmp
-  -- the numbers of the amounts of the books that are marked
   pub books : FinSet nat_cmp
-  -- whether the campaign row is marked
   pub row : Bool
 
 -- for proofs alone: marked single items, skills or stocks encoded as a map of maps, a part of `marks_code`
@@ -133,20 +118,14 @@ is_thing_marked goods things n thing = contains goods n || is_some (map.get (gro
 
 -- a unit is marked if its row, all its goods, or one of its items or skills is marked
 pub record AreUnitPartsWithin (units rows goods : FinSet nat_cmp) (items skills : MarkedThings) : Type 0 where
-  -- a unit whose row is marked is marked itself (it is in `units`)
   pub rows_within : (n : ℕ) → contains rows n ≡ true → contains units n ≡ true
-  -- a unit all of whose goods are marked is marked itself (it is in `units`)
   pub goods_within : (n : ℕ) → contains goods n ≡ true → contains units n ≡ true
-  -- a unit of which items are marked one by one (it has an entry in `items`) is marked itself
   pub items_within : (n : ℕ) → is_some (map.get items n) ≡ true → contains units n ≡ true
-  -- a unit of which skills are marked one by one (it has an entry in `skills`) is marked itself
   pub skills_within : (n : ℕ) → is_some (map.get skills n) ≡ true → contains units n ≡ true
 
 -- a region is in `markets` if all its stocks are marked, or one of them is
 pub record AreStocksWithin (markets stocks : FinSet nat_cmp) (stock_items : MarkedThings) : Type 0 where
-  -- a region all of whose stocks are marked is one of which a stock is marked (it is in `markets`)
   pub stocks_within : (n : ℕ) → contains stocks n ≡ true → contains markets n ≡ true
-  -- a region of which stocks are marked one by one (it has an entry in `stock_items`) is in `markets`
   pub items_within : (n : ℕ) → is_some (map.get stock_items n) ≡ true → contains markets n ≡ true
 
 -- no marks: nothing of the campaign is marked

@@ -1,5 +1,6 @@
 -- The regions of a campaign as clauses see them: by their numbers, with the marks on their rows and stocks.
 use Rattle.std.specs.Prelude.{◌≡◌, ◌⊎◌, ◌==◌, ℕ, Option, None, refl, if◌then◌else◌}
+use Rattle.std.specs.Option.{option_map_or}
 use Rattle.std.specs.Ordering.{nat_cmp}
 use Rattle.std.specs.Coded.{Coded, code_by, coded×, coded_ℕ}
 use Rattle.std.specs.FinMap as map
@@ -16,15 +17,10 @@ use Rattle.atl_campaign.specs.Stocks.{stock_in}
 -- The regions by number, with their marks: `rows` has the regions whose rows are marked, and `markets` those of which
 -- a stock is. Of these, `stocks` has the regions all of whose stocks are marked, and `items` single stocks by region.
 pub record MarkedRegions : Type 0 where
-  -- the regions by their numbers
   pub values : map.FinMap nat_cmp Region
-  -- the numbers of the regions whose rows are marked
   pub rows : set.FinSet nat_cmp
-  -- the numbers of the regions of which a stock is marked
   pub markets : set.FinSet nat_cmp
-  -- the numbers of the regions all of whose stocks are marked
   pub stocks : set.FinSet nat_cmp
-  -- the stocks that are marked one by one: the items' numbers, by the region's number
   pub items : MarkedThings
 
 -- for proofs alone: regions with marks encoded as nested pairs, as the kit asks of a type that contracts see
@@ -41,9 +37,19 @@ regions_code =
 abbrev pub unmarked_regions : map.FinMap nat_cmp Region → MarkedRegions
 unmarked_regions values = record { values = values; rows = set.empty; markets = set.empty; stocks = set.empty; items = map.empty }
 
--- the regions with region n, if there is one, changed by the function f, and its row marked; stocks get no mark
-abbrev pub with_region_row : (Region → Region) → MarkedRegions → ℕ → MarkedRegions
-with_region_row f r n = record r { values = with_changed_value f r.values n; rows = marked_with r.rows n (map.get r.values n) }
+-- a number of region n, which `of` reads; 0 where the region isn't there
+abbrev pub number_in : (of : Region → ℕ) → map.FinMap nat_cmp Region → ℕ → ℕ
+number_in of values n = option_map_or of (map.get values n) 0
+
+-- region n, if there is one and its number, which `of` reads, is another than x; else None
+abbrev pub region_to_set : (of : Region → ℕ) → map.FinMap nat_cmp Region → ℕ → ℕ → Option Region
+region_to_set of values n x = if number_in of values n == x then None else map.get values n
+
+-- The regions with region n, if there is one, changed by the function f, which sets its number that `of` reads to x.
+-- If it was another number, the region's row is marked; stocks get no mark.
+abbrev pub with_region_number : (of : Region → ℕ) → (Region → Region) → MarkedRegions → ℕ → ℕ → MarkedRegions
+with_region_number of f r n x =
+    record r { values = with_changed_value f r.values n; rows = marked_with r.rows n (region_to_set of r.values n x) }
 
 -- the regions in which region n, if there is one, has the given amount of an item in stock; 0 of an item isn't listed
 abbrev pub with_stock_at : map.FinMap nat_cmp Region → (region item : ℕ) → ℕ → map.FinMap nat_cmp Region
@@ -80,11 +86,7 @@ MarksStockAt before after n item amount =
 
 -- For proofs alone: there is room to mark each region's row and its stocks, and a marked stock has its region marked.
 pub record AreRegions (regions : map.FinMap nat_cmp Region) (rows markets stocks : RoomySet) (items : MarkedThings) : Type 0 where
-  -- a region is in `markets` if all its stocks are marked, or one of them is
   pub within : AreStocksWithin markets.numbers stocks.numbers items
-  -- marking the row of any region takes no memory
   pub rows_fit : HasRoomForMarks regions rows
-  -- marking any region as one with a marked stock takes no memory
   pub markets_fit : HasRoomForMarks regions markets
-  -- marking any region as one all of whose stocks are marked takes no memory
   pub stocks_fit : HasRoomForMarks regions stocks

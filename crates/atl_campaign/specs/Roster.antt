@@ -14,17 +14,11 @@ use Rattle.atl_campaign.specs.Marks.{MarkedThings, things_code, thing_marked}
 -- The units by number, with marks on units (`marks`), their rows, all goods of a unit, and single items and skills.
 -- A unit is in `marks` if any part of it is marked; `items` and `skills` are by unit.
 pub record Roster : Type 0 where
-  -- the units by their numbers
   pub values : map.FinMap nat_cmp Unit
-  -- the numbers of the units of which something is marked
   pub marks : set.FinSet nat_cmp
-  -- the numbers of the units whose rows are marked
   pub rows : set.FinSet nat_cmp
-  -- the numbers of the units all of whose items and days are marked
   pub goods : set.FinSet nat_cmp
-  -- the items that are marked one by one: their numbers, by the unit's number
   pub items : MarkedThings
-  -- the skills whose days are marked one by one: their numbers, by the unit's number
   pub skills : MarkedThings
 
 -- for proofs alone: units with marks (Roster) encoded as nested pairs, as the kit asks of a type that contracts see

@@ -14,17 +14,17 @@ use Rattle.atl_world.specs.declared.format.Format.{Format}
 use Rattle.atl_world.specs.declared.format.Format.TheVariants.{First, Second}
 use Rattle.atl_orders.specs.Limits.{last_faction}
 use Rattle.atl_records.specs.Limits.{entries_in, holding_limit, last_month, last_unit, men_limit, most_in_joining, most_in_month, most_structures, most_units}
-use Rattle.atl_campaign.specs.declared.parts.Parts.{Parts}
-use Rattle.atl_campaign.specs.declared.parts.StoredCampaignRow.{StoredCampaignRow}
-use Rattle.atl_campaign.specs.declared.parts.StoredFaction.{StoredFaction}
-use Rattle.atl_campaign.specs.declared.parts.StoredRegion.{StoredRegion}
-use Rattle.atl_campaign.specs.declared.parts.StoredUnit.{StoredUnit}
-use Rattle.atl_campaign.specs.declared.parts.StoredHas.{StoredHas}
-use Rattle.atl_campaign.specs.declared.parts.StoredStructure.{StoredStructure}
-use Rattle.atl_campaign.specs.declared.parts.StoredMail.{StoredMail}
-use Rattle.atl_campaign.specs.declared.parts.StoredReport.{StoredReport}
-use Rattle.atl_campaign.specs.declared.parts.StoredBooks.{StoredBooks}
-use Rattle.atl_campaign.specs.declared.parts.StoredMarket.{StoredMarket}
+use Rattle.atl_rows.specs.declared.parts.Parts.{Parts}
+use Rattle.atl_rows.specs.declared.parts.StoredCampaignRow.{StoredCampaignRow}
+use Rattle.atl_rows.specs.declared.parts.StoredFaction.{StoredFaction}
+use Rattle.atl_rows.specs.declared.parts.StoredRegion.{StoredRegion}
+use Rattle.atl_rows.specs.declared.parts.StoredUnit.{StoredUnit}
+use Rattle.atl_rows.specs.declared.parts.StoredHas.{StoredHas}
+use Rattle.atl_rows.specs.declared.parts.StoredStructure.{StoredStructure}
+use Rattle.atl_rows.specs.declared.parts.StoredMail.{StoredMail}
+use Rattle.atl_rows.specs.declared.parts.StoredReport.{StoredReport}
+use Rattle.atl_rows.specs.declared.parts.StoredBooks.{StoredBooks}
+use Rattle.atl_rows.specs.declared.parts.StoredMarket.{StoredMarket}
 use Rattle.atl_campaign.specs.FromRows.{as_u32, as_u16, campaign_row_of}
 use Rattle.atl_campaign.specs.Founding.{thing_count}
 use Rattle.atl_campaign.specs.Campaign.{CampaignValue}
@@ -37,8 +37,6 @@ abbrev pub is_from : ℕ → ℕ → ℤ → Bool
 is_from low high (pos n) = nat_le low n && nat_le n high
 is_from low high (negsuc n) = false
 
--- ---- the campaign row
-
 -- whether there is exactly one campaign row, with the id 1 and the number of the given format
 abbrev pub is_one_campaign_row : Format → List StoredCampaignRow → Bool
 is_one_campaign_row f [] = false
@@ -49,8 +47,6 @@ is_one_campaign_row f (h ∷ other ∷ rows) = false
 abbrev pub are_of_format : Format → List StoredMarket → Bool
 are_of_format First rows = length rows == 0
 are_of_format Second rows = true
-
--- ---- numbers in their ranges
 
 -- whether a number is from -bound to bound
 abbrev pub is_within : ℕ → ℤ → Bool
@@ -96,8 +92,6 @@ books_in_range bound r = not (is_zero r.amount) && is_within bound r.amount
 -- whether the stock of a row of `market` is from 1 to its market's limit, or to 999,999,999 where there is no market
 abbrev pub market_in_range : WorldValue → StoredMarket → Bool
 market_in_range w r = is_from 1 (stock_limit w (as_u32 r.region) (as_u32 r.item)) r.stock
-
--- ---- keys
 
 -- the key of a row as three numbers; those that its table's key doesn't have are 0
 abbrev pub Key : Type 0
@@ -153,26 +147,15 @@ HaveDistinctKeys key rows = IsDistinct (eq_by_cmp key_cmp) (map key rows)
 
 -- no two rows of a table have the same key, in each table but `campaign`
 pub record HaveDistinctKeysByTable (p : Parts) : Type 0 where
-  -- no two rows of `faction` have the same number
   pub factions : HaveDistinctKeys faction_key p.factions
-  -- no two rows of `region` have the same number
   pub regions : HaveDistinctKeys region_key p.regions
-  -- no two rows of `unit` have the same number
   pub units : HaveDistinctKeys unit_key p.units
-  -- no two rows of `has` have the same unit, sort and thing
   pub has : HaveDistinctKeys has_key p.has
-  -- no two rows of `structure` have the same number
   pub structures : HaveDistinctKeys structure_key p.structures
-  -- no two rows of `mail` are of the same faction
   pub mail : HaveDistinctKeys mail_key p.mail
-  -- no two rows of `report` are of the same faction
   pub reports : HaveDistinctKeys report_key p.reports
-  -- no two rows of `books` have the same entry and thing
   pub books : HaveDistinctKeys books_key p.books
-  -- no two rows of `market` have the same region and item
   pub markets : HaveDistinctKeys market_key p.markets
-
--- ---- the numbers of all rows
 
 -- whether there are at most 9,999 factions, 10,000 regions, 100,000 units and 10,000 structures
 abbrev pub are_few : Parts → Bool
@@ -197,14 +180,9 @@ numbers_in_range w p =
 
 -- rule 2: no two rows of a table have the same key, there are not too many rows, and each number is in its range
 pub record AreRowsInRange (w : WorldValue) (p : Parts) : Type 0 where
-  -- no two rows of a table other than `campaign` have the same key
   pub keys : HaveDistinctKeysByTable p
-  -- there are not too many factions, regions, units and structures
   pub few : IsTrue (are_few p)
-  -- the numbers of the rows are in their ranges
   pub numbers : IsTrue (numbers_in_range w p)
-
--- ---- names
 
 -- whether both names and the pass text of a row of `faction` keep their rules
 abbrev pub faction_named : StoredFaction → Bool
@@ -222,12 +200,8 @@ AreJoinedNamesDistinct rows = IsDistinct (eq_by_cmp (slice_cmp nat_cmp)) (map (�
 
 -- rule 3: names and pass texts keep their rules, and no two factions joined under the same name
 pub record AreRowsNamed (p : Parts) : Type 0 where
-  -- each name and each pass text of the rows keeps its rule
   pub texts : IsTrue (are_named p)
-  -- no two factions joined under the same name
   pub joined : AreJoinedNamesDistinct p.factions
-
--- ---- what rows say of other rows
 
 -- whether a row of `has` is of a unit that the campaign has
 abbrev pub is_of_unit : CampaignValue → StoredHas → Bool

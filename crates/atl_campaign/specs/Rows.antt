@@ -6,17 +6,17 @@ use Rattle.std.specs.FinMap.{entries}
 use Rattle.atl_world.specs.Formats.{format_number}
 use Rattle.atl_world.specs.declared.format.Format.{Format}
 use Rattle.atl_world.specs.declared.format.Format.TheVariants.{First, Second}
-use Rattle.atl_campaign.specs.declared.parts.Parts.{Parts}
-use Rattle.atl_campaign.specs.declared.parts.StoredCampaignRow.{StoredCampaignRow}
-use Rattle.atl_campaign.specs.declared.parts.StoredFaction.{StoredFaction}
-use Rattle.atl_campaign.specs.declared.parts.StoredRegion.{StoredRegion}
-use Rattle.atl_campaign.specs.declared.parts.StoredUnit.{StoredUnit}
-use Rattle.atl_campaign.specs.declared.parts.StoredHas.{StoredHas}
-use Rattle.atl_campaign.specs.declared.parts.StoredStructure.{StoredStructure}
-use Rattle.atl_campaign.specs.declared.parts.StoredMail.{StoredMail}
-use Rattle.atl_campaign.specs.declared.parts.StoredReport.{StoredReport}
-use Rattle.atl_campaign.specs.declared.parts.StoredBooks.{StoredBooks}
-use Rattle.atl_campaign.specs.declared.parts.StoredMarket.{StoredMarket}
+use Rattle.atl_rows.specs.declared.parts.Parts.{Parts}
+use Rattle.atl_rows.specs.declared.parts.StoredCampaignRow.{StoredCampaignRow}
+use Rattle.atl_rows.specs.declared.parts.StoredFaction.{StoredFaction}
+use Rattle.atl_rows.specs.declared.parts.StoredRegion.{StoredRegion}
+use Rattle.atl_rows.specs.declared.parts.StoredUnit.{StoredUnit}
+use Rattle.atl_rows.specs.declared.parts.StoredHas.{StoredHas}
+use Rattle.atl_rows.specs.declared.parts.StoredStructure.{StoredStructure}
+use Rattle.atl_rows.specs.declared.parts.StoredMail.{StoredMail}
+use Rattle.atl_rows.specs.declared.parts.StoredReport.{StoredReport}
+use Rattle.atl_rows.specs.declared.parts.StoredBooks.{StoredBooks}
+use Rattle.atl_rows.specs.declared.parts.StoredMarket.{StoredMarket}
 use Rattle.atl_records.specs.declared.records.Faction.{Faction}
 use Rattle.atl_records.specs.declared.records.Region.{Region}
 use Rattle.atl_records.specs.declared.records.Structure.{Structure}
@@ -33,8 +33,6 @@ use Rattle.atl_records.specs.declared.books.Thing.{Thing}
 abbrev pub flag : Bool → ℤ
 flag true = pos 1
 flag false = pos 0
-
--- ---- one row
 
 -- the campaign row of a campaign in a format, with the id 1 and without the world text
 abbrev pub campaign_row : Format → CampaignValue → StoredCampaignRow
@@ -100,8 +98,6 @@ books_row entry thing amount = record { entry = pos (entry_index entry + 1); thi
 abbrev pub market_row : ℕ → ℕ → ℕ → StoredMarket
 market_row region item stock = record { region = pos region; item = pos item; stock = pos stock }
 
--- ---- the rows of a table
-
 -- a row for each of the given entries of a map, in their order
 abbrev pub rows_by : {V R : Type 0} → (ℕ → V → R) → List (ℕ × V) → List R
 rows_by row es = map (λ e. row e.0 e.1) es
@@ -139,8 +135,6 @@ abbrev pub market_rows : Format → List (ℕ × Region) → List StoredMarket
 market_rows First es = []
 market_rows Second es = flat_map (λ e. stock_rows e.0 (entries e.1.stocks)) es
 
--- ---- the rows of all tables
-
 -- the rows of a campaign in each table of a format
 unfoldable pub rows_of : Format → CampaignValue → Parts
 rows_of f c = record {
@@ -158,25 +152,15 @@ rows_of f c = record {
 
 -- the parts `some` and `others` have the same rows in each table, in any order
 pub record AreSameRows (some others : Parts) : Type 0 where
-  -- `some` and `others` have the same rows of `campaign`, in any order
   pub campaign : IsPermutation some.campaign others.campaign
-  -- `some` and `others` have the same rows of `faction`, in any order
   pub factions : IsPermutation some.factions others.factions
-  -- `some` and `others` have the same rows of `region`, in any order
   pub regions : IsPermutation some.regions others.regions
-  -- `some` and `others` have the same rows of `unit`, in any order
   pub units : IsPermutation some.units others.units
-  -- `some` and `others` have the same rows of `has`, in any order
   pub has : IsPermutation some.has others.has
-  -- `some` and `others` have the same rows of `structure`, in any order
   pub structures : IsPermutation some.structures others.structures
-  -- `some` and `others` have the same rows of `mail`, in any order
   pub mail : IsPermutation some.mail others.mail
-  -- `some` and `others` have the same rows of `report`, in any order
   pub reports : IsPermutation some.reports others.reports
-  -- `some` and `others` have the same rows of `books`, in any order
   pub books : IsPermutation some.books others.books
-  -- `some` and `others` have the same rows of `market`, in any order
   pub markets : IsPermutation some.markets others.markets
 
 -- `parts` are the rows of a campaign in a format, each once, in any order

@@ -26,14 +26,10 @@ module _ {V : Type 0} where
 
   -- each number of the index leads to a slot that has a value, and no two lead to the same one
   pub record HaveOwnSlots (i : FinMap nat_cmp ℕ) (s : slab.Slab V) : Type 0 where
-    -- the slot that a number of the index leads to has a value
     pub in_use : (n k : ℕ) → get i n ≡ Some k → is_some (slab.get s k) ≡ true
-    -- two numbers that lead to the same slot are the same number
     pub by_one : (n m k : ℕ) → get i n ≡ Some k → get i m ≡ Some k → n ≡ m
 
   -- each number of the index leads to a slot of its own that has a value, and no other slot has one
   pub record IsArena (i : FinMap nat_cmp ℕ) (s : slab.Slab V) : Type 0 where
-    -- each number of the index leads to a slot of its own, which has a value
     pub slots_used : HaveOwnSlots i s
-    -- the slab has as many values as the index has numbers, so no value is in a slot that no number leads to
     pub none_idle : slab.slab_len s ≡ len i

@@ -7,11 +7,7 @@ use Rattle.atl_campaign.specs.Marks.{MarkedThings, AreUnitPartsWithin}
 
 -- A unit of which a part is marked is marked itself, and there is room to mark each unit, its row and its goods.
 pub record AreUnits (units : FinMap nat_cmp Unit) (marks rows goods : RoomySet) (items skills : MarkedThings) : Type 0 where
-  -- a unit is marked if its row, all its goods, or one of its items or skills is marked
   pub within : AreUnitPartsWithin marks.numbers rows.numbers goods.numbers items skills
-  -- marking any unit takes no memory
   pub marks_fit : HasRoomForMarks units marks
-  -- marking the row of any unit takes no memory
   pub rows_fit : HasRoomForMarks units rows
-  -- marking all goods of any unit takes no memory
   pub goods_fit : HasRoomForMarks units goods

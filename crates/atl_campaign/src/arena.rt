@@ -15,7 +15,6 @@ pub(crate) struct Arena<V> {
     slots: Slab<V>,
 }
 
-/// Drops the index and all values.
 impl<V: Drop> Drop for Arena<V> {
     fn drop(self) {
         let Arena { index: _, slots: _ } = self;
@@ -39,7 +38,6 @@ impl<V> Model for Arena<V> {
     ghost invariant = { λ a. IsArena a.index a.slots };
 }
 
-/// Looks up, lends, puts and removes values by number, and yields them in the order of the numbers.
 impl<V: Drop> Arena<V> {
     ghost use Rattle.std.specs.Option.{option_copied_mut};
     ghost use Rattle.std.specs.Borrow.{sem};
@@ -64,7 +62,6 @@ impl<V: Drop> Arena<V> {
         Ok(Self { index, slots })
     }
 
-    /// The value under a number, where there is one.
     pub(crate) fn get(&self, number: u32) -> Option<&V>
         ensures { option_copied result ≡ map.get self.now number }
     {
@@ -135,7 +132,6 @@ impl<V: Drop> Arena<V> {
         }
     }
 
-    /// How many values there are.
     pub(crate) fn len(&self) -> usize
         ensures value { result ≡ map.len self.now }
         ensures small { result < 2 ^ 63 }
@@ -177,7 +173,6 @@ impl<'a, V> Model for SlotEntries<'a, V> {
 
 /// Yields each number with the value in its slot, in rising order of the numbers.
 impl<'a, V> Iterator for SlotEntries<'a, V> {
-    // A number, and the value under it.
     type Item = (u32, &'a V);
 
     ghost use Rattle.std.specs.Iterator.{YieldsFirstBy, item_count};
@@ -186,7 +181,6 @@ impl<'a, V> Iterator for SlotEntries<'a, V> {
 
     ghost remaining = { item_count (λ s. s) };
 
-    /// The next number with its value; None after the last.
     fn next(&mut self) -> Option<(u32, &'a V)> {
         match self.entries.next() {
             Some(entry) => match self.slots.get(entry.slot) {

@@ -50,11 +50,9 @@ pub struct Campaign {
     amounts_marked: Marks,
     // Whether the campaign row is marked: the month or a next number changed.
     row_marked: bool,
-    // The numbers of the units of each region, each faction and each structure.
     lists: UnitLists,
 }
 
-/// Drops all that the campaign holds.
 impl Drop for Campaign {
     fn drop(self) {
         let_go!(self: Campaign {
@@ -98,7 +96,6 @@ impl Model for Campaign {
         a.amounts_marked };
 }
 
-/// Reads the campaign, lends a unit's holding, and stores mail and reports.
 impl Campaign {
     ghost use Rattle.atl_campaign.specs.Lending.{LendsHolding};
     ghost use Rattle.std.specs.Borrow.{sem};
@@ -189,7 +186,6 @@ impl Campaign {
         self.regions.iter()
     }
 
-    /// How many regions there are.
     pub fn region_count(&self) -> usize
         ensures { result ≡ map.len self.now.value.regions }
     {
@@ -285,7 +281,6 @@ impl Campaign {
         self.books.len()
     }
 
-    /// The books: the amount of each thing under each entry.
     pub fn books(&self) -> &Books
         ensures { result.now ≡ self.now.value.books }
     {
@@ -301,7 +296,6 @@ impl Campaign {
         self.books.amount(entry, thing)
     }
 
-    /// The allocator of all that the campaign holds.
     pub(crate) fn alloc(&self) -> Global {
         self.alloc
     }

@@ -113,7 +113,6 @@ fn compact<T: Copy + Drop>(items: &mut Vec<T>, free: usize) -> usize
     0
 }
 
-/// Inserts, removes and shows the elements of the list.
 impl<T: Copy + Drop> GapVec<T> {
     /// An empty vector. It takes no memory.
     pub(crate) fn new(alloc: Global) -> Self

@@ -44,7 +44,6 @@ impl Model for Index {
     ghost invariant = { λ a. IsStrictlySortedBy nat_cmp (index_numbers a.entries) };
 }
 
-/// Looks up, adds and removes numbers with their slots, and yields them in rising order.
 impl Index {
     /// An empty index. It takes no memory.
     pub(crate) fn new(alloc: Global) -> Index
@@ -105,7 +104,6 @@ impl Index {
         }
     }
 
-    /// How many numbers there are.
     pub(crate) fn len(&self) -> usize
         ensures value { result ≡ map.len self.now }
         ensures small { result < 2 ^ 63 }

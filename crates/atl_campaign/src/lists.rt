@@ -17,7 +17,6 @@ pub(crate) struct UnitLists {
     pub(crate) by_structure: Numbered<Numbers>,
 }
 
-/// Drops all lists of units.
 impl Drop for UnitLists {
     fn drop(self) {
         let_go!(self: UnitLists { by_region, by_faction, by_structure });
@@ -32,8 +31,6 @@ pub(crate) struct ListKeys {
     pub(crate) structure: u32,
 }
 
-/// The keys of the lists that a unit is in: the numbers of its faction, its region and its
-/// structure.
 pub(crate) fn list_keys_of(unit: &Unit) -> ListKeys
     ensures { result ≡ list_keys_of unit.now }
 {
@@ -44,9 +41,7 @@ pub(crate) fn list_keys_of(unit: &Unit) -> ListKeys
     }
 }
 
-/// Puts a unit into its lists, takes it out, or moves it to those of another region and structure.
 impl UnitLists {
-    /// The lists of no units: all are empty.
     pub(crate) fn new(alloc: Global) -> UnitLists
         ensures { AreUnitLists map.empty result }
     {

@@ -33,7 +33,6 @@ fn first_not_below(items: &[u32], number: u32) -> usize
     items.partition_point(|item| *item < number)
 }
 
-/// Puts numbers into the sorted list, takes them out, and shows them.
 impl Numbers {
     /// An empty list. It takes no memory.
     pub(crate) fn new(alloc: Global) -> Numbers

@@ -1,12 +1,12 @@
 //! The regions of a campaign by number, with dirty marks on their rows and their stocks. A call
 //! that changes or marks a region does nothing where no region has the number given.
-ghost use Rattle.std.specs.Prelude.{◌≡◌, ◌≤◌, ◌+◌, ◌*◌, ◌⊎◌, IfOk, IsOk, OnOk, OnErr, option_copied};
+ghost use Rattle.std.specs.Prelude.{◌≡◌, ◌≤◌, ◌+◌, ◌*◌, ◌⊎◌, IfOk, IsOk, OnOk, OnErr, None, option_copied, if◌then◌else◌};
 ghost use Rattle.std.specs.FinMap as map;
 ghost use Rattle.std.specs.FinSet as set;
 ghost use Rattle.atl_world.specs.Limits.{number_count};
 ghost use Rattle.atl_world.specs.Tracking.{IsAscendingListOf, marked_with};
 ghost use Rattle.atl_campaign.specs.Marks.{AreStocksWithin};
-ghost use Rattle.atl_campaign.specs.Regions.{MarksStockAt, unmarked_regions, with_item_marked, with_stocks_marked, with_region_row, with_stock_at};
+ghost use Rattle.atl_campaign.specs.Regions.{MarksStockAt, number_in, unmarked_regions, with_item_marked, with_stocks_marked, with_region_number, with_stock_at};
 ghost use Rattle.atl_campaign.specs.Stocks.{stock_in};
 
 use atl_records::{Region, put_amount};
@@ -28,7 +28,6 @@ pub(crate) struct Regions {
     items: Numbered<Numbered<()>>,
 }
 
-/// Drops the regions and their marks.
 impl Drop for Regions {
     fn drop(self) {
         let_go!(self: Regions { values, rows, markets, stocks, items });
@@ -55,7 +54,6 @@ impl Model for Regions {
     ghost invariant = { λ a. AreRegions a.values a.rows a.markets a.stocks a.items };
 }
 
-/// Reads and changes regions and their stocks, marks what changed, and clears all marks.
 impl Regions {
     ghost use Rattle.std.specs.Option.{option_copied_mut};
     ghost use Rattle.std.specs.Borrow.{sem};
@@ -93,7 +91,6 @@ impl Regions {
         })
     }
 
-    /// The region under a number, where there is one.
     pub(crate) fn get(&self, number: u32) -> Option<&Region>
         ensures { option_copied result ≡ map.get self.now.values number }
     {
@@ -107,7 +104,6 @@ impl Regions {
         self.values.iter()
     }
 
-    /// How many regions there are.
     pub(crate) fn len(&self) -> usize
         ensures { result ≡ map.len self.now.values }
     {
@@ -166,12 +162,36 @@ impl Regions {
         }
     }
 
-    /// Marks a region's row, if there is such a region. It takes no memory.
-    fn mark_row(&mut self, number: u32)
-        ensures { self.new ≡ record self.old
-            { rows = marked_with self.old.rows number (map.get self.old.values number) } }
+    /// How many peasants a region has; 0 where the region isn't there.
+    fn peasants(&self, number: u32) -> u32
+        ensures { result ≡ number_in (λ r. r.peasants) self.now.values number }
     {
-        self.rows.mark_present(&self.values, number);
+        match self.values.get(number) {
+            Some(region) => region.peasants,
+            None => 0,
+        }
+    }
+
+    /// How much money a region has; 0 where the region isn't there.
+    fn money(&self, number: u32) -> u32
+        ensures { result ≡ number_in (λ r. r.money) self.now.values number }
+    {
+        match self.values.get(number) {
+            Some(region) => region.money,
+            None => 0,
+        }
+    }
+
+    /// Marks a region's row, if there is such a region and its row `differs`. It takes no memory.
+    fn mark_row_if(&mut self, differs: bool, number: u32)
+        ensures { self.new ≡ record self.old {
+          rows = marked_with self.old.rows number
+              (if differs then map.get self.old.values number else None);
+        } }
+    {
+        if differs {
+            self.rows.mark_present(&self.values, number);
+        }
     }
 
     /// Marks the stock of an item in a region, if there is such a region, or all its stocks where
@@ -203,22 +223,27 @@ impl Regions {
         }
     }
 
-    /// Sets how many peasants a region has, if it is there, and marks its row. It takes no memory.
+    /// Sets how many peasants a region has, if it is there, and marks its row if it had others. It
+    /// takes no memory.
     pub(crate) fn set_peasants(&mut self, number: u32, peasants: u32)
-        ensures { self.new ≡ with_region_row (λ r. record r { peasants = peasants }) self.old
-            number }
+        ensures { self.new ≡ with_region_number (λ r. r.peasants)
+            (λ r. record r { peasants = peasants }) self.old number peasants }
     {
-        self.mark_row(number);
+        let differs = self.peasants(number) != peasants;
+        self.mark_row_if(differs, number);
         if let Some(region) = self.lend(number) {
             region.peasants = peasants;
         }
     }
 
-    /// Sets how much money a region has, if it is there, and marks its row. It takes no memory.
+    /// Sets how much money a region has, if it is there, and marks its row if it had another amount.
+    /// It takes no memory.
     pub(crate) fn set_money(&mut self, number: u32, money: u32)
-        ensures { self.new ≡ with_region_row (λ r. record r { money = money }) self.old number }
+        ensures { self.new ≡ with_region_number (λ r. r.money) (λ r. record r { money = money })
+            self.old number money }
     {
-        self.mark_row(number);
+        let differs = self.money(number) != money;
+        self.mark_row_if(differs, number);
         if let Some(region) = self.lend(number) {
             region.money = money;
         }

@@ -9,11 +9,11 @@ ghost use Rattle.atl_records.specs.Grids.{accounts_under};
 ghost use Rattle.atl_campaign.specs.Rows.{flag, rows_by, campaign_row, faction_row, region_row, unit_row, structure_row, mail_row, report_row, has_row, books_row, market_row, rows_of_sort, held_rows, has_rows, stock_rows, market_rows, rows_under, books_rows, rows_of};
 
 use crate::campaign::Campaign;
-use crate::parts::{
+use atl_records::{Books, BooksEntry, Faction, Holding, Structure, Thing, Unit};
+use atl_rows::parts::{
     Parts, StoredBooks, StoredCampaignRow, StoredFaction, StoredHas, StoredMail, StoredMarket,
     StoredRegion, StoredReport, StoredStructure, StoredUnit,
 };
-use atl_records::{Books, BooksEntry, Faction, Holding, Structure, Thing, Unit};
 use atl_world::{Entries, Format, Sequence, Text};
 use std::alloc::{AllocError, Global};
 
@@ -23,17 +23,14 @@ pub(crate) const ITEM_SORT: u32 = 0;
 /// The `sort` of a row of `has` for a skill.
 pub(crate) const SKILL_SORT: u32 = 1;
 
-/// The id of the campaign row.
 const CAMPAIGN_ID: i64 = 1;
 
-/// A copy of the bytes of a text.
 fn bytes_of(alloc: Global, text: &Text) -> Result<Sequence<u8>, AllocError>
     ensures { IfOk result (λ bytes. bytes ≡ text.now) }
 {
     Sequence::from_slice(alloc, text.as_bytes())
 }
 
-/// A flag as the number of a row: 1 where it is set, else 0.
 fn flag(set: bool) -> i64
     ensures { result ≡ flag set }
 {
@@ -60,7 +57,6 @@ fn campaign_row(
     })
 }
 
-/// The row of a faction: its number, both names, its pass text, and whether it is gone.
 fn faction_row(alloc: Global, number: u32, faction: &Faction) -> Result<StoredFaction, AllocError>
     ensures { IfOk result (λ row. row ≡ faction_row number faction.now) }
 {
@@ -93,7 +89,6 @@ fn unit_row(alloc: Global, number: u32, unit: &Unit) -> Result<StoredUnit, Alloc
     })
 }
 
-/// The row of a structure: its number, kind, name, region, how much is done, and its owner.
 fn structure_row(
     alloc: Global,
     number: u32,
@@ -112,7 +107,6 @@ fn structure_row(
     })
 }
 
-/// The rows of the table `campaign`: the campaign row alone.
 fn campaign_rows(
     alloc: Global,
     format: Format,
@@ -125,7 +119,6 @@ fn campaign_rows(
     Ok(rows)
 }
 
-/// A row for each faction, in the order of their numbers.
 fn faction_rows(alloc: Global, campaign: &Campaign) -> Result<Sequence<StoredFaction>, AllocError>
     ensures { IfOk result (λ rows. rows
         ≡ rows_by faction_row (map.entries campaign.now.value.factions)) }
@@ -137,7 +130,6 @@ fn faction_rows(alloc: Global, campaign: &Campaign) -> Result<Sequence<StoredFac
     Ok(rows)
 }
 
-/// A row for each region, without its stocks, in the order of their numbers.
 fn region_rows(alloc: Global, campaign: &Campaign) -> Result<Sequence<StoredRegion>, AllocError>
     ensures { IfOk result (λ rows. rows
         ≡ rows_by region_row (map.entries campaign.now.value.regions)) }
@@ -153,7 +145,6 @@ fn region_rows(alloc: Global, campaign: &Campaign) -> Result<Sequence<StoredRegi
     Ok(rows)
 }
 
-/// A row for each unit, without its items and days of study, in the order of their numbers.
 fn unit_rows(alloc: Global, campaign: &Campaign) -> Result<Sequence<StoredUnit>, AllocError>
     ensures { IfOk result (λ rows. rows ≡ rows_by unit_row (map.entries campaign.now.value.units)) }
 {
@@ -164,7 +155,6 @@ fn unit_rows(alloc: Global, campaign: &Campaign) -> Result<Sequence<StoredUnit>,
     Ok(rows)
 }
 
-/// A row for each structure, in the order of their numbers.
 fn structure_rows(
     alloc: Global,
     campaign: &Campaign,
@@ -179,7 +169,6 @@ fn structure_rows(
     Ok(rows)
 }
 
-/// A row for each mailing, in the order of their factions' numbers.
 fn mail_rows(alloc: Global, campaign: &Campaign) -> Result<Sequence<StoredMail>, AllocError>
     ensures { IfOk result (λ rows. rows ≡ rows_by mail_row (map.entries campaign.now.value.mail)) }
 {
@@ -192,7 +181,6 @@ fn mail_rows(alloc: Global, campaign: &Campaign) -> Result<Sequence<StoredMail>,
     Ok(rows)
 }
 
-/// A row for each report, in the order of their factions' numbers.
 fn report_rows(alloc: Global, campaign: &Campaign) -> Result<Sequence<StoredReport>, AllocError>
     ensures { IfOk result (λ rows. rows
         ≡ rows_by report_row (map.entries campaign.now.value.reports)) }
@@ -206,7 +194,6 @@ fn report_rows(alloc: Global, campaign: &Campaign) -> Result<Sequence<StoredRepo
     Ok(rows)
 }
 
-/// The row of `has` for an item, or for the days of study of a skill, that a unit has.
 fn has_row(number: u32, sort: u32, thing: u32, amount: u32) -> StoredHas
     ensures { result ≡ has_row number sort thing amount }
 {
@@ -247,7 +234,6 @@ fn add_held(
     add_sort_rows(rows, number, SKILL_SORT, holding.days())
 }
 
-/// The rows of `has` for the items and days of study of all units, unit by unit.
 fn has_rows(alloc: Global, campaign: &Campaign) -> Result<Sequence<StoredHas>, AllocError>
     ensures { IfOk result (λ rows. rows ≡ has_rows (map.entries campaign.now.value.units)) }
 {
@@ -258,7 +244,6 @@ fn has_rows(alloc: Global, campaign: &Campaign) -> Result<Sequence<StoredHas>, A
     Ok(rows)
 }
 
-/// The row of `market` for the stock of an item in a region.
 fn market_row(region: u32, item: u32, stock: u32) -> StoredMarket
     ensures { result ≡ market_row region item stock }
 {
@@ -269,7 +254,6 @@ fn market_row(region: u32, item: u32, stock: u32) -> StoredMarket
     }
 }
 
-/// Adds a row of `market` for each stock of a region that is not 0.
 fn add_stocks(
     rows: &mut Sequence<StoredMarket>,
     region: u32,
@@ -285,7 +269,6 @@ fn add_stocks(
     Ok(())
 }
 
-/// A row of `market` for each stock of each region that is not 0, region by region.
 fn stocks_rows(alloc: Global, campaign: &Campaign) -> Result<Sequence<StoredMarket>, AllocError>
     ensures { IfOk result (λ rows. rows
         ≡ market_rows Second (map.entries campaign.now.value.regions)) }
@@ -312,7 +295,6 @@ fn market_rows(
     }
 }
 
-/// The row of `books` for the amount that is booked of a thing under an entry.
 fn books_row(entry: BooksEntry, thing: Thing, amount: i64) -> StoredBooks
     ensures { result ≡ books_row entry thing amount }
 {
@@ -323,8 +305,6 @@ fn books_row(entry: BooksEntry, thing: Thing, amount: i64) -> StoredBooks
     }
 }
 
-/// Adds a row of `books` for each amount, other than 0, under an entry. `things` is how many things
-/// the books have.
 fn add_entry(
     rows: &mut Sequence<StoredBooks>,
     books: &Books,
@@ -365,7 +345,6 @@ fn add_entries(
     Ok(())
 }
 
-/// A row of `books` for each amount of the books that is not 0.
 fn books_rows(alloc: Global, books: &Books) -> Result<Sequence<StoredBooks>, AllocError>
     ensures { IfOk result (λ rows. rows ≡ books_rows books.now) }
 {
@@ -375,7 +354,6 @@ fn books_rows(alloc: Global, books: &Books) -> Result<Sequence<StoredBooks>, All
     Ok(rows)
 }
 
-/// Gives the rows of the whole campaign, table by table.
 impl Campaign {
     /// The rows of the campaign in the second format, in the order of their keys. AllocError
     /// without memory. See docs/FORMATS.md, "Tables".

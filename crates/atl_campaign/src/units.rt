@@ -31,7 +31,6 @@ pub(crate) struct Units {
     skills: Numbered<Numbered<()>>,
 }
 
-/// Drops the units and their marks.
 impl Drop for Units {
     fn drop(self) {
         let_go!(self: Units { units, marks, rows, goods, items, skills });
@@ -60,7 +59,6 @@ impl Model for Units {
     ghost invariant = { λ a. AreUnits a.units a.marks a.rows a.goods a.items a.skills };
 }
 
-/// Reads, adds, changes and removes units, marks what changed, and clears all marks.
 impl Units {
     ghost use Rattle.std.specs.Option.{option_copied_mut};
     ghost use Rattle.std.specs.Borrow.{sem};
@@ -97,7 +95,6 @@ impl Units {
         })
     }
 
-    /// The unit of a number, where there is one.
     pub(crate) fn get(&self, number: u32) -> Option<&Unit>
         ensures { option_copied result ≡ map.get self.now.values number }
     {
@@ -111,7 +108,6 @@ impl Units {
         self.units.iter()
     }
 
-    /// How many units there are.
     pub(crate) fn len(&self) -> usize
         ensures { result ≡ map.len self.now.values }
     {

@@ -4,11 +4,9 @@ use Rattle.std.specs.Str.{IsUtf8, is_utf8}
 use Rattle.std.proofs.lemmas.Str.{is_utf8-from_IsUtf8, IsUtf8-from_is_utf8}
 use Rattle.atl_columns.specs.Forms.{keep_if}
 
--- the test is true of UTF-8
 pub tests_true : (bs : List ℕ) → IsUtf8 bs → true ≡ is_utf8 bs
 tests_true bs is = sym (is_utf8-from_IsUtf8 bs is)
 
--- the test is false of what isn't UTF-8
 pub tests_false : (bs : List ℕ) → ¬ (IsUtf8 bs) → false ≡ is_utf8 bs
 tests_false bs broken = by_value (is_utf8 bs) refl
   where
@@ -16,10 +14,8 @@ tests_false bs broken = by_value (is_utf8 bs) refl
     by_value true says = absurd (broken (IsUtf8-from_is_utf8 bs says))
     by_value false says = refl
 
--- bytes of UTF-8 are kept
 pub keeps_utf8 : (bs t : List ℕ) → IsUtf8 bs → t ≡ bs → Some t ≡ keep_if (is_utf8 bs) bs
 keeps_utf8 bs t is same = ap Some same ∙ ap (λ b. keep_if b bs) (tests_true bs is)
 
--- bytes that aren't UTF-8 aren't kept
 pub keeps_no_other : (bs : List ℕ) → ¬ (IsUtf8 bs) → None ≡ keep_if (is_utf8 bs) bs
 keeps_no_other bs broken = ap (λ b. keep_if b bs) (tests_false bs broken)

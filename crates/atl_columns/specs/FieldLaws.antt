@@ -6,17 +6,14 @@ use Rattle.atl_columns.specs.Fields.{both, encode_then, decode_then, decode_end,
 use Rattle.sqlite_schema.specs.declared.schema.Kind.{Kind}
 use Rattle.sqlite_rules.specs.Cast.{cast}
 
--- two values are there, if each is
 pub both_there : {X Y : Type 0} (a : Option X) (b : Option Y) (x : X) (y : Y) → a ≡ Some x → b ≡ Some y → both a b ≡ Some (x, y)
 both_there a b x y p q = rw (p, q) refl
 
--- if two values are there, the first is
 pub both_first : {X Y : Type 0} (a : Option X) (b : Option Y) (p : X × Y) → both a b ≡ Some p → a ≡ Some p.0
 both_first None b p is = cc
 both_first (Some x) None p is = cc
 both_first (Some x) (Some y) p is = let e : ◌≡◌ {A = _} (x, y) p = cc in ap (λ q. Some q.0) e
 
--- if two values are there, the second is
 pub both_second : {X Y : Type 0} (a : Option X) (b : Option Y) (p : X × Y) → both a b ≡ Some p → b ≡ Some p.1
 both_second None b p is = cc
 both_second (Some x) None p is = cc
@@ -36,12 +33,9 @@ module _ {X Y : Type 0} (one : X → Value) (read_one : Value → Option X) (mor
       let later = q vs (both_second _ _ x is) in
       cc
 
--- a row that reads as no field has no value
 pub end_same : (row : Row) (x : Unit {0}) → decode_end row ≡ Some x → ◌≡◌ {A = Row} [] row
 end_same [] x is = refl
 end_same (v ∷ vs) x is = cc
-
--- ---- values of their columns' types
 
 -- a row fits its columns, if the first value fits the first column, and the others the others
 pub fit_then : (names : List (List ℕ)) (kind : Kind) (kinds : List Kind) (width : ℕ) (v : Value) (vs : Row) → length names ≡ suc width → cast kind v ≡ v

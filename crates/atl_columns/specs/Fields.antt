@@ -13,8 +13,6 @@ use Rattle.sqlite_rules.specs.Cast.{cast}
 abbrev pub columns_from : ℕ → ℕ → Row → Row
 columns_from at count row = map (column row) (range_with_len at count)
 
--- ---- the columns of a table
-
 -- a column of this name and kind, STRICT and NOT NULL, without a default
 abbrev pub strict_column : List ℕ → Kind → Column
 strict_column name kind = record { name = name; kind = kind; is_strict = true; not_null = true; default = Null; collation = Binary }
@@ -32,8 +30,6 @@ Fits [] [] = Unit {0}
 Fits [] (v ∷ vs) = ⊥
 Fits (c ∷ cs) [] = ⊥
 Fits (c ∷ cs) (v ∷ vs) = (cast c.kind v ≡ v) × Fits cs vs
-
--- ---- fields
 
 -- two values, if both are there
 abbrev pub both : {X Y : Type 0} → Option X → Option Y → Option (X × Y)

@@ -7,23 +7,17 @@ use Rattle.sqlite_schema.specs.declared.schema.Kind.TheVariants.{Integer}
 use Rattle.sqlite_sql.specs.Ops.{unary}
 use Rattle.atl_columns.specs.Forms.{keep_if, int, is_from, decode_integer, decode_reference, decode_signed, flag_number, decode_flag, IsId, id_number, some_id, decode_id, decode_text, decode_blob}
 
--- what is kept is the value, if the test is true
 pub keep_if_true : {X : Type 0} (b : Bool) (x : X) → IsTrue b → keep_if b x ≡ Some x
 keep_if_true true x is = refl
 keep_if_true false x is = absurd (true≢false (sym is))
 
--- what is kept of a value is this value
 pub keep_if_same : {X : Type 0} (b : Bool) (x y : X) → keep_if b x ≡ Some y → x ≡ y
 keep_if_same true x y is = cc
 keep_if_same false x y is = cc
 
--- ---- integers
-
--- a number of the range comes back
 pub integer_back : (low high n : ℕ) → IsTrue (is_from low high n) → decode_integer low high (int n) ≡ Some n
 integer_back low high n is = keep_if_true (is_from low high n) n is
 
--- a value that reads as a number is this number
 pub integer_same : (low high : ℕ) (v : Value) (n : ℕ) → decode_integer low high v ≡ Some n → int n ≡ v
 integer_same low high Null n is = cc
 integer_same low high (Int (pos m)) n is = ap int (sym (keep_if_same (is_from low high m) m n is))
@@ -32,19 +26,15 @@ integer_same low high (Real x) n is = cc
 integer_same low high (Text t) n is = cc
 integer_same low high (Blob b) n is = cc
 
--- a number below the most is not changed by `clamp`
 min_below : (most n : ℕ) → n < most → min n most ≡ n
 min_below most n below = grind (arith)
 
--- a number that `clamp` makes below the most is the one that it was made of
 min_same : (most m n : ℕ) → min m most ≡ n → n < most → m ≡ n
 min_same most m n is below = grind (arith)
 
--- a number below the most comes back
 pub reference_back : (most n : ℕ) → n < most → decode_reference most (int n) ≡ Some n
 reference_back most n below = ap Some (min_below most n below)
 
--- a value that reads as a number below the most is this number
 pub reference_same : (most : ℕ) (v : Value) (n : ℕ) → decode_reference most v ≡ Some n → n < most → int n ≡ v
 reference_same most Null n is below = cc
 reference_same most (Int (pos m)) n is below = let e : min m most ≡ n = cc in ap int (sym (min_same most m n e below))
@@ -53,7 +43,6 @@ reference_same most (Real x) n is below = cc
 reference_same most (Text t) n is below = cc
 reference_same most (Blob b) n is below = cc
 
--- a value that reads as an integer is this integer
 pub signed_same : (v : Value) (n : ℤ) → decode_signed v ≡ Some n → Int n ≡ v
 signed_same Null n is = cc
 signed_same (Int m) n is = cc
@@ -61,14 +50,10 @@ signed_same (Real x) n is = cc
 signed_same (Text t) n is = cc
 signed_same (Blob b) n is = cc
 
--- ---- flags, and numbers that may be none
-
--- a flag comes back
 pub flag_back : (b : Bool) → decode_flag (int (flag_number b)) ≡ Some b
 flag_back true = refl
 flag_back false = refl
 
--- a value that reads as a flag is this flag
 pub flag_same : (v : Value) (b : Bool) → decode_flag v ≡ Some b → int (flag_number b) ≡ v
 flag_same Null b is = cc
 flag_same (Int (pos zero)) true is = cc
@@ -81,13 +66,11 @@ flag_same (Real x) b is = cc
 flag_same (Text t) b is = cc
 flag_same (Blob t) b is = cc
 
--- a number from 1 to `high`, or none, comes back
 pub id_back : (high : ℕ) (n : Option ℕ) → IsId high n → decode_id high (int (id_number n)) ≡ Some n
 id_back high None is = refl
 id_back high (Some zero) is = absurd (true≢false (sym is))
 id_back high (Some (suc n)) is = rw (keep_if_true (is_from 1 high (suc n)) (suc n) is) refl
 
--- a value that reads as a number or none is this number, or 0
 pub id_same : (high : ℕ) (v : Value) (n : Option ℕ) → decode_id high v ≡ Some n → int (id_number n) ≡ v
 id_same high Null n is = cc
 id_same high (Int (pos zero)) n is = let e : None ≡ n = cc in ap (λ o. int (id_number o)) (sym e)
@@ -101,13 +84,9 @@ id_same high (Real x) n is = cc
 id_same high (Text t) n is = cc
 id_same high (Blob t) n is = cc
 
--- ---- texts and bytes
-
--- a text that keeps the rule comes back
 pub text_back : (keeps : List ℕ → Bool) (t : List ℕ) → IsTrue (keeps t) → decode_text keeps (Text t) ≡ Some t
 text_back keeps t is = keep_if_true (keeps t) t is
 
--- a value that reads as a text is this text
 pub text_same : (keeps : List ℕ → Bool) (v : Value) (t : List ℕ) → decode_text keeps v ≡ Some t → Text t ≡ v
 text_same keeps Null t is = cc
 text_same keeps (Int n) t is = cc
@@ -115,7 +94,6 @@ text_same keeps (Real x) t is = cc
 text_same keeps (Text s) t is = ap Text (sym (keep_if_same (keeps s) s t is))
 text_same keeps (Blob b) t is = cc
 
--- a value that reads as bytes is these bytes
 pub blob_same : (v : Value) (b : List ℕ) → decode_blob v ≡ Some b → Blob b ≡ v
 blob_same Null b is = cc
 blob_same (Int n) b is = cc
@@ -123,14 +101,10 @@ blob_same (Real x) b is = cc
 blob_same (Text t) b is = cc
 blob_same (Blob a) b is = cc
 
--- ---- what SQL stores
-
--- a choice between a value and the same value is this value
 choice_of_equals : (b : Bool) (x : Value) → cond b x x ≡ x
 choice_of_equals true x = refl
 choice_of_equals false x = refl
 
--- an integer stays itself in an INTEGER column
 pub cast_integer : (n : ℤ) → cast Integer (Int n) ≡ Int n
 unfolding unary
 cast_integer n = choice_of_equals _ (Int n)

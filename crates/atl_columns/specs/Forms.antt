@@ -8,8 +8,6 @@ abbrev pub keep_if : {X : Type 0} → Bool → X → Option X
 keep_if true x = Some x
 keep_if false x = None
 
--- ---- integers
-
 -- the SQL integer of a natural number
 abbrev pub int : ℕ → Value
 int n = Int (pos n)
@@ -64,8 +62,6 @@ decode_reference most v = of_integer (λ n. Some (clamp most n)) v
 abbrev pub decode_signed : Value → Option ℤ
 decode_signed v = of_integer Some v
 
--- ---- flags, and numbers that may be none
-
 -- a flag as a number: 1 for true, 0 for false
 abbrev pub flag_number : Bool → ℕ
 flag_number true = 1
@@ -106,8 +102,6 @@ id_of high (negsuc n) = None
 -- the number from 1 to `high`, or 0 for none, that a value is
 abbrev pub decode_id : ℕ → Value → Option (Option ℕ)
 decode_id high v = of_integer (id_of high) v
-
--- ---- texts and bytes
 
 -- whether a value is a text
 abbrev pub is_text : Value → Bool

@@ -18,10 +18,8 @@ use std::alloc::{AllocError, Global};
 pub trait Fields {
     type Value: Drop;
 
-    // How many columns there are.
     ghost width: { ℕ };
 
-    // The types of the columns.
     ghost kinds: { List SqlKind };
 
     // The fields as a row, and a row as the fields, if it is one.
@@ -66,7 +64,6 @@ pub trait Fields {
     ghost same: { (row : SqlRow) (x : Self.Value) → decode row ≡ Some x → fits x → encode x ≡ row };
 }
 
-/// Whether the column is STRICT and NOT NULL, without a default, with this name and kind.
 fn is_strict_column(column: &Column, name: &[u8], kind: Kind) -> bool
     ensures { IsTrue result ↔ (column.now ≡ strict_column name.now kind) }
 {

@@ -12,7 +12,6 @@ use std::alloc::{AllocError, Global};
 
 /// How a field of a record is kept in a column, and which values of the field the column keeps.
 pub trait Form {
-    /// The type of the field.
     type Value: Drop;
 
     // The field as a value of SQL.
@@ -24,7 +23,6 @@ pub trait Form {
     // The values of the field that come back as they were.
     ghost fits: { Self.Value → Type 0 };
 
-    // The type of the column.
     ghost kind: { SqlKind };
 
     // Whether a value of SQL has the column's type, whatever its range.
@@ -34,15 +32,12 @@ pub trait Form {
     fn decode(alloc: Global, value: ValueRef<'_>) -> Result<Option<Self::Value>, AllocError>
         ensures { IfOk result (λ read. read ≡ decode (owned value.entry)) };
 
-    /// The type of the column.
     fn kind() -> Kind
         ensures { result ≡ kind };
 
-    /// Whether a value has the column's type, whatever its range.
     fn has_type(value: ValueRef<'_>) -> bool
         ensures { result ≡ has_type (owned value.entry) };
 
-    /// The value that the field is written as.
     fn encode(field: &Self::Value) -> ValueRef<'_>
         ensures { owned result ≡ encode field.now };
 

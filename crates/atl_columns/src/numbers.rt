@@ -26,7 +26,6 @@ pub(crate) fn ranged(low: u32, high: u32, n: i64) -> Option<u32>
 #[derive(Clone, Copy, Debug)]
 pub struct Integer<const LOW: u32, const HIGH: u32> {}
 
-/// Reads a number of the range alone.
 impl<const LOW: u32, const HIGH: u32> Form for Integer<LOW, HIGH> {
     type Value = u32;
 
@@ -84,7 +83,6 @@ fn clamped(n: i64) -> u32
     }
 }
 
-/// Reads any integer.
 impl Form for Reference {
     type Value = u32;
 
@@ -142,7 +140,6 @@ fn clamped_16(n: i64) -> u16
     }
 }
 
-/// Reads any integer.
 impl Form for Reference16 {
     type Value = u16;
 
@@ -188,7 +185,6 @@ impl Form for Reference16 {
 #[derive(Clone, Copy, Debug)]
 pub struct Signed {}
 
-/// Reads any integer as it is.
 impl Form for Signed {
     type Value = i64;
 

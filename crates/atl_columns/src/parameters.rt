@@ -42,7 +42,6 @@ pub struct AsText<'a> {
     pub bytes: &'a [u8],
 }
 
-/// The value is a text.
 impl<'a> ToSql<'a> for AsText<'a> {
     ghost to_sql = { λ t. SqlText t.bytes.now };
 

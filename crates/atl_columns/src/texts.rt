@@ -15,10 +15,8 @@ use std::marker::PhantomData;
 
 /// A rule that the bytes of a text may keep.
 pub trait TextRule {
-    // Whether a text keeps the rule.
     ghost keeps: { List ℕ → Bool };
 
-    /// Whether a text keeps the rule.
     fn keeps(text: &[u8]) -> bool
         ensures { result ≡ keeps text.now };
 }
@@ -27,7 +25,6 @@ pub trait TextRule {
 #[derive(Clone, Copy, Debug)]
 pub struct AnyText {}
 
-/// Any text keeps the rule.
 impl TextRule for AnyText {
     ghost keeps = { λ text. true };
 
@@ -42,7 +39,6 @@ pub struct Text<R> {
     rule: PhantomData<R>,
 }
 
-/// Reads a text that keeps the rule.
 impl<R: TextRule> Form for Text<R> {
     type Value = Sequence<u8>;
 
@@ -94,7 +90,6 @@ impl<R: TextRule> Form for Text<R> {
 #[derive(Clone, Copy, Debug)]
 pub struct Utf8Text {}
 
-/// Whether bytes are UTF-8.
 fn is_utf8(bytes: &[u8]) -> bool
     ensures { result ≡ is_utf8 bytes.now }
 {
@@ -114,7 +109,6 @@ fn utf8_text(alloc: Global, bytes: &[u8]) -> Result<Option<atl_world::Text>, All
     }
 }
 
-/// Reads a text of UTF-8.
 impl Form for Utf8Text {
     type Value = atl_world::Text;
 
@@ -163,7 +157,6 @@ impl Form for Utf8Text {
 #[derive(Clone, Copy, Debug)]
 pub struct Blob {}
 
-/// Reads any blob.
 impl Form for Blob {
     type Value = Sequence<u8>;
 

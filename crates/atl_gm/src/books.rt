@@ -12,12 +12,9 @@ use std::alloc::{AllocError, Global};
 /// The work of `books`: makes the text of the campaign's books. A closed service gives Store.
 struct MakeBooksText;
 
-/// Makes the text of the campaign's books; a closed service gives Store.
 impl Work for MakeBooksText {
-    // The text of the books.
     type Done = String;
 
-    /// Asks the service for the text of the books; Store if it is closed.
     fn run<S: Alter>(&self, service: &mut Service<S>) -> Result<String, Failure> {
         match service.books() {
             Some(text) => Ok(text?),
@@ -29,21 +26,16 @@ impl Work for MakeBooksText {
 /// The subcommand `books`, which prints the books of a campaign.
 pub struct ShowBooks;
 
-/// Prints the books of the campaign in the file `--db`.
 impl Subcommand for ShowBooks {
-    // The word on the command line that names the subcommand.
     const NAME: &'static str = "books";
 
-    // What the help says of `books`.
     const ABOUT: &'static str =
         "Prints the books: of each thing all entries, and how much there is";
 
-    /// The option `--db`.
     fn options<'a>(alloc: Global) -> Result<Vec<Arg<'a>>, AllocError> {
         Ok(vec![in alloc; options::db(alloc)]?)
     }
 
-    /// Prints the text of the books.
     fn run(rt: &HostRuntime, options: &ArgMatches<'_>) -> Result<(), Failure> {
         let path = options::text_of(options, options::DB)?;
         let text = work_on(rt, path, Opening::Kept, &MakeBooksText)?;

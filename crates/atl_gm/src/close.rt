@@ -21,12 +21,9 @@ struct Closing<'a> {
     dice: Dice,
 }
 
-/// Runs a command Close with the month's words of the dice; the result is the answer.
 impl<'a> Work for Closing<'a> {
-    // The answer to the command Close.
     type Done = Answer;
 
-    /// Runs the command Close on the service, and returns its answer.
     fn run<S: Alter>(&self, service: &mut Service<S>) -> Result<Answer, Failure> {
         let month = self.month;
         let pass = Sequence::from_slice(self.alloc, self.pass.as_bytes())?;
@@ -38,16 +35,12 @@ impl<'a> Work for Closing<'a> {
 /// The subcommand `close`, which closes a month and prints its number.
 pub struct Close;
 
-/// Closes the month `--month` of the file `--db`, by `--pass` and `--seed`, and prints its number.
 impl Subcommand for Close {
-    // The word on the command line that names the subcommand.
     const NAME: &'static str = "close";
 
-    // What the help says of `close`.
     const ABOUT: &'static str =
         "Closes a month, with the words that the dice of a seed give for it";
 
-    /// The options `--db`, `--month`, `--pass` and `--seed`.
     fn options<'a>(alloc: Global) -> Result<Vec<Arg<'a>>, AllocError> {
         Ok(vec![in alloc;
             options::db(alloc),
@@ -61,7 +54,6 @@ impl Subcommand for Close {
         ]?)
     }
 
-    /// Closes the month and prints its number.
     fn run(rt: &HostRuntime, options: &ArgMatches<'_>) -> Result<(), Failure> {
         let closing = Closing {
             alloc: rt.alloc(),

@@ -14,7 +14,6 @@ use std::io::ErrorKind;
 
 /// The work of a subcommand on an open campaign, over any store.
 pub trait Work {
-    /// The type of the work's result.
     type Done: Drop;
 
     /// Whether the file may grow by far more than one command adds.
@@ -26,10 +25,8 @@ pub trait Work {
 
 /// The work of running one command on the service; the result is the command's answer.
 impl Work for Command {
-    // The answer to the command.
     type Done = Answer;
 
-    /// Runs the command on the service, and returns its answer.
     fn run<S: Alter>(&self, service: &mut Service<S>) -> Result<Answer, Failure> {
         Ok(service.run(self))
     }
@@ -50,7 +47,6 @@ pub enum Opening<'a> {
 /// The number of bytes in the header of a database. A shorter file is no database.
 const HEADER_BYTES: u64 = 100;
 
-/// Whether a file or a folder exists at the path.
 fn is_there(rt: &HostRuntime, path: &str) -> Result<bool, Failure> {
     match fs::exists(rt, path) {
         Ok(is_there) => Ok(is_there),
@@ -174,7 +170,6 @@ fn connect<S: Start>(
     }
 }
 
-/// The service of the campaign of a database, which is founded, opened or upgraded.
 fn open_service<S: Alter>(
     alloc: Global,
     conn: Connection<S>,
@@ -187,8 +182,6 @@ fn open_service<S: Alter>(
     }
 }
 
-/// Opens the campaign of a connection, does the work on it, and returns its result and the
-/// connection.
 fn run_work<S: Alter + Drop, W: Work>(
     alloc: Global,
     conn: Connection<S>,

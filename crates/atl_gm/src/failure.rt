@@ -69,14 +69,12 @@ impl Drop for Failure {
     }
 }
 
-/// A failed allocation is the failure Memory.
 impl From<AllocError> for Failure {
     fn from(_e: AllocError) -> Failure {
         Failure::Memory
     }
 }
 
-/// A failed allocation that gives back a value is the failure Memory; the value is dropped.
 impl<T: Drop> From<AllocFailed<T>> for Failure {
     fn from(_e: AllocFailed<T>) -> Failure {
         Failure::Memory
@@ -117,7 +115,6 @@ impl From<Cause> for Failure {
 #[derive(Clone, Copy)]
 pub struct OneLine<'a>(pub &'a str);
 
-/// Writes the text with an escape for each control character, as `\n` for the end of a line.
 impl<'a> fmt::Display for OneLine<'a> {
     fn fmt<W: fmt::Write>(&self, f: &mut fmt::Formatter<W>) -> fmt::Result {
         for letter in self.0.chars() {
@@ -147,7 +144,6 @@ fn print_world_fault<R: Eprint>(rt: &R, fault: &WorldFault) -> io::Result<()> {
     }
 }
 
-/// Makes the failure for an error of the system, and prints a failure.
 impl Failure {
     /// The failure for an error of the system: Memory if the system ran out of memory, else
     /// `other`.

@@ -4,12 +4,10 @@ use std::alloc::Global;
 use std::io::Read;
 use std::{fs, io};
 
-/// The failure for an error of reading: File, or Memory.
 fn read_failure(error: io::Error) -> Failure {
     Failure::of_system(error, Failure::File)
 }
 
-/// Reads the text of the file at the path.
 pub fn text_at(rt: &HostRuntime, path: &str) -> Result<String, Failure> {
     fs::read_to_string(rt, path).map_err(read_failure)
 }
@@ -25,7 +23,6 @@ pub fn first_bytes_at(rt: &HostRuntime, path: &str, most: u64) -> Result<Vec<u8>
     }
 }
 
-/// Reads the text on standard input.
 pub fn text_on_input<R: Input>(rt: &R, alloc: Global) -> Result<String, Failure> {
     io::read_to_string(alloc, rt.reader()).map_err(read_failure)
 }

@@ -13,12 +13,9 @@ use std::alloc::{AllocError, Global};
 /// The work of `found` once the campaign is founded: counts the regions of its world.
 struct CountRegions;
 
-/// Returns the number of the world's regions; nothing changes.
 impl Work for CountRegions {
-    // The number of the world's regions.
     type Done = usize;
 
-    /// Counts the regions of the world.
     fn run<S: Alter>(&self, service: &mut Service<S>) -> Result<usize, Failure> {
         Ok(service.world().regions().len())
     }
@@ -28,16 +25,11 @@ impl Work for CountRegions {
 /// regions.
 pub struct Found;
 
-/// Founds a campaign in the file `--db`, by the file `--world` and the moderator's `--pass`, and
-/// prints its number of regions.
 impl Subcommand for Found {
-    // The word on the command line that names the subcommand.
     const NAME: &'static str = "found";
 
-    // What the help says of `found`.
     const ABOUT: &'static str = "Founds a campaign in a database file, which is made where none is";
 
-    /// The options `--world`, `--db` and `--pass`.
     fn options<'a>(alloc: Global) -> Result<Vec<Arg<'a>>, AllocError> {
         Ok(vec![in alloc;
             options::file(alloc, options::WORLD, "The file of the world, in TOML"),
@@ -54,7 +46,6 @@ impl Subcommand for Found {
         ]?)
     }
 
-    /// Founds the campaign and prints its number of regions.
     fn run(rt: &HostRuntime, options: &ArgMatches<'_>) -> Result<(), Failure> {
         let world = text_at(rt, options::text_of(options, options::WORLD)?)?;
         let opening = Opening::Founded {

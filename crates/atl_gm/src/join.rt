@@ -20,12 +20,9 @@ struct Joining<'a> {
     dice: Dice,
 }
 
-/// Runs a command Join with the faction's word of the dice; the result is the answer.
 impl<'a> Work for Joining<'a> {
-    // The answer to the command Join.
     type Done = Answer;
 
-    /// Runs the command Join on the service, and returns its answer.
     fn run<S: Alter>(&self, service: &mut Service<S>) -> Result<Answer, Failure> {
         let request = Request::Join {
             name: Sequence::from_slice(self.alloc, self.name.as_bytes())?,
@@ -38,16 +35,11 @@ impl<'a> Work for Joining<'a> {
 /// The subcommand `join`, which has a faction join and prints its number and that of its unit.
 pub struct Join;
 
-/// Has the faction `--name` join the campaign in `--db`, by `--pass` and `--seed`, and prints its
-/// number and that of its unit.
 impl Subcommand for Join {
-    // The word on the command line that names the subcommand.
     const NAME: &'static str = "join";
 
-    // What the help says of `join`.
     const ABOUT: &'static str = "Has a faction join, where the dice of a seed say";
 
-    /// The options `--db`, `--name`, `--pass` and `--seed`.
     fn options<'a>(alloc: Global) -> Result<Vec<Arg<'a>>, AllocError> {
         Ok(vec![in alloc;
             options::db(alloc),
@@ -61,7 +53,6 @@ impl Subcommand for Join {
         ]?)
     }
 
-    /// Has the faction join, and prints its number and that of its unit.
     fn run(rt: &HostRuntime, options: &ArgMatches<'_>) -> Result<(), Failure> {
         let joining = Joining {
             alloc: rt.alloc(),

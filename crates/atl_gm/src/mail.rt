@@ -13,7 +13,6 @@ use std::alloc::{AllocError, Global};
 /// is refused as TooLong.
 const READ_BYTES: u64 = MOST_BYTES as u64 + 1;
 
-/// The command Mail by the options: the faction, its pass text, and the bytes of the file `--file`.
 fn mail_command(
     rt: &HostRuntime,
     options: &ArgMatches<'_>,
@@ -33,16 +32,11 @@ fn mail_command(
 /// faulty lines.
 pub struct Mail;
 
-/// Stores the mailing in `--file` for `--faction`, by its `--pass`, in the campaign in `--db`, and
-/// prints how many orders it has, and its faulty lines.
 impl Subcommand for Mail {
-    // The word on the command line that names the subcommand.
     const NAME: &'static str = "mail";
 
-    // What the help says of `mail`.
     const ABOUT: &'static str = "Keeps a faction's orders, in place of those that it sent before";
 
-    /// The options `--db`, `--faction`, `--pass` and `--file`.
     fn options<'a>(alloc: Global) -> Result<Vec<Arg<'a>>, AllocError> {
         Ok(vec![in alloc;
             options::db(alloc),
@@ -52,7 +46,6 @@ impl Subcommand for Mail {
         ]?)
     }
 
-    /// Stores the mailing, and prints how many orders it has, and its faulty lines.
     fn run(rt: &HostRuntime, options: &ArgMatches<'_>) -> Result<(), Failure> {
         let mail = mail_command(rt, options)?;
         print_answer_of(rt, options, &mail)

@@ -57,7 +57,6 @@ fn command_line<'a>(alloc: Global) -> Result<Command<'a>, AllocError> {
     All::add_to(alloc, line)
 }
 
-/// Runs the subcommand that the command line names.
 fn dispatch(rt: &HostRuntime, matches: &ArgMatches<'_>) -> Result<(), Failure> {
     match matches.subcommand() {
         Some((name, options)) => All::run(rt, name, options),
@@ -65,7 +64,6 @@ fn dispatch(rt: &HostRuntime, matches: &ArgMatches<'_>) -> Result<(), Failure> {
     }
 }
 
-/// The failure for a command line that the parser refuses.
 fn refused_line(error: Error) -> Failure {
     if error.kind() == ErrorKind::OutOfMemory {
         return Failure::Memory;
@@ -83,7 +81,6 @@ fn refused_words(alloc: Global, words: &[String], error: Error) -> Result<Failur
     }
 }
 
-/// The words, with an escape for each control character in them.
 fn escaped_words(alloc: Global, words: &[String]) -> Result<Vec<String>, AllocError> {
     let mut escaped = Vec::new(alloc);
     for word in words {
@@ -118,7 +115,6 @@ fn place_of_no_text(rt: &HostRuntime) -> Result<usize, AllocError> {
     Ok(usize::MAX)
 }
 
-/// The failure for a command line that can't be read, because a word is not UTF-8.
 fn no_text(rt: &HostRuntime, command: &mut Command<'_>) -> Result<Failure, AllocError> {
     let place = place_of_no_text(rt)?;
     let message = format!(in rt.alloc(); "word {place} is not UTF-8")?;
@@ -126,7 +122,6 @@ fn no_text(rt: &HostRuntime, command: &mut Command<'_>) -> Result<Failure, Alloc
     Ok(refused_line(error))
 }
 
-/// The words of the command line, as texts.
 fn words(rt: &HostRuntime, command: &mut Command<'_>) -> Result<Vec<String>, Failure> {
     match env::args(rt) {
         Ok(args) => Ok(args.collect(rt.alloc())?),
@@ -148,7 +143,6 @@ fn run(rt: &HostRuntime) -> Result<(), Failure> {
     }
 }
 
-/// Runs the program, reports a failure on standard error, and returns the exit status.
 fn main(rt: HostRuntime) -> ExitCode {
     match run(&rt) {
         Ok(()) => ExitCode::SUCCESS,

@@ -7,34 +7,27 @@ use std::alloc::Global;
 /// The name of the option for the file of the campaign.
 pub const DB: &str = "db";
 
-/// The name of the option for a world file.
 pub const WORLD: &str = "world";
 
 /// The name of the option for the file of a mailing.
 pub const FILE: &str = "file";
 
-/// The name of the option for a pass text.
 pub const PASS: &str = "pass";
 
 /// The name of the option for the name of a faction that joins.
 pub const NAME: &str = "name";
 
-/// The name of the option for a faction's number.
 pub const FACTION: &str = "faction";
 
-/// The name of the option for a month's number.
 pub const MONTH: &str = "month";
 
-/// The name of the option for the port that `serve` listens on.
 pub const PORT: &str = "port";
 
 /// The name of the option for how many connections `serve` serves.
 pub const COUNT: &str = "count";
 
-/// The name of the option for the seed of the dice.
 pub const SEED: &str = "seed";
 
-/// What `--help` says of the option for the seed.
 const SEED_HELP: &str = "The number that the campaign's dice come from: keep to the same one";
 
 /// The option `name`, whose value is a text; `help` is what the help says of it.
@@ -65,19 +58,16 @@ pub fn port<'a>(alloc: Global, name: &'a str, help: &'a str) -> Arg<'a> {
         .value_parser(value_parser!(u16))
 }
 
-/// The option `name`, whose value is a number of 64 bits; `help` is what the help says of it.
 fn long_number<'a>(alloc: Global, name: &'a str, help: &'a str) -> Arg<'a> {
     text(alloc, name, help)
         .value_name("N")
         .value_parser(value_parser!(u64))
 }
 
-/// The option for the file of a campaign.
 pub fn db<'a>(alloc: Global) -> Arg<'a> {
     file(alloc, DB, "The database file of the campaign")
 }
 
-/// The option for the number of a faction.
 pub fn faction<'a>(alloc: Global) -> Arg<'a> {
     number(
         alloc,
@@ -91,7 +81,6 @@ pub fn faction_pass<'a>(alloc: Global) -> Arg<'a> {
     text(alloc, PASS, "The pass text that the faction joined with")
 }
 
-/// The option for the seed of the dice.
 pub fn seed<'a>(alloc: Global) -> Arg<'a> {
     long_number(alloc, SEED, SEED_HELP)
 }
@@ -111,7 +100,6 @@ pub fn port_of(options: &ArgMatches<'_>, name: &str) -> Result<u16, Failure> {
     options.get_one(name).ok_or(Failure::NoValue)
 }
 
-/// The number of 64 bits that was given for the option `name`; NoValue without one.
 fn long_number_of(options: &ArgMatches<'_>, name: &str) -> Result<u64, Failure> {
     options.get_one(name).ok_or(Failure::NoValue)
 }

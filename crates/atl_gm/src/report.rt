@@ -7,7 +7,6 @@ use atl_world::Sequence;
 use clap::{Arg, ArgMatches};
 use std::alloc::{AllocError, Global};
 
-/// The command Report, with the faction's number and pass text from the options.
 fn report_command(
     rt: &HostRuntime,
     options: &ArgMatches<'_>,
@@ -23,15 +22,11 @@ fn report_command(
 /// The subcommand `report`, which prints the stored report of a faction.
 pub struct Report;
 
-/// Prints the stored report of `--faction`, by its `--pass`, from the campaign in `--db`.
 impl Subcommand for Report {
-    // The word on the command line that names the subcommand.
     const NAME: &'static str = "report";
 
-    // What the help says of `report`.
     const ABOUT: &'static str = "Prints a faction's report";
 
-    /// The options `--db`, `--faction` and `--pass`.
     fn options<'a>(alloc: Global) -> Result<Vec<Arg<'a>>, AllocError> {
         Ok(vec![in alloc;
             options::db(alloc),
@@ -40,7 +35,6 @@ impl Subcommand for Report {
         ]?)
     }
 
-    /// Prints the stored report of the faction.
     fn run(rt: &HostRuntime, options: &ArgMatches<'_>) -> Result<(), Failure> {
         let request = report_command(rt, options)?;
         print_answer_of(rt, options, &request)

@@ -22,7 +22,6 @@ struct Serving<'a> {
     dice: Dice,
 }
 
-/// The failure for a port that can't be bound: Net, or Memory.
 fn bind_failure(error: io::Error) -> Failure {
     Failure::of_system(error, Failure::Net)
 }
@@ -42,13 +41,11 @@ fn print_port(rt: &HostRuntime, listener: &TcpListener) -> Result<(), Failure> {
 /// Listens on the port at 127.0.0.1, and serves `count` connections. Net if the port can't be bound
 /// or no connection accepted, Memory if memory ran out.
 impl<'a> Work for Serving<'a> {
-    // Nothing: the work has no result besides what it serves.
     type Done = ();
 
     // Many commands come.
     const LASTS: bool = true;
 
-    /// Listens on the port, and serves the connections one after the other.
     fn run<S: Alter>(&self, service: &mut Service<S>) -> Result<(), Failure> {
         let address = (Ipv4Addr::LOCALHOST, self.port);
         let listener = TcpListener::bind(self.rt, address).map_err(bind_failure)?;
@@ -74,17 +71,12 @@ impl<'a> Work for Serving<'a> {
 /// the system chose.
 pub struct Serve;
 
-/// Serves the campaign in `--db` at the port `--port` for `--count` connections, with the dice of
-/// `--seed`.
 impl Subcommand for Serve {
-    // The word on the command line that names the subcommand.
     const NAME: &'static str = "serve";
 
-    // What the help says of `serve`.
     const ABOUT: &'static str =
         "Serves the campaign over HTTP to this machine, for so many connections";
 
-    /// The options `--db`, `--port`, `--count` and `--seed`.
     fn options<'a>(alloc: Global) -> Result<Vec<Arg<'a>>, AllocError> {
         Ok(vec![in alloc;
             options::db(alloc),
@@ -98,7 +90,6 @@ impl Subcommand for Serve {
         ]?)
     }
 
-    /// Serves the campaign until the count of connections is reached.
     fn run(rt: &HostRuntime, options: &ArgMatches<'_>) -> Result<(), Failure> {
         let path = options::text_of(options, options::DB)?;
         let serving = Serving {

@@ -2,15 +2,16 @@
 use libc::types::rlimit;
 use std::alloc::{AllocError, Global};
 
-/// How far the stack may grow, in bytes. A world text that nests tables as deep as TOML allows, and
-/// then has a fault, takes 2.4 MB of them.
-const STACK_BYTES: usize = STEPS * STEP_BYTES;
-
-/// In how many steps the stack grows so far.
+/// In how many steps the stack grows as far as a command may need. A world text that nests tables as
+/// deep as TOML allows, and then has a fault, takes 2.4 MB.
 const STEPS: usize = 10;
 
 /// The number of bytes of a step.
 const STEP_BYTES: usize = 262_144;
+
+/// The memory to ask for before the stack grows, in bytes. Each call of `grow` has a buffer of a
+/// step, the last one too, and one step more is for the rest of their frames.
+const ROOM_BYTES: usize = (STEPS + 2) * STEP_BYTES;
 
 /// The least limit on the stack, in bytes. The command line and the environment have a quarter of
 /// it at most.
@@ -37,11 +38,10 @@ fn limit_on(resource: i32) -> u64 {
 /// Asks for as much memory as the stack may take, and gives it back. The system refuses this by an
 /// error, but ends a program whose stack it refuses to grow.
 fn ask_for_room(alloc: Global) -> Result<(), AllocError> {
-    let _room: Vec<u8> = Vec::with_capacity(alloc, STACK_BYTES)?;
+    let _room: Vec<u8> = Vec::with_capacity(alloc, ROOM_BYTES)?;
     Ok(())
 }
 
-/// Whether each byte of the buffer is 0.
 #[inline(never)]
 fn is_clear(room: &[u8]) -> bool {
     for each in room {

@@ -29,7 +29,6 @@ pub trait Subcommands {
     fn run(rt: &HostRuntime, name: &str, options: &ArgMatches<'_>) -> Result<(), Failure>;
 }
 
-/// The parser of a subcommand, by its name, help and options.
 fn command_of<'a, S: Subcommand>(alloc: Global) -> Result<Command<'a>, AllocError> {
     let name: &'a str = S::NAME;
     let about: &'a str = S::ABOUT;
@@ -39,12 +38,10 @@ fn command_of<'a, S: Subcommand>(alloc: Global) -> Result<Command<'a>, AllocErro
 
 /// The empty list: adds no parser, and every name gives NoSubcommand.
 impl Subcommands for () {
-    /// Adds no parser, and returns the parser of the command line as it was.
     fn add_to<'a>(_alloc: Global, line: Command<'a>) -> Result<Command<'a>, AllocError> {
         Ok(line)
     }
 
-    /// NoSubcommand, since the empty list has no name.
     fn run(_rt: &HostRuntime, _name: &str, _options: &ArgMatches<'_>) -> Result<(), Failure> {
         Err(Failure::NoSubcommand)
     }
@@ -53,14 +50,11 @@ impl Subcommands for () {
 /// A list of a first subcommand and others: adds its parser before theirs, and runs it if it has
 /// the name.
 impl<First: Subcommand, Rest: Subcommands> Subcommands for (First, Rest) {
-    /// Adds the parser of the first subcommand to that of the command line, and then those of the
-    /// others.
     fn add_to<'a>(alloc: Global, line: Command<'a>) -> Result<Command<'a>, AllocError> {
         let first = command_of::<First>(alloc)?;
         Rest::add_to(alloc, line.subcommand(first)?)
     }
 
-    /// Runs the first subcommand if it has the name, else looks for the name among the others.
     fn run(rt: &HostRuntime, name: &str, options: &ArgMatches<'_>) -> Result<(), Failure> {
         if name == First::NAME {
             return First::run(rt, options);

@@ -10,7 +10,6 @@ use clap::ArgMatches;
 use sqlite::{Connection, MemStore};
 use std::alloc::{AllocError, Global};
 
-/// The command with which the faction Avalon joins.
 fn join(alloc: Global) -> Result<atl_service::Command, Failure> {
     Ok(atl_service::Command::Join {
         name: Sequence::from_slice(alloc, b"Avalon")?,
@@ -19,7 +18,6 @@ fn join(alloc: Global) -> Result<atl_service::Command, Failure> {
     })
 }
 
-/// The command for the report of faction 1.
 fn report(alloc: Global) -> Result<atl_service::Command, Failure> {
     Ok(atl_service::Command::Report {
         faction: 1,
@@ -39,8 +37,6 @@ fn report_after_join(
     }
 }
 
-/// Founds a campaign in the database, and runs the join and then the report; returns the answer to
-/// the report, or to a join that failed.
 fn first_report(
     alloc: Global,
     conn: Connection<MemStore>,
@@ -54,8 +50,6 @@ fn first_report(
     }
 }
 
-/// Founds a campaign in memory by the world text, has a faction join, and returns the answer to the
-/// command for its report, or to a join that failed.
 fn report_answer(alloc: Global, world_text: &str) -> Result<Answer, Failure> {
     let join = join(alloc)?;
     let report = report(alloc)?;
@@ -68,16 +62,12 @@ fn report_answer(alloc: Global, world_text: &str) -> Result<Answer, Failure> {
 /// joins with pass text `pw` and word 0.
 pub struct Trial;
 
-/// Reads the world text on standard input, and prints the first report of the faction Avalon.
 impl Subcommand for Trial {
-    // The word on the command line that names the subcommand.
     const NAME: &'static str = "trial";
 
-    // What the help says of `trial`.
     const ABOUT: &'static str =
         "Founds a campaign in memory by the world text on standard input, and prints a first report";
 
-    /// Founds the campaign in memory, has Avalon join, and prints its first report.
     fn run(rt: &HostRuntime, _options: &ArgMatches<'_>) -> Result<(), Failure> {
         let alloc = rt.alloc();
         let text = text_on_input(rt, alloc)?;

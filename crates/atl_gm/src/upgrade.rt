@@ -14,12 +14,9 @@ use std::alloc::{AllocError, Global};
 /// The work of `upgrade` once the file is upgraded: counts the markets of all regions of its world.
 struct CountMarkets;
 
-/// Returns the number of the markets of all regions; nothing changes.
 impl Work for CountMarkets {
-    // The number of the markets of all regions.
     type Done = usize;
 
-    /// Counts the markets of all regions of the world.
     fn run<S: Alter>(&self, service: &mut Service<S>) -> Result<usize, Failure> {
         let mut markets: usize = 0;
         for (_, region) in service.world().regions().iter() {
@@ -33,16 +30,12 @@ impl Work for CountMarkets {
 /// world's number of markets.
 pub struct Upgrade;
 
-/// Upgrades the campaign in `--db` by the world file `--world`, and prints the number of markets.
 impl Subcommand for Upgrade {
-    // The word on the command line that names the subcommand.
     const NAME: &'static str = "upgrade";
 
-    // What the help says of `upgrade`.
     const ABOUT: &'static str =
         "Upgrades a campaign of the first format, with a world that adds markets";
 
-    /// The options `--db` and `--world`.
     fn options<'a>(alloc: Global) -> Result<Vec<Arg<'a>>, AllocError> {
         Ok(vec![in alloc;
             options::db(alloc),
@@ -54,7 +47,6 @@ impl Subcommand for Upgrade {
         ]?)
     }
 
-    /// Upgrades the campaign and prints the number of markets.
     fn run(rt: &HostRuntime, options: &ArgMatches<'_>) -> Result<(), Failure> {
         let path = options::text_of(options, options::DB)?;
         let world = text_at(rt, options::text_of(options, options::WORLD)?)?;

@@ -2,6 +2,5 @@
 use Rattle.std.proofs.Common.{◌≡◌, ℕ, ◌+◌, ◌*◌, ◌^◌, ◌<◌, ap, ◌∙◌, add-one, arith}
 use Rattle.std.proofs.Math.Nat.{pow-succ'}
 
--- if a value is below 10 to the power `i`, the value with one more digit is below 10 to the power `i + 1`
 pub digit_more : (value digit i : ℕ) → value < 10 ^ i → digit < 10 → 10 * value + digit < 10 ^ (i + 1)
 digit_more value digit i h small = let next : 10 ^ (i + 1) ≡ 10 * 10 ^ i = ap (λ n. 10 ^ n) (add-one i) ∙ pow-succ' 10 i in omega arith

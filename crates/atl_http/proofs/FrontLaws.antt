@@ -31,15 +31,12 @@ after_prefix_step x y w p =
       | false ↦ refl
     ]
 
--- For `after_prefix_is`: a path is the prefix followed by `rest`, if comparing their first bytes, and then what follows
--- in both, gives `rest`. The result of comparing the first bytes is `t`.
 after_prefix_by : (x y : ℕ) (w p rest : List ℕ) (t : Bool) → (y == x) ≡ t → (after_prefix w p ≡ Some rest → p ≡ w ++ rest) → cond t (after_prefix w p) None ≡ Some rest → y ∷ p ≡ x ∷ (w ++ rest)
 after_prefix_by x y w p rest true e ih k =
     let same : y ≡ x = grind (arith, nat_tests) in
     rw (same, ih k) refl
 after_prefix_by x y w p rest false e ih k = cc
 
--- if `after_prefix` gives `rest`, the path is the prefix followed by `rest`
 pub after_prefix_is : (w p rest : List ℕ) → after_prefix w p ≡ Some rest → p ≡ w ++ rest
 after_prefix_is [] p rest h = cc
 after_prefix_is (x ∷ w) [] rest h = cc
@@ -72,19 +69,16 @@ lookup_after_prefix (x ∷ w) t (y ∷ p) h =
 abbrev pub number_row : ℕ → Rows
 number_row key = (param_token ∷ [], key) ∷ []
 
--- a digit followed by digits has no slash
 slash_step : (b : ℕ) (p : List ℕ) (t : Bool) → is_ascii_digit b ≡ t → (list_all is_ascii_digit p ≡ true → has_slash p ≡ false) → (t && list_all is_ascii_digit p) ≡ true → has_slash (b ∷ p) ≡ false
 slash_step b p true e ih h =
     let differ : (b == 47) ≡ false = grind (arith, nat_tests) in
     rw differ (ih h)
 slash_step b p false e ih h = cc
 
--- a text of digits has no slash
 no_slash : (p : List ℕ) → list_all is_ascii_digit p ≡ true → has_slash p ≡ false
 no_slash [] h = refl
 no_slash (b ∷ p) h = slash_step b p (is_ascii_digit b) refl (λ k. no_slash p k) h
 
--- the first byte of a text of digits is not `param_token`, the sign for a parameter in the router's rows
 first_digit : (b : ℕ) (p : List ℕ) (t : Bool) → is_ascii_digit b ≡ t → (t && list_all is_ascii_digit p) ≡ true → (param_token == b) ≡ false
 first_digit b p true e h = grind (arith, nat_tests)
 first_digit b p false e h = cc
@@ -97,22 +91,17 @@ key_found key b p e h =
     let whole : after_param (([], key) ∷ []) (b ∷ p) ≡ Some key = after_param-end [] (Some key) b p tt refl h in
     rw (e, seek-empty 0 p, whole) refl
 
--- The lookup found this key, or nothing.
 abbrev IsKeyOrNone : ℕ → Option ℕ → Type 0
 IsKeyOrNone key found = (found ≡ Some key) ⊎ (found ≡ None)
 
--- two lookups of which the second is the fallback of the first (`or_else`) find the key or nothing, if each of them
--- does
 or_either : (key : ℕ) (a b : Option ℕ) → IsKeyOrNone key a → IsKeyOrNone key b → IsKeyOrNone key (or_else a b)
 or_either key a b (inl e) h = inl (ap (λ x. or_else x b) e)
 or_either key a b (inr e) h = subst (λ x. IsKeyOrNone key (or_else x b)) (sym e) h
 
--- a row whose text is matched to its end finds nothing for a path that has further bytes
 pub end_none : (key b : ℕ) (p : List ℕ) → seek 0 (([], key) ∷ []) (b ∷ p) ≡ None
 unfolding seek
 end_none key b p = simp (seek-empty 0 p, param_step-empty (b ∷ p), seek-empty ((param_step {K = ℕ} [] (b ∷ p)).0 - 1) p)
 
--- a row whose text is matched to its end finds its key or nothing
 end_alone : (key : ℕ) (p : List ℕ) → IsKeyOrNone key (seek 0 (([], key) ∷ []) p)
 unfolding seek
 end_alone key [] = inl refl
@@ -124,12 +113,10 @@ one_row_or_none_finds_key_or_none : (key b : ℕ) (p : List ℕ) (t : Bool) → 
 one_row_or_none_finds_key_or_none key b p true = end_alone key p
 one_row_or_none_finds_key_or_none key b p false = inr (seek-empty 0 p)
 
--- after a parameter at the end of its row, the lookup finds the key or nothing, whether the rest has a slash or not
 parameter_key_or_none : (key b : ℕ) (p : List ℕ) (t : Bool) → has_slash (b ∷ p) ≡ t → IsKeyOrNone key (after_param (([], key) ∷ []) (b ∷ p))
 parameter_key_or_none key b p true h = inr (after_param-stop [] (Some key) b p refl h)
 parameter_key_or_none key b p false h = inl (after_param-end [] (Some key) b p tt refl h)
 
--- looking up a text that isn't empty in the row of a parameter finds its key or nothing
 one_or_none : (key b : ℕ) (p : List ℕ) → IsKeyOrNone key (first (number_row key) (b ∷ p))
 unfolding seek
 one_or_none key b p =
@@ -143,24 +130,19 @@ none_if_not_digits true true n = refl
 none_if_not_digits true false n = refl
 none_if_not_digits false y n = refl
 
--- For `all_utf8`: a byte that doesn't fail a test is below 128, if only bytes below 128 pass the test. The result of
--- the test is `t`.
 ascii_if_test_passes : (test : ℕ → Bool) (b : ℕ) (t : Bool) → test b ≡ t → (test b ≡ true → b < 128) → (t ≡ false → ⊥) → b < 128
 ascii_if_test_passes test b true e small h = small e
 ascii_if_test_passes test b false e small h = absurd (h refl)
 
--- a text whose bytes pass a test for ASCII is UTF-8
 all_utf8 : (test : ℕ → Bool) → ((b : ℕ) → test b ≡ true → b < 128) → (p : List ℕ) → list_all test p ≡ true → IsUtf8 p
 all_utf8 test small p h =
     IsUtf8-from_ascii p (IsAscii-from_all p (λ k d l. ascii_if_test_passes test (get_or p k d) (test (get_or p k d)) refl (small (get_or p k d)) (λ e.
     let none = list_all_at test p k d l e in
     cc)))
 
--- a text of digits is UTF-8
 digits_utf8 : (p : List ℕ) → list_all is_ascii_digit p ≡ true → IsUtf8 p
 digits_utf8 p h = all_utf8 is_ascii_digit (λ b e. grind (arith, nat_tests)) p h
 
--- a text of bytes below 128 is UTF-8
 pub ascii_utf8 : (p : List ℕ) → list_all (λ b. ltb b 128) p ≡ true → IsUtf8 p
 ascii_utf8 p h = all_utf8 (λ b. ltb b 128) (λ b e. grind (arith, nat_tests)) p h
 
@@ -169,13 +151,10 @@ ascii_utf8 p h = all_utf8 (λ b. ltb b 128) (λ b e. grind (arith, nat_tests)) p
 abbrev pub IsNumberLookup : ℕ → List ℕ → Type 0
 IsNumberLookup key rest = ((first (number_row key) rest ≡ Some key) × ((number_of rest ≡ None) ⊎ IsUtf8 rest)) ⊎ ((first (number_row key) rest ≡ None) × (number_of rest ≡ None))
 
--- the lookup of a text that is no number may find the key or nothing: `IsNumberLookup` allows either for such a text
 found_or_none : (key : ℕ) (rest : List ℕ) → number_of rest ≡ None → IsKeyOrNone key (first (number_row key) rest) → IsNumberLookup key rest
 found_or_none key rest none (inl e) = inl (e, inl none)
 found_or_none key rest none (inr e) = inr (e, none)
 
--- For `number_says`: `IsNumberLookup` holds of a text that isn't empty. The test `t` says whether all its bytes are
--- digits.
 number_by : (key b : ℕ) (p : List ℕ) (t : Bool) → list_all is_ascii_digit (b ∷ p) ≡ t → IsNumberLookup key (b ∷ p)
 unfolding number_of
 number_by key b p true e = inl (key_found key b p (first_digit b p (is_ascii_digit b) refl e) (no_slash (b ∷ p) e), inr (digits_utf8 (b ∷ p) e))

@@ -18,21 +18,17 @@ use Rattle.atl_http.specs.Checks.{head_checks, verdict_with_body, verdict_of}
 use Rattle.atl_http.specs.Finding.{field_pairs, EndsAs}
 use Rattle.atl_http.specs.Heads.{most_head, most_fields, HasHead, IsRefused, IsUnfinished, Judges, whole, refused, unfinished, ComesTo, verdict_by}
 
--- the first 8,192 bytes of an input followed by all later ones are the input
 front_and_rest : (input : List ℕ) → take most_head input ++ drop most_head input ≡ input
 front_and_rest input = take-append-drop most_head input
 
--- `take most_head` gives at most 8,192 bytes
 front_short : (input : List ℕ) → length (take most_head input) ≤ most_head
 front_short input = let e = length-take most_head input in omega (arith, e)
 
--- the first 8,192 bytes of an input are no longer than the input
 pub front_within : (input : List ℕ) → length (take most_head input) ≤ length input
 front_within input = let e = length-take most_head input in omega (arith, e)
 
 -- ---- a whole head
 
--- a parsed head has at most 32 fields if the buffer has room for 32
 few_fields : (front : List ℕ) (headers : List HeaderSpan) (spans : RequestSpans) (head : RequestHead) → IsRequestAt front headers spans head → length headers ≡ most_fields → length head.fields ≤ most_fields
 few_fields front headers spans head at room =
     let same = ap length at.fields in
@@ -41,7 +37,6 @@ few_fields front headers spans head at room =
     let count = length-take spans.headers headers in
     omega (arith, same, taken, named, count, room)
 
--- a head parsed whole in the first 8,192 bytes with a buffer for 32 fields is a whole head of the input (`HasHead`)
 pub whole_head : (input : List ℕ) (headers : List HeaderSpan) (spans : RequestSpans) (head : RequestHead) → IsRequestWithin (take most_head input) headers spans → IsRequestAt (take most_head input) headers spans head → length headers ≡ most_fields → HasHead input head (drop spans.len input)
 whole_head input headers spans head lies at room =
     let front = take most_head input in
@@ -54,18 +49,14 @@ whole_head input headers spans head lies at room =
       fields = few_fields front headers spans head at room;
     }
 
--- an input with a whole head has the same head when more bytes follow
 pub head_stays : (input more : List ℕ) (head : RequestHead) (rest : List ℕ) → HasHead input head rest → HasHead (input ++ more) head (rest ++ more)
 head_stays input more head rest h = record { reads = ReadsRequest-append input head rest more h.reads; bytes = h.bytes; fields = h.fields }
 
--- the verdict by the checks of the spans into which a head was parsed is the verdict on this head (`verdict_of`)
 verdict_is : (input : List ℕ) (headers : List HeaderSpan) (spans : RequestSpans) (head : RequestHead) (rest : List ℕ) → IsRequestAt (take most_head input) headers spans head → verdict_with_body (head_checks spans.version (span_bytes (take most_head input) spans.method) (span_bytes (take most_head input) spans.path) (field_pairs (take most_head input) (take spans.headers headers))) rest ≡ verdict_of head rest
 verdict_is input headers spans head rest at = rw (at.version, at.method, at.path, at.fields) refl
 
 -- ---- a refused head
 
--- if a beginning of the input, with an empty line after it, is a head of more than 32 fields, the same is true when
--- more bytes follow (`RequestExceeds`)
 exceeds_stays : (input more : List ℕ) → RequestExceeds most_fields input → RequestExceeds most_fields (input ++ more)
 exceeds_stays input more (front, rest, e, head, reads, over) = (front, rest ++ more, ap (λ l. l ++ more) e ∙ append_assoc front rest more, head, reads, over)
 
@@ -74,18 +65,15 @@ exceeds_stays input more (front, rest, e, head, reads, over) = (front, rest ++ m
 overflows_stays : (input more : List ℕ) → RequestOverflows most_fields input → RequestOverflows most_fields (input ++ more)
 overflows_stays input more over again head rest reads = over (more ++ again) head rest (subst (λ l. ReadsRequest l head rest) (append_assoc input more again) reads)
 
--- a refused input stays refused when more bytes follow
 pub refused_stays : (input more : List ℕ) → IsRefused input → IsRefused (input ++ more)
 refused_stays input more (inl never) = inl (λ again. subst HasNoRequest (sym (append_assoc input more again)) (never (more ++ again)))
 refused_stays input more (inr (exceeds, over)) = inr (exceeds_stays input more exceeds, overflows_stays input more over)
 
--- an input is refused if its first 8,192 bytes are refused
 pub front_refused : (input : List ℕ) → IsRefused (take most_head input) → IsRefused input
 front_refused input h = subst IsRefused (front_and_rest input) (refused_stays (take most_head input) (drop most_head input) h)
 
 -- ---- a head that isn't whole
 
--- an input shorter than 8,192 bytes is unfinished if its first bytes hold no head and may become one
 pub short_front : (input : List ℕ) → length input < most_head → HasNoRequest (take most_head input) → MayBecomeRequest (take most_head input) → IsUnfinished input
 short_front input h none goes_on =
     let least : min most_head (length input) ≡ length input = omega arith in
@@ -98,8 +86,6 @@ short_front input h none goes_on =
 abbrev LeadsToVerdict : (input rest : List ℕ) → Result (Route × ℕ × List ℕ) Problem → Type 0
 LeadsToVerdict input rest checks = (head : RequestHead) × HasHead input head rest × ((after : List ℕ) → verdict_with_body checks after ≡ verdict_of head after)
 
--- if the first 8,192 bytes were parsed as a whole head, the input has this head, and the checks of its spans lead to
--- the verdict on the head (`LeadsToVerdict`)
 pub finds_head : (input front method target rest : List ℕ) (headers fields : List HeaderSpan) (spans : RequestSpans) → front ≡ take most_head input → IsRequestWithin front headers spans × IsRequestOf front headers spans → length headers ≡ most_fields → method ≡ span_bytes front spans.method → target ≡ span_bytes front spans.path → fields ≡ take spans.headers headers → rest ≡ drop spans.len input → LeadsToVerdict input rest (head_checks spans.version method target (field_pairs front fields))
 finds_head input front method target rest headers fields spans e (lies, (head, at)) room method_is target_is fields_are rest_is =
     let at_front : IsRequestAt (take most_head input) headers spans head = subst (λ l. IsRequestAt l headers spans head) e at in
@@ -117,11 +103,9 @@ pub comes_whole : (input rest : List ℕ) (checks : Result (Route × ℕ × List
 comes_whole input rest checks (Ends outcome) (head, has, same) e = whole head rest has (e ∙ same rest)
 comes_whole input rest checks (Missing count) (head, has, same) (some, short) = (some, λ more few. whole head (rest ++ more) (head_stays input more head rest has) (sym (short more few) ∙ same (rest ++ more)))
 
--- if the first 8,192 bytes are refused, the verdict on the input is BadRequest
 pub judges_refused : (input front : List ℕ) → front ≡ take most_head input → IsRefused front → Judges input (Refused BadRequest)
 judges_refused input front e h = refused (front_refused input (subst IsRefused e h)) refl
 
--- an unfinished input of fewer than 8,192 bytes has the verdict More
 judges_more : (input front : List ℕ) → front ≡ take most_head input → length input < most_head → HasNoRequest front × MayBecomeRequest front → Judges input More
 judges_more input front e h (none, goes_on) = unfinished (short_front input h (subst HasNoRequest e none) (subst MayBecomeRequest e goes_on)) refl
 
@@ -130,11 +114,9 @@ short_by_one : (input : List ℕ) → Judges input More → (more : List ℕ) �
 short_by_one input h [] few = subst (λ l. Judges l More) (sym (append-nil input)) h
 short_by_one input h (x ∷ more) few = absurd (omega (arith, few))
 
--- an unfinished input of fewer than 8,192 bytes lacks at least one byte
 pub missing_one : (input front : List ℕ) → front ≡ take most_head input → length input < most_head → HasNoRequest front × MayBecomeRequest front → ComesTo input (Missing 1)
 missing_one input front e h unfinished_front = (omega arith, short_by_one input (judges_more input front e h unfinished_front))
 
--- if P holds of a result's value, and P implies Q, then Q holds of it
 pub if_ok : {T E : Type 0} {P Q : T → Type 0} (r : Result T E) → ((x : T) → P x → Q x) → IfOk r P → IfOk r Q
 if_ok (Ok x) f h = f x h
 if_ok (Err e) f h = tt

@@ -21,24 +21,18 @@ consumes_more (Some xs) None after seen piece h k = absurd h
 consumes_more (Some xs) (Some ys) None seen piece h k = absurd k
 consumes_more (Some xs) (Some ys) (Some zs) seen piece h k = h ∙ ap (λ l. seen ++ l) k ∙ sym (append_assoc seen piece zs)
 
--- if the bytes `seen` were read from `before` to `between`, and none from there to `after`, then `seen` was read from
--- `before` to `after` (`Consumes`)
 pub consumes_kept : (before between after : Option (List ℕ)) (seen : List ℕ) → Consumes before between seen → Keeps between after → Consumes before after seen
 consumes_kept None between after seen h k = tt
 consumes_kept (Some xs) None after seen h k = absurd h
 consumes_kept (Some xs) (Some ys) None seen h k = absurd k
 consumes_kept (Some xs) (Some ys) (Some zs) seen h k = h ∙ ap (λ l. seen ++ l) (sym k)
 
--- if the bytes `sent` were written from `before` to `between`, and `piece` from there to `after`, then `sent ++ piece`
--- was written from `before` to `after` (`Appends`)
 pub appends_more : (before between after : Option (List ℕ)) (sent piece : List ℕ) → Appends before between sent → Appends between after piece → Appends before after (sent ++ piece)
 appends_more None between after sent piece h k = tt
 appends_more (Some xs) None after sent piece h k = absurd h
 appends_more (Some xs) (Some ys) None sent piece h k = absurd k
 appends_more (Some xs) (Some ys) (Some zs) sent piece h k = k ∙ ap (λ l. l ++ piece) h ∙ append_assoc xs sent piece
 
--- if the first `sent` bytes were written from `before` to `between`, and the next `count` from there to `after`, the
--- first `sent + count` were written from `before` to `after` (`Appends`)
 pub appends_next : (before between after : Option (List ℕ)) (bytes : List ℕ) (sent count : ℕ) → Appends before between (take sent bytes) → Appends between after (take count (drop sent bytes)) → Appends before after (take (sent + count) bytes)
 appends_next before between after bytes sent count h k =
     let P : List ℕ → Type 0 = λ l. Appends before after l in
@@ -46,8 +40,6 @@ appends_next before between after bytes sent count h k =
 
 -- ---- reading
 
--- If a read of a request that isn't whole ends in a fault, so does reading the request, with the bytes read so far
--- (`Receives`).
 pub fault_ends_reading : (before between after : Option (List ℕ)) (seen new : List ℕ) (fault : HttpFault) → Consumes before between seen → Judges seen More → ReadsMore between after seen new (Err fault) → Receives before after new (Err fault)
 fault_ends_reading before between after seen new Cut h judged (kept, at_end, same) =
     (subst (λ l. Consumes before after l) (sym same) (consumes_kept before between after seen h kept), subst (λ l. Judges l More) (sym same) judged, at_end)
@@ -56,8 +48,6 @@ fault_ends_reading before between after seen new ReadFault h judged (kept, same)
 fault_ends_reading before between after seen new WriteFault h judged none = absurd none
 fault_ends_reading before between after seen new Memory h judged done = tt
 
--- if the bytes collected (`seen`) were those read so far, then after one more read without a fault the bytes collected
--- (`new`) are again those read
 pub collected_bytes_are_read : (before between after : Option (List ℕ)) (seen new : List ℕ) (count : ℕ) → Consumes before between seen → ReadsMore between after seen new (Ok count) → Consumes before after new
 collected_bytes_are_read before between after seen new count h (piece, is, few, more, same) = subst (λ l. Consumes before after l) (sym same) (consumes_more before between after seen piece h more)
 
@@ -68,21 +58,16 @@ read_so_far between after seen new count h (piece, is, few, more, same) = inr (s
 
 -- ---- the number of missing bytes
 
--- if the progress on some bytes (`ComesTo`) is `Missing count`, so is that on equal bytes
 pub missing_of_equal : (seen items : List ℕ) (progress : Progress) (count : ℕ) → seen ≡ items → progress ≡ Missing count → ComesTo seen progress → ComesTo items (Missing count)
 missing_of_equal seen items progress count e f h = subst (λ l. ComesTo l (Missing count)) e (subst (ComesTo seen) f h)
 
--- if received bytes lack at least `count` further ones (their progress is `Missing`), the verdict on them is More
 pub more_while_missing : (items : List ℕ) (count : ℕ) → ComesTo items (Missing count) → Judges items More
 more_while_missing items count (some, short) = subst (λ l. Judges l More) (append-nil items) (short [] some)
 
--- if `missing` bytes were missing, after a read of `count` bytes still `missing` less `count` are missing (`IsShortBy`)
 pub short_by_less : (between after : Option (List ℕ)) (seen new : List ℕ) (missing count : ℕ) → ComesTo seen (Missing missing) → ReadsMore between after seen new (Ok count) → IsShortBy new (missing - count)
 short_by_less between after seen new missing count (some, short) (piece, is, few, came, same) more fewer =
     let together : length (piece ++ more) < missing = (let k = length-append piece more in omega (arith, k, is, fewer)) in
     subst (λ l. Judges l More) (sym (append_assoc seen piece more) ∙ ap (λ l. l ++ more) (sym same)) (short (piece ++ more) together)
 
--- if the request isn't whole with fewer than `count` bytes added to some bytes (`IsShortBy`), it isn't with fewer added
--- to equal bytes
 pub short_of_equal : (seen items : List ℕ) (count : ℕ) → seen ≡ items → IsShortBy items count → IsShortBy seen count
 short_of_equal seen items count e short = subst (λ l. IsShortBy l count) (sym e) short

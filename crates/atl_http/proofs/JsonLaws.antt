@@ -5,15 +5,12 @@ use Rattle.std.proofs.lemmas.Str.{is_utf8-from_IsUtf8, IsUtf8-from_is_utf8}
 use Rattle.serde_json.specs.Read.{read}
 use Rattle.atl_http.specs.Checks.{json_of}
 
--- the JSON value of a body that is UTF-8 is the one that `read` gives
 pub json_read : (body : List ℕ) → IsUtf8 body → json_of body ≡ read body
 json_read body h = ap (λ t. cond t (read body) None) (is_utf8-from_IsUtf8 body h)
 
--- For `json_none`: what is read of a body that isn't UTF-8 is None. The result of the test for UTF-8 is `t`.
 no_value_without_utf8 : (t : Bool) (body : List ℕ) → is_utf8 body ≡ t → (IsUtf8 body → ⊥) → cond t (read body) None ≡ None
 no_value_without_utf8 true body e h = absurd (h (IsUtf8-from_is_utf8 body e))
 no_value_without_utf8 false body e h = refl
 
--- a body that is not UTF-8 has no JSON value
 pub json_none : (body : List ℕ) → (IsUtf8 body → ⊥) → json_of body ≡ None
 json_none body h = no_value_without_utf8 (is_utf8 body) body refl h

@@ -28,12 +28,10 @@ verdict_with_body_stays false route size pass rest more e final =
     ap (λ t. cond t More (verdict_on_request (request_of route pass (take size (rest ++ more))))) longer
     ∙ ap (λ body. verdict_on_request (request_of route pass body)) (take-append-le size rest more long)
 
--- a final verdict by the checks of a head stays the same when more bytes follow
 verdict_by_checks_stays : (wanted : Result (Route × ℕ × List ℕ) Problem) (rest more : List ℕ) → IsFinal (verdict_with_body wanted rest) → verdict_with_body wanted (rest ++ more) ≡ verdict_with_body wanted rest
 verdict_by_checks_stays (Err problem) rest more final = refl
 verdict_by_checks_stays (Ok (route, size, pass)) rest more final = verdict_with_body_stays (nat_lt (length rest) size) route size pass rest more refl final
 
--- an input that is too long (`IsTooLong`) stays so when more bytes follow
 long_stays : (input more : List ℕ) → IsTooLong input → IsTooLong (input ++ more)
 long_stays input more (long, none) =
     ((let k = length-append input more in omega (arith, long, k)), subst HasNoRequest (sym (take-append-le most_head input more long)) none)
@@ -48,21 +46,17 @@ judged_still input more v (unfinished h e) final = absurd (subst IsFinal e final
 
 -- ---- one verdict
 
--- an input with a whole head isn't refused
 not_refused : (input : List ℕ) (head : RequestHead) (rest : List ℕ) → HasHead input head rest → IsRefused input → ⊥
 not_refused input head rest h (inl never) = never [] head rest (subst (λ l. ReadsRequest l head rest) (sym (append-nil input)) h.reads)
 not_refused input head rest h (inr (exceeds, over)) =
     let many = over [] head rest (subst (λ l. ReadsRequest l head rest) (sym (append-nil input)) h.reads) in
     let few = h.fields in omega (arith, many, few)
 
--- if a list has at most `n` elements, the first `n` of it and a second list are the whole list, then the first of the
--- second
 take-append-more : (n : ℕ) (xs ys : List ℕ) → length xs ≤ n → take n (xs ++ ys) ≡ xs ++ take (n - length xs) ys
 take-append-more n xs ys h =
     let e : n ≡ length xs + (n - length xs) = omega arith in
     ap (λ k. take k (xs ++ ys)) e ∙ take-append-add xs ys (n - length xs)
 
--- an input with a whole head isn't too long
 not_too_long : (input : List ℕ) (head : RequestHead) (rest : List ℕ) → HasHead input head rest → IsTooLong input → ⊥
 not_too_long input head rest h (long, none) =
     let front : take most_head input ≡ print_request head ++ take (most_head - length (print_request head)) rest =

@@ -25,16 +25,13 @@ use Rattle.atl_http.proofs.FrontLaws.{after_prefix_is, lookup_after_prefix, numb
 
 -- ---- the text of a number in a path
 
--- the name of the routes' parameter: `number`
 abbrev number_text : List ℕ
 number_text = codes "number"
 
--- a byte below `param_token`, before a text without a parameter, makes a text without a parameter (`IsText`)
 text_step : (b : ℕ) (front : List ℕ) (t : Bool) → ltb b param_token ≡ t → (list_all (λ c. ltb c param_token) front ≡ true → IsText front) → (t && list_all (λ c. ltb c param_token) front) ≡ true → IsText (b ∷ front)
 text_step b front true e ih h = (grind (arith, nat_tests), ih h)
 text_step b front false e ih h = cc
 
--- a text whose bytes are all below `param_token` has no parameter (`IsText`)
 is_text : (front : List ℕ) → list_all (λ b. ltb b param_token) front ≡ true → IsText front
 is_text [] h = tt
 is_text (b ∷ front) h = text_step b front (ltb b param_token) refl (λ k. is_text front k) h
@@ -50,7 +47,6 @@ walk_front (b ∷ front) len t h l =
     let same : t + 1 + length front ≡ t + length (b ∷ front) = omega arith in
     rw (byte, inside, walk_front front len (t + 1) h.1 more, same) refl
 
--- the part of a path from index `n` to its end is the path without its first `n` bytes
 part_rest : (path : List ℕ) (n : ℕ) → n ≤ length path → part_of path n (length path) ≡ drop n path
 part_rest path n h =
     let one : leb n (length path) ≡ true = grind (arith, nat_tests) in
@@ -68,23 +64,19 @@ takes pattern text path rest start end n at last named_is rest_is h =
 abbrev TakesNumber : ℕ → List ℕ → List ℕ → Type 0
 TakesNumber key path rest = walk (kept_at key).pattern (kept_at key).text path (kept_at key).names 0 0 ≡ (number_text, rest) ∷ []
 
--- a prefix is no longer than the path that begins with it
 prefix_within : (n : ℕ) (front rest : List ℕ) → length front ≡ n → n ≤ length (front ++ rest)
 prefix_within n front rest e = let sum = length-append front rest in omega (arith, e, sum)
 
--- the route of `/close/` takes what follows this prefix in a path as its parameter `number`
 takes_close : (rest : List ℕ) → TakesNumber 0 (codes "/close/" ++ rest) rest
 takes_close rest =
     let h = prefix_within 7 (codes "/close/") rest refl in
     takes (codes "/close/" ++ param_token ∷ []) (codes "/close/{number}") (codes "/close/" ++ rest) rest 8 14 7 (walk_front (codes "/close/") (length (codes "/close/" ++ rest)) 0 (is_text (codes "/close/") refl) h) refl refl refl h
 
--- the route of `/orders/` takes what follows this prefix in a path as its parameter `number`
 takes_orders : (rest : List ℕ) → TakesNumber 2 (codes "/orders/" ++ rest) rest
 takes_orders rest =
     let h = prefix_within 8 (codes "/orders/") rest refl in
     takes (codes "/orders/" ++ param_token ∷ []) (codes "/orders/{number}") (codes "/orders/" ++ rest) rest 9 15 8 (walk_front (codes "/orders/") (length (codes "/orders/" ++ rest)) 0 (is_text (codes "/orders/") refl) h) refl refl refl h
 
--- the route of `/report/` takes what follows this prefix in a path as its parameter `number`
 takes_report : (rest : List ℕ) → TakesNumber 3 (codes "/report/" ++ rest) rest
 takes_report rest =
     let h = prefix_within 8 (codes "/report/") rest refl in
@@ -95,24 +87,18 @@ takes_report rest =
 -- The router finds the route Join, a route with a number, or nothing for this path, and `route_of` gives the same;
 -- if the number is faulty, `route_of` gives none.
 data Leads (path : List ℕ) : Type 0 where
-  -- the router finds the route of `/join`, the path is UTF-8, and `route_of` gives Join
   to_join : first rows path ≡ Some 1 → IsUtf8 path → route_of path ≡ Some route.Join → Leads path
   -- the router finds a route whose parameter is `rest`, and `route_of` gives that route with the number of `rest`, or
   -- none; `rest` is UTF-8 if the path is, and a path that has a route is UTF-8
   to_number : (key : ℕ) → (rest : List ℕ) → first rows path ≡ Some key → TakesNumber key path rest → (IsUtf8 path → IsUtf8 rest) → (route_of path ≡ None) ⊎ IsUtf8 path → route_of path ≡ route_in (kept_at key).value (Some rest) → Leads path
-  -- the router finds nothing, and `route_of` gives none
   nowhere : first rows path ≡ None → route_of path ≡ None → Leads path
 
 -- What the lookup needs of the prefix of a route with a number. What follows the prefix in a path is the parameter. It
 -- is UTF-8 exactly where the path is, and gives no route where it is no number.
 record IsNumberPrefix (key : ℕ) (front : List ℕ) : Type 0 where
-  -- the route takes what follows the prefix as its parameter
   takes_rest : (rest : List ℕ) → TakesNumber key (front ++ rest) rest
-  -- what follows the prefix is UTF-8, if the path is
   cut : (rest : List ℕ) → IsUtf8 (front ++ rest) → IsUtf8 rest
-  -- the path is UTF-8, if what follows the prefix is
   joins : (rest : List ℕ) → IsUtf8 rest → IsUtf8 (front ++ rest)
-  -- if what follows the prefix is no number, the route of this key is None for it (`route_in`)
   without : (rest : List ℕ) → number_of rest ≡ None → route_in (kept_at key).value (Some rest) ≡ None
 
 -- `IsNumberPrefix` holds of a UTF-8 prefix that ends in an ASCII byte, if what follows the prefix is the parameter, and
@@ -128,15 +114,12 @@ prefix_is_number_prefix key last front count text ascii takes_rest without = rec
   without = without;
 }
 
--- the rest of a path after `/close/` is the parameter, and is UTF-8 where the path is (`IsNumberPrefix`)
 fronted_close : IsNumberPrefix 0 (codes "/close/")
 fronted_close = prefix_is_number_prefix 0 6 (codes "/close/") refl (ascii_utf8 (codes "/close/") refl) (λ rest. lit< tt) takes_close (λ rest e. ap (option_map route.Close) e)
 
--- the rest of a path after `/orders/` is the parameter, and is UTF-8 where the path is (`IsNumberPrefix`)
 fronted_orders : IsNumberPrefix 2 (codes "/orders/")
 fronted_orders = prefix_is_number_prefix 2 7 (codes "/orders/") refl (ascii_utf8 (codes "/orders/") refl) (λ rest. lit< tt) takes_orders (λ rest e. ap (option_map route.Orders) e)
 
--- the rest of a path after `/report/` is the parameter, and is UTF-8 where the path is (`IsNumberPrefix`)
 fronted_report : IsNumberPrefix 3 (codes "/report/")
 fronted_report = prefix_is_number_prefix 3 7 (codes "/report/") refl (ascii_utf8 (codes "/report/") refl) (λ rest. lit< tt) takes_report (λ rest e. ap (option_map route.Report) e)
 
@@ -145,8 +128,6 @@ abbrev route_of_found : ℕ → Option (List ℕ) → Option Route
 route_of_found key None = None
 route_of_found key (Some rest) = route_in (kept_at key).value (Some rest)
 
--- for a path with the prefix of a route with a number, the router finds the route that `route_of` gives: this one, or
--- none (`Leads`)
 leads_number : (key : ℕ) (front path rest : List ℕ) → path ≡ front ++ rest → IsNumberPrefix key front → first rows path ≡ first (number_row key) rest → route_of path ≡ route_in (kept_at key).value (Some rest) → IsNumberLookup key rest → Leads path
 leads_number key front path rest p f a b (inl (e, inl none)) =
     to_number key rest (a ∙ e) (subst (λ l. TakesNumber key l rest) (sym p) (f.takes_rest rest)) (λ u. f.cut rest (subst IsUtf8 p u)) (inl (b ∙ f.without rest none)) b
@@ -164,36 +145,28 @@ leads_by key c w q (Some rest) h f a b = leads_number key (47 ∷ c ∷ w) (47 �
 abbrev after_slash : Rows
 after_slash = (codes "close/" ++ param_token ∷ [], 0) ∷ (codes "join", 1) ∷ (codes "orders/" ++ param_token ∷ [], 2) ∷ (codes "report/" ++ param_token ∷ [], 3) ∷ []
 
--- looking up a path looks up the rest of the path after its slash, or finds nothing
 slash_first : (path : List ℕ) → first rows path ≡ option_and_then (λ rest. first after_slash rest) (after_prefix (codes "/") path)
 slash_first path = lookup_after_prefix (codes "/") after_slash path (lit< tt, tt)
 
--- Looking up the rest of a path after its slash looks for what follows its first letter, in the rows that begin with
--- the letter.
 letter_step : (c : ℕ) (q : List ℕ) → first after_slash (c ∷ q) ≡ seek 0 (step c after_slash) q
 unfolding seek
 letter_step c q = simp (param_step-empty (c ∷ q), seek-empty ((param_step {K = ℕ} [] (c ∷ q)).0 - 1) q, or_else-none)
 
--- Looking up a path that begins with a slash looks for what follows its next letter, in the rows with this letter after
--- the slash.
 letter_first : (c : ℕ) (q : List ℕ) → first rows (47 ∷ c ∷ q) ≡ seek 0 (step c after_slash) q
 letter_first c q = slash_first (47 ∷ c ∷ q) ∙ letter_step c q
 
--- for each path that begins with `/c`, the router finds the route that `route_of` gives: Close, or none (`Leads`)
 leads_close : (q : List ℕ) → Leads (47 ∷ 99 ∷ q)
 unfolding route_of
 leads_close q =
     let same : (x : Option (List ℕ)) → numbered route.Close x None ≡ route_of_found 0 x = λ x. elim x as (λ x. numbered route.Close x None ≡ route_of_found 0 x) [ None ↦ refl | Some r ↦ refl ] in
     leads_by 0 99 (codes "lose/") q (after_prefix (codes "lose/") q) refl fronted_close (letter_first 99 q ∙ lookup_after_prefix (codes "lose/") (number_row 0) q (is_text (codes "lose/") refl)) (same (after_prefix (codes "lose/") q))
 
--- for each path that begins with `/o`, the router finds the route that `route_of` gives: Orders, or none (`Leads`)
 leads_orders : (q : List ℕ) → Leads (47 ∷ 111 ∷ q)
 unfolding route_of
 leads_orders q =
     let same : (x : Option (List ℕ)) → numbered route.Orders x None ≡ route_of_found 2 x = λ x. elim x as (λ x. numbered route.Orders x None ≡ route_of_found 2 x) [ None ↦ refl | Some r ↦ refl ] in
     leads_by 2 111 (codes "rders/") q (after_prefix (codes "rders/") q) refl fronted_orders (letter_first 111 q ∙ lookup_after_prefix (codes "rders/") (number_row 2) q (is_text (codes "rders/") refl)) (same (after_prefix (codes "rders/") q))
 
--- for each path that begins with `/r`, the router finds the route that `route_of` gives: Report, or none (`Leads`)
 leads_report : (q : List ℕ) → Leads (47 ∷ 114 ∷ q)
 unfolding route_of
 leads_report q =
@@ -204,25 +177,20 @@ leads_report q =
 abbrev join_row : Rows
 join_row = ([], 1) ∷ []
 
--- in the row of `/join`, a path that begins with `/j` and isn't `/join` finds nothing
 join_none : (q : List ℕ) (found : Option (List ℕ)) → after_prefix (codes "oin") q ≡ found → (q ≡ codes "oin" → ⊥) → option_and_then (λ rest. first join_row rest) found ≡ None
 join_none q None h n = refl
 join_none q (Some []) h n = absurd (n (after_prefix_is (codes "oin") q [] h))
 join_none q (Some (b ∷ rest)) h n = end_none 1 b rest
 
--- the path `/join` leads to the route Join
 at_join : Leads (codes "/join")
 unfolding seek route_of
 at_join = to_join refl (ascii_utf8 (codes "/join") refl) refl
 
--- for each path that begins with `/j`, the router finds the route that `route_of` gives, whether the path is `/join` or
--- not (`Leads`)
 join_by : (q : List ℕ) (t : Bool) → bytes_eq q (codes "oin") ≡ t → Leads (47 ∷ 106 ∷ q)
 unfolding route_of
 join_by q true e = subst Leads (ap (λ l. 47 ∷ 106 ∷ l) (sym ((bytes_eq-Decides q (codes "oin")).0 e))) at_join
 join_by q false e = nowhere (letter_first 106 q ∙ lookup_after_prefix (codes "oin") join_row q (is_text (codes "oin") refl) ∙ join_none q (after_prefix (codes "oin") q) refl (λ k. let yes = (bytes_eq-Decides q (codes "oin")).1 k in cc)) (rw e refl)
 
--- for each path that begins with `/j`, the router finds the route that `route_of` gives: Join, or none (`Leads`)
 leads_join : (q : List ℕ) → Leads (47 ∷ 106 ∷ q)
 leads_join q = join_by q (bytes_eq q (codes "oin")) refl
 
@@ -236,46 +204,35 @@ leads_other c q one two three four =
     let first_four : (114 == c) ≡ false = grind (arith, nat_tests) in
     nowhere (letter_first c q ∙ rw (first_one, first_two, first_three, first_four) (seek-empty 0 q)) (rw (one, two, three, four) refl)
 
--- for each path whose byte after the slash is not `c`, `j` or `o`, the router finds the route that `route_of` gives,
--- whether this byte is `r` or not (`Leads`)
 letter_report : (c : ℕ) (q : List ℕ) → (c == 99) ≡ false → (c == 106) ≡ false → (c == 111) ≡ false → (t : Bool) → (c == 114) ≡ t → Leads (47 ∷ c ∷ q)
 letter_report c q one two three true e =
     let same : 114 ≡ c = grind (arith, nat_tests) in
     subst (λ x. Leads (47 ∷ x ∷ q)) same (leads_report q)
 letter_report c q one two three false e = leads_other c q one two three e
 
--- for each path whose byte after the slash is not `c` or `j`, the router finds the route that `route_of` gives, whether
--- this byte is `o` or not (`Leads`)
 letter_orders : (c : ℕ) (q : List ℕ) → (c == 99) ≡ false → (c == 106) ≡ false → (t : Bool) → (c == 111) ≡ t → Leads (47 ∷ c ∷ q)
 letter_orders c q one two true e =
     let same : 111 ≡ c = grind (arith, nat_tests) in
     subst (λ x. Leads (47 ∷ x ∷ q)) same (leads_orders q)
 letter_orders c q one two false e = letter_report c q one two e (c == 114) refl
 
--- for each path whose byte after the slash is not `c`, the router finds the route that `route_of` gives, whether this
--- byte is `j` or not (`Leads`)
 letter_join : (c : ℕ) (q : List ℕ) → (c == 99) ≡ false → (t : Bool) → (c == 106) ≡ t → Leads (47 ∷ c ∷ q)
 letter_join c q one true e =
     let same : 106 ≡ c = grind (arith, nat_tests) in
     subst (λ x. Leads (47 ∷ x ∷ q)) same (leads_join q)
 letter_join c q one false e = letter_orders c q one e (c == 111) refl
 
--- for each path with a byte after the slash, the router finds the route that `route_of` gives, whether that byte is `c`
--- or not (`Leads`)
 letter_close : (c : ℕ) (q : List ℕ) (t : Bool) → (c == 99) ≡ t → Leads (47 ∷ c ∷ q)
 letter_close c q true e =
     let same : 99 ≡ c = grind (arith, nat_tests) in
     subst (λ x. Leads (47 ∷ x ∷ q)) same (leads_close q)
 letter_close c q false e = letter_join c q e (c == 106) refl
 
--- for each path that begins with a slash, the router finds the route that `route_of` gives (`Leads`)
 leads_slash : (q : List ℕ) → Leads (47 ∷ q)
 unfolding seek route_of
 leads_slash [] = nowhere (slash_first (47 ∷ [])) refl
 leads_slash (c ∷ q) = letter_close c q (c == 99) refl
 
--- for each path that is not empty, the router finds the route that `route_of` gives, whether the path begins with a
--- slash or not (`Leads`)
 leads_begin : (a : ℕ) (q : List ℕ) (t : Bool) → (a == 47) ≡ t → Leads (a ∷ q)
 unfolding route_of
 leads_begin a q true e =
@@ -291,17 +248,14 @@ leads (a ∷ q) = leads_begin a q (a == 47) refl
 
 -- ---- the laws that the code needs
 
--- what a path finds among the routes (`route_rows`) is the route of the index that it finds among the rows (`rows`)
 kept_first : (path : List ℕ) (found : Option ℕ) → first rows path ≡ found → first route_rows path ≡ map_key kept_at found
 kept_first path found e = first-rename kept_at rows path ∙ ap (map_key kept_at) e
 
--- if the router finds nothing for a path, and what it finds is what `route_of` gives (`Leads`), the path has no route
 missing_by : (path : List ℕ) → first route_rows path ≡ None → Leads path → route_of path ≡ None
 missing_by path h (to_join e text is) = (let some = kept_first path (Some 1) e in cc)
 missing_by path h (to_number key rest e taken cut text is) = (let some = kept_first path (Some key) e in cc)
 missing_by path h (nowhere e is) = is
 
--- if the router finds nothing for a path, `route_of` gives no route
 pub no_route_if_none_found : (path : List ℕ) → first route_rows path ≡ None → route_of path ≡ None
 no_route_if_none_found path h = missing_by path h (leads path)
 
@@ -309,8 +263,6 @@ no_route_if_none_found path h = missing_by path h (leads path)
 abbrev FindsRoute : (path : List ℕ) → RouteOf RouteKey → Type 0
 FindsRoute path e = AllText (walk e.pattern e.text path e.names 0 0) × (route_of path ≡ route_in e.value (named (codes "number") (walk e.pattern e.text path e.names 0 0)))
 
--- if the router finds for a UTF-8 path what `route_of` gives (`Leads`), the route found has UTF-8 parameters and is
--- that of `route_of` (`FindsRoute`)
 finds_route_if_leads : (path : List ℕ) (e : RouteOf RouteKey) → IsUtf8 path → first route_rows path ≡ Some e → Leads path → FindsRoute path e
 finds_route_if_leads path e text h (to_join at utf8 is) =
     let same : kept_at 1 ≡ e = (let some = kept_first path (Some 1) at in cc) in
@@ -320,7 +272,6 @@ finds_route_if_leads path e text h (to_number key rest at taken cut utf8 is) =
     subst (λ x. FindsRoute path x) same (rw taken (ascii_utf8 (codes "number") refl, cut text, tt), rw taken is)
 finds_route_if_leads path e text h (nowhere at is) = (let none = kept_first path None at in cc)
 
--- the route found for a UTF-8 path has UTF-8 parameters and is that of `route_of` (`FindsRoute`)
 finds_route : (path : List ℕ) (e : RouteOf RouteKey) → IsUtf8 path → first route_rows path ≡ Some e → FindsRoute path e
 finds_route path e text h = finds_route_if_leads path e text h (leads path)
 
@@ -329,8 +280,6 @@ finds_route path e text h = finds_route_if_leads path e text h (leads path)
 abbrev GetsParameter : {A : Type 0} → (A → List ℕ) → Option A → List (List ℕ × List ℕ) → Type 0
 GetsParameter view r taken = AllText taken → MatchOption r (named number_text taken ≡ None) (λ text. named number_text taken ≡ Some (view text))
 
--- For `found_route_is`: the text of a parameter is the result `r` mapped by `view`. Premise: it is None where `r` is
--- None, and the view of the value where `r` has one.
 matched_text_is : {A : Type 0} (view : A → List ℕ) (r : Option A) (text : Option (List ℕ)) → MatchOption r (text ≡ None) (λ x. text ≡ Some (view x)) → text ≡ option_map view r
 matched_text_is view None text h = h
 matched_text_is view (Some x) text h = h
@@ -343,13 +292,11 @@ found_route_is view r path given e route same text at gets is =
     let taken : GetsParameter view r (walk e.pattern e.text path e.names 0 0) = subst (λ l. GetsParameter view r (walk e.pattern e.text l e.names 0 0)) same gets in
     is ∙ ap (λ x. route_in e.value x) (sym (matched_text_is view r (named number_text (walk e.pattern e.text path e.names 0 0)) (taken says.0))) ∙ sym says.1
 
--- a path that is not UTF-8, and for which the router finds what `route_of` gives (`Leads`), has no route
 no_text_by : (path : List ℕ) → (IsUtf8 path → ⊥) → Leads path → route_of path ≡ None
 no_text_by path h (to_join e text is) = absurd (h text)
 no_text_by path h (to_number key rest e taken cut (inl none) is) = none
 no_text_by path h (to_number key rest e taken cut (inr text) is) = absurd (h text)
 no_text_by path h (nowhere e is) = is
 
--- a path that is not UTF-8 has no route
 pub no_route_without_utf8 : (path : List ℕ) → (IsUtf8 path → ⊥) → route_of path ≡ None
 no_route_without_utf8 path h = no_text_by path h (leads path)

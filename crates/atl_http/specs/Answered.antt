@@ -11,8 +11,6 @@ use Rattle.atl_service.specs.declared.command.Refusal.TheVariants.{NameTaken, Fu
 use Rattle.atl_service.specs.Numbers.{number_of, refusal_name, fault_name}
 use Rattle.atl_http.specs.Replies.{Reply, json, plain, no_number, error_body}
 
--- ---- the bodies of commands that were carried out
-
 -- the body for a join: {"faction":F,"unit":U}
 unfoldable pub joined_body : (faction unit : ℕ) → List ℕ
 joined_body faction unit = codes "{\"faction\":" ▸ decimal faction ▸ codes ",\"unit\":" ▸ decimal unit ▸ codes "}"
@@ -43,8 +41,6 @@ month_body month = codes "{\"month\":" ▸ decimal month ▸ codes "}"
 abbrev pub success : (kind body : List ℕ) → Reply
 success kind body = record { status = 200; allow = None; kind = kind; body = body }
 
--- ---- refusals and faults
-
 -- the HTTP status for a refusal; 400 for refusals that aren't listed here
 abbrev pub refusal_status : Refusal → ℕ
 refusal_status NameTaken = 409
@@ -61,8 +57,6 @@ refusal_status why = 400
 -- the reply of this status to a refusal or a fault of a command, with its name and number as JSON
 abbrev pub failure : (status : ℕ) → (name : List ℕ) → (number : ℕ) → Reply
 failure status name number = record { status = status; allow = None; kind = json; body = error_body name number }
-
--- ---- the whole
 
 -- the reply to an answer: status 200 with what was done or the report, a refusal's status, or 500 for a fault
 abbrev pub answer_reply : Answer → Reply

@@ -29,7 +29,6 @@ fn write_pair(out: &mut String, faulty: &FaultyLine) -> Result<(), AllocError>
     write!(out, "[{line},{number}]")
 }
 
-/// Writes the faulty lines after the first as `[L,K]`, each with a comma in front.
 fn write_more_pairs(out: &mut String, faults: &[FaultyLine]) -> Result<(), AllocError>
     ensures { OnOk result (string_bytes out.new ≡ string_bytes out.old ++ more_pairs faults.now) }
 {
@@ -40,7 +39,6 @@ fn write_more_pairs(out: &mut String, faults: &[FaultyLine]) -> Result<(), Alloc
     Ok(())
 }
 
-/// Writes all faulty lines as `[L,K]`, with commas between them.
 fn write_pairs(out: &mut String, faults: &[FaultyLine]) -> Result<(), AllocError>
     ensures { OnOk result (string_bytes out.new ≡ string_bytes out.old ++ pairs faults.now) }
 {
@@ -72,7 +70,6 @@ fn month_body(alloc: Global, month: u32) -> Result<String, AllocError>
     format!(in alloc; "{{\"month\":{month}}}")
 }
 
-/// The HTTP status for a refusal: 403, 404, 409 or 413, else 400.
 fn refusal_status(refusal: Refusal) -> StatusCode
     ensures { result ≡ refusal_status refusal }
 {
@@ -93,7 +90,6 @@ fn refusal_status(refusal: Refusal) -> StatusCode
     }
 }
 
-/// The reply to a refusal: its status, and its number and name as JSON.
 fn refusal_message(alloc: Global, refusal: Refusal) -> Result<Message, AllocError>
     ensures { IfOk result (MatchesReply (answer_reply (Answer.Refused refusal))) }
 {
@@ -106,7 +102,6 @@ fn refusal_message(alloc: Global, refusal: Refusal) -> Result<Message, AllocErro
     )
 }
 
-/// The reply to a fault of a command: status 500, and its name with the number 0 as JSON.
 fn fault_message(alloc: Global, fault: Fault) -> Result<Message, AllocError>
     ensures { IfOk result (MatchesReply (answer_reply (Answer.Fault fault))) }
 {
@@ -119,7 +114,6 @@ fn fault_message(alloc: Global, fault: Fault) -> Result<Message, AllocError>
     )
 }
 
-/// The reply to a command that was carried out: status 200 and `body`, which is JSON.
 fn success_message(alloc: Global, body: &str) -> Result<Message, AllocError>
     ensures { IfOk result (MatchesReply (success json body.now)) }
 {

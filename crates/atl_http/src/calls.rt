@@ -30,7 +30,6 @@ pub enum ReadOutcome {
 pub enum WriteOutcome {
     /// The number of bytes written, at least one.
     Taken(usize),
-    /// The write was interrupted, and can be done again.
     Interrupted,
     /// The write failed, or took no byte.
     Failed,
@@ -50,7 +49,6 @@ pub struct WriteCalls {
     last: WriteOutcome,
 }
 
-/// Whether an error says only that the call was interrupted.
 fn is_interrupted(error: &Error) -> bool
     ensures { IsTrue result ↔ (error_kind error.now ≡ ErrorKind.Interrupted) }
 {
@@ -81,7 +79,6 @@ fn write_outcome(returned: io::Result<usize>) -> WriteOutcome
     }
 }
 
-/// Starts the counters of a request's reads, reads once, and gives the count.
 impl ReadCalls {
     ghost use Rattle.atl_http.specs.Calls.{most_reads, no_reads, ReadsOnce};
 
@@ -95,7 +92,6 @@ impl ReadCalls {
         }
     }
 
-    /// How many reads of the request there were.
     pub fn count(self) -> u32
         ensures { result ≡ self.count }
     {
@@ -117,7 +113,6 @@ impl ReadCalls {
     }
 }
 
-/// Starts the counters of a reply's writes, writes once, and gives the count of interruptions.
 impl WriteCalls {
     ghost use Rattle.atl_http.specs.Calls.{most_interrupted, no_writes, WritesOnce};
 
@@ -131,7 +126,6 @@ impl WriteCalls {
         }
     }
 
-    /// How many writes of the reply were interrupted.
     pub fn interrupted(self) -> u32
         ensures { result ≡ self.interrupted }
     {

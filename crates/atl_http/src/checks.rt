@@ -18,16 +18,12 @@ use serde_json::Value;
 use std::alloc::Global;
 use std::str;
 
-/// The name of the field Host.
 const HOST: &[u8] = b"Host";
 
-/// The name of the field with the coding of the body.
 const TRANSFER_ENCODING: &[u8] = b"Transfer-Encoding";
 
-/// The name of the field with the length of the body.
 const CONTENT_LENGTH: &[u8] = b"Content-Length";
 
-/// The name of the field with a pass text.
 const PASS: &[u8] = b"Atlantis-Pass";
 
 /// Whether a request has exactly one field Host; a request of HTTP/1.0 needs none.
@@ -64,7 +60,6 @@ fn requested_route(
     }
 }
 
-/// Whether a method is the one of the route.
 fn is_method(method: &[u8], route: Route) -> bool
     ensures { result ≡ bytes_eq method.now (method_of route) }
 {
@@ -148,7 +143,6 @@ fn pass_of<'a>(route: Route, bytes: &'a [u8], fields: &[HeaderSpan]) -> Result<&
 #[derive(Drop, Clone, Copy)]
 pub struct ParsedHead<'a> {
     pub route: Route,
-    /// How many bytes the body has.
     pub size: usize,
     pub pass: &'a [u8],
 }
@@ -174,7 +168,6 @@ pub fn head_checks<'a>(
     Ok(ParsedHead { route, size, pass })
 }
 
-/// The value of a body in JSON; BadJson if it is not UTF-8 or not JSON.
 fn json_of(alloc: Global, body: &[u8]) -> Result<Value, CheckError>
     ensures { GivesAsDefined view result (or_problem BadJson (json_of body.now)) }
 {
@@ -188,7 +181,6 @@ fn json_of(alloc: Global, body: &[u8]) -> Result<Value, CheckError>
     }
 }
 
-/// The text under a key of an object of JSON; BadJson if there is none.
 fn text_at<'a>(said: &'a Value, key: &str) -> Result<&'a str, CheckError>
     ensures { GivesAsDefined (λ text. text.now) result
         (or_problem BadJson (text_at key.now (view said.now))) }

@@ -17,7 +17,6 @@ pub struct Dice {
     pub seed: u64,
 }
 
-/// Draws the words of a join and of a month.
 impl Dice {
     /// The word of the faction of this number, which picks the region where it begins.
     /// See docs/FORMATS.md, "Dice".

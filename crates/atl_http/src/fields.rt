@@ -10,22 +10,17 @@ use httparse::spans::{HeaderSpan, Span};
 /// The result of a lookup by name: no field, one field with the span of its value, or several.
 #[derive(Drop, Clone, Copy)]
 pub enum FieldLookup {
-    /// No field has the name.
     Nowhere,
-    /// One field has the name: the span of its value.
     Once(Span),
-    /// Several fields have the name.
     Several,
 }
 
-/// Whether two names are equal, ignoring ASCII case.
 fn is_same(name: &[u8], other: &[u8]) -> bool
     ensures { result ≡ str_eq_ignore_ascii_case name.now other.now }
 {
     name.eq_ignore_ascii_case(other)
 }
 
-/// Adds one more value to the result of a lookup: none becomes one, and one becomes several.
 fn add_value(found: FieldLookup, value: Span) -> FieldLookup
     ensures { result ≡ add_value found value }
 {

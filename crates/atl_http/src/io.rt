@@ -51,7 +51,6 @@ impl HttpFault {
 
 /// Writes the fault's number and name, as `1 Cut`; of `Memory` the name alone.
 impl fmt::Display for HttpFault {
-    /// Writes the fault's number, if it has one, and its name.
     fn fmt<W: fmt::Write>(&self, f: &mut fmt::Formatter<W>) -> fmt::Result {
         match self.number() {
             Some(number) => write!(f, "{number} {self:?}"),
@@ -60,16 +59,13 @@ impl fmt::Display for HttpFault {
     }
 }
 
-/// Lets a caller handle a fault of HTTP as any `Error`; its text is what `Display` writes.
 impl std::error::Error for HttpFault {}
 
-/// A failed allocation becomes Memory.
 impl From<AllocError> for HttpFault {
     ghost use Rattle.atl_http.specs.declared.io.HttpFault.TheVariants.{Memory};
 
     ghost from_gives = { λ _ e. e ≡ Memory };
 
-    /// The fault Memory.
     fn from(_e: AllocError) -> HttpFault {
         HttpFault::Memory
     }
@@ -128,7 +124,6 @@ pub fn send<W: Write>(
     Ok(())
 }
 
-/// A buffer of 8,192 zeros for the bytes of one read.
 fn read_buffer(alloc: Global) -> Result<Vec<u8>, AllocError>
     ensures { IfOk result (λ room. length room.items ≡ most_at_once) }
 {

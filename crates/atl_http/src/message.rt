@@ -26,15 +26,12 @@ pub struct Message {
     pub bytes: String,
 }
 
-/// Drops the bytes of a reply.
 impl Drop for Message {
-    /// Drops the bytes of the reply.
     fn drop(self) {
         let_go!(self: Message { status, bytes });
     }
 }
 
-/// The reason phrase of a status, as `Not Found`; empty where it has none.
 fn phrase_of(status: StatusCode) -> &'static str
     ensures { result.now ≡ unwrap_or (reason_phrase status) [] }
 {
@@ -44,7 +41,6 @@ fn phrase_of(status: StatusCode) -> &'static str
     }
 }
 
-/// Writes the status line and the fields Content-Type, Content-Length and Connection.
 #[tactic(auto, unfolding(crate::specs::Replies::head_of))]
 fn write_head(
     out: &mut String,
@@ -64,7 +60,6 @@ fn write_head(
     )
 }
 
-/// Writes the field `Allow` with the method of the route, if there is one.
 fn write_allowed(out: &mut String, allow: Option<Route>) -> Result<(), AllocError>
     ensures { OnOk result (string_bytes out.new ≡ string_bytes out.old ++ allow_line allow) }
 {
@@ -104,7 +99,6 @@ pub fn reply_message(
     })
 }
 
-/// The body of a reply to an error: its name and number as JSON.
 #[tactic(auto, unfolding(crate::specs::Replies::error_body))]
 fn error_body(alloc: Global, name: &str, number: u8) -> Result<String, AllocError>
     ensures { IfOk result (λ body. string_bytes body ≡ error_body name.now number) }

@@ -65,7 +65,6 @@ fn front_of(seen: &[u8]) -> &[u8]
 /// The result of parsing the first bytes as a head: whole, unfinished or refused.
 #[derive(Drop, Clone, Copy)]
 pub enum HeadParse {
-    /// A whole head, with the spans of its parts.
     Whole(RequestSpans),
     /// The head isn't whole, and may become so.
     Partial,
@@ -73,7 +72,6 @@ pub enum HeadParse {
     Refused,
 }
 
-/// Parses the first bytes as a head; one with more than 32 fields is refused.
 fn parse_head(front: &[u8], fields: &mut [HeaderSpan]) -> HeadParse
     requires { length fields.old ≡ most_fields }
     ensures finds { ParsesHead front.now fields.new result }
@@ -86,7 +84,6 @@ fn parse_head(front: &[u8], fields: &mut [HeaderSpan]) -> HeadParse
     }
 }
 
-/// The first `count` fields of the buffer, which are those that the parser found.
 fn first_fields(fields: &[HeaderSpan], count: usize) -> &[HeaderSpan]
     requires { count ≤ length fields.now }
     ensures { result.now ≡ take count fields.now }
@@ -102,8 +99,6 @@ pub fn rest_after(seen: &[u8], len: usize) -> &[u8]
     &seen[len..]
 }
 
-/// The progress on received bytes that begin with a whole head: verdict, or number of missing
-/// bytes.
 fn progress_past_head(
     alloc: Global,
     seen: &[u8],
@@ -125,7 +120,6 @@ fn progress_past_head(
     progress_with_body(alloc, head.version, method, target, front, fields, rest)
 }
 
-/// The progress on the bytes received so far, with a buffer for the fields of their head.
 fn progress_in(
     alloc: Global,
     seen: &[u8],

@@ -28,14 +28,11 @@ pub struct Patience<'a, C: Clock> {
 
 /// Drops the time left; the clock is only lent.
 impl<'a, C: Clock> Drop for Patience<'a, C> {
-    /// Drops the time that is left.
     fn drop(self) {
         let Patience { clock: _, left: _ } = self;
     }
 }
 
-/// Starts with all of the time, gives the time limit of each read or write, and subtracts what it
-/// took.
 impl<'a, C: Clock> Patience<'a, C> {
     /// The patience with a new connection: all of `WHOLE_SECONDS` is left.
     pub fn new(clock: &'a C) -> Patience<'a, C>
@@ -60,12 +57,10 @@ impl<'a, C: Clock> Patience<'a, C> {
         Ok((wait_within(self.left), self.now()?))
     }
 
-    /// The time now.
     fn now(&self) -> io::Result<Instant> {
         Instant::now(self.clock)
     }
 
-    /// Subtracts the time since a read or write began from the time left.
     fn spend(&mut self, begun: Instant, ended: Instant)
         ensures { IsSpent self.old.left begun ended self.new.left }
     {
@@ -94,7 +89,6 @@ pub struct Peer<'a, C: Clock> {
 
 /// Drops a reference and the time left: the connection is lent.
 impl<'a, C: Clock> Drop for Peer<'a, C> {
-    /// Drops the reference and the patience.
     fn drop(self) {
         let Peer {
             stream: _,
@@ -103,7 +97,6 @@ impl<'a, C: Clock> Drop for Peer<'a, C> {
     }
 }
 
-/// Makes the peer of a new connection.
 impl<'a, C: Clock> Peer<'a, C> {
     /// The peer of a new connection, for which all of `WHOLE_SECONDS` is left.
     pub fn new(stream: &'a TcpStream, clock: &'a C) -> Peer<'a, C>

@@ -30,7 +30,6 @@ pub enum Problem {
     BadJson,
 }
 
-/// Gives the name of a problem, and the status of the reply to it.
 impl Problem {
     /// The problem's name, as `NoRoute` in the body of the reply.
     pub fn name(self) -> &'static str
@@ -47,7 +46,6 @@ impl Problem {
         }
     }
 
-    /// The status of the reply to the problem.
     pub fn status(self) -> StatusCode
         ensures { result ≡ problem_status self }
     {
@@ -63,31 +61,26 @@ impl Problem {
 
 /// Prints a problem's name, as `NoRoute`.
 impl fmt::Display for Problem {
-    /// Writes the problem's name.
     fn fmt<W: fmt::Write>(&self, f: &mut fmt::Formatter<W>) -> fmt::Result {
         write!(f, "{}", self.name())
     }
 }
 
-/// Lets a caller handle a problem as any `Error`; its text is what `Display` writes.
 impl Error for Problem {}
 
 /// Why checking a request ended: out of memory, or a check failed.
 #[derive(Drop, Clone, Copy)]
 pub enum CheckError {
-    /// Memory ran out.
     Memory,
     /// The request fails a check, with this problem.
     Failed(Problem),
 }
 
-/// A failed allocation becomes Memory.
 impl From<AllocError> for CheckError {
     ghost use Rattle.atl_http.specs.declared.problem.CheckError.TheVariants.{Memory};
 
     ghost from_gives = { λ _ e. e ≡ Memory };
 
-    /// The error Memory.
     fn from(_e: AllocError) -> CheckError {
         CheckError::Memory
     }

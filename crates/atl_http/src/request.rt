@@ -11,39 +11,30 @@ use std::alloc::{AllocError, Global};
 pub enum Request {
     /// A faction joins, under a name, with a pass text of its own.
     Join {
-        /// The name that the faction takes.
         name: Sequence<u8>,
         /// The pass text that the faction's later requests must give.
         pass: Sequence<u8>,
     },
     /// A faction sends its orders.
     Orders {
-        /// The faction's number.
         faction: u32,
-        /// The faction's pass text.
         pass: Sequence<u8>,
         /// The mailing: the bytes of the body.
         text: Sequence<u8>,
     },
     /// The moderator closes a month.
     Close {
-        /// The month's number.
         month: u32,
-        /// The moderator's pass text.
         pass: Sequence<u8>,
     },
     /// A faction asks for its report.
     Report {
-        /// The faction's number.
         faction: u32,
-        /// The faction's pass text.
         pass: Sequence<u8>,
     },
 }
 
-/// Drops the name, the pass text or the mailing of a request.
 impl Drop for Request {
-    /// Drops what the request owns, whichever variant it is.
     fn drop(self) {
         match self {
             Request::Join { name: _, pass: _ } => {}
@@ -61,7 +52,6 @@ impl Drop for Request {
     }
 }
 
-/// Turns a request into the command that it asks for.
 impl Request {
     ghost use Rattle.atl_http.specs.Serving.{command_of};
 
@@ -118,9 +108,7 @@ pub enum Verdict {
 /// The final verdict on a request, after which no more is read.
 #[derive(Drop)]
 pub enum FinalVerdict {
-    /// The request fails a check.
     Refused(Problem),
-    /// The request is whole and passes each check but that of its command.
     Asks(Request),
 }
 
@@ -129,11 +117,9 @@ pub enum FinalVerdict {
 pub enum Progress {
     /// The request isn't whole, and needs at least this many bytes more, which is 1 or more.
     Missing(usize),
-    /// The request is whole or refused.
     Ends(FinalVerdict),
 }
 
-/// Gives the verdict of a progress.
 impl Progress {
     ghost use Rattle.atl_http.specs.Heads.{verdict_by};
 

@@ -17,7 +17,6 @@ const MOST_DIGITS: usize = 9;
 /// The route of a path, with the number in it. See docs/FORMATS.md, "HTTP".
 #[derive(Drop, Clone, Copy, Debug, PartialEq, Eq)]
 pub enum Route {
-    /// A faction joins.
     Join,
     /// The mailing of the faction of this number.
     Orders(u32),
@@ -36,7 +35,6 @@ pub enum RouteKey {
     Report,
 }
 
-/// Gives the HTTP method of a route.
 impl Route {
     /// The one HTTP method that the route takes.
     pub fn method(self) -> Method
@@ -67,14 +65,12 @@ pub fn number_of(bytes: &[u8]) -> Option<u32>
     Some(value as u32)
 }
 
-/// The index of the first question mark in a target, if there is one.
 fn first_question(bytes: &[u8]) -> Option<usize>
     ensures { result ≡ position is_question bytes.now }
 {
     bytes.iter().position(|byte| *byte == b'?')
 }
 
-/// The index where the path of a target ends: that of the first question mark, or its length.
 #[tactic(auto, using(atl_orders::proofs::WordLaws::found_or_len, atl_orders::proofs::WordLaws::found_within))]
 fn end_of_path(target: &[u8]) -> usize
     ensures value { result ≡ position_or_len is_question target.now }
@@ -91,7 +87,6 @@ pub fn path_of(target: &[u8]) -> &[u8]
     &target[..end]
 }
 
-/// Adds a route to a router; `key` is the key that the route leads to.
 fn add(router: &mut Router<RouteKey>, route: &str, key: RouteKey) -> Result<(), AllocError>
     ensures { OnOk result (InsertsRead (parse_route route.now) key router.old router.new
         (Ok tt)) }
@@ -102,7 +97,6 @@ fn add(router: &mut Router<RouteKey>, route: &str, key: RouteKey) -> Result<(), 
     }
 }
 
-/// A router of the four routes.
 fn router(alloc: Global) -> Result<Router<RouteKey>, AllocError>
     ensures { IfOk result (λ router. router ≡ route_rows) }
 {
@@ -128,7 +122,6 @@ fn route_in(key: RouteKey, parameter: Option<&str>) -> Option<Route>
     }
 }
 
-/// The route of a path, by a router of the four routes.
 fn route_by(router: &Router<RouteKey>, path: &str) -> Option<Route>
     requires { router.now ≡ route_rows }
     ensures { result ≡ route_of path.now }

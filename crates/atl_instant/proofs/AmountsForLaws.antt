@@ -13,12 +13,10 @@ use Rattle.atl_records.specs.Holdings.{amount_of}
 use Rattle.atl_records.proofs.EveryLaws.{found_of}
 use Rattle.atl_instant.specs.Amounts.{amounts_for}
 
--- for `each_some`: an amount that isn't 0 is at least 1
 at_least_one : (n : ℕ) → (n == 0) ≡ false → 1 ≤ n
 at_least_one n some = grind (arith, nat_tests)
 
 module _ (f : ℕ → ℕ) where
-  -- the amount that is listed for a number is f of the number, and isn't 0
   abbrev IsAmountFor : ℕ → ℕ → Type 0
   IsAmountFor n amount = (1 ≤ amount) × (amount ≡ f n)
 
@@ -27,18 +25,14 @@ module _ (f : ℕ → ℕ) where
   abbrev listed : List ℕ → List (ℕ × ℕ)
   listed ns = filter (λ e. not (e.1 == 0)) (map (λ n. (n, f n)) ns)
 
-  -- each entry of `listed` has the amount that f gives to its number, and that isn't 0
   each_some : (ns : List ℕ) → EachEntry IsAmountFor (listed ns)
   each_some [] = tt
   each_some (n ∷ ns) = for_zero_or_more (each_some ns) (f n == 0) refl
     where
-      -- for `each_some`: the entries of n ∷ ns have their amounts (`IsAmountFor`), whether the amount of n is 0 (`b`)
-      -- or not
       for_zero_or_more : EachEntry IsAmountFor (listed ns) → (b : Bool) → (f n == 0) ≡ b → EachEntry IsAmountFor (cond (not b) ((n, f n) ∷ listed ns) (listed ns))
       for_zero_or_more rest true is = rest
       for_zero_or_more rest false is = ((at_least_one (f n) is, refl), rest)
 
-  -- each number that the map of `amounts_for` lists has the amount that f gives it, and that isn't 0
   pub each_said : (ns : List ℕ) → Every IsAmountFor (amounts_for f ns)
   unfolding amounts_for
   each_said ns n amount is = found_of IsAmountFor (listed ns) n amount (each_some ns) (sym (get-from_entries nat_cmp_total (listed ns) n) ∙ is)
@@ -47,23 +41,17 @@ module _ (f : ℕ → ℕ) where
   abbrev found : ℕ → List ℕ → ℕ
   found q ns = unwrap_or (find nat_cmp q (listed ns)) 0
 
-  -- whether a number is in the list
   abbrev is_among : ℕ → List ℕ → Bool
   is_among q ns = list_any (eq_by_cmp nat_cmp q) ns
 
-  -- a number in the list has among the entries the amount that f gives it, and any other number has 0
   found_said : (q : ℕ) (ns : List ℕ) → found q ns ≡ cond (is_among q ns) (f q) 0
   found_said q [] = refl
   found_said q (n ∷ ns) = for_longer_list (found_said q ns) (f n == 0) (eq_by_cmp nat_cmp q n) refl refl
     where
-      -- for `for_longer_list`: where f gives 0 to q, the choice between f q and 0 is f q, whether q is among the
-      -- numbers (`b`) or not
       same_choice : (b : Bool) → 0 ≡ f q → cond b (f q) 0 ≡ f q
       same_choice true none = refl
       same_choice false none = none
 
-      -- for `found_said`: the amount that the entries of n ∷ ns have for q is f q if q is in n ∷ ns, and else 0, if the
-      -- same holds of ns
       for_longer_list : found q ns ≡ cond (is_among q ns) (f q) 0 → (b k : Bool) → (f n == 0) ≡ b → eq_by_cmp nat_cmp q n ≡ k → unwrap_or (find nat_cmp q (cond (not b) ((n, f n) ∷ listed ns) (listed ns))) 0 ≡ cond (k || is_among q ns) (f q) 0
       for_longer_list rest true true none same = rest ∙ same_choice (is_among q ns) (sym (ap f (same_key q n same) ∙ is_equal (f n) 0 none))
       for_longer_list rest true false none other = rest
@@ -76,7 +64,6 @@ module _ (f : ℕ → ℕ) where
   unfolding amounts_for
   as_said ns q others = ap (λ (o : Option ℕ). unwrap_or o 0) (get-from_entries nat_cmp_total (listed ns) q) ∙ found_said q ns ∙ for_listed_or_not (is_among q ns) refl
     where
-      -- for `as_said`: the amount that the map has for q is f q, whether q is in the list (`b`) or not
       for_listed_or_not : (b : Bool) → is_among q ns ≡ b → cond b (f q) 0 ≡ f q
       for_listed_or_not true is = refl
       for_listed_or_not false is = sym (others is)
@@ -85,7 +72,6 @@ module _ (f : ℕ → ℕ) where
 pub same_amounts : (m o : FinMap nat_cmp ℕ) → Every (λ n amount. 1 ≤ amount) m → Every (λ n amount. 1 ≤ amount) o → ((n : ℕ) → amount_of m n ≡ amount_of o n) → m ≡ o
 same_amounts m o some also same = same_map nat_cmp_total nat_cmp-IsAntisymmetric m o (λ n. by_options n (get m n) (get o n) refl refl (same n))
   where
-    -- for `same_amounts`: the two maps have the same under n (`a` and `b`): one value, or both none
     by_options : (n : ℕ) (a b : Option ℕ) → get m n ≡ a → get o n ≡ b → unwrap_or a 0 ≡ unwrap_or b 0 → a ≡ b
     by_options n None None one two e = refl
     by_options n None (Some y) one two e = let l = also n y two in absurd (omega (arith, l, e))

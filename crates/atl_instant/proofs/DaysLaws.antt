@@ -22,7 +22,6 @@ module _ (days : FinMap nat_cmp ℕ) (f : ℕ → ℕ → ℕ) (s : ℕ) where
   abbrev set_all : FinMap nat_cmp ℕ → List (ℕ × ℕ) → FinMap nat_cmp ℕ
   set_all left es = fold (λ (m : FinMap nat_cmp ℕ) (e : ℕ × ℕ). with_amount_of m e.0 (f e.0 e.1)) left es
 
-  -- whether the skill s is in the list of entries
   abbrev is_among : List (ℕ × ℕ) → Bool
   is_among es = list_any (eq_by_cmp nat_cmp s) (map (λ e. e.0) es)
 
@@ -35,13 +34,10 @@ module _ (days : FinMap nat_cmp ℕ) (f : ℕ → ℕ → ℕ) (s : ℕ) where
       ∙ ap (cond (is_among es) (f s (amount_of days s))) (amount_after_setting left k (f k v) s)
       ∙ by_key (eq_by_cmp nat_cmp s k) refl
     where
-      -- for `by_key`: a choice between x and x, by any test b, is x
       choice_of_same : (b : Bool) (x : ℕ) → cond b x x ≡ x
       choice_of_same true x = refl
       choice_of_same false x = refl
 
-      -- for `set_among`: skill s has f of its days if it is among the entries, and else what it had, whether the first
-      -- entry is for s (`b`) or not
       by_key : (b : Bool) → eq_by_cmp nat_cmp s k ≡ b → cond (is_among es) (f s (amount_of days s)) (cond b (f k v) (amount_of left s)) ≡ cond (b || is_among es) (f s (amount_of days s)) (amount_of left s)
       by_key true is =
           let same : s ≡ k = compared_equal_is_equal k s is in
@@ -57,14 +53,12 @@ module _ (days : FinMap nat_cmp ℕ) (f : ℕ → ℕ → ℕ) (s : ℕ) where
       ∙ ap (λ b. cond b (f s (amount_of days s)) (amount_of left s)) (sym (contains_key-keys days s))
       ∙ by_option (get days s) refl
     where
-      -- for `set_each`: skill s has f of its days, whether the map `days` lists it (`o`) or not
       by_option : (o : Option ℕ) → get days s ≡ o → cond (is_some o) (f s (amount_of days s)) (amount_of left s) ≡ f s (amount_of days s)
       by_option (Some d) there = refl
       by_option None there =
           let none : amount_of days s ≡ 0 = ap (λ (o : Option ℕ). unwrap_or o 0) there in
           others none ∙ ap (f s) (sym none)
 
--- no days go with n of `men` men (`days_going`), if all of them together have 0 days of the skill
 zero_days_going : (n men : ℕ) → days_going n men 0 ≡ 0
 zero_days_going n men = ap (λ k. k / men) (zero-mul n) ∙ zero-div men
 
@@ -75,11 +69,9 @@ with_days_mapped : (f : ℕ → ℕ → ℕ) (es : List (ℕ × ℕ)) (all : Fin
 with_days_mapped f [] all = refl
 with_days_mapped f (e ∷ es) all = with_days_mapped f es (with_amount_of all e.0 (f e.0 e.1))
 
--- a skill that the map doesn't list has 0 days
 none_listed : (days : FinMap nat_cmp ℕ) (s : ℕ) → list_any (eq_by_cmp nat_cmp s) (keys days) ≡ false → amount_of days s ≡ 0
 none_listed days s none = by_option (get days s) (contains_key-keys days s ∙ none)
   where
-    -- for `none_listed`: a look-up of a skill that finds no entry (`o`) gives 0 days
     by_option : (o : Option ℕ) → is_some o ≡ false → unwrap_or o 0 ≡ 0
     by_option None is = refl
     by_option (Some d) is = cc
@@ -90,15 +82,12 @@ both_tests_fail : (a b : Bool) → (a || b) ≡ false → (a ≡ false) × (b �
 both_tests_fail true b h = cc
 both_tests_fail false b h = (refl, h)
 
--- if a unit has 0 days of a skill (d), of which g go with its men, 0 stay with it
 none_stay : (d g : ℕ) → d ≡ 0 → d - g ≡ 0
 none_stay d g e = omega (arith, e)
 
--- for `days_go_with_men`: a receiver that has 0 days of a skill (d), and to which 0 come (g), has 0 after that
 none_come : (d g : ℕ) → d ≡ 0 → g ≡ 0 → d + g ≡ 0
 none_come d g e f = omega (arith, e, f)
 
--- no days of a skill go with n men, if the unit has none
 pub none_go : (n : ℕ) (h : HoldingValue) (s : ℕ) → amount_of h.days s ≡ 0 → going_of n h s ≡ 0
 none_go n h s none = ap (days_going n h.men) none ∙ zero_days_going n h.men
 
@@ -113,9 +102,6 @@ days_go_with_men n other h s = record {
       none_come (amount_of h.days s) (going_of n other s) (none_listed h.days s apart.0) (none_go n other s (none_listed other.days s apart.1)));
 }
 
--- ---- what the code sets one by one
-
--- a map that lists no skill with 0 days lists none with 0 days after the days of some skills are set one by one
 no_zeros_after_setting : (f : ℕ → ℕ → ℕ) (es : List (ℕ × ℕ)) (left : FinMap nat_cmp ℕ) → Every (λ s d. 1 ≤ d) left → Every (λ s d. 1 ≤ d) (fold (λ (m : FinMap nat_cmp ℕ) (e : ℕ × ℕ). with_amount_of m e.0 (f e.0 e.1)) left es)
 no_zeros_after_setting f [] left old = old
 no_zeros_after_setting f (e ∷ es) left old = no_zeros_after_setting f es (with_amount_of left e.0 (f e.0 e.1)) (every_amount (λ s d. 1 ≤ d) left e.0 (f e.0 e.1) (λ some. some) old)
@@ -140,7 +126,6 @@ set_again days f none some =
     setting_gives_map days days anew f some (no_zeros_after_setting f (entries days) empty (every-empty (λ s d. 1 ≤ d))) (λ s free. free ∙ sym (none s))
     (λ s. sym (set_each days f s empty (λ free. ap (λ (o : Option ℕ). unwrap_or o 0) (get-empty nat_cmp s) ∙ sym (none s))))
 
--- the days of a skill that stay when n of `men` men go, of the `days` that they have together
 abbrev days_staying : (n men : ℕ) → (skill days : ℕ) → ℕ
 days_staying n men k d = d - days_going n men d
 
@@ -169,6 +154,5 @@ receiver_holding_is n other h had =
     (λ s none. nothing_more (amount_of h.days s) (days_going n other.men 0) (zero_days_going n other.men))
     (λ s. sym (days_go_with_men n other h s).come))
   where
-    -- for `receiver_holding_is`: the receiver's days a stay the same if no days (g) come
     nothing_more : (a g : ℕ) → g ≡ 0 → a ≡ a + g
     nothing_more a g e = omega arith

@@ -42,19 +42,14 @@ use Rattle.atl_phase.proofs.UnmailedLaws.{LeavesOthersMen}
 
 -- a unit is no worse off after an order of faction f, and has exactly as many men as before if it isn't of that faction
 pub record IsLeftAlone (f : ℕ) (before after : Unit) : Type 0 where
-  -- the unit is no worse off after the order than before (`IsNoWorse`)
   pub better : IsNoWorse before after
-  -- a unit of another faction than f, which wrote the order, has exactly as many men as before
   pub men : f ≢ before.faction → after.holding.men ≡ before.holding.men
 
 -- What an order of faction f for unit n keeps, as it makes campaign d of c: each unit but n is left alone
 -- (`IsLeftAlone`). Where `holds` is true of c and the order fits the world (`fit`), `holds` is true of d, and month,
 -- books and balance are kept.
 pub record OrderKeeps (holds : Condition) (fit : Type 0) (w : WorldValue) (c : CampaignValue) (n f : ℕ) (d : CampaignValue) : Type 0 where
-  -- where `holds` is true of c and the order fits (`fit`), `holds` is true of d, and month, books and balance are kept
   pub well : holds w c → fit → StepsWell holds nothing_remaining w c d
-  -- each unit but n is in d, no worse off than in c, and has exactly as many men as in c if it is of another faction
-  -- than f
   pub others : (k : ℕ) (v : Unit) → get c.units k ≡ Some v → k ≢ n → IsStillThere (IsLeftAlone f) d k v
 
 module _ {holds : Condition} {fit : Type 0} (w : WorldValue) (c : CampaignValue) (n f : ℕ) where
@@ -65,7 +60,6 @@ module _ {holds : Condition} {fit : Type 0} (w : WorldValue) (c : CampaignValue)
     others = λ k v there apart. record { unit = v; there = stay k apart ∙ there; is_unaffected = record { better = no_worse v; men = λ other. refl } };
   }
 
-  -- an order that changes nothing keeps `holds`, the books and the other units (`OrderKeeps`)
   pub keeps_all : OrderKeeps holds fit w c n f c
   keeps_all = keeps_others c (λ h fits. well_same w c h) (λ k apart. refl)
 
@@ -90,7 +84,6 @@ orderly_by {holds} {step} keeps passed = record {
   bounded = λ w c h e t. omega arith;
 }
   where
-    -- a unit that an order doesn't affect is no worse off after it, whether the order is passed over or not
     by_step : (w : WorldValue) (c : CampaignValue) (t : Task) (x : Unit) → IsUnitOf c t x → (n : ℕ) (u : Unit) → get c.units n ≡ Some u
         → (o : Option OrderEffect) → IfSome o (λ effect. OrderKeeps holds (AreOperandsOf w t.order_value.operands) w c t.unit x.faction (effect c x).0) → (IsOwnOrder t n u.faction → o ≡ None) → IfSome o (λ effect. IsStillThere IsNoWorse (effect c x).0 n u)
     by_step w c t x own n u there None kept passes = tt
@@ -117,7 +110,6 @@ module _ (c : CampaignValue) (from to : ℕ) (u v : Unit) (h k : HoldingValue) (
   abbrev pub moved : CampaignValue
   moved = with_holding_at between to k (Some v)
 
-  -- the receiver is still there after the giver has given
   receiver_still : get between.units to ≡ Some v
   receiver_still = get-insert_other c.units from to (record u { holding = h }) apart ∙ receiver
 
@@ -133,7 +125,6 @@ module _ (c : CampaignValue) (from to : ℕ) (u v : Unit) (h k : HoldingValue) (
   abbrev pub BothHold : Type 0
   BothHold = (t : Thing) → unit_amount t h + unit_amount t k ≡ unit_amount t u.holding + unit_amount t v.holding
 
-  -- the campaign's total of each thing stays the same, if giver and receiver together hold as much as before
   total-moved : WorldValue → BothHold → (t : Thing) → total moved t ≡ total c t
   total-moved w both t =
       sum (total moved t) (total between t) (total c t) (unit_amount t u.holding) (unit_amount t v.holding) (unit_amount t h) (unit_amount t k) (total-new_holding w between to v k receiver_still t) (total-new_holding w c from u h giver t) (both t)
@@ -150,7 +141,6 @@ module _ (c : CampaignValue) (from to : ℕ) (u v : Unit) (h k : HoldingValue) (
       unbooked_well w c moved (early-having w between to v k receiver_still more more_flag (early-having w c from u h giver less less_flag early))
       (same_month_by refl) refl (total-moved w both)
 
-  -- a move leaves each unit but the giver alone (`IsLeftAlone`), if it leaves the receiver alone
   pub others-moved : (f : ℕ) → IsLeftAlone f v (record v { holding = k }) → (n : ℕ) (x : Unit) → get c.units n ≡ Some x → n ≢ from → IsStillThere (IsLeftAlone f) moved n x
   others-moved f is_unaffected n x there other = elim (cases_eq n to) [
     | inl same ↦
@@ -168,13 +158,10 @@ pub moved_cases : (P : CampaignValue → Type 0) (c : CampaignValue) (from to : 
     → P (unless c (fault (to == from)) (if to == from then c else with_holding_at (with_holding_at c from h (Some u)) to k (Some v), o)).0
 moved_cases P c from to u v h k fault o same move = by_test (to == from) refl
   where
-    -- for `moved_cases`: P holds of the campaign after the order, whether it has a fault (`x`) or not, and whether the
-    -- unit is itself the receiver (`b`) or not
     by_fault : (b : Bool) → (to == from) ≡ b → (x : Option EventFault) → fault b ≡ x → P (unless c x (if b then c else with_holding_at (with_holding_at c from h (Some u)) to k (Some v), o)).0
     by_fault b is (Some x) none = same
     by_fault true is None none = same
     by_fault false is None none = let apart : to ≢ from = grind (arith, nat_tests) in move apart none
 
-    -- for `moved_cases`: P holds of the campaign after the order, whether the unit is itself the receiver (`b`) or not
     by_test : (b : Bool) → (to == from) ≡ b → P (unless c (fault b) (if b then c else with_holding_at (with_holding_at c from h (Some u)) to k (Some v), o)).0
     by_test b is = by_fault b is (fault b) refl

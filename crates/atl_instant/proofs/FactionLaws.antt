@@ -14,31 +14,24 @@ use Rattle.atl_records.proofs.EveryLaws.{every-insert, get-insert_other, none_so
 use Rattle.atl_campaign.proofs.RegionLaws.{changed-known, same_len}
 
 module _ (c : CampaignValue) (n : ℕ) (x : Faction) (name : List ℕ) (is : get c.factions n ≡ Some x) where
-  -- faction n with `name` in place of its own name
   abbrev renamed : Faction
   renamed = record x { name = name }
 
-  -- the factions of the campaign, of which faction n shows `name`
   abbrev factions : FinMap nat_cmp Faction
   factions = insert c.factions n renamed
 
-  -- the campaign in which faction n shows `name`
   abbrev shown : CampaignValue
   shown = record c { factions = factions }
 
-  -- a number that had no faction has none after faction n got another name
   none_kept : (k : ℕ) → get c.factions k ≡ None → get factions k ≡ None
   none_kept k none = get-insert_other c.factions n k renamed (λ same. none_some x (sym none ∙ ap (get c.factions) same ∙ is)) ∙ none
 
-  -- each faction is still there after faction n got another name
   there : (k : ℕ) → HasValue c.factions k → HasValue factions k
   there k h = there-insert c.factions n k renamed h
 
-  -- there are as many factions as before after faction n got another name
   same_count : len factions ≡ len c.factions
   same_count = same_len c.factions n x renamed is
 
-  -- after a faction got another name, numbers and amounts are still in their ranges (`AreInRange`)
   numbers_kept : (w : WorldValue) → AreInRange w c → AreInRange w shown
   numbers_kept w old = record {
     month = old.month;
@@ -59,7 +52,6 @@ module _ (c : CampaignValue) (n : ℕ) (x : Faction) (name : List ℕ) (is : get
   abbrev JoinedOnce : ℕ → Faction → ℕ → Faction → Type 0
   JoinedOnce k f m g = f.joined_as ≡ g.joined_as → k ≡ m
 
-  -- all names still follow their rules (`AreNamed`), if the faction's new name follows the name rule
   names_kept : IsTrue (name_ok name) → AreNamed c → AreNamed shown
   names_kept named old =
       let (joined, was, pass) = old.factions n x is in
@@ -73,7 +65,6 @@ module _ (c : CampaignValue) (n : ℕ) (x : Faction) (name : List ℕ) (is : get
         structures = old.structures;
       }
 
-  -- after a faction got another name, all that the campaign refers to is still there (`AreKnown`)
   known_kept : (w : WorldValue) → AreKnown w c → AreKnown w shown
   known_kept w old = record {
     regions = old.regions;
@@ -83,7 +74,6 @@ module _ (c : CampaignValue) (n : ℕ) (x : Faction) (name : List ℕ) (is : get
     posts = posted-there there old.posts;
   }
 
-  -- after a faction got another name, factions, units and structures are numbered as the rule says (`AreNumbered`)
   next_kept : AreNumbered c → AreNumbered shown
   next_kept old = record {
     factions = record { first = none_kept 0 old.factions.first; count = old.factions.count ∙ ap (λ l. l + 1) (sym same_count); free = λ k l. none_kept k (old.factions.free k l) };
@@ -91,7 +81,6 @@ module _ (c : CampaignValue) (n : ℕ) (x : Faction) (name : List ℕ) (is : get
     units = old.units;
   }
 
-  -- the campaign `shown`, with the faction's other name, is steady, if it was before and the name follows the name rule
   steady_shown : (w : WorldValue) → IsTrue (name_ok name) → IsSteady w c → IsSteady w shown
   steady_shown w named old = record {
     numbers = numbers_kept w old.numbers;
@@ -105,7 +94,6 @@ module _ (c : CampaignValue) (n : ℕ) (x : Faction) (name : List ℕ) (is : get
     guarded = old.guarded;
   }
 
-  -- `with_faction_name` makes the campaign `shown`
   shown_is : with_faction_name c n name ≡ shown
   shown_is = ap (λ m. record c { factions = m }) (changed-known (λ f. record f { name = name }) c.factions n x is)
 
@@ -113,14 +101,11 @@ module _ (c : CampaignValue) (n : ℕ) (x : Faction) (name : List ℕ) (is : get
   pub steady-faction_name : (w : WorldValue) → IsTrue (name_ok name) → IsSteady w c → IsSteady w (with_faction_name c n name)
   steady-faction_name w named old = subst (IsSteady w) (sym shown_is) (steady_shown w named old)
 
-  -- another name of a faction leaves the number of factions as it is
   pub count-faction_name : len (with_faction_name c n name).factions ≡ len c.factions
   count-faction_name = ap (λ (d : CampaignValue). len d.factions) shown_is ∙ same_count
 
-  -- a faction of `factions` was there before the renaming
   was_there : (k : ℕ) → HasValue factions k → HasValue c.factions k
   was_there k (f, here) = every-insert (λ k f. HasValue c.factions k) c.factions n renamed (x, is) (λ k f here. (f, here)) k f here
 
-  -- a faction that is there after the renaming was there before
   pub known-faction_name : (k : ℕ) → HasValue (with_faction_name c n name).factions k → HasValue c.factions k
   known-faction_name k h = was_there k (subst (λ (d : CampaignValue). HasValue d.factions k) shown_is h)

@@ -5,7 +5,7 @@ use Rattle.std.proofs.lemmas.Bool.{true≢false}
 use Rattle.std.specs.Prelude.{IsTrue, is_some, unwrap_or, fold}
 use Rattle.std.specs.Ordering.{nat_cmp}
 use Rattle.std.specs.Cmp.{nat_cmp_total}
-use Rattle.std.specs.FinMap.{FinMap, get, get-empty, insert, len, len-insert, values}
+use Rattle.std.specs.FinMap.{FinMap, get, get-empty, insert, len, len-insert}
 use Rattle.std.proofs.lemmas.Bool.Decides.{nat_tests}
 use Rattle.atl_world.specs.Names.{name_ok}
 use Rattle.atl_world.specs.Worlds.{WorldValue}
@@ -48,11 +48,9 @@ use Rattle.atl_instant.specs.declared.form.Forming.{Forming}
 
 -- ---- a campaign in which a unit has formed another
 
--- a map has one value more after an insertion under a number that had none
 len_new : {V : Type 0} (m : FinMap nat_cmp V) (k : ℕ) (v : V) → get m k ≡ None → len (insert m k v) ≡ len m + 1
 len_new m k v h = len-insert nat_cmp_total m k v ∙ ap (λ o. cond (is_some o) (len m) (len m + 1)) h
 
--- a value of a map is still there after an insertion under a number that had none
 still_there : {V : Type 0} (m : FinMap nat_cmp V) (k q : ℕ) (v x : V) → get m k ≡ None → get m q ≡ Some x → get (insert m k v) q ≡ Some x
 still_there m k q v x free is = get-insert_other m k q v (λ same. none_some x (sym free ∙ ap (get m) (sym same) ∙ is)) ∙ is
 
@@ -61,16 +59,13 @@ still_there m k q v x free is = get-insert_other m k q v (λ same. none_some x (
 below_limits : (u n : ℕ) → (nat_le most_units u || nat_lt last_unit n) ≡ false → (u < most_units) × (n ≤ last_unit)
 below_limits u n h = (grind (arith, nat_tests), grind (arith, nat_tests))
 
--- if the unit limit isn't reached, there are fewer units than 100,000, and the next number is at most 999,999,999
 pub unit_limits_not_reached : (c : CampaignValue) → is_unit_limit c ≡ false → (len c.units < most_units) × (c.next_unit ≤ last_unit)
 unit_limits_not_reached c h = below_limits (len c.units) c.next_unit h
 
 module _ (w : WorldValue) (c : CampaignValue) (p : ℕ) (u : Unit) (is : get c.units p ≡ Some u) (early : IsEarly w c) where
-  -- the unit that unit p forms
   abbrev child : Unit
   child = new_unit c.next_unit u.faction u.region u.structure
 
-  -- the units of the campaign with the one that is formed
   abbrev units : FinMap nat_cmp Unit
   units = insert c.units c.next_unit child
 
@@ -78,19 +73,15 @@ module _ (w : WorldValue) (c : CampaignValue) (p : ℕ) (u : Unit) (is : get c.u
   abbrev begun : CampaignValue
   begun = with_unit_begun c child
 
-  -- the campaign before FORM is steady
   old : IsSteady w c
   old = early.steady
 
-  -- there is no unit under the next unit number
   free : get c.units c.next_unit ≡ None
   free = old.next.units c.next_unit (omega arith)
 
-  -- each unit that was there stays as it was when the new unit is added
   unit_stays : Every (λ n v. get units n ≡ Some v) c.units
   unit_stays n v there = still_there c.units c.next_unit n child v free there
 
-  -- after a unit is formed, numbers and amounts are in their ranges (`AreInRange`), if the unit limit wasn't reached
   numbers_kept : is_unit_limit c ≡ false → AreInRange w begun
   numbers_kept limit =
       let r = unit_limits_not_reached c limit in
@@ -110,7 +101,6 @@ module _ (w : WorldValue) (c : CampaignValue) (p : ℕ) (u : Unit) (is : get c.u
         books = n.books;
       }
 
-  -- after a unit is formed, all names follow their rules (`AreNamed`), if the unit limit wasn't reached
   names_kept : is_unit_limit c ≡ false → AreNamed begun
   names_kept limit =
       let n = old.names in
@@ -122,7 +112,6 @@ module _ (w : WorldValue) (c : CampaignValue) (p : ℕ) (u : Unit) (is : get c.u
         structures = n.structures;
       }
 
-  -- after a unit is formed, all that the campaign refers to is there (`AreKnown`)
   known_kept : AreKnown w begun
   known_kept =
       let k = old.known in
@@ -136,7 +125,6 @@ module _ (w : WorldValue) (c : CampaignValue) (p : ℕ) (u : Unit) (is : get c.u
         posts = k.posts;
       }
 
-  -- after a unit is formed, factions, units and structures are numbered as the rule says (`AreNumbered`)
   next_kept : AreNumbered begun
   next_kept = record {
     factions = old.next.factions;
@@ -144,15 +132,12 @@ module _ (w : WorldValue) (c : CampaignValue) (p : ℕ) (u : Unit) (is : get c.u
     units = λ q above. get-insert_other c.units c.next_unit q child (λ same. omega arith) ∙ old.next.units q (omega arith);
   }
 
-  -- after a unit is formed, factions that are gone still have no units
   gone_kept : GoneHaveNone begun
   gone_kept m f there gone =
       let test = λ (x : Unit). x.faction == m in
       let none = old.gone m f there gone in
       numbers_where-insert_other test c.units c.next_unit child free (none_passing test c.units none p u is) ∙ none
 
-  -- after a unit is formed, each structure is still owned by a unit inside it, or by nobody where none is inside
-  -- (`AreOwned`)
   owners_kept : AreOwned begun
   owners_kept n s there =
       let o = old.owners n s there in
@@ -161,20 +146,17 @@ module _ (w : WorldValue) (c : CampaignValue) (p : ℕ) (u : Unit) (is : get c.u
         ownerless = λ none. every-insert (λ m x. x.structure ≢ n) c.units c.next_unit child (o.ownerless none p u is) (o.ownerless none);
       }
 
-  -- after a unit is formed, each unit on water is inside a ship (`AreAfloat`)
   water_kept : AreAfloat w begun
   water_kept = record {
     units = every-insert (λ n x. is_land_at w x.region ≡ false → IsAboard w begun x) c.units c.next_unit child (old.water.units p u is) old.water.units;
     structures = old.water.structures;
   }
 
-  -- the units of each region that pass a test are of one faction still, if the new unit doesn't pass the test
   one_faction_kept : (test : Unit → Bool) → test child ≡ false → AreOfOneFaction test c → AreOfOneFaction test begun
   one_faction_kept test fails one =
       every-insert (λ n x. Every (λ m y. test x ≡ true → test y ≡ true → x.region ≡ y.region → x.faction ≡ y.faction) units) c.units c.next_unit child (λ m y there e. absurd (true≢false (sym e ∙ fails)))
       (λ n x there. every-insert (λ m y. test x ≡ true → test y ≡ true → x.region ≡ y.region → x.faction ≡ y.faction) c.units c.next_unit child (λ _ e. absurd (true≢false (sym e ∙ fails))) (one n x there))
 
-  -- the campaign stays early when a unit is formed, if the unit limit isn't reached
   early_begun : is_unit_limit c ≡ false → IsEarly w begun
   early_begun limit = record {
     steady = record {
@@ -191,7 +173,6 @@ module _ (w : WorldValue) (c : CampaignValue) (p : ℕ) (u : Unit) (is : get c.u
     flags = one_faction_kept (λ x. x.holding.guard) refl early.flags;
   }
 
-  -- the new unit holds nothing
   nothing_held : (t : Thing) → unit_amount t child.holding ≡ 0
   nothing_held Money = refl
   nothing_held People = refl
@@ -201,7 +182,6 @@ module _ (w : WorldValue) (c : CampaignValue) (p : ℕ) (u : Unit) (is : get c.u
   none_more : (a b h : ℕ) → a ≡ b + h → h ≡ 0 → a ≡ b
   none_more a b h e none = omega arith
 
-  -- the campaign's total of each thing is the same after a unit is formed
   same_total : (t : Thing) → total begun t ≡ total c t
   unfolding total
   same_total t = none_more (total begun t) (total c t) (unit_amount t child.holding) (total-with_unit c c.next_unit child t free) (nothing_held t)
@@ -211,13 +191,11 @@ module _ (w : WorldValue) (c : CampaignValue) (p : ℕ) (u : Unit) (is : get c.u
   pub begun_well : is_unit_limit c ≡ false → StepsWell IsEarly nothing_remaining w c begun
   begun_well limit = unbooked_well w c begun (early_begun limit) (same_month_by refl) refl same_total
 
-  -- each unit that was there is unchanged after another unit is formed
   pub begun_stays : Every (λ n v. get begun.units n ≡ Some v) c.units
   begun_stays = unit_stays
 
 -- ---- what is marked
 
--- all that changes when a unit is formed is marked
 pub marks-begun : (c : MarkedCampaign) (u : Unit) → MarksChanges c (record { value = with_unit_begun c.value u; marks = mark_unit_begun c })
 marks-begun c u =
     let n = c.value.next_unit in
@@ -232,12 +210,10 @@ marks-begun c u =
 -- ---- one order
 
 module _ (w : WorldValue) (c : CampaignValue) (early : IsEarly w c) where
-  -- there is no unit under the next unit number
   pub free_number : get c.units c.next_unit ≡ None
   free_number = early.steady.next.units c.next_unit (omega arith)
 
   module _ (f n : ℕ) where
-    -- if unit n is of faction f, `with_formed_unit` adds a new unit with the faction, region and structure of unit n
     formed_is : (u : Unit) → get c.units n ≡ Some u → u.faction ≡ f → with_formed_unit c f n ≡ with_unit_begun c (new_unit c.next_unit u.faction u.region u.structure)
     formed_is u is own =
         ap (λ g. with_unit_begun c (new_unit c.next_unit g (region_of c n) (structure_of_unit c n))) (sym own)
@@ -248,38 +224,28 @@ module _ (w : WorldValue) (c : CampaignValue) (early : IsEarly w c) where
     abbrev IsEarlyAndKeepsUnits : CampaignValue → Type 0
     IsEarlyAndKeepsUnits d = StepsWell IsEarly nothing_remaining w c d × Every (λ k v. get d.units k ≡ Some v) c.units
 
-    -- an unchanged campaign stays early and leaves each unit as it was (`IsEarlyAndKeepsUnits`)
     same_fine : IsEarlyAndKeepsUnits c
     same_fine = (well_same w c early, λ k v there. there)
 
-    -- below the unit limit, forming a unit keeps the campaign early and the other units as they were
-    -- (`IsEarlyAndKeepsUnits`)
     formed_fine : (u : Unit) → get c.units n ≡ Some u → (u.faction ≡ f) → is_unit_limit c ≡ false → IsEarlyAndKeepsUnits (with_formed_unit c f n)
     formed_fine u is own limit = subst IsEarlyAndKeepsUnits (sym (formed_is u is own)) (begun_well w c n u is early limit, begun_stays w c n u is early)
 
-    -- FORM for a unit that is there keeps the campaign early and the other units as they were (`IsEarlyAndKeepsUnits`),
-    -- whatever the unit's faction is and whether the unit limit is reached
     by_limit : (u : Unit) → get c.units n ≡ Some u → (a b : Bool) → is_of_faction f (Some u) ≡ a → is_unit_limit c ≡ b
         → IsEarlyAndKeepsUnits (unless c (first_fault ((not a, NotYours) ∷ (b, UnitLimit) ∷ [])) (with_formed_unit c f n, Done c.next_unit)).0
     by_limit u is false b own limit = same_fine
     by_limit u is true true own limit = same_fine
     by_limit u is true false own limit = formed_fine u is (is_equal u.faction f own) limit
 
-    -- FORM keeps the campaign early and the other units as they were (`IsEarlyAndKeepsUnits`), whether unit n is there
-    -- or not
     by_unit : (o : Option Unit) → get c.units n ≡ o → IsEarlyAndKeepsUnits (unless c (first_fault ((not (is_of_faction f o), NotYours) ∷ (is_unit_limit c, UnitLimit) ∷ [])) (with_formed_unit c f n, Done c.next_unit)).0
     by_unit None is = same_fine
     by_unit (Some u) is = by_limit u is (is_of_faction f (Some u)) (is_unit_limit c) refl refl
 
-    -- an order of FORM keeps the campaign early and the other units as they were (`IsEarlyAndKeepsUnits`)
     form_fine : IsEarlyAndKeepsUnits (form_by c f n).0
     form_fine = by_unit (get c.units n) refl
 
-  -- FORM, carried out by a copy of the order, keeps an early campaign early, in its month and balanced (`StepsWell`)
   pub order_well : (m : MonthValue) (o : Forming) → StepsWell IsEarly nothing_remaining w c (form_by_copy (c, m) o).0
   order_well m o = (form_fine o.faction o.unit).0
 
-  -- FORM, carried out by a copy of the order, leaves each unit that was there unchanged
   pub order_stays : (m : MonthValue) (o : Forming) → Every (λ k v. get (form_by_copy (c, m) o).0.units k ≡ Some v) c.units
   order_stays m o = (form_fine o.faction o.unit).1
 
@@ -290,7 +256,6 @@ pub formed_by_copy : (p : CampaignValue × MonthValue) (ts : List Task) → fold
 formed_by_copy p [] = refl
 formed_by_copy p (t ∷ ts) = formed_by_copy (form_order p t) ts
 
--- the copies of all orders of FORM of a month, carried out one after another, make what the phase makes
-pub all_formed : (w : WorldValue) (c : CampaignValue) (m : MonthValue) → fold form_by_copy (c, m) (map forming_of (values (orders_of is_forming ByFaction m.aliases m.readings))) ≡ form_meaning w c m
+pub all_formed : (w : WorldValue) (c : CampaignValue) (m : MonthValue) → fold form_by_copy (c, m) (map forming_of (orders_of is_forming ByFaction m.aliases m.readings)) ≡ form_meaning w c m
 unfolding form_meaning
-all_formed w c m = formed_by_copy (c, m) (values (orders_of is_forming ByFaction m.aliases m.readings))
+all_formed w c m = formed_by_copy (c, m) (orders_of is_forming ByFaction m.aliases m.readings)

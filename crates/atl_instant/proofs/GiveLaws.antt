@@ -36,12 +36,9 @@ use Rattle.atl_instant.proofs.EffectLaws.{OrderKeeps, StepKeeps, keeps_all, move
 -- the giver holds n of the gift, and the receiver has room for n more: what holds where a gift to another unit has no
 -- fault
 record CanGive (gift : Gift) (n : ℕ) (u v : Unit) : Type 0 where
-  -- the giver holds at least n of the gift
   pub enough : n ≤ held_of gift u.holding
-  -- the receiver has room for n more of the gift
   pub room : held_of gift v.holding + n ≤ holding_limit
 
--- where a gift to another unit has no fault, the giver holds enough, and the receiver has room for it (`CanGive`)
 can_give : (gift : Gift) (n : ℕ) (u v : Unit) → give_fault gift n false u (Some v) ≡ None → CanGive gift n u v
 can_give gift n u v is =
     let little = nat_lt (held_of gift u.holding) n in
@@ -50,7 +47,6 @@ can_give gift n u v is =
     let two = none_fits little NotEnough ((full, NoRoom) ∷ []) one.1 in
     record { enough = not_less (held_of gift u.holding) n two.0; room = not_less holding_limit (held_of gift v.holding + n) (none_fits full NoRoom [] two.1).0 }
 
--- a holding within its limits (`IsHolding`) has at most `holding_limit` (999,999,999) of what is given
 pub held_within : (gift : Gift) (h : HoldingValue) → IsHolding h → held_of gift h ≤ holding_limit
 held_within Money h is = is.money
 held_within (Item i) h is = amount_within h i is
@@ -80,7 +76,6 @@ may_have_of w h (Item i) amount known most may = record {
   days = may.days;
 }
 
--- another amount of the gift changes neither the guard flag nor the men of a holding
 gift_leaves_flag_and_men : (gift : Gift) (h : HoldingValue) (amount : ℕ) → ((with_held_of gift h amount).guard ≡ h.guard) × ((with_held_of gift h amount).men ≡ h.men)
 gift_leaves_flag_and_men Money h amount = (refl, refl)
 gift_leaves_flag_and_men (Item i) h amount = (refl, refl)
@@ -99,38 +94,30 @@ gift_keeps_sum (Item i) n h k l (things.Item j) =
     let more = amount_after_setting k.items i (b + n) j in
     ap (λ x. x + amount_of (with_amount_of k.items i (b + n)) j) less ∙ ap (λ x. cond (eq_by_cmp nat_cmp j i) (a - n) (amount_of h.items j) + x) more ∙ by_test (eq_by_cmp nat_cmp j i) refl
   where
-    -- for `gift_keeps_sum`: if n of the giver's a, which is at least n, go to the receiver's b, the sum of both stays
     sum : (a b n : ℕ) → n ≤ a → (a - n) + (b + n) ≡ a + b
     sum a b n l = omega arith
 
-    -- giver and receiver together have as many pieces of item j as before, whether j is the item that is given or not
     by_test : (q : Bool) → eq_by_cmp nat_cmp j i ≡ q → cond q (amount_of h.items i - n) (amount_of h.items j) + cond q (amount_of k.items i + n) (amount_of k.items j) ≡ amount_of h.items j + amount_of k.items j
     by_test true is = sum (amount_of h.items i) (amount_of k.items i) n l ∙ ap (λ x. amount_of h.items x + amount_of k.items x) (sym (compared_equal_is_equal i j is))
     by_test false is = refl
 
--- a unit that gets a gift is no worse off
 pub gift_receiver_no_worse : (gift : Gift) (n : ℕ) (v : Unit) → IsNoWorse v (record v { holding = with_held_of gift v.holding (held_of gift v.holding + n) })
 gift_receiver_no_worse Money n v = record { faction = refl; region = refl; structure = refl; name = refl; guard = refl; men = omega arith; money = omega arith; items = λ i. omega arith; days = λ s. omega arith }
 gift_receiver_no_worse (Item i) n v = record { faction = refl; region = refl; structure = refl; name = refl; guard = refl; men = omega arith; money = omega arith; items = λ j. more j; days = λ s. omega arith }
   where
-    -- for `gift_receiver_no_worse`: what the receiver had of the gift (x, which is y) is at most that with n added
     here : (x y n : ℕ) → x ≡ y → x ≤ y + n
     here x y n is = omega arith
 
-    -- for `gift_receiver_no_worse`: the receiver has no fewer pieces of item j, whether j is the given item i (`q`) or
-    -- not
     by_test : (j : ℕ) (q : Bool) → eq_by_cmp nat_cmp j i ≡ q → amount_of v.holding.items j ≤ cond q (amount_of v.holding.items i + n) (amount_of v.holding.items j)
     by_test j true is = here (amount_of v.holding.items j) (amount_of v.holding.items i) n (ap (amount_of v.holding.items) (compared_equal_is_equal i j is))
     by_test j false is = omega arith
 
-    -- the receiver has no fewer pieces of item j after the gift than before
     more : (j : ℕ) → amount_of v.holding.items j ≤ amount_of (with_amount_of v.holding.items i (amount_of v.holding.items i + n)) j
     more j = subst (λ x. amount_of v.holding.items j ≤ x) (sym (amount_after_setting v.holding.items i (amount_of v.holding.items i + n) j)) (by_test j (eq_by_cmp nat_cmp j i) refl)
 
 -- ---- one order
 
 module _ {fit : Type 0} (w : WorldValue) (c : CampaignValue) (from to : ℕ) (gift : Gift) (n : ℕ) (u : Unit) (giver : get c.units from ≡ Some u) (known : fit → IsKnown w gift) where
-  -- a gift to another unit, if it can be given, keeps the campaign early, and other units no worse off (`OrderKeeps`)
   moved_kept : (v : Unit) → get c.units to ≡ Some v → to ≢ from → CanGive gift n u v
       → OrderKeeps IsEarly fit w c from u.faction (with_holding_at (with_holding_at c from (with_held_of gift u.holding (held_of gift u.holding - n)) (Some u)) to (with_held_of gift v.holding (held_of gift v.holding + n)) (Some v))
   moved_kept v receiver apart can =
@@ -148,13 +135,10 @@ module _ {fit : Type 0} (w : WorldValue) (c : CampaignValue) (from to : ℕ) (gi
             (record { better = gift_receiver_no_worse gift n v; men = λ other. (gift_leaves_flag_and_men gift v.holding more).1 });
       }
 
-  -- an order of GIVE or PAY of a gift of the world keeps the campaign early, and other units no worse off (`OrderKeeps`)
   gift_kept : OrderKeeps IsEarly fit w c from u.faction (give from to gift n c u).0
   unfolding give
   gift_kept = by_receiver (get c.units to) refl
     where
-      -- for `gift_kept`: the order keeps the campaign early, and other units no worse off (`OrderKeeps`), with a receiver
-      -- there (`o`) or without
       by_receiver : (o : Option Unit) → get c.units to ≡ o → OrderKeeps IsEarly fit w c from u.faction (give_to c from to gift n u o).0
       by_receiver None is = keeps_all w c from u.faction
       by_receiver (Some v) receiver =
@@ -163,11 +147,9 @@ module _ {fit : Type 0} (w : WorldValue) (c : CampaignValue) (from to : ℕ) (gi
 
 -- ---- the phase
 
--- each order of GIVE or PAY keeps the campaign early, and all units but the giver no worse off (`OrderKeeps`)
 pub give_keeps : StepKeeps IsEarly give_step
 give_keeps w a c t x own = by_operands t.order_value.operands
   where
-    -- an order with the operands o keeps the campaign early, and all units but the giver no worse off (`OrderKeeps`)
     by_operands : (o : OperandsValue) → IfSome (give_effect a t.faction t.unit o) (λ effect. OrderKeeps IsEarly (AreOperandsOf w o) w c t.unit x.faction (effect c x).0)
     by_operands (operands.UnitAndGoods to n item) = gift_kept w c t.unit (unit_of a t.faction to) (Item item) n x own.there (λ fit. fit.2)
     by_operands (operands.UnitAndNumber to n) = gift_kept w c t.unit (unit_of a t.faction to) Money n x own.there (λ fit. tt)

@@ -43,12 +43,10 @@ use Rattle.atl_instant.proofs.EffectLaws.{OrderKeeps, StepKeeps, keeps_others, k
 
 -- ---- other guards of the region
 
--- each number of a list fails a test, if the test whether any of them passes it (`list_any`) is false
 each_fails_test : (p : ℕ → Bool) (ns : List ℕ) → list_any p ns ≡ false → (k : ℕ) → IsListed k ns → p k ≡ false
 each_fails_test p [] is k listed = absurd listed
 each_fails_test p (n ∷ ns) is k listed = by_test (p n) refl is (λ e h. each_fails_test p ns e k h) listed
   where
-    -- for `each_fails_test`: if no number of n ∷ ns passes the test p, its number k fails p; n passes p where b is true
     by_test : (b : Bool) → p n ≡ b → (b || list_any p ns) ≡ false → (list_any p ns ≡ false → IsListed k ns → p k ≡ false) → IsListed k (n ∷ ns) → p k ≡ false
     by_test true t e rest h = cc
     by_test false t e rest (inl same) = ap p same ∙ t
@@ -62,8 +60,6 @@ own_guards c region faction none m v there guarding here =
     let no : guards_against faction (get c.units m) ≡ false = each_fails_test (λ n. guards_against faction (get c.units n)) (numbers_in_region region c.units) none m listed in
     not_apart v.faction faction (second (guards v) (not (v.faction == faction)) guarding (sym (ap (guards_against faction) there) ∙ no))
   where
-    -- for `own_guards`: if a unit guards (a), and the test "guards and is of another faction" fails, "of another
-    -- faction" (b) fails
     second : (a b : Bool) → a ≡ true → (a && b) ≡ false → b ≡ false
     second true b t e = e
     second false b t e = cc
@@ -81,18 +77,14 @@ module _ (w : WorldValue) (c : CampaignValue) (n : ℕ) (u : Unit) (is : get c.u
       let may = may_have w c n u is steady in
       record { limits = record { men = may.limits.men; money = may.limits.money; items = may.limits.items }; name = ok; items = may.items; skills = may.skills; days = may.days }
 
-  -- the campaign's total of each thing stays the same with the unit's other name and guard flag
   pub total-labelled : (t : Thing) → total (with_holding_at c n labelled (Some u)) t ≡ total c t
   total-labelled t = equal_by_sums (total (with_holding_at c n labelled (Some u)) t) (total c t) (unit_amount t u.holding) (unit_amount t labelled) (total-new_holding w c n u labelled is t) (held_same t)
     where
-      -- the unit holds as much of each thing under its other name, and with its other flag
       held_same : (s : Thing) → unit_amount s labelled ≡ unit_amount s u.holding
       held_same Money = refl
       held_same People = refl
       held_same (Item i) = refl
 
-      -- for `total-labelled`: totals a and b are equal, if a + x is b + y, and x and y, what the unit holds with the
-      -- one and the other name and flag, are equal
       equal_by_sums : (a b x y : ℕ) → a + x ≡ b + y → y ≡ x → a ≡ b
       equal_by_sums a b x y e f = omega arith
 
@@ -105,7 +97,6 @@ can_guard c u none =
     let two = none_fits (is_guarded_against c u.region u.faction) Guarded [] one.1 in
     (two.0, has_men u.holding.men one.0)
   where
-    -- for `can_guard`: a unit whose number of men isn't 0 has more than 0 men
     has_men : (n : ℕ) → (n == 0) ≡ false → nat_lt 0 n ≡ true
     has_men n some = grind (arith, nat_tests)
 
@@ -122,7 +113,6 @@ module _ (c : CampaignValue) (n : ℕ) (u : Unit) (is : get c.units n ≡ Some u
   abbrev Agree : Unit → Unit → Type 0
   Agree x y = guards x ≡ true → guards y ≡ true → x.region ≡ y.region → x.faction ≡ y.faction
 
-  -- all units that guard a region still are of one faction, if no other faction guards the region of unit n
   guards_kept : is_guarded_against c u.region u.faction ≡ false → AreOfOneFaction guards c → AreOfOneFaction guards flagged
   guards_kept none old =
       let own = own_guards c u.region u.faction none in
@@ -130,7 +120,6 @@ module _ (c : CampaignValue) (n : ℕ) (u : Unit) (is : get c.units n ≡ Some u
       (every-insert (λ m y. Agree guarding y) c.units n guarding (λ g k same. refl) (λ m y there g k same. sym (own m y there k (sym same))))
       (λ k x here. every-insert (λ m y. Agree x y) c.units n guarding (λ g h same. own k x here g same) (old k x here))
 
-  -- setting the guard flag of a unit that is there makes the campaign `flagged`
   pub flagged_is : with_guard c n true ≡ flagged
   flagged_is = changed_held (λ h. record h { guard = true }) c (with_guard c n true) n refl u is
 
@@ -142,14 +131,12 @@ module _ (c : CampaignValue) (n : ℕ) (u : Unit) (is : get c.units n ≡ Some u
       subst (StepsWell IsSteady nothing_remaining w c) (sym flagged_is)
       (stays_well IsSteady w c flagged (steady-having w c n u guarding.holding is may (guards_kept none steady.guarded) steady) (same_month_by refl) refl (total-labelled w c n u is u.holding.name true))
 
--- all that changes when the guard flag is set or cleared is marked
 pub flag_marks : (c d : MarkedCampaign) (n : ℕ) (flag : Bool) → d.value ≡ with_guard c.value n flag → d.marks ≡ mark_unit_row c n → MarksChanges c d
 flag_marks c d n flag what marks =
     marks_by c d (record { value = with_guard c.value n flag; marks = mark_unit_row c n }) what marks (marks-unit_row (λ u. record u { holding = record u.holding { guard = flag } }) (λ u. refl) c n)
 
 -- ---- one order
 
--- GUARD 1 for unit n keeps the campaign steady, and all other units no worse off (`OrderKeeps`)
 guard_kept : {fit : Type 0} (w : WorldValue) (c : CampaignValue) (n : ℕ) (u : Unit) → get c.units n ≡ Some u → OrderKeeps IsSteady fit w c n u.faction (guard n c u).0
 unfolding guard
 guard_kept w c n u is =
@@ -158,11 +145,9 @@ guard_kept w c n u is =
 
 -- ---- the phase
 
--- each order of GUARD 1 keeps the campaign steady, and all units but its own no worse off (`OrderKeeps`)
 pub guard_keeps : StepKeeps IsSteady guard_step
 guard_keeps w a c t x own = by_operands t.order_value.operands
   where
-    -- an order with the operands o keeps the campaign steady, and all units but its own no worse off (`OrderKeeps`)
     by_operands : (o : OperandsValue) → IfSome (guard_effect t.unit o) (λ effect. OrderKeeps IsSteady (AreOperandsOf w o) w c t.unit x.faction (effect c x).0)
     by_operands (operands.Flag true) = guard_kept w c t.unit x own.there
     by_operands other = tt
@@ -172,7 +157,6 @@ guard_keeps w a c t x own = by_operands t.order_value.operands
 pub guard_orderly : IsOrderly guard_step IsSteady nothing_remaining moves_nothing guard_affects IsNoWorse
 guard_orderly = orderly_by guard_keeps (λ w a t n f own other. passed t.unit t.order_value.operands (λ sets. other (own, sets)))
   where
-    -- for `guard_orderly`: the phase passes over an order whose operands aren't those of GUARD 1
     passed : (n : ℕ) (o : OperandsValue) → (o ≡ operands.Flag true → ⊥) → guard_effect n o ≡ None
     passed n (operands.Flag true) other = absurd (other refl)
     passed n o other = refl

@@ -43,22 +43,18 @@ module _ (fit : Type 0) (w : WorldValue) (c : CampaignValue) (n : ℕ) (u : Unit
 
   -- ---- the unit's name and its flag
 
-  -- another name that follows the name rule, and a guard flag that isn't newly set, keep the campaign early and in
-  -- balance (`StepsWell`)
   label_well : (name : List ℕ) (flag : Bool) → IsTrue (name_ok name) → (flag ≡ true → u.holding.guard ≡ true) → IsEarly w c → (d : CampaignValue) → d ≡ with_holding_at c n (labelled w c n u is name flag) (Some u) → StepsWell IsEarly nothing_remaining w c d
   label_well name flag ok old early d made =
       let h = labelled w c n u is name flag in
       subst (StepsWell IsEarly nothing_remaining w c) (sym made)
       (unbooked_well w c (with_holding_at c n h (Some u)) (early-having w c n u h is (may_label w c n u is name flag ok early.steady) old early) (same_month_by refl) refl (total-labelled w c n u is name flag))
 
-  -- naming the unit keeps the campaign early, and other units no worse off (`OrderKeeps`), if the name follows the name rule
   unit_named : (name : List ℕ) → (fit → IsTrue (name_ok name)) → KeepsOthersByName (with_unit_name c n name)
   unit_named name ok =
       keeps_others w c n u.faction (with_unit_name c n name)
       (λ early fits. label_well name u.holding.guard (ok fits) (λ g. g) early (with_unit_name c n name) (changed_held (λ h. record h { name = name }) c (with_unit_name c n name) n refl u is))
       (change_keeps_others (λ (x : Unit). record x { holding = record x.holding { name = name } }) c n)
 
-  -- clearing the unit's guard flag keeps the campaign early, and other units no worse off (`OrderKeeps`)
   flag_cleared : KeepsOthersByName (with_guard c n false)
   flag_cleared =
       keeps_others w c n u.faction (with_guard c n false)
@@ -67,7 +63,6 @@ module _ (fit : Type 0) (w : WorldValue) (c : CampaignValue) (n : ℕ) (u : Unit
 
   -- ---- the names of its faction and of a structure
 
-  -- naming the unit's faction keeps the campaign early, and units no worse off (`OrderKeeps`), if the name follows the rule
   faction_named : (name : List ℕ) → (fit → IsTrue (name_ok name)) → KeepsOthersByName (with_faction_name c u.faction name)
   faction_named name ok =
       keeps_others w c n u.faction (with_faction_name c u.faction name) (λ early fits.
@@ -77,11 +72,9 @@ module _ (fit : Type 0) (w : WorldValue) (c : CampaignValue) (n : ℕ) (u : Unit
       (same_month_among refl (count-faction_name c u.faction x name there) (known-faction_name c u.faction x name there)) refl (same_total_of c (with_faction_name c u.faction name) refl refl))
       (λ k apart. refl)
 
-  -- a structure with this name in place of its own
   abbrev titled : List ℕ → Structure → Structure
   titled name s = record s { name = name }
 
-  -- naming a structure keeps the campaign early and in balance (`StepsWell`), if the name follows the name rule
   structure_well : (k : ℕ) (name : List ℕ) → IsTrue (name_ok name) → IsEarly w c → StepsWell IsEarly nothing_remaining w c (with_structure_name c k name)
   structure_well k name ok early =
       unbooked_well w c (with_structure_name c k name)
@@ -89,20 +82,14 @@ module _ (fit : Type 0) (w : WorldValue) (c : CampaignValue) (n : ℕ) (u : Unit
       (λ q y there. relabelled y (q == k)) (λ q y there. owned q y (q == k) (early.steady.owners q y there)) early)
       (same_month_by refl) refl (same_total_of c (with_structure_name c k name) refl refl)
     where
-      -- each structure, renamed or not, keeps its kind, its region and how much of it is built, and its name follows
-      -- the rule (`IsRelabelled`)
       relabelled : (y : Structure) (b : Bool) → IsRelabelled y (if b then titled name y else y)
       relabelled y true = record { kind = refl; region = refl; done = refl; name = λ old. ok }
       relabelled y false = record { kind = refl; region = refl; done = refl; name = λ old. old }
 
-      -- a structure that is owned by a unit inside, or by nobody where none is inside (`IsOwned`), is so still, renamed
-      -- or not
       owned : (q : ℕ) (y : Structure) (b : Bool) → IsOwned c q y → IsOwned c q (if b then titled name y else y)
       owned q y true o = record { owned = o.owned; ownerless = o.ownerless }
       owned q y false o = o
 
-  -- an order to name structure k keeps the campaign early, and units no worse off (`OrderKeeps`), with a fault or without,
-  -- if the name follows the name rule
   structure_named : (k : ℕ) (ship : Bool) (name : List ℕ) → (fit → IsTrue (name_ok name)) → KeepsOthersByName (structure_name_result w c n k ship name).0
   structure_named k ship name ok =
       keeps_unless w c n u.faction (structure_fault w n ship (get c.structures k)) (with_structure_name c k name) (Done 0) (λ none.
@@ -110,18 +97,15 @@ module _ (fit : Type 0) (w : WorldValue) (c : CampaignValue) (n : ℕ) (u : Unit
 
   -- ---- an order
 
-  -- NAME, whatever it names, keeps the campaign early, and units no worse off (`OrderKeeps`), if the name follows the rule
   named : (what : NameKind) (name : List ℕ) → (fit → IsTrue (name_ok name)) → KeepsOthersByName (name_result w c n u.faction u.structure what name).0
   named kinds.Unit name ok = unit_named name ok
   named kinds.Faction name ok = faction_named name ok
   named kinds.Building name ok = structure_named u.structure false name ok
   named kinds.Ship name ok = structure_named u.structure true name ok
 
--- each order of NAME or GUARD 0 keeps the campaign early, and all units but its own no worse off (`OrderKeeps`)
 pub name_keeps : StepKeeps IsEarly name_step
 name_keeps w a c t x own = by_operands t.order_value.operands
   where
-    -- an order with the operands o keeps the campaign early, and all units but its own no worse off (`OrderKeeps`)
     by_operands : (o : OperandsValue) → IfSome (name_effect w t.unit o) (λ effect. OrderKeeps IsEarly (AreOperandsOf w o) w c t.unit x.faction (effect c x).0)
     by_operands (operands.Name what name) = named (AreOperandsOf w (operands.Name what name)) w c t.unit x own.there what name (λ fit. fit)
     by_operands (operands.Flag false) = flag_cleared (AreOperandsOf w (operands.Flag false)) w c t.unit x own.there

@@ -48,7 +48,6 @@ module _ (fit : Type 0) (w : WorldValue) (c : CampaignValue) (n : ℕ) (u : Unit
 
   -- ---- LEAVE
 
-  -- LEAVE for unit n keeps the campaign early, and all other units no worse off (`OrderKeeps`)
   left : KeepsOthersByPlace (leave w n c u).0
   unfolding leave
   left =
@@ -61,8 +60,6 @@ module _ (fit : Type 0) (w : WorldValue) (c : CampaignValue) (n : ℕ) (u : Unit
 
   -- ---- ENTER
 
-  -- ENTER without a fault keeps the campaign early, and other units no worse off (`OrderKeeps`), whether unit n is already
-  -- inside structure s or not
   entered_by : (s : ℕ) (o : Option Structure) → get c.structures s ≡ o → (b : Bool) → (u.structure == s) ≡ b → not (is_structure_in u.region o) ≡ false → KeepsOthersByPlace (if b then c else with_place c n u.region s)
   entered_by s None there b same near = absurd (true≢false near)
   entered_by s (Some x) there true same near = keeps_all w c n u.faction
@@ -72,7 +69,6 @@ module _ (fit : Type 0) (w : WorldValue) (c : CampaignValue) (n : ℕ) (u : Unit
       (λ early fits. place_well w c n u s is early (λ inside. is_unequal u.structure s same inside) (λ some. (x, there, here)) (λ wet. (x, there, (early.steady.water.structures s x there (ap (is_land_at w) here ∙ wet)).0)))
       (λ k apart. place_stays c n u.region s k apart)
 
-  -- ENTER for unit n keeps the campaign early, and all other units no worse off (`OrderKeeps`)
   entered : (s : ℕ) → KeepsOthersByPlace (enter n s c u).0
   unfolding enter
   entered s =
@@ -87,8 +83,6 @@ module _ (fit : Type 0) (w : WorldValue) (c : CampaignValue) (n : ℕ) (u : Unit
   inside_to to None there same some = absurd (some (sym same))
   inside_to to (Some v) there same some = (v, there, same)
 
-  -- making unit `to` the owner of the structure that it shares with unit n keeps the campaign early and in balance
-  -- (`StepsWell`)
   owner_well : (to : ℕ) → u.structure ≢ 0 → structure_of_unit c to ≡ u.structure → IsEarly w c → StepsWell IsEarly nothing_remaining w c (with_owner c u.structure to)
   owner_well to some near early =
       unbooked_well w c (with_owner c u.structure to)
@@ -96,14 +90,10 @@ module _ (fit : Type 0) (w : WorldValue) (c : CampaignValue) (n : ℕ) (u : Unit
       (λ q y there. relabelled y (q == u.structure)) (λ q y there. owned q y (q == u.structure) refl (early.steady.owners q y there)) early)
       (same_month_by refl) refl (same_total_of c (with_owner c u.structure to) refl refl)
     where
-      -- each structure, with the new owner or not, keeps its kind, its region and how much of it is built, and its
-      -- name follows the rule (`IsRelabelled`)
       relabelled : (y : Structure) (b : Bool) → IsRelabelled y (if b then owned_by to y else y)
       relabelled y true = record { kind = refl; region = refl; done = refl; name = λ old. old }
       relabelled y false = record { kind = refl; region = refl; done = refl; name = λ old. old }
 
-      -- a structure is still owned by a unit inside it, or by nobody where none is inside (`IsOwned`), whether it gets
-      -- the new owner or not
       owned : (q : ℕ) (y : Structure) (b : Bool) → (q == u.structure) ≡ b → IsOwned c q y → IsOwned c q (if b then owned_by to y else y)
       owned q y true here old =
           let (v, there, within) = inside_to to (get c.units to) refl near some in
@@ -113,7 +103,6 @@ module _ (fit : Type 0) (w : WorldValue) (c : CampaignValue) (n : ℕ) (u : Unit
           }
       owned q y false here old = old
 
-  -- PROMOTE by unit n keeps the campaign early, and all other units no worse off (`OrderKeeps`)
   promoted : (to : ℕ) → KeepsOthersByPlace (promote n to c u).0
   unfolding promote
   promoted to =
@@ -127,11 +116,9 @@ module _ (fit : Type 0) (w : WorldValue) (c : CampaignValue) (n : ℕ) (u : Unit
 
 -- ---- the phase
 
--- each order of LEAVE, ENTER or PROMOTE keeps the campaign early, and all units but its own no worse off (`OrderKeeps`)
 pub place_keeps : StepKeeps IsEarly place_step
 place_keeps w a c t x own = by_operands t.order_value.operands
   where
-    -- an order with the operands o keeps the campaign early, and all units but its own no worse off (`OrderKeeps`)
     by_operands : (o : OperandsValue) → IfSome (place_effect w a t.faction t.unit o) (λ effect. OrderKeeps IsEarly (AreOperandsOf w o) w c t.unit x.faction (effect c x).0)
     by_operands operands.Nothing = left (AreOperandsOf w operands.Nothing) w c t.unit x own.there
     by_operands (operands.Number s) = entered (AreOperandsOf w (operands.Number s)) w c t.unit x own.there s

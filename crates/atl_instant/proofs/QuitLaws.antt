@@ -10,7 +10,7 @@ use Rattle.std.proofs.lemmas.List.{drop_more}
 use Rattle.std.specs.declared.cmp.Ordering.TheVariants.{Less, Equal, Greater}
 use Rattle.std.specs.Ordering.{nat_cmp, is_eq}
 use Rattle.std.specs.Cmp.{ranked}
-use Rattle.std.specs.FinMap.{FinMap, entries, find, get, get-entries, is_sorted, len, nat_cmp-IsAntisymmetric, remove, values}
+use Rattle.std.specs.FinMap.{FinMap, entries, find, get, get-entries, is_sorted, len, nat_cmp-IsAntisymmetric, remove}
 use Rattle.atl_world.specs.Worlds.{WorldValue}
 use Rattle.atl_world.specs.Sums.{sum_over}
 use Rattle.atl_orders.specs.declared.order.Operands.TheVariants as operands
@@ -74,7 +74,6 @@ amount_as_thing s t amount = cond (thing_index s == thing_index t) amount 0
 abbrev loss_bound : BooksEntry → Thing → ℕ → ℕ
 loss_bound e t n = if entry_index e == entry_index (loss_entry t) then n else 0
 
--- things with the same number (`thing_index`) are the same thing
 same_thing : (s t : Thing) → thing_index s ≡ thing_index t → s ≡ t
 same_thing Money Money e = refl
 same_thing Money People e = absurd (omega (arith, e))
@@ -91,15 +90,11 @@ same_thing (Item i) (Item j) e = let same : i ≡ j = omega (arith, e) in ap Ite
 loss_within_bound : (amount : ℕ) (t : Thing) (e : BooksEntry) (s : Thing) → moves_only amount (loss_entry t) t e s ≤ loss_bound e s (amount_as_thing s t amount)
 loss_within_bound amount t e s = by_number (amount_number e s == amount_number (loss_entry t) t) refl
   where
-    -- for `by_number`: where both tests are true, of the entry (b) and of the thing (d), `amount` is within
-    -- `loss_bound`
     at_place : (b d : Bool) → b ≡ true → d ≡ true → amount ≤ cond b (cond d amount 0) 0
     at_place true true f g = omega arith
     at_place true false f g = cc
     at_place false d f g = cc
 
-    -- for `loss_within_bound`: the booking moves thing s under entry e by no more than `loss_bound` says, whether that
-    -- is the amount that is booked (`b`) or not
     by_number : (b : Bool) → (amount_number e s == amount_number (loss_entry t) t) ≡ b → (if b then amount else 0) ≤ loss_bound e s (amount_as_thing s t amount)
     by_number true is =
         let same : entry_count * thing_index s + entry_index e ≡ entry_count * thing_index t + entry_index (loss_entry t) = grind (arith, nat_tests) in
@@ -111,12 +106,9 @@ loss_within_bound amount t e s = by_number (amount_number e s == amount_number (
         at_place (entry_index e == entry_index (loss_entry s)) (thing_index s == thing_index t) (let f : (entry_index e == entry_index (loss_entry s)) ≡ true = grind (arith, nat_tests) in f) (let g : (thing_index s == thing_index t) ≡ true = grind (arith, nat_tests) in g)
     by_number false is = omega arith
 
--- the sum of the amounts x and y is within the sum of their bounds m and n (`loss_bound`), if each amount is within its
--- own bound
 under_sum : (e : BooksEntry) (s : Thing) (x y m n : ℕ) → x ≤ loss_bound e s m → y ≤ loss_bound e s n → x + y ≤ loss_bound e s (m + n)
 under_sum e s x y m n = by_test (entry_index e == entry_index (loss_entry s))
   where
-    -- for `under_sum`: x + y is within the sum of the bounds, whether e is the entry of the thing's loss (`b`) or not
     by_test : (b : Bool) → x ≤ (if b then m else 0) → y ≤ (if b then n else 0) → x + y ≤ (if b then m + n else 0)
     by_test true k l = omega arith
     by_test false k l = omega arith
@@ -128,28 +120,22 @@ abbrev pub held_in_items : List (ℕ × ℕ) → Thing → ℕ
 held_in_items [] s = 0
 held_in_items (e ∷ es) s = amount_as_thing s (Item e.0) e.1 + held_in_items es s
 
--- booking a list of items as lost moves a thing only within `loss_bound`: by at most what the list has of it, under the
--- entry of its loss alone
 items_within : (es : List (ℕ × ℕ)) (e : BooksEntry) (s : Thing) → items_bound es e s ≤ loss_bound e s (held_in_items es s)
 items_within [] e s = omega arith
 items_within (x ∷ xs) e s = under_sum e s (moves_only x.1 Lost (Item x.0) e s) (items_bound xs e s) (amount_as_thing s (Item x.0) x.1) (held_in_items xs s) (loss_within_bound x.1 (Item x.0) e s) (items_within xs e s)
 
--- an item that isn't the thing asked for (test b is false) adds nothing to a sum y over items, whatever its amount x is
 other_item_adds_nothing : (b : Bool) (x y : ℕ) → b ≡ false → cond b x 0 + y ≡ y
 other_item_adds_nothing true x y e = cc
 other_item_adds_nothing false x y e = omega arith
 
--- a list of items has no money
 pub no_money : (es : List (ℕ × ℕ)) → held_in_items es Money ≡ 0
 no_money [] = refl
 no_money (e ∷ es) = other_item_adds_nothing (0 == 2 + e.0) e.1 (held_in_items es Money) (let apart : (0 == 2 + e.0) ≡ false = grind (arith, nat_tests) in apart) ∙ no_money es
 
--- a list of items has no men
 pub no_people : (es : List (ℕ × ℕ)) → held_in_items es People ≡ 0
 no_people [] = refl
 no_people (e ∷ es) = other_item_adds_nothing (1 == 2 + e.0) e.1 (held_in_items es People) (let apart : (1 == 2 + e.0) ≡ false = grind (arith, nat_tests) in apart) ∙ no_people es
 
--- how much a sorted list of items has of an item is what a search in the list finds, and 0 where it finds none
 pub list_amount_is_found : (j : ℕ) (es : List (ℕ × ℕ)) → is_sorted nat_cmp es ≡ true → held_in_items es (Item j) ≡ unwrap_or (find nat_cmp j es) 0
 list_amount_is_found j [] s = refl
 list_amount_is_found j (e ∷ es) s =
@@ -163,15 +149,12 @@ list_amount_is_found j (e ∷ es) s =
       | Greater ↦ λ o. let l = ranked j e.0 Greater (sym o) in other_item_adds_nothing (2 + j == 2 + e.0) e.1 (held_in_items es (Item j)) (let t : (2 + j == 2 + e.0) ≡ false = grind (arith, nat_tests) in t) ∙ rest
     ] refl
   where
-    -- for `list_amount_is_found`: the item asked for (b is true) has its amount x, if the items after it have 0 of it
-    -- (y)
     here : (b : Bool) (x y : ℕ) → b ≡ true → y ≡ 0 → cond b x 0 + y ≡ x
     here true x y t none = omega (arith, none)
     here false x y t none = cc
 
 -- ---- what is booked of all that is held
 
--- how much of a thing a holding has: men, money, or an item
 abbrev held_of_thing : HoldingValue → Thing → ℕ
 held_of_thing h s = amount_as_thing s People h.men + (amount_as_thing s Money h.money + held_in_items (entries h.items) s)
 
@@ -179,26 +162,19 @@ held_of_thing h s = amount_as_thing s People h.men + (amount_as_thing s Money h.
 abbrev pub held_moves : HoldingValue → BookBound
 held_moves h = both_move (moves_only h.men Left People) (both_move (moves_only h.money Lost Money) (items_bound (entries h.items)))
 
--- how much of a thing a holding has by `held_of_thing` is how much it has by `unit_amount`
 held_is_unit_amount : (h : HoldingValue) (s : Thing) → held_of_thing h s ≡ unit_amount s h
 held_is_unit_amount h Money = sum h.money (held_in_items (entries h.items) Money) (no_money (entries h.items))
   where
-    -- for `held_is_unit_amount`: what a holding has of money is its money m alone: its men add 0, and its items n,
-    -- which is 0
     sum : (m n : ℕ) → n ≡ 0 → 0 + (m + n) ≡ m
     sum m n e = omega (arith, e)
 held_is_unit_amount h People = sum h.men (held_in_items (entries h.items) People) (no_people (entries h.items))
   where
-    -- for `held_is_unit_amount`: what a holding has of people is its men m alone: its money adds 0, and its items n,
-    -- which is 0
     sum : (m n : ℕ) → n ≡ 0 → m + (0 + n) ≡ m
     sum m n e = omega (arith, e)
 held_is_unit_amount h (Item j) =
     sum (2 + j == 1) (2 + j == 0) h.men h.money (held_in_items (entries h.items) (Item j)) (let t : (2 + j == 1) ≡ false = grind (arith, nat_tests) in t) (let t : (2 + j == 0) ≡ false = grind (arith, nat_tests) in t)
     ∙ list_amount_is_found j (entries h.items) (sorted h.items) ∙ ap (λ (o : Option ℕ). unwrap_or o 0) (sym (get-entries h.items j))
   where
-    -- For `held_is_unit_amount`: what a holding has of an item is k, the amount of its items. Men m and money n add
-    -- nothing, since the tests b and d, whether the thing is people or money, are false.
     sum : (b d : Bool) (m n k : ℕ) → b ≡ false → d ≡ false → cond b m 0 + (cond d n 0 + k) ≡ k
     sum false false m n k e f = omega arith
     sum true d m n k e f = cc
@@ -217,13 +193,9 @@ moves_what_leaves h e s =
 -- The campaign d is c with `gone` of each thing booked as gone, and only the books differ. Campaign d is steady, what
 -- the books have of a thing falls by `gone`, and no amount of the books moves further than `book_bound`.
 pub record BooksAsGone (w : WorldValue) (gone : Thing → ℕ) (book_bound : BookBound) (c d : CampaignValue) : Type 0 where
-  -- campaign d, in which amounts are booked as gone, is steady
   pub steady : IsSteady w d
-  -- the sum of each thing over all entries of the books is less by `gone` in d than in c
   pub sum_falls : (s : Thing) → booked c.books s ≡ booked d.books s +ℤ pos (gone s)
-  -- no amount of the books moves further from c to d than `book_bound` says
   pub near : (e : BooksEntry) (s : Thing) → IsNear (book_bound e s) (amount_in c.books e s) (amount_in d.books e s)
-  -- campaign d is c but for the books
   pub same : d ≡ record c { books = d.books }
 
 -- two steps that book something as gone, each within a bound (`BooksAsGone`), book together the sum of both, within the
@@ -236,7 +208,6 @@ books_twice {o} {p} {i} {j} w a b c one two = record {
   same = two.same ∙ ap (λ (s : CampaignValue). record s { books = c.books }) one.same;
 }
   where
-    -- for `books_twice`: if the books fall by m from x to y, and by n from y to z, they fall by m + n
     grouped : (x y z : ℤ) (m n : ℕ) → x ≡ y +ℤ pos m → y ≡ z +ℤ pos n → x ≡ z +ℤ pos (m + n)
     grouped x y z m n e f = omega (arith, ints, e, f)
 
@@ -252,14 +223,10 @@ books_one w c t amount inside steady = record {
   same = refl;
 }
   where
-    -- for `books_one`: an amount z of the books from which a (if b is true, else 0) is taken, and to which the same is
-    -- then added, is z
     less : (z : ℤ) (b : Bool) (a : ℕ) → z ≡ (z +ℤ cond b (neg_ℤ (pos a)) (pos 0)) +ℤ pos (cond b a 0)
     less z true a = omega (arith, ints)
     less z false a = omega (arith, ints)
 
--- Booking items as lost, one after another, lowers what the books have of each by its amount, and changes nothing else
--- (`BooksAsGone`). For this the items are of the world, and the campaign is steady. It stays steady.
 books_items : (w : WorldValue) (c : CampaignValue) (es : List (ℕ × ℕ)) → EachEntry (λ i a. i < length w.items) es → IsSteady w c → BooksAsGone w (held_in_items es) (items_bound es) c (fold with_item_loss c es)
 books_items w c [] known steady = record {
   steady = steady;
@@ -268,7 +235,6 @@ books_items w c [] known steady = record {
   same = refl;
 }
   where
-    -- for `books_items`: where no item is booked, an amount of the books is the same with 0 added
     plain : (z : ℤ) → z ≡ z +ℤ pos 0
     plain z = omega (arith, ints)
 books_items w c ((i, a) ∷ es) known steady =
@@ -288,43 +254,35 @@ books_all w c h known steady =
 
 -- ---- what the code books, and marks
 
--- all that changes when an amount of a thing is booked as gone is marked
 pub gone_marks : (c d : MarkedCampaign) (t : Thing) (amount : ℕ) → d.value ≡ with_loss c.value t amount → d.marks ≡ mark_amount c (loss_entry t) t → MarksChanges c d
 gone_marks c d t amount what marks =
     let all = marks-amount c (loss_entry t) t (neg_ℤ (pos amount)) in
     rw (what, marks) (record { stay = all.stay; covers = all.covers })
 
--- books with room for a loss and for the bound `next` have room for the loss
 pub room_for_loss : (t : Thing) (amount : ℕ) (next : BookBound) (c : CampaignValue) → HaveRoom (both_move (moves_only amount (loss_entry t) t) next) c → HasRoom amount (amount_in c.books (loss_entry t) t)
 room_for_loss t amount next c room =
     amount_room_for_less amount (moves_only amount (loss_entry t) t (loss_entry t) t + next (loss_entry t) t) (amount_in c.books (loss_entry t) t)
     (at_least (amount_number (loss_entry t) t == amount_number (loss_entry t) t) (next (loss_entry t) t) (same_number (amount_number (loss_entry t) t))) (room (loss_entry t) t)
   where
-    -- for `room_for_loss`: `amount`, chosen since the test is true, is at most itself plus m, the bound that follows
     at_least : (b : Bool) (m : ℕ) → b ≡ true → amount ≤ (if b then amount else 0) + m
     at_least true m t = omega arith
     at_least false m t = cc
 
--- after a loss is booked, the books have room for the bound `next`, if they had room for both before
 pub room_after_loss : (t : Thing) (amount : ℕ) (next : BookBound) (c : CampaignValue) → HaveRoom (both_move (moves_only amount (loss_entry t) t) next) c → HaveRoom next (with_loss c t amount)
 room_after_loss t amount next c room = booked-room c.books (loss_entry t) t (neg_ℤ (pos amount)) amount (within-neg amount amount (omega arith)) next room
 
--- books with room to book the items from i on as lost have room to book the item at i and then those after it
 pub room_for_item_and_later : (xs : List (ℕ × ℕ)) (i : ℕ) (c : CampaignValue) → i < length xs → HaveRoom (items_bound (drop i xs)) c
     → HaveRoom (items_bound (get_or xs i (0, 0) ∷ drop (i + 1) xs)) c
 room_for_item_and_later xs i c inside room = subst (λ l. HaveRoom (items_bound l) c) (drop_more xs i (0, 0) inside) room
 
--- books with room to book the items from i on as lost have room to book the item at i
 pub room_for_item : (xs : List (ℕ × ℕ)) (i : ℕ) (c : CampaignValue) → i < length xs → HaveRoom (items_bound (drop i xs)) c
     → HasRoom (get_or xs i (0, 0)).1 (amount_in c.books Lost (Item (get_or xs i (0, 0)).0))
 room_for_item xs i c inside room = let x : ℕ × ℕ = get_or xs i (0, 0) in room_for_loss (Item x.0) x.1 (items_bound (drop (i + 1) xs)) c (room_for_item_and_later xs i c inside room)
 
--- if the items from i on are of the world, so are the item at i and those after it
 pub known_ahead : (w : WorldValue) (xs : List (ℕ × ℕ)) (i : ℕ) → i < length xs → EachEntry (λ j a. j < length w.items) (drop i xs)
     → EachEntry (λ j a. j < length w.items) (get_or xs i (0, 0) ∷ drop (i + 1) xs)
 known_ahead w xs i inside known = subst (EachEntry (λ j a. j < length w.items)) (drop_more xs i (0, 0) inside) known
 
--- in a steady campaign the items that a unit holds are items of the world
 pub known_held : (w : WorldValue) (c : CampaignValue) (n : ℕ) (u : Unit) → get c.units n ≡ Some u → IsSteady w c → EachEntry (λ j a. j < length w.items) (entries u.holding.items)
 known_held w c n u is steady = each-from_every (λ j a. j < length w.items) u.holding.items (steady.known.units n u is).items
 
@@ -332,7 +290,6 @@ known_held w c n u is steady = each-from_every (λ j a. j < length w.items) u.ho
 pub held_room : (c : CampaignValue) (n : ℕ) (u : Unit) → get c.units n ≡ Some u → HaveRoom (quit_remaining c) c → HaveRoom (held_moves u.holding) c
 held_room c n u is room = room_less (held_moves u.holding) (quit_remaining c) c (λ e t. within (held_moves u.holding e t) (loss_under e t u.holding) (sum_over (λ (x : Unit). loss_under e t x.holding) (remove c.units n)) (quit_remaining c e t) (moves_what_leaves u.holding e t) (sum_over-remove c.units n (λ (x : Unit). loss_under e t x.holding) u is)) room
   where
-    -- for `held_room`: what one unit may lose (a, at most b) is at most what all may lose: r, the sum of s and b
     within : (a b s r : ℕ) → a ≤ b → s + b ≡ r → a ≤ r
     within a b s r l e = omega (arith, l, e)
 
@@ -348,23 +305,18 @@ module _ (w : WorldValue) (c : CampaignValue) (n : ℕ) (u : Unit) (is : get c.u
   abbrev booked_off : CampaignValue
   booked_off = with_all_losses c u.holding
 
-  -- the campaign after unit n left with all that it holds
   abbrev after_leave : CampaignValue
   after_leave = without_unit booked_off n
 
-  -- what is booked is all that the unit holds, and only the books differ (`BooksAsGone`)
   all_is_booked : BooksAsGone w (held_of_thing u.holding) (held_moves u.holding) c booked_off
   all_is_booked = books_all w c u.holding (steady.known.units n u is).items steady
 
-  -- the unit is still there after the bookings, before it is removed
   there : get booked_off.units n ≡ Some u
   there = ap (λ (s : CampaignValue). get s.units n) all_is_booked.same ∙ is
 
-  -- after one unit has left, the units are those before without unit n
   pub units_left : after_leave.units ≡ remove c.units n
   units_left = (only_reduced w booked_off n u there).units ∙ ap (λ (s : CampaignValue). remove s.units n) all_is_booked.same
 
-  -- the books balance after the unit left, if they balanced before
   balanced : Balances c → Balances after_leave
   balanced old t =
       let only = only_reduced w booked_off n u there in
@@ -387,7 +339,6 @@ module _ (w : WorldValue) (c : CampaignValue) (n : ℕ) (u : Unit) (is : get c.u
       (bound_used_near (loss_under e t u.holding) (quit_remaining c e t) (quit_remaining after_leave e t) (amount_in c.books e t) (amount_in booked_off.books e t) reserves
       (near_more (held_moves u.holding e t) (loss_under e t u.holding) (amount_in c.books e t) (amount_in booked_off.books e t) (moves_what_leaves u.holding e t) (all_is_booked.near e t)))
 
-  -- the unit's leaving keeps a steady campaign steady, in its month and with balanced books (`StepsWell`)
   leaving_well : StepsWell IsSteady quit_remaining w c after_leave
   leaving_well =
       let only = only_reduced w booked_off n u there in
@@ -409,13 +360,10 @@ pub left_well : (w : WorldValue) (c : CampaignValue) (n : ℕ) → IsSteady w c 
 unfolding after_leaving
 left_well w c n steady = by_unit (get c.units n) refl
   where
-    -- for `left_well`: after unit n left, the campaign is still steady and in balance (`StepsWell`), whether unit n was
-    -- there (`o`) or not
     by_unit : (o : Option Unit) → get c.units n ≡ o → StepsWell IsSteady quit_remaining w c (without_leaver c n o)
     by_unit None is = well_same w c steady
     by_unit (Some u) is = leaving_well w c n u is steady
 
--- removing a unit leaves every other unit as it was
 removal_keeps_others : (c : CampaignValue) (n k : ℕ) → k ≢ n → get (without_unit c n).units k ≡ get c.units k
 unfolding without_unit
 removal_keeps_others c n k apart = elim (get c.units n) as (λ o. get (without_unit_at c n o).units k ≡ get c.units k) [
@@ -424,32 +372,26 @@ removal_keeps_others c n k apart = elim (get c.units n) as (λ o. get (without_u
       ap (λ (d : CampaignValue). get d.units k) (handed_is (record c { units = remove c.units n }) u.structure n (heir c u.structure n)) ∙ get-remove_other c.units n k apart
 ]
 
--- booking items as lost changes no unit
 item_losses_keep_units : (c : CampaignValue) (es : List (ℕ × ℕ)) → (fold with_item_loss c es).units ≡ c.units
 item_losses_keep_units c [] = refl
 item_losses_keep_units c (e ∷ es) = item_losses_keep_units (with_item_loss c e) es
 
--- a unit that leaves with all that it has leaves every other unit as it was
 leaving_keeps_others : (c : CampaignValue) (n k : ℕ) → k ≢ n → get (after_leaving c n).units k ≡ get c.units k
 unfolding after_leaving
 leaving_keeps_others c n k apart = by_unit (get c.units n)
   where
-    -- for `leaving_keeps_others`: as unit n leaves, the other unit k is unchanged, whether unit n is there (`o`) or not
     by_unit : (o : Option Unit) → get (without_leaver c n o).units k ≡ get c.units k
     by_unit None = refl
     by_unit (Some u) = removal_keeps_others (with_all_losses c u.holding) n k apart ∙ ap (λ (m : FinMap nat_cmp Unit). get m k) (item_losses_keep_units _ (entries u.holding.items))
 
 -- ---- all units of a faction
 
--- after units left one after another, a steady campaign stays steady,
--- in its month and with balanced books (`StepsWell`)
 pub all_left_well : (w : WorldValue) (c : CampaignValue) (ns : List ℕ) → IsSteady w c → StepsWell IsSteady quit_remaining w c (fold after_leaving c ns)
 all_left_well w c [] steady = well_same w c steady
 all_left_well w c (n ∷ ns) steady =
     let one = left_well w c n steady in
     well_twice w c (after_leaving c n) (fold after_leaving (after_leaving c n) ns) one (all_left_well w (after_leaving c n) ns one.holds_still)
 
--- units that leave one after another leave every other unit as it was
 pub all_leaving_keep_others : (c : CampaignValue) (ns : List ℕ) (k : ℕ) → ((n : ℕ) → IsListed n ns → k ≢ n) → get (fold after_leaving c ns).units k ≡ get c.units k
 all_leaving_keep_others c [] k apart = refl
 all_leaving_keep_others c (n ∷ ns) k apart = all_leaving_keep_others (after_leaving c n) ns k (λ m listed. apart m (inr listed)) ∙ leaving_keeps_others c n k (apart n (inl refl))
@@ -462,21 +404,17 @@ pub quit_cases : (P : CampaignValue → Type 0) (c : CampaignValue) (number : �
 unfolding quit
 quit_cases P c number u same leave = by_fault (quit_fault number u) refl
   where
-    -- for `quit_cases`: P holds of the campaign after the order, whether it has a fault (`f`) or not
     by_fault : (f : Option EventFault) → quit_fault number u ≡ f → P (unless c f (fold after_leaving c (numbers_of_faction u.faction c.units), Done 0)).0
     by_fault (Some fault) e = same
     by_fault None e = leave (not_apart number u.faction (none_fits (not (number == u.faction)) WrongNumber [] e).0)
 
--- an order of QUIT keeps a steady campaign steady, in its month and with balanced books (`StepsWell`)
 pub quit_well : (w : WorldValue) (c : CampaignValue) (number : ℕ) (u : Unit) → IsSteady w c → StepsWell IsSteady quit_remaining w c (quit number c u).0
 quit_well w c number u steady = quit_cases (λ d. StepsWell IsSteady quit_remaining w c d) c number u (well_same w c steady) (λ own. all_left_well w c (numbers_of_faction u.faction c.units) steady)
 
--- QUIT leaves a unit unchanged, if the unit isn't of the faction that quits
 pub quit_stays : (c : CampaignValue) (number : ℕ) (u : Unit) (k : ℕ) (x : Unit) → get c.units k ≡ Some x → (number ≡ u.faction → u.faction ≢ x.faction) → get (quit number c u).0.units k ≡ Some x
 quit_stays c number u k x here other =
     quit_cases (λ d. get d.units k ≡ Some x) c number u here (λ own. all_leaving_keep_others c (numbers_of_faction u.faction c.units) k (λ m listed. stays (other own) m listed) ∙ here)
   where
-    -- unit k, which is of another faction, is none of the units of the faction that quits
     stays : u.faction ≢ x.faction → (m : ℕ) → IsListed m (numbers_of_faction u.faction c.units) → k ≢ m
     stays apart m listed same =
         let (v, at, t) = listed_passing (λ (y : Unit). y.faction == u.faction) c.units m listed in
@@ -491,12 +429,9 @@ quit_stays c number u k x here other =
 remaining_within : (w : WorldValue) (c : CampaignValue) → IsSteady w c → (e : BooksEntry) (t : Thing) → quit_remaining c e t ≤ quit_moves e t
 remaining_within w c steady e t = by_test (entry_index e == entry_index (loss_entry t))
   where
-    -- for `remaining_within`: under other entries than that of the loss n units may lose 0 each, so s, their sum, is 0
     none : (s n : ℕ) → s ≤ n * 0 → s ≤ 0
     none s n l = omega (arith, l)
 
-    -- for `remaining_within`: what QUIT may still book of thing t is within the bound of the phase, whether the entry
-    -- is that of the thing's loss (`b`) or not
     by_test : (b : Bool) → sum_over (λ (u : Unit). if b then unit_amount t u.holding else 0) c.units ≤ (if b then most_moved else 0)
     by_test true = all_held_within w c steady t
     by_test false = none (sum_over (λ (u : Unit). 0) c.units) (length (entries c.units)) (sum_within (λ (u : Unit). 0) 0 (entries c.units) (each-from_every (λ n u. 0 ≤ 0) c.units (λ n u is. omega arith)))
@@ -511,12 +446,10 @@ quit_orderly = record {
   bounded = remaining_within;
 }
   where
-    -- an order of QUIT with the operands s keeps the campaign steady and in balance (`StepsWell`)
     well : (w : WorldValue) (c : CampaignValue) (x : Unit) → IsSteady w c → (s : OperandsValue) → IfSome (quit_effect s) (λ effect. StepsWell IsSteady quit_remaining w c (effect c x).0)
     well w c x steady (operands.Number number) = quit_well w c number x steady
     well w c x steady other = tt
 
-    -- an order of QUIT with the operands s leaves unit n no worse off, unless the unit's own faction quits by it
     is_unaffected : (w : WorldValue) (c : CampaignValue) (t : Task) (x : Unit) → IsSteady w c → IsUnitOf c t x → (n : ℕ) (u : Unit) → get c.units n ≡ Some u → (s : OperandsValue) → ((t.faction ≡ u.faction) × (s ≡ operands.Number u.faction) → ⊥)
         → IfSome (quit_effect s) (λ effect. IsStillThere IsNoWorse (effect c x).0 n u)
     is_unaffected w c t x steady own n u here (operands.Number number) other =
@@ -525,41 +458,31 @@ quit_orderly = record {
 
 -- ---- no unit comes, and none changes
 
--- the first campaign has all units of the second, unchanged
 abbrev HasAllUnitsOf : CampaignValue → CampaignValue → Type 0
 HasAllUnitsOf c d = Every (λ k u. get c.units k ≡ Some u) d.units
 
--- after a unit left, each unit that is still there is unchanged (`HasAllUnitsOf`), if the campaign was steady
 leaving_adds_no_unit : (w : WorldValue) (c : CampaignValue) (n : ℕ) → IsSteady w c → HasAllUnitsOf c (after_leaving c n)
 unfolding after_leaving
 leaving_adds_no_unit w c n steady = by_unit (get c.units n) refl
   where
-    -- for `leaving_adds_no_unit`: as unit n leaves, if it is there (`o`), each unit that is left is unchanged
-    -- (`HasAllUnitsOf`)
     by_unit : (o : Option Unit) → get c.units n ≡ o → HasAllUnitsOf c (without_leaver c n o)
     by_unit None is = λ k u there. there
     by_unit (Some x) is =
         subst (λ (m : FinMap nat_cmp Unit). Every (λ k u. get c.units k ≡ Some u) m) (sym (units_left w c n x is steady)) (every-remove c.units n (λ k u. get c.units k ≡ Some u) (λ k u there. there))
 
--- after units left, each unit that is still there is unchanged (`HasAllUnitsOf`), if the campaign was steady
 all_leaving_add_no_unit : (w : WorldValue) (c : CampaignValue) (ns : List ℕ) → IsSteady w c → HasAllUnitsOf c (fold after_leaving c ns)
 all_leaving_add_no_unit w c [] steady k u there = there
 all_leaving_add_no_unit w c (n ∷ ns) steady k u there = leaving_adds_no_unit w c n steady k u (all_leaving_add_no_unit w (after_leaving c n) ns (left_well w c n steady).holds_still k u there)
 
--- after an order of QUIT, each unit that is still there is unchanged (`HasAllUnitsOf`), if the campaign was steady
 quit_adds_no_unit : (w : WorldValue) (c : CampaignValue) (number : ℕ) (x : Unit) → IsSteady w c → HasAllUnitsOf c (quit number c x).0
 quit_adds_no_unit w c number x steady = quit_cases (HasAllUnitsOf c) c number x (λ k u there. there) (λ own. all_leaving_add_no_unit w c (numbers_of_faction x.faction c.units) steady)
 
--- an order is for a unit of its own faction (`is_own`), if the unit is there and of the faction that wrote the order
 is_own_unit : (c : CampaignValue) (t : Task) (x : Unit) → IsUnitOf c t x → is_own c t ≡ true
 is_own_unit c t x own = ap (is_of_faction t.faction) own.there ∙ equal_passes x.faction t.faction own.faction
 
--- an order is for a unit of its own faction (`is_own`) in campaign c, if it is so in d, and c has all units of d,
--- unchanged (`HasAllUnitsOf`)
 own_before : (c d : CampaignValue) (t : Task) → HasAllUnitsOf c d → is_own d t ≡ true → is_own c t ≡ true
 own_before c d t some own = by_unit (get d.units t.unit) refl own
   where
-    -- the order is for a unit of its own faction in c, too, whether d has the unit or not
     by_unit : (o : Option Unit) → get d.units t.unit ≡ o → is_of_faction t.faction o ≡ true → is_own c t ≡ true
     by_unit None is h = cc
     by_unit (Some u) is h = ap (is_of_faction t.faction) (some t.unit u is) ∙ h
@@ -572,8 +495,6 @@ abbrev OwnSince : CampaignValue → Condition
 OwnSince begun w c = IsSteady w c × ((t : Task) → is_own c t ≡ true → is_own begun t ≡ true)
 
 module _ (begun : CampaignValue) where
-  -- an order of QUIT keeps the campaign steady, the month and the balance of the books (`StepsWell`), and lets no order
-  -- come to be for a unit of its own faction (`OwnSince`)
   since_well : (w : WorldValue) (c : CampaignValue) (x : Unit) → OwnSince begun w c → (s : OperandsValue) → IfSome (quit_effect s) (λ effect. StepsWell (OwnSince begun) quit_remaining w c (effect c x).0)
   since_well w c x since (operands.Number number) =
       let well = quit_well w c number x since.0 in
@@ -600,4 +521,4 @@ module _ (begun : CampaignValue) where
 pub quit_leaves_others : (w : WorldValue) (c : CampaignValue) (m : MonthValue) → IsSteady w c → AreFit w m.readings → quit_keeps w m c (quit_meaning w c m).0
 unfolding meaning_by_orders
 quit_leaves_others w c m steady fit =
-    orders_leave_others quit_step (since_orderly c) w c m (values (orders_of is_quitting ByUnit m.aliases m.readings)) (steady, λ t own. own) (orders_fit w m.aliases m.readings fit is_quitting)
+    orders_leave_others quit_step (since_orderly c) w c m (orders_of is_quitting ByUnit m.aliases m.readings) (steady, λ t own. own) (orders_fit w m.aliases m.readings fit is_quitting)

@@ -24,7 +24,6 @@ use Rattle.atl_instant.proofs.GuardingLaws.{flagged, flagged_is, guarding, own_g
 -- ---- as units are noted
 
 module _ (c : CampaignValue) where
-  -- each entry of the list is a unit of the campaign under its number
   abbrev AreUnits : List (ℕ × Unit) → Type 0
   AreUnits es = EachEntry (λ n u. get c.units n ≡ Some u) es
 
@@ -33,7 +32,6 @@ module _ (c : CampaignValue) where
   Held region faction = (n : ℕ) × (u : Unit) × (get c.units n ≡ Some u) × IsGuardOf region faction u
 
   module _ (region faction : ℕ) where
-    -- if the unit guards the region, it is of the given faction
     abbrev IsOwn : Unit → Type 0
     IsOwn u = guards u ≡ true → u.region ≡ region → u.faction ≡ faction
 
@@ -42,7 +40,6 @@ module _ (c : CampaignValue) where
     one_stays : (m : GuardMap) (u : Unit) → IsOwn u → get m region ≡ Some faction → get (with_guard_of m u) region ≡ Some faction
     one_stays m u own at = by_test (guards u) own
       where
-        -- for `one_stays`: the map keeps the faction of the region once unit u is noted, whether u guards (`b`) or not
         by_test : (b : Bool) → (b ≡ true → u.region ≡ region → u.faction ≡ faction) → get (if b then insert m u.region u.faction else m) region ≡ Some faction
         by_test true own =
             elim (cases_eq u.region region) [
@@ -51,8 +48,6 @@ module _ (c : CampaignValue) where
             ]
         by_test false own = at
 
-    -- the map keeps the faction of a region when units are noted,
-    -- if each is of that faction or doesn't guard the region
     all_stay : (m : GuardMap) (es : List (ℕ × Unit)) → EachEntry (λ n u. IsOwn u) es → get m region ≡ Some faction → get (with_guards_of m es) region ≡ Some faction
     all_stay m [] own at = at
     all_stay m (e ∷ es) own at = all_stay (with_guard_of m e.1) es own.1 (one_stays m e.1 own.0 at)
@@ -61,8 +56,6 @@ module _ (c : CampaignValue) where
     held_more : (m : GuardMap) (n : ℕ) (u : Unit) → get c.units n ≡ Some u → (get m region ≡ Some faction → Held region faction) → get (with_guard_of m u) region ≡ Some faction → Held region faction
     held_more m n u is old = by_test (guards u) refl
       where
-        -- for `held_more`: the faction that the map has for the region has a guard there, whether the noted unit u
-        -- guards (`b`) or not
         by_test : (b : Bool) → guards u ≡ b → get (if b then insert m u.region u.faction else m) region ≡ Some faction → Held region faction
         by_test true on at =
             elim (cases_eq u.region region) [
@@ -73,25 +66,20 @@ module _ (c : CampaignValue) where
             ]
         by_test false on at = old at
 
-  -- if each region in the map is guarded by a unit of its faction, this is still so once some units are noted
   held_of : (m : GuardMap) (es : List (ℕ × Unit)) → AreUnits es → ((r f : ℕ) → get m r ≡ Some f → Held r f) → (r f : ℕ) → get (with_guards_of m es) r ≡ Some f → Held r f
   held_of m [] are old = old
   held_of m (e ∷ es) are old = held_of (with_guard_of m e.1) es are.1 (λ r f. held_more r f m e.0 e.1 are.0 (old r f))
 
   module _ (one : AreOfOneFaction guards c) where
-    -- if the guards of each region are of one faction, each unit of a list that guards the region of guard n is of the
-    -- faction of n
     own_of : (n : ℕ) (u : Unit) → get c.units n ≡ Some u → guards u ≡ true → (es : List (ℕ × Unit)) → AreUnits es → EachEntry (λ k v. IsOwn u.region u.faction v) es
     own_of n u is on [] are = tt
     own_of n u is on (e ∷ es) are = (λ also same. one e.0 e.1 are.0 n u is also on same, own_of n u is on es are.1)
 
-    -- each unit of a list that guards has its faction in the map once all are noted
     noted_of : (m : GuardMap) (es : List (ℕ × Unit)) → AreUnits es → EachEntry (λ n u. guards u ≡ true → get (with_guards_of m es) u.region ≡ Some u.faction) es
     noted_of m [] are = tt
     noted_of m (e ∷ es) are =
         (λ on. all_stay e.1.region e.1.faction (with_guard_of m e.1) es (own_of e.0 e.1 are.0 on es are.1) (by_test (guards e.1) on), noted_of (with_guard_of m e.1) es are.1)
       where
-        -- for `noted_of`: a unit that guards (b is true) has its faction in the map, under its region, once it is noted
         by_test : (b : Bool) → b ≡ true → get (if b then insert m e.1.region e.1.faction else m) e.1.region ≡ Some e.1.faction
         by_test true on = get-insert_same m e.1.region e.1.faction
         by_test false on = cc
@@ -108,38 +96,29 @@ module _ (c : CampaignValue) where
 
 -- ---- what the map says
 
--- `list_any` of a test is true for a list with an element that passes the test
 any_listed : (p : ℕ → Bool) (ns : List ℕ) (k : ℕ) → IsListed k ns → p k ≡ true → list_any p ns ≡ true
 any_listed p [] k listed t = absurd listed
 any_listed p (n ∷ ns) k (inl same) t = ap (λ b. b || list_any p ns) (ap p (sym same) ∙ t)
 any_listed p (n ∷ ns) k (inr rest) t = passes_later (p n) (any_listed p ns k rest t)
   where
-    -- for `any_listed`: if the rest ns of a list has an element that passes p, so has the list
     passes_later : (b : Bool) → list_any p ns ≡ true → (b || list_any p ns) ≡ true
     passes_later true t = refl
     passes_later false t = t
 
--- `list_any` of a test is false for a list, if each element fails the test
 list_any_false : (p : ℕ → Bool) (ns : List ℕ) → ((k : ℕ) → IsListed k ns → p k ≡ false) → list_any p ns ≡ false
 list_any_false p [] none = refl
 list_any_false p (n ∷ ns) none = ap (λ b. b || list_any p ns) (none n (inl refl)) ∙ list_any_false p ns (λ k listed. none k (inr listed))
 
 module _ (c : CampaignValue) (m : GuardMap) (are : AreRegionGuards c m) (region faction : ℕ) where
-  -- whether unit n guards, and is of another faction than the given one
   abbrev against : ℕ → Bool
   against n = guards_against faction (get c.units n)
 
-  -- whether a unit is in the region
   abbrev is_here : Unit → Bool
   is_here u = u.region == region
 
-  -- no other faction guards the region, if each unit there whose faction the map has for the region is of the given
-  -- faction
   all_own : ((u : Unit) → u.region ≡ region → get m u.region ≡ Some u.faction → u.faction ≡ faction) → is_guarded_against c region faction ≡ false
   all_own own = list_any_false against (numbers_in_region region c.units) (λ k listed. let (u, is, here) = listed_passing is_here c.units k listed in ap (guards_against faction) is ∙ by_test u (guards u) (are.noted k u is) (is_equal u.region region here))
     where
-      -- for `all_own`: unit u, in the region, is no guard of another faction than the given one, be it on guard (`b`)
-      -- or not
       by_test : (u : Unit) (b : Bool) → (b ≡ true → get m u.region ≡ Some u.faction) → u.region ≡ region → (b && not (u.faction == faction)) ≡ false
       by_test u true noted here = ap (λ f. not (f == faction)) (own u here (noted refl)) ∙ ap not (equal_itself faction)
       by_test u false noted here = refl
@@ -148,7 +127,6 @@ module _ (c : CampaignValue) (m : GuardMap) (are : AreRegionGuards c m) (region 
   pub map_agrees : has_other_guard faction (get m region) ≡ is_guarded_against c region faction
   map_agrees = by_holder (get m region) refl
     where
-      -- if the map has `holder` for the region, another faction guards it exactly if `holder` isn't the given one
       other_holder : (holder : ℕ) → get m region ≡ Some holder → (b : Bool) → (holder == faction) ≡ b → not b ≡ is_guarded_against c region faction
       other_holder holder at true same =
           sym (all_own (λ u here noted. same_Some _ _ (sym noted ∙ ap (get m) here ∙ at) ∙ is_equal holder faction same))
@@ -158,7 +136,6 @@ module _ (c : CampaignValue) (m : GuardMap) (are : AreRegionGuards c m) (region 
           ap (guards_against faction) is ∙ ap (λ b. b && not (u.faction == faction)) guard.on_guard ∙ ap (λ f. not (f == faction)) guard.belongs ∙ ap not apart in
           sym (any_listed against (numbers_in_region region c.units) n (passing_listed is_here c.units n u is (ap (λ r. r == region) guard.in_region ∙ equal_itself region)) against_it)
 
-      -- another faction guards the region exactly if the map has a faction for it that isn't the given one
       by_holder : (o : Option ℕ) → get m region ≡ o → has_other_guard faction o ≡ is_guarded_against c region faction
       by_holder None at = sym (all_own (λ u here noted. none_some u.faction (sym at ∙ ap (get m) (sym here) ∙ noted)))
       by_holder (Some holder) at = other_holder holder at (holder == faction) refl
@@ -174,16 +151,13 @@ found_fault_is c m are u few held few_is held_is =
 -- ---- once a unit begins to guard
 
 module _ (c : CampaignValue) (m : GuardMap) (n : ℕ) (u : Unit) (is : get c.units n ≡ Some u) (are : AreRegionGuards c m) where
-  -- the map once the unit's faction is set for its region
   abbrev set_now : GuardMap
   set_now = insert m u.region u.faction
 
-  -- each unit that guards has its faction in the map `set_now`, if no other faction guards the region
   set_noted : is_guarded_against c u.region u.faction ≡ false → Every (λ k v. guards v ≡ true → get set_now v.region ≡ Some v.faction) (flagged c n u is).units
   set_noted none =
       every-insert (λ k v. guards v ≡ true → get set_now v.region ≡ Some v.faction) c.units n (guarding c n u is) (λ on. get-insert_same m u.region u.faction) (λ k v there on. by_region k v there on)
     where
-      -- unit v, which guards, has its faction in the map `set_now`, whether v is in the region of unit u or in another
       by_region : (k : ℕ) (v : Unit) → get c.units k ≡ Some v → guards v ≡ true → get set_now v.region ≡ Some v.faction
       by_region k v there on =
           elim (cases_eq v.region u.region) [
@@ -191,7 +165,6 @@ module _ (c : CampaignValue) (m : GuardMap) (n : ℕ) (u : Unit) (is : get c.uni
             | inr apart ↦ get-insert_other m u.region v.region u.faction apart ∙ are.noted k v there on
           ]
 
-  -- each faction in the map `set_now` guards its region, if the unit has men
   set_held : nat_lt 0 u.holding.men ≡ true → (r f : ℕ) → get set_now r ≡ Some f → Held (flagged c n u is) r f
   set_held men r f at =
       elim (cases_eq r u.region) [

@@ -151,7 +151,7 @@ pub form_gives : (w : WorldValue) (c : CampaignValue) (m : MonthValue) (readings
     → reports_at t.faction t.line (form_meaning w c m).1 ≡ reports_at t.faction t.line m ++ report_if (is_forming t.order_value.verb && order_counts (tasks_of m.aliases t.faction there.reading) t) t
 unfolding form_meaning
 form_gives w c m readings er fit t there =
-    let ts = values (orders_of is_forming ByFaction m.aliases m.readings) in
+    let ts = orders_of is_forming ByFaction m.aliases m.readings in
     ap (λ rs. filter (is_from t.faction t.line) rs) (fold_adds form_order (λ p u. map-append report_of p.1.events _) ts (c, m))
     ∙ filter-append (is_from t.faction t.line) (map report_of m.events) (map report_for ts)
     ∙ ap (λ rs. reports_at t.faction t.line m ++ rs) (report_in_phase w m m.aliases readings refl er fit t there is_forming ByFaction)
@@ -159,4 +159,4 @@ form_gives w c m readings er fit t there =
 -- the phase of FORM keeps the mailings
 pub form_keeps_readings : (w : WorldValue) (c : CampaignValue) (m : MonthValue) → (form_meaning w c m).1.readings ≡ m.readings
 unfolding form_meaning
-form_keeps_readings w c m = fold_keeps (λ x. x.readings) form_order (λ p u. refl) (values (orders_of is_forming ByFaction m.aliases m.readings)) (c, m)
+form_keeps_readings w c m = fold_keeps (λ x. x.readings) form_order (λ p u. refl) (orders_of is_forming ByFaction m.aliases m.readings) (c, m)

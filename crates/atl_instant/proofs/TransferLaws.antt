@@ -40,15 +40,10 @@ use Rattle.atl_instant.proofs.EffectLaws.{OrderKeeps, StepKeeps, keeps_all, move
 -- sender and receiver are of one faction, the sender has n men, and the receiver has room for n more:
 -- what holds where a transfer to another unit has no fault
 record CanSend (n : ℕ) (u v : Unit) : Type 0 where
-  -- the receiver is of the sender's faction
   pub own : v.faction ≡ u.faction
-  -- the sender has at least n men
   pub enough : n ≤ u.holding.men
-  -- the receiver has room for n more men
   pub room : v.holding.men + n ≤ men_limit
 
--- where a transfer to another unit has no fault, both units are of one faction, the sender has enough men, and the
--- receiver has room for them (`CanSend`)
 can_send : (n : ℕ) (u v : Unit) → transfer_fault n false u (Some v) ≡ None → CanSend n u v
 can_send n u v is =
     let other = not (v.faction == u.faction) in
@@ -65,11 +60,9 @@ can_send n u v is =
 
 -- ---- days
 
--- a unit has at most `most` days of any skill, if it has at most `most` of each skill that is listed
 pub days_within : (all : FinMap nat_cmp ℕ) (most skill : ℕ) → Every (λ s days. (1 ≤ days) × (days ≤ most)) all → amount_of all skill ≤ most
 days_within all most skill each = by_option (get all skill) refl
   where
-    -- for `days_within`: the days of the skill are at most `most`, whether the skill is listed (`o`) or not
     by_option : (o : Option ℕ) → get all skill ≡ o → unwrap_or o 0 ≤ most
     by_option None e = omega arith
     by_option (Some days) e = (each skill days e).1
@@ -78,7 +71,6 @@ days_within all most skill each = by_option (get all skill) refl
 pub going_most : (n men days : ℕ) → days ≤ most_days * men → days_going n men days ≤ most_days * n
 going_most n men days most = div-le_of_le-mul men (subst (λ x. days * n ≤ x) (turned most_days men n) (mul-le-mul_right n most))
   where
-    -- for `going_most`: the product of k days, m men and l is the same in another order
     turned : (k m l : ℕ) → (k * m) * l ≡ m * (k * l)
     turned k m l = grind arith
 
@@ -96,19 +88,15 @@ rest_within k s n d some most = elim (cases_lt (k * s) d) [
   | inr within ↦ let few : d ≤ k * s = within in omega (arith, few)
 ]
   where
-    -- for `scaled` and `rest_within`: k days for each of s + n men are k for each of the s, and k for each of the n
     spread : (k s n : ℕ) → k * (s + n) ≡ k * s + k * n
     spread k s n = grind arith
 
-    -- for `scaled`: the product (k * s + y) * n, multiplied out
     turned : (k s n y : ℕ) → (k * s + y) * n ≡ (k * n) * s + y * n
     turned k s n y = grind arith
 
-    -- for `scaled`: an inequality stays true if c is added on both sides
     sum : (a b c : ℕ) → a ≤ b → a + c ≤ b + c
     sum a b c l = omega arith
 
-    -- for `rest_within`: if y days are at most k for each of n men, y * (s + n) is at most (k * s + y) * n
     scaled : (y : ℕ) → y ≤ k * n → y * (s + n) ≤ (k * s + y) * n
     scaled y few = rw (turned k s n y, spread y s n) (sum (y * s) ((k * n) * s) (y * n) (mul-le-mul_right s few))
 
@@ -119,22 +107,18 @@ staying_days_within n men days fewer some most =
     let men_there : 0 < men = some_men men days some most in
     subst (λ m. days - days * n / m ≤ most_days * (men - n)) whole (rest_within most_days (men - n) n days (omega arith) (subst (λ m. days ≤ most_days * m) (sym whole) most))
   where
-    -- men with 1 day or more together, and at most 450 days each, are at least one man
     some_men : (men days : ℕ) → 1 ≤ days → days ≤ most_days * men → 0 < men
     some_men men days some most = omega arith
 
 -- ---- what both may hold
 
--- if a unit may have what it holds (`MayHave`), a skill of which it has days is a skill of the world
 known_skill : (w : WorldValue) (h : HoldingValue) (s : ℕ) → MayHave w h → 1 ≤ amount_of h.days s → s < length w.skills
 known_skill w h s may some = by_option (get h.days s) refl some
   where
-    -- for `known_skill`: skill s, of which the look-up `o` finds days with the unit, is a skill of the world
     by_option : (o : Option ℕ) → get h.days s ≡ o → 1 ≤ unwrap_or o 0 → s < length w.skills
     by_option None there l = absurd (omega (arith, l))
     by_option (Some d) there l = may.skills s d there
 
--- if a unit may have what it holds (`MayHave`), it has at most 450 days of a skill for each man
 days_may : (w : WorldValue) (h : HoldingValue) (s : ℕ) → MayHave w h → amount_of h.days s ≤ most_days * h.men
 days_may w h s may = days_within h.days (most_days * h.men) s may.days
 
@@ -150,7 +134,6 @@ may_have_fewer w n h fewer may = record {
       (some, subst (λ x. x ≤ most_days * (h.men - n)) (sym is) (staying_days_within n h.men (amount_of h.days s) fewer (had (amount_of h.days s) (going_of n h s) d is some) (days_may w h s may)));
 }
   where
-    -- for `may_have_fewer`: if at least 1 day of a skill (d) stays of a, from which g go, a is at least 1
     had : (a g d : ℕ) → d ≡ a - g → 1 ≤ d → 1 ≤ a
     had a g d is some = omega (arith, is, some)
 
@@ -167,29 +150,23 @@ may_have_more w n other h room from may = record {
       (some, subst (λ x. x ≤ most_days * (h.men + n)) (sym is) (sum_of_days_within most_days h.men n (amount_of h.days s) (going_of n other s) (days_may w h s may) (going_most n other.men (amount_of other.days s) (days_may w other s from))));
 }
   where
-    -- for `may_have_more`: if d days of a skill, a of the receiver's and g that came, are at least 1, a or g is
     some_of : (a g d : ℕ) → d ≡ a + g → 1 ≤ d → (1 ≤ a) ⊎ (1 ≤ g)
     some_of a g d is some = elim (cases_lt 0 a) [
       | inl l ↦ inl (omega (arith, l))
       | inr l ↦ inr (omega (arith, l, is, some))
     ]
 
-    -- if days of skill s go with the men, their unit had days of it
     came : (s : ℕ) → 1 ≤ going_of n other s → (b : Bool) → (amount_of other.days s == 0) ≡ b → 1 ≤ amount_of other.days s
     came s some true none = let zero = none_go n other s (is_equal (amount_of other.days s) 0 none) in absurd (omega (arith, some, zero))
     came s some false there = grind (arith, nat_tests)
 
-    -- skill s is a skill of the world, if the receiver had days of it, or days of it came
     known : (s : ℕ) → (1 ≤ amount_of h.days s) ⊎ (1 ≤ going_of n other s) → s < length w.skills
     known s (inl some) = known_skill w h s may some
     known s (inr some) = known_skill w other s from (came s some (amount_of other.days s == 0) refl)
 
-    -- for `may_have_more`: if a days are at most k for each of m men, and b at most k for each of n, a + b are at most
-    -- k for each of both
     sum_of_days_within : (k m n a b : ℕ) → a ≤ k * m → b ≤ k * n → a + b ≤ k * (m + n)
     sum_of_days_within k m n a b f g = rw (spread k m n) (omega (arith, f, g))
       where
-        -- for `sum_of_days_within`: k days for each of s + n men are k for each of the s, and k for each of the n
         spread : (k s n : ℕ) → k * (s + n) ≡ k * s + k * n
         spread k s n = grind arith
 
@@ -201,7 +178,6 @@ transfer_keeps_sum n h k l (things.Item i) = refl
 
 -- ---- no worse off
 
--- a unit to which men come is no worse off
 pub men_receiver_no_worse : (n : ℕ) (other : HoldingValue) (v : Unit) → IsNoWorse v (record v { holding = after_receiving n other v.holding })
 men_receiver_no_worse n other v = record {
   faction = refl;
@@ -218,7 +194,6 @@ men_receiver_no_worse n other v = record {
 -- ---- one order
 
 module _ {fit : Type 0} (w : WorldValue) (c : CampaignValue) (from to n : ℕ) (u : Unit) (sender : get c.units from ≡ Some u) where
-  -- a transfer to another unit, if it can be sent, keeps the campaign early, and other units no worse off (`OrderKeeps`)
   moved_kept : (v : Unit) → get c.units to ≡ Some v → to ≢ from → CanSend n u v
       → OrderKeeps IsEarly fit w c from u.faction (with_holding_at (with_holding_at c from (after_sending n u.holding) (Some u)) to (after_receiving n u.holding v.holding) (Some v))
   moved_kept v receiver apart can = record {
@@ -231,13 +206,10 @@ module _ {fit : Type 0} (w : WorldValue) (c : CampaignValue) (from to n : ℕ) (
         (record { better = men_receiver_no_worse n u.holding v; men = λ other. absurd (other (sym can.own)) });
   }
 
-  -- an order of TRANSFER keeps the campaign early, and all units but the sender no worse off (`OrderKeeps`)
   transfer_kept : OrderKeeps IsEarly fit w c from u.faction (transfer from to n c u).0
   unfolding transfer
   transfer_kept = by_receiver (get c.units to) refl
     where
-      -- for `transfer_kept`: the order keeps the campaign early, and other units no worse off (`OrderKeeps`), with a
-      -- receiver there (`o`) or without
       by_receiver : (o : Option Unit) → get c.units to ≡ o → OrderKeeps IsEarly fit w c from u.faction (transfer_to c from to n u o).0
       by_receiver None is = keeps_all w c from u.faction
       by_receiver (Some v) receiver =
@@ -246,11 +218,9 @@ module _ {fit : Type 0} (w : WorldValue) (c : CampaignValue) (from to n : ℕ) (
 
 -- ---- the phase
 
--- each order of TRANSFER keeps the campaign early, and all units but the sender no worse off (`OrderKeeps`)
 pub transfer_keeps : StepKeeps IsEarly transfer_step
 transfer_keeps w a c t x own = by_operands t.order_value.operands
   where
-    -- an order with the operands o keeps the campaign early, and all units but the sender no worse off (`OrderKeeps`)
     by_operands : (o : OperandsValue) → IfSome (transfer_effect a t.faction t.unit o) (λ effect. OrderKeeps IsEarly (AreOperandsOf w o) w c t.unit x.faction (effect c x).0)
     by_operands (operands.UnitAndNumber to n) = transfer_kept w c t.unit (unit_of a t.faction to) n x own.there
     by_operands other = tt

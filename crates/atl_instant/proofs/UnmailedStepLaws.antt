@@ -1,7 +1,6 @@
 -- Laws of the phases from FORM to QUIT: in each, units of a faction that sent no mailing keep their men and items.
 use Rattle.std.proofs.Common.{◌≡◌, ℕ, List, [], ◌∷◌, refl, sym, ◌∙◌, arith}
 use Rattle.std.specs.Prelude.{IfSome, fold}
-use Rattle.std.specs.FinMap.{values}
 use Rattle.atl_orders.specs.declared.order.Operands.TheVariants as operands
 use Rattle.atl_orders.specs.Orders.{OperandsValue}
 use Rattle.atl_campaign.specs.Good.{IsEarly, IsSteady}
@@ -29,56 +28,45 @@ use Rattle.atl_instant.proofs.TransferLaws.{transfer_keeps}
 
 -- ---- FORM
 
--- orders of FORM leave the readings of the month as they are
 form_readings : (p : CampaignValue × MonthValue) (ts : List Task) → (fold form_order p ts).1.readings ≡ p.1.readings
 form_readings p [] = refl
 form_readings p (t ∷ ts) = form_readings (form_order p t) ts
 
--- orders of FORM add no men who starved to the events
 form_starves_none : (p : CampaignValue × MonthValue) (ts : List Task) (n : ℕ) → starved_in (fold form_order p ts).1.events n ≡ starved_in p.1.events n
 form_starves_none p [] n = refl
 form_starves_none p (t ∷ ts) n = form_starves_none (form_order p t) ts n ∙ order_event_starves_none p.1.events t (form_by p.0 t.faction t.unit).1 n
 
--- the phase of FORM leaves units of factions without a mailing their men and items (`LeavesUnmailed`)
 pub form_leaves : LeavesUnmailed form_meaning form_keeps
 unfolding form_meaning
 form_leaves =
     whole_leaves {meaning = form_meaning} {keeps = form_keeps}
-    (λ w c m. form_readings (c, m) (values (orders_of is_forming ByFaction m.aliases m.readings)))
-    (λ w c m n. form_starves_none (c, m) (values (orders_of is_forming ByFaction m.aliases m.readings)) n)
+    (λ w c m. form_readings (c, m) (orders_of is_forming ByFaction m.aliases m.readings))
+    (λ w c m n. form_starves_none (c, m) (orders_of is_forming ByFaction m.aliases m.readings) n)
     (λ w c m keeps n u there none. record { unit = u; there = keeps n u there; is_unaffected = record { faction = refl; men = refl } })
     (λ w c m keeps n u there none. record { unit = u; there = keeps n u there; is_unaffected = record { name = refl; items = λ i. omega arith } })
 
 -- ---- the phases that book nothing
 
--- the phase of NAME and GUARD 0 leaves units of factions without a mailing their men and items (`LeavesUnmailed`)
 pub name_leaves : PhaseLeavesUnmailed name_spec
 name_leaves = carried_leaves name_step is_naming (leaves_men IsEarly name_step name_keeps) (unmailed_keep_items {affects = name_affects} is_naming (λ t n f h. own_faction t n f h.0) items_of_no_worse)
 
--- the phase of LEAVE, ENTER and PROMOTE leaves units of factions without a mailing their men and items
--- (`LeavesUnmailed`)
 pub place_leaves : PhaseLeavesUnmailed place_spec
 place_leaves = carried_leaves place_step is_placing (leaves_men IsEarly place_step place_keeps) (unmailed_keep_items is_placing own_faction items_of_no_worse)
 
--- the phase of GIVE and PAY leaves units of factions without a mailing their men and items (`LeavesUnmailed`)
 pub give_leaves : PhaseLeavesUnmailed give_spec
 give_leaves = carried_leaves give_step is_giving (leaves_men IsEarly give_step give_keeps) (unmailed_keep_items is_giving own_faction items_of_no_worse)
 
--- the phase of TRANSFER leaves units of factions without a mailing their men and items (`LeavesUnmailed`)
 pub transfer_leaves : PhaseLeavesUnmailed transfer_spec
 transfer_leaves = carried_leaves transfer_step is_transferring (leaves_men IsEarly transfer_step transfer_keeps) (unmailed_keep_items is_transferring own_faction items_of_no_worse)
 
--- the phase of GUARD 1 leaves units of factions without a mailing their men and items (`LeavesUnmailed`)
 pub guard_leaves : PhaseLeavesUnmailed guard_spec
 guard_leaves = carried_leaves guard_step is_guarding (leaves_men IsSteady guard_step guard_keeps) (unmailed_keep_items {affects = guard_affects} is_guarding (λ t n f h. own_faction t n f h.0) items_of_no_worse)
 
 -- ---- QUIT
 
--- each order of QUIT leaves units of other factions than the one that wrote it their men
 quit_leaves_men : LeavesOthersMen quit_step
 quit_leaves_men w a c t x own = by_operands t.order_value.operands
   where
-    -- for `quit_leaves_men`: QUIT with the operands o leaves units of other factions than its writer's their men
     by_operands : (o : OperandsValue) → IfSome (quit_effect o) (λ effect. OthersHaveMen t.faction c (effect c x).0)
     by_operands (operands.Number number) = λ k y there other. record {
       unit = y;
@@ -87,6 +75,5 @@ quit_leaves_men w a c t x own = by_operands t.order_value.operands
     }
     by_operands o = tt
 
--- the phase of QUIT leaves units of factions without a mailing their men and items (`LeavesUnmailed`)
 pub quit_leaves : LeavesUnmailed quit_meaning quit_keeps
 quit_leaves = carried_leaves quit_step is_quitting quit_leaves_men (λ w c d m. unmailed_keep_items {affects = QuitsByOwnUnit c} is_quitting (λ t n f h. h.faction) items_of_no_worse w c d m)

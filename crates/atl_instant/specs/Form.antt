@@ -1,7 +1,7 @@
 -- FORM: units form new ones. See docs/RULES.md, "Form".
 use Rattle.std.specs.Prelude.{◌≡◌, ◌||◌, ◌++◌, ℕ, Bool, true, false, [], ◌∷◌, codes, fold, nat_le, nat_lt, not, Option, Some}
 use Rattle.std.specs.Fmt.{decimal}
-use Rattle.std.specs.FinMap.{empty, get, len, values}
+use Rattle.std.specs.FinMap.{empty, get, len}
 use Rattle.atl_orders.specs.declared.order.Operands.TheVariants as operands
 use Rattle.atl_orders.specs.declared.verb.Verb.{Verb}
 use Rattle.atl_orders.specs.declared.verb.Verb.TheVariants as verbs
@@ -28,8 +28,6 @@ abbrev pub is_forming : Verb → Bool
 is_forming verbs.Form = true
 is_forming verb = false
 
--- ---- one order
-
 -- whether no further unit can be formed: there are 100,000 units, or the next unit's number is above 999,999,999
 abbrev pub is_unit_limit : CampaignValue → Bool
 is_unit_limit c = nat_le most_units (len c.units) || nat_lt last_unit c.next_unit
@@ -54,8 +52,6 @@ with_formed_unit c f n = with_unit_begun c (new_unit c.next_unit f (region_of c 
 -- the campaign and the outcome after an order of FORM from faction f for unit n
 abbrev pub form_by : CampaignValue → (f n : ℕ) → CampaignValue × Outcome
 form_by c f n = unless c (form_fault c f n) (with_formed_unit c f n, Done c.next_unit)
-
--- ---- the phase
 
 -- the alias that an order of FORM gives; 0 for operands of any other form
 abbrev pub alias_of : OperandsValue → ℕ
@@ -84,7 +80,7 @@ form_order (c, m) t = with_form_result m t (form_by c t.faction t.unit)
 
 -- the effect of the phase: all orders of FORM, carried out by faction and then by line
 unfoldable pub form_meaning : Meaning
-form_meaning w c m = fold form_order (c, m) (values (orders_of is_forming ByFaction m.aliases m.readings))
+form_meaning w c m = fold form_order (c, m) (orders_of is_forming ByFaction m.aliases m.readings)
 
 -- what the phase keeps: each unit that was there is there as it was
 abbrev pub form_keeps : Frame

@@ -31,8 +31,6 @@ is_giving verbs.Give = true
 is_giving verbs.Pay = true
 is_giving verb = false
 
--- ---- what is given
-
 -- how much a unit holds of what is given: its money, or its pieces of the item
 abbrev pub held_of : Gift → HoldingValue → ℕ
 held_of Money h = h.money
@@ -42,8 +40,6 @@ held_of (Item i) h = amount_of h.items i
 abbrev pub with_held_of : Gift → HoldingValue → ℕ → HoldingValue
 with_held_of Money h n = record h { money = n }
 with_held_of (Item i) h n = record h { items = with_amount_of h.items i n }
-
--- ---- one order
 
 -- The fault of giving n to a receiver: NotHere, NotEnough or NoRoom; None where it has none.
 -- A unit always has room for what it gives to itself.
@@ -84,8 +80,6 @@ give_effect aliases f from other = None
 -- what the phase does at one order: the effect of an order of GIVE or PAY
 abbrev pub give_step : OrderMeaning
 give_step w aliases t = give_effect aliases t.faction t.unit t.order_value.operands
-
--- ---- the phase
 
 -- the specification of the phase of GIVE and PAY: its orders are carried out one by one, and a unit for which its own
 -- faction wrote no GIVE or PAY is no worse off

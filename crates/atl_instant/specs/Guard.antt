@@ -24,8 +24,6 @@ abbrev pub is_guarding : Verb → Bool
 is_guarding verbs.Guard = true
 is_guarding verb = false
 
--- ---- guards of a region
-
 -- whether a unit exists, guards, and is of another faction than the given one
 abbrev pub guards_against : (faction : ℕ) → Option Unit → Bool
 guards_against faction None = false
@@ -34,8 +32,6 @@ guards_against faction (Some v) = guards v && not (v.faction == faction)
 -- whether a unit of another faction than the given one guards a region
 abbrev pub is_guarded_against : CampaignValue → (region faction : ℕ) → Bool
 is_guarded_against c region faction = list_any (λ n. guards_against faction (get c.units n)) (numbers_in_region region c.units)
-
--- ---- one order
 
 -- why a unit can't begin to guard its region: NoMen or Guarded; None where it can
 abbrev pub guard_fault : CampaignValue → Unit → Option EventFault
@@ -57,8 +53,6 @@ guard_step w aliases t = guard_effect t.unit t.order_value.operands
 -- an order affects a unit if it is GUARD 1, and the unit's own faction wrote it for the unit
 abbrev pub guard_affects : Affects
 guard_affects t number faction = IsOwnOrder t number faction × (t.order_value.operands ≡ operands.Flag true)
-
--- ---- the phase
 
 -- the specification of the phase of GUARD 1: its orders are carried out one by one, and a unit for which its own
 -- faction wrote no GUARD 1 is no worse off

@@ -22,15 +22,11 @@ use Rattle.atl_phase.specs.NoWorse.{IsNoWorse}
 use Rattle.atl_phase.specs.OrderEffects.{Affects, IsOwnOrder, OrderEffect, OrderMeaning}
 use Rattle.atl_phase.specs.PhaseSpecs.{PhaseSpec, goes_by_orders}
 
--- ---- which orders are of the phase
-
 -- whether a verb is NAME or GUARD
 abbrev pub is_naming : Verb → Bool
 is_naming verbs.Name = true
 is_naming verbs.Guard = true
 is_naming verb = false
-
--- ---- names
 
 -- whether a structure is of the sort asked for: a ship where `ship` is true, and a building otherwise
 abbrev pub is_structure_of_kind : WorldValue → (ship : Bool) → Structure → Bool
@@ -77,8 +73,6 @@ name_step w a t = name_effect w t.unit t.order_value.operands
 -- an order affects a unit if the unit's own faction wrote it for the unit, and it isn't GUARD 1
 abbrev pub name_affects : Affects
 name_affects t number faction = IsOwnOrder t number faction × (t.order_value.operands ≢ operands.Flag true)
-
--- ---- the phase
 
 -- The specification of the phase of NAME and GUARD 0: its orders are carried out one by one. A unit for which its own
 -- faction wrote no NAME or GUARD 0 is no worse off.

@@ -25,16 +25,12 @@ use Rattle.atl_phase.specs.NoWorse.{IsNoWorse}
 use Rattle.atl_phase.specs.OrderEffects.{IsOwnOrder, OrderEffect, OrderMeaning}
 use Rattle.atl_phase.specs.PhaseSpecs.{PhaseSpec, goes_by_orders}
 
--- ---- which orders are of the phase
-
 -- whether a verb is LEAVE, ENTER or PROMOTE
 abbrev pub is_placing : Verb → Bool
 is_placing verbs.Leave = true
 is_placing verbs.Enter = true
 is_placing verbs.Promote = true
 is_placing verb = false
-
--- ---- LEAVE
 
 -- why a unit can't leave the structure that it is inside: NotInside or AtSea; None where it can
 abbrev pub leave_fault : WorldValue → Unit → Option EventFault
@@ -43,8 +39,6 @@ leave_fault w u = first_fault ((u.structure == 0, NotInside) ∷ (not (is_land_a
 -- the effect of LEAVE: unit n is inside no structure, unless the order has a fault
 unfoldable pub leave : WorldValue → (n : ℕ) → OrderEffect
 leave w n c u = unless c (leave_fault w u) (with_place c n u.region 0, Done 0)
-
--- ---- ENTER
 
 -- whether a structure exists, and is in a given region
 abbrev pub is_structure_in : ℕ → Option Structure → Bool
@@ -63,8 +57,6 @@ with_unit_inside c n region from s = if from == s then c else with_place c n reg
 unfoldable pub enter : (n s : ℕ) → OrderEffect
 enter n s c u = unless c (enter_fault c s u) (with_unit_inside c n u.region u.structure s, Done 0)
 
--- ---- PROMOTE
-
 -- why unit n can't make unit `to` the owner of the structure that n is inside: NotInside, NotOwner or NotHere;
 -- None where it can
 abbrev pub promote_fault : CampaignValue → (n to : ℕ) → Unit → Option EventFault
@@ -78,8 +70,6 @@ promote_fault c n to u = first_fault (
 unfoldable pub promote : (n to : ℕ) → OrderEffect
 promote n to c u = unless c (promote_fault c n to u) (with_owner c u.structure to, Done 0)
 
--- ---- the step
-
 -- the effect of an order of LEAVE, ENTER or PROMOTE, by the form of its operands; None for any other form
 abbrev pub place_effect : WorldValue → Aliases → (f n : ℕ) → OperandsValue → Option OrderEffect
 place_effect w a f n operands.Nothing = Some (leave w n)
@@ -90,8 +80,6 @@ place_effect w a f n other = None
 -- what the phase does at one order: the effect of an order of LEAVE, ENTER or PROMOTE
 abbrev pub place_step : OrderMeaning
 place_step w a t = place_effect w a t.faction t.unit t.order_value.operands
-
--- ---- the phase
 
 -- The specification of the phase of LEAVE, ENTER and PROMOTE: its orders are carried out one by one. A unit for which
 -- its own faction wrote no LEAVE, ENTER or PROMOTE is no worse off.

@@ -34,8 +34,6 @@ abbrev pub is_quitting : Verb → Bool
 is_quitting verbs.Quit = true
 is_quitting verb = false
 
--- ---- a unit that leaves
-
 -- the entry under which what a leaving unit has is booked: left for men, lost for money and items
 abbrev pub loss_entry : Thing → BooksEntry
 loss_entry People = Left
@@ -62,8 +60,6 @@ without_leaver c n (Some u) = without_unit (with_all_losses c u.holding) n
 unfoldable pub after_leaving : CampaignValue → (n : ℕ) → CampaignValue
 after_leaving c n = without_leaver c n (get c.units n)
 
--- ---- one order
-
 -- the fault of QUIT with this faction number: WrongNumber where the unit's faction has another one; None otherwise
 abbrev pub quit_fault : (number : ℕ) → Unit → Option EventFault
 quit_fault number u = first_fault ((not (number == u.faction), WrongNumber) ∷ [])
@@ -82,8 +78,6 @@ quit_effect other = None
 abbrev pub quit_step : OrderMeaning
 quit_step w aliases t = quit_effect t.order_value.operands
 
--- ---- the phase
-
 -- the effect of the phase: all orders of QUIT, carried out one by one
 abbrev pub quit_meaning : Meaning
 quit_meaning = meaning_by_orders quit_step is_quitting
@@ -95,19 +89,14 @@ quit_affects t number faction = (t.faction ≡ faction) × (t.order_value.operan
 -- task t is an order of QUIT with the number of faction f, which wrote it for a unit that was its own as the phase
 -- began
 pub record QuitsByOwnUnit (begun : CampaignValue) (t : Task) (n f : ℕ) : Type 0 where
-  -- as the phase began, the unit that the order is for was there, and of the faction that wrote the order
   pub own : is_own begun t ≡ true
-  -- faction f wrote the order
   pub faction : t.faction ≡ f
-  -- the number in the order is that of faction f
   pub names_own_number : t.order_value.operands ≡ operands.Number f
 
 -- what the phase keeps: a unit is no worse off, unless its faction quits by an
 -- order for a unit that was its own as the phase began
 abbrev pub quit_keeps : Frame
 quit_keeps w m before after = others_unaffected (QuitsByOwnUnit before) IsNoWorse is_quitting w m before after
-
--- ---- by how much the phase moves the books
 
 -- the most by which the phase moves the books: less than 10^14 of each thing under the entry for its loss, and nothing
 -- under any other entry

@@ -30,18 +30,13 @@ has_other_guard faction (Some holder) = not (holder == faction)
 
 -- unit u guards the given region, and is of the given faction
 pub record IsGuardOf (region faction : ℕ) (u : Unit) : Type 0 where
-  -- the unit guards: its guard flag is set, and it has men
   pub on_guard : guards u ≡ true
-  -- the unit is in the given region
   pub in_region : u.region ≡ region
-  -- the unit is of the given faction
   pub belongs : u.faction ≡ faction
 
 -- The map has the faction of each unit that guards under its region, and nothing else: each region in the map is
 -- guarded by a unit of the faction that the map has for it.
 pub record AreRegionGuards (c : CampaignValue) (m : GuardMap) : Type 0 where
-  -- the map has the faction of each unit that guards under the unit's region
   pub noted : Every (λ n u. guards u ≡ true → get m u.region ≡ Some u.faction) c.units
-  -- each region in the map is guarded by a unit of the faction that the map has for it
   pub held : (region faction : ℕ) → get m region ≡ Some faction →
       (n : ℕ) × (u : Unit) × (get c.units n ≡ Some u) × IsGuardOf region faction u

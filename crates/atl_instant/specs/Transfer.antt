@@ -29,8 +29,6 @@ abbrev pub is_transferring : Verb → Bool
 is_transferring verbs.Transfer = true
 is_transferring verb = false
 
--- ---- men and their days
-
 -- the days of a skill that go with n of `men` men who have `days` together: their part, rounded down
 abbrev pub days_going : (n men days : ℕ) → ℕ
 days_going n men days = days * n / men
@@ -56,22 +54,16 @@ abbrev pub after_receiving : (n : ℕ) → (other h : HoldingValue) → HoldingV
 after_receiving n other h =
     record h { men = h.men + n; days = amounts_for (raised_of n other h) (keys h.days ++ keys other.days) }
 
--- ---- a law: the days that both units have of each skill after n men went
-
 -- After n men went, the sender has the days of the skill that stay, and the receiver those that it had and those that
 -- came. Before, the sender held `other`, and the receiver held h.
 pub record HaveDaysOf (n : ℕ) (other h : HoldingValue) (skill : ℕ) : Type 0 where
-  -- the sender has the days of the skill that stay
   pub stay : amount_of (after_sending n other).days skill ≡ staying_of n other skill
-  -- the receiver has the days of the skill that it had, and those that came
   pub come : amount_of (after_receiving n other h).days skill ≡ raised_of n other h skill
 
 -- the law that, however many men go, the sender keeps the days of each skill that stay, and the receiver has its own
 -- and those that came
 abbrev pub DaysGoWithMen : Type 0
 DaysGoWithMen = (n : ℕ) (other h : HoldingValue) (skill : ℕ) → HaveDaysOf n other h skill
-
--- ---- one order
 
 -- The fault of sending n men to a receiver: NotHere, NotYours, NotEnough or NoRoom; None where it has none.
 -- A unit always has room for men that it sends to itself.
@@ -112,8 +104,6 @@ transfer_effect aliases f from other = None
 -- what the phase does at one order: the effect of an order of TRANSFER
 abbrev pub transfer_step : OrderMeaning
 transfer_step w aliases t = transfer_effect aliases t.faction t.unit t.order_value.operands
-
--- ---- the phase
 
 -- the specification of the phase of TRANSFER: its orders are carried out one by one, and a unit for which its own
 -- faction wrote no TRANSFER is no worse off

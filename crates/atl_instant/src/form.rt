@@ -26,16 +26,12 @@ use std::alloc::{AllocError, Global};
 #[derive(Drop, Clone, Copy)]
 pub struct FormPhase;
 
-/// Whether no further unit can be formed: there are 100,000 units, or the next unit's number would
-/// be above 999,999,999.
 fn is_unit_limit(campaign: &Campaign) -> bool
     ensures { result ≡ is_unit_limit campaign.now.value }
 {
     campaign.unit_count() >= MOST_UNITS || campaign.next_unit() > LAST_UNIT
 }
 
-/// The fault of an order of FORM from a faction for a unit: NotYours or UnitLimit; None where it
-/// has none.
 fn form_fault(campaign: &Campaign, faction: u32, unit: u32) -> Option<EventFault>
     ensures { result ≡ form_fault campaign.now.value faction unit }
 {
@@ -45,8 +41,6 @@ fn form_fault(campaign: &Campaign, faction: u32, unit: u32) -> Option<EventFault
     is_unit_limit(campaign).then_some(EventFault::UnitLimit)
 }
 
-/// A new unit of a faction, in a region and a structure, named `Unit` and its number, without men,
-/// goods or guard flag. AllocError without memory for the name.
 fn new_unit(
     alloc: Global,
     number: u32,
@@ -87,7 +81,6 @@ fn add_formed_unit(
     campaign.begin_unit(unit)
 }
 
-/// The alias that an order of FORM gives; 0 for operands of any other form.
 fn alias_of(what: &Operands) -> u32
     ensures { (text : List ℕ) → result ≡ alias_of (named text what.now) }
 {
@@ -108,7 +101,6 @@ pub(crate) struct Forming {
     alias: u32,
 }
 
-/// Copies an order of FORM out of the month.
 fn forming_of(order: PhaseOrder<'_>) -> Forming
     ensures { result ≡ forming_of (task_of order.entry) }
 {
@@ -124,8 +116,7 @@ fn forming_of(order: PhaseOrder<'_>) -> Forming
 /// Copies of all orders of FORM of a month, by faction and then by line.
 fn formings(alloc: Global, month: &Month) -> Result<Vec<Forming>, AllocError>
     ensures { IfOk result (λ list. list.items
-        ≡ each forming_of (map.values
-        (orders_of is_forming ByFaction month.now.aliases month.now.readings))) }
+        ≡ each forming_of (orders_of is_forming ByFaction month.now.aliases month.now.readings)) }
 {
     let orders = month.orders(alloc, &FormPhase, Arrangement::ByFaction)?;
     let mut list = Vec::new(alloc);
@@ -162,8 +153,6 @@ fn form(
     }
 }
 
-/// Carries out one order of FORM, and adds its event to the month. The next unit number must be
-/// free.
 fn form_one(
     alloc: Global,
     campaign: &mut Campaign,
@@ -185,11 +174,9 @@ fn form_one(
     })
 }
 
-/// The phase of FORM carries out the orders of one verb, FORM.
 impl PhaseVerbs for FormPhase {
     ghost is_of = { is_forming };
 
-    /// Whether a verb is FORM.
     fn has(&self, verb: Verb) -> bool {
         matches!(verb, Verb::Form)
     }
@@ -206,7 +193,6 @@ impl Phase for FormPhase {
 
     ghost keeps = { form_keeps };
 
-    /// Returns the campaign with the new units, and the month with their aliases and the events.
     fn run(
         &self,
         alloc: Global,

@@ -32,7 +32,6 @@ pub(crate) enum Gift {
     Item(u16),
 }
 
-/// How much a unit holds of what is given: its money, or its pieces of the item.
 fn held_of(gift: Gift, holding: &Holding) -> u32
     ensures { result ≡ held_of gift holding.now }
 {
@@ -42,8 +41,6 @@ fn held_of(gift: Gift, holding: &Holding) -> u32
     }
 }
 
-/// The fault of giving this amount to a receiver: NotHere, NotEnough or NoRoom; None where it has
-/// none.
 fn give_fault(
     gift: Gift,
     amount: u32,
@@ -111,7 +108,6 @@ fn hand_over(
     set_held(campaign, to, gift, more)
 }
 
-/// Carries out an order of GIVE or PAY, or changes nothing where it has a fault.
 #[tactic(auto, unfolding(crate::specs::Give::give))]
 fn give(
     campaign: &mut Campaign,
@@ -140,11 +136,9 @@ fn give(
     Ok(Outcome::Done(u64::from(amount)))
 }
 
-/// The phase of GIVE and PAY carries out the orders of these two verbs.
 impl PhaseVerbs for GivePhase {
     ghost is_of = { is_giving };
 
-    /// Whether a verb is GIVE or PAY.
     fn has(&self, verb: Verb) -> bool {
         matches!(verb, Verb::Give | Verb::Pay)
     }
@@ -178,17 +172,11 @@ impl OrderPhase for GivePhase {
         }
     }
 
-    /// The law that an order of GIVE or PAY keeps the campaign early, books nothing, and leaves
-    /// each unit but its own no worse off (`IsOrderly`). Does nothing.
     fn is_orderly(&self) {}
 }
 
-/// Makes the phase of GIVE and PAY a `Phase` that carries out its orders one by one and does
-/// nothing else.
 impl PlainPhase for GivePhase {
     ghost makes = { give_step };
 
-    /// The law that the phase does nothing but carry out each order as `give_step` says. Does
-    /// nothing itself.
     fn is_plain(&self) {}
 }

@@ -25,8 +25,6 @@ use std::alloc::{AllocError, Global};
 #[derive(Drop, Clone, Copy)]
 pub struct GuardPhase;
 
-/// Why a unit can't begin to guard its region, by the map of guards: NoMen or Guarded; None where
-/// it can.
 fn guard_fault(holders: &RegionGuards, unit: &Unit) -> Option<EventFault>
     ensures { (c : CampaignValue) → AreRegionGuards c holders.now
         → result ≡ guard_fault c unit.now }
@@ -90,7 +88,6 @@ fn carry_out(
     }
 }
 
-/// Carries out an order of GUARD, and adds its event, if it has one, to those of earlier orders.
 /// The order must have a flag, and the map of guards must be that of the campaign.
 fn guard_one(
     campaign: &mut Campaign,
@@ -117,7 +114,6 @@ fn guard_one(
 impl PhaseVerbs for GuardPhase {
     ghost is_of = { is_guarding };
 
-    /// Whether a verb is GUARD.
     fn has(&self, verb: Verb) -> bool {
         matches!(verb, Verb::Guard)
     }
@@ -130,7 +126,6 @@ impl Phase for GuardPhase {
 
     ghost keeps = { guard_spec.keeps };
 
-    /// Returns the campaign with the new guard flags, and the month with the events.
     fn run(
         &self,
         alloc: Global,

@@ -62,8 +62,6 @@ fn structure_fault(
     }
 }
 
-/// Sets the name of the ship (where `ship` is true) or the building that a unit is inside, or
-/// changes nothing where a fault applies.
 fn name_structure(
     world: &World,
     campaign: &mut Campaign,
@@ -155,7 +153,6 @@ fn give_name(
 impl PhaseVerbs for NamePhase {
     ghost is_of = { is_naming };
 
-    /// Whether a verb is NAME or GUARD.
     fn has(&self, verb: Verb) -> bool {
         matches!(verb, Verb::Name | Verb::Guard)
     }
@@ -189,17 +186,11 @@ impl OrderPhase for NamePhase {
         }
     }
 
-    /// The law that an order of NAME or GUARD 0 keeps the campaign early, books nothing, and leaves
-    /// each unit but its own no worse off (`IsOrderly`). Does nothing.
     fn is_orderly(&self) {}
 }
 
-/// Makes the phase of NAME and GUARD 0 a `Phase` that carries out its orders one by one and does
-/// nothing else.
 impl PlainPhase for NamePhase {
     ghost makes = { name_step };
 
-    /// The law that the phase does nothing but carry out each order as `name_step` says. Does
-    /// nothing itself.
     fn is_plain(&self) {}
 }

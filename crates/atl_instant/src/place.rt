@@ -23,7 +23,6 @@ use std::alloc::{AllocError, Global};
 #[derive(Drop, Clone, Copy)]
 pub struct PlacePhase;
 
-/// Whether a structure exists, and is in a given region.
 fn is_in(campaign: &Campaign, structure: u32, region: u32) -> bool
     ensures { result ≡ is_structure_in region (map.get campaign.now.value.structures structure) }
 {
@@ -31,7 +30,6 @@ fn is_in(campaign: &Campaign, structure: u32, region: u32) -> bool
     found.is_some_and(|found| found.region == region)
 }
 
-/// Whether a structure exists, and a given unit owns it.
 fn is_owned_by(campaign: &Campaign, structure: u32, unit: u32) -> bool
     ensures { result ≡ is_owned_by (map.get campaign.now.value.structures structure) unit }
 {
@@ -39,7 +37,6 @@ fn is_owned_by(campaign: &Campaign, structure: u32, unit: u32) -> bool
     found.is_some_and(|found| found.owner == unit)
 }
 
-/// Why a unit can't leave the structure that it is inside: NotInside or AtSea; None where it can.
 fn leave_fault(world: &World, unit: &Unit) -> Option<EventFault>
     ensures { result ≡ leave_fault world.now unit.now }
 {
@@ -49,8 +46,6 @@ fn leave_fault(world: &World, unit: &Unit) -> Option<EventFault>
     (!world.is_land_at(unit.region)).then_some(EventFault::AtSea)
 }
 
-/// Carries out LEAVE: the unit goes out of the structure that it is inside, or nothing changes
-/// where a fault applies.
 #[tactic(auto, unfolding(crate::specs::Place::leave))]
 fn leave(
     world: &World,
@@ -74,7 +69,6 @@ fn leave(
     Ok(Outcome::Done(0))
 }
 
-/// Carries out ENTER: the unit enters a structure, or nothing changes where a fault applies.
 #[tactic(auto, unfolding(crate::specs::Place::enter))]
 fn enter(
     campaign: &mut Campaign,
@@ -100,8 +94,6 @@ fn enter(
     Ok(Outcome::Done(0))
 }
 
-/// Why a unit can't make another the owner of the structure that it is inside: NotInside, NotOwner
-/// or NotHere; None where it can.
 fn promote_fault(campaign: &Campaign, number: u32, to: u32, unit: &Unit) -> Option<EventFault>
     ensures { result ≡ promote_fault campaign.now.value number to unit.now }
 {
@@ -114,8 +106,6 @@ fn promote_fault(campaign: &Campaign, number: u32, to: u32, unit: &Unit) -> Opti
     (structure_of(campaign, to) != unit.structure).then_some(EventFault::NotHere)
 }
 
-/// Carries out PROMOTE: another unit becomes the owner of the structure that both are inside, or
-/// nothing changes where a fault applies.
 #[tactic(auto, unfolding(crate::specs::Place::promote))]
 fn promote(campaign: &mut Campaign, order: PhaseOrder<'_>, to: u32) -> Outcome
     ensures what { (campaign.new.value, result)
@@ -134,11 +124,9 @@ fn promote(campaign: &mut Campaign, order: PhaseOrder<'_>, to: u32) -> Outcome
     Outcome::Done(0)
 }
 
-/// The phase of LEAVE, ENTER and PROMOTE carries out the orders of these three verbs.
 impl PhaseVerbs for PlacePhase {
     ghost is_of = { is_placing };
 
-    /// Whether a verb is LEAVE, ENTER or PROMOTE.
     fn has(&self, verb: Verb) -> bool {
         matches!(verb, Verb::Leave | Verb::Enter | Verb::Promote)
     }
@@ -170,17 +158,11 @@ impl OrderPhase for PlacePhase {
         }
     }
 
-    /// The law that an order of LEAVE, ENTER or PROMOTE keeps the campaign early, books nothing,
-    /// and leaves each unit but its own no worse off (`IsOrderly`). Does nothing.
     fn is_orderly(&self) {}
 }
 
-/// Makes the phase of LEAVE, ENTER and PROMOTE a `Phase` that carries out its orders one by one and
-/// does nothing else.
 impl PlainPhase for PlacePhase {
     ghost makes = { place_step };
 
-    /// The law that the phase does nothing but carry out each order as `place_step` says. Does
-    /// nothing itself.
     fn is_plain(&self) {}
 }

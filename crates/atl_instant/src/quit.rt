@@ -29,7 +29,6 @@ use std::alloc::{AllocError, Global};
 #[derive(Drop, Clone, Copy)]
 pub struct QuitPhase;
 
-/// The entry under which what a leaving unit has is booked: left for men, lost for money and items.
 fn loss_entry(thing: Thing) -> BooksEntry
     ensures { result ≡ loss_entry thing }
 {
@@ -39,8 +38,6 @@ fn loss_entry(thing: Thing) -> BooksEntry
     }
 }
 
-/// Books an amount of a thing as gone: men under left, money and items under lost. The books must
-/// have the thing, and room for the amount.
 fn book_loss(campaign: &mut Campaign, thing: Thing, amount: u32)
     requires there { thing_index thing < campaign.old.value.books.things }
     requires room { HasRoom amount (amount_in campaign.old.value.books (loss_entry thing) thing) }
@@ -50,8 +47,6 @@ fn book_loss(campaign: &mut Campaign, thing: Thing, amount: u32)
     book_taken(campaign, loss_entry(thing), thing, amount);
 }
 
-/// Books each item of a list, with its amount, as lost. The world must have the items, and the
-/// books must have room for their amounts.
 fn book_items(world: &World, campaign: &mut Campaign, items: &[(u16, u32)])
     requires things { campaign.old.value.books.things ≡ thing_count world.now }
     requires known { EachEntry (λ i amount. i < length world.now.items) items.now }
@@ -107,8 +102,6 @@ fn leave(
     Ok(())
 }
 
-/// Removes the units of a list one after another, and books all that they have as gone. The
-/// campaign must be steady, and its books must have room for what all units have.
 fn leave_all(
     alloc: Global,
     world: &World,
@@ -156,11 +149,9 @@ fn quit(
     Ok(Outcome::Done(0))
 }
 
-/// The phase of QUIT carries out the orders of one verb, QUIT.
 impl PhaseVerbs for QuitPhase {
     ghost is_of = { is_quitting };
 
-    /// Whether a verb is QUIT.
     fn has(&self, verb: Verb) -> bool {
         matches!(verb, Verb::Quit)
     }
@@ -209,7 +200,6 @@ impl Phase for QuitPhase {
 
     ghost keeps = { quit_keeps };
 
-    /// Returns the campaign without the units that left, and the month with the events.
     fn run(
         &self,
         alloc: Global,

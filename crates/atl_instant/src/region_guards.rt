@@ -27,8 +27,6 @@ impl Model for RegionGuards {
     ghost view = { λ a. a.factions };
 }
 
-/// Makes the map from the units of a campaign, enters factions, and looks up whether another
-/// faction guards a region.
 impl RegionGuards {
     /// The map of which faction guards each region of a campaign, made in one pass over its units.
     /// AllocError without memory.
@@ -57,7 +55,6 @@ impl RegionGuards {
         Ok(())
     }
 
-    /// Enters a faction in the map as the one that guards a region.
     pub(crate) fn set(&mut self, region: u32, faction: u32) -> Result<(), AllocError>
         ensures { OnOk result (self.new ≡ map.insert self.old region faction) }
     {

@@ -108,8 +108,6 @@ fn send(
     set_people(campaign, to, more, &raised)
 }
 
-/// The fault of sending `going` men to a receiver: NotHere, NotYours, NotEnough or NoRoom; None
-/// where it has none.
 fn transfer_fault(
     going: u32,
     itself: bool,
@@ -134,7 +132,6 @@ fn transfer_fault(
     (!itself && total > u64::from(MEN_LIMIT)).then_some(EventFault::NoRoom)
 }
 
-/// Carries out an order of TRANSFER, or changes nothing where it has a fault.
 #[tactic(auto, unfolding(crate::specs::Transfer::transfer))]
 fn transfer(
     alloc: Global,
@@ -163,11 +160,9 @@ fn transfer(
     Ok(Outcome::Done(u64::from(going)))
 }
 
-/// The phase of TRANSFER carries out the orders of one verb, TRANSFER.
 impl PhaseVerbs for TransferPhase {
     ghost is_of = { is_transferring };
 
-    /// Whether a verb is TRANSFER.
     fn has(&self, verb: Verb) -> bool {
         matches!(verb, Verb::Transfer)
     }
@@ -197,18 +192,12 @@ impl OrderPhase for TransferPhase {
         }
     }
 
-    /// The law that an order of TRANSFER keeps the campaign early, books nothing, and leaves each
-    /// unit but its own no worse off (`IsOrderly`). Does nothing.
     fn is_orderly(&self) {}
 }
 
-/// Makes the phase of TRANSFER a `Phase` that carries out its orders one by one and does nothing
-/// else.
 impl PlainPhase for TransferPhase {
     ghost makes = { transfer_step };
 
-    /// The law that the phase does nothing but carry out each order as `transfer_step` says. Does
-    /// nothing itself.
     fn is_plain(&self) {}
 }
 

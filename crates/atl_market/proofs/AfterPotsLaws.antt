@@ -1,7 +1,6 @@
 -- Laws that TAX, RECRUIT, WORK and PRODUCE change all units and regions at once: a payment changes only its own unit
 -- and region.
 use Rattle.std.proofs.Common.{◌≡◌, ℕ, ◌+◌, ◌-◌, ◌*◌, true, false, Option, Some, None, refl, ap, ◌∙◌, arith}
-use Rattle.std.specs.List.{slice_get}
 use Rattle.std.specs.Option.{option_map_or}
 use Rattle.std.specs.Ordering.{nat_cmp}
 use Rattle.std.specs.FinMap.{FinMap, get}
@@ -15,7 +14,7 @@ use Rattle.atl_market.specs.AtOnce.{unchanged_region}
 use Rattle.atl_market.specs.Goods.{with_made, with_used}
 use Rattle.atl_market.specs.AfterPots.{ProducesAtOnce, RecruitsAtOnce, TaxesAtOnce, WorksAtOnce, unit_after_production, maker_of, with_raw_taken, with_less_money, with_less_peasants, with_pieces_added, with_more_money, with_recruits}
 use Rattle.atl_market.specs.PotPhase.{items_by, wants_by}
-use Rattle.atl_market.specs.Produce.{after_production, produce_pots, with_item_made, with_raw_used}
+use Rattle.atl_market.specs.Produce.{after_production, numbered_item, produce_pots, with_item_made, with_raw_used}
 use Rattle.atl_market.specs.Recruit.{after_recruiting, recruit_pots, recruits_at, with_paid_recruits}
 use Rattle.atl_market.specs.Tax.{after_tax, money_at, tax_pots}
 use Rattle.atl_market.specs.Work.{after_work, places_at, wages_for, work_pots}
@@ -30,18 +29,15 @@ use Rattle.atl_market.proofs.WantLaws.{given_is_wanted}
 use Rattle.atl_market.proofs.ThereLaws.{by_option, by_unit}
 use Rattle.atl_market.proofs.WorkLaws.{wages_leave_others, worked_is}
 
--- for `tax_pays` and `recruit_pays`: an amount less 0 is the amount
 less_none : (a : ℕ) → a - 0 ≡ a
 less_none a = omega arith
 
--- for `tax_pays` and `recruit_pays`: taking `s` and then `t` from an amount is taking both together
 less_both : (a s t : ℕ) → a - s - t ≡ a - (s + t)
 less_both a s t = omega arith
 
 -- ---- TAX
 
 module _ (w : WorldValue) where
-  -- one payment of TAX changes its unit and region alone: the unit's share of money goes from the region to the unit
   tax_pays : Pays true (λ d e. after_tax d e) (λ n. with_more_money) with_less_money
   tax_pays = record {
     mine = λ d e u is (q, around). ap (λ (s : CampaignValue). get s.units e.0) (taxed_is w d e u q is around) ∙ get-insert_same d.units e.0 (paid_unit d e.0 u e.1);
@@ -56,8 +52,6 @@ module _ (w : WorldValue) where
     twice = λ q s t. ap (λ m. record q { money = m }) (less_both q.money s t);
   }
 
--- TAX changes all units and regions at once: each unit gains its share of money, and each region loses what its units
--- took
 pub taxes_at_once : TaxesAtOnce
 taxes_at_once w c os =
     all_at_once tax_pots w (λ n. with_more_money) with_less_money c os (tax_pays w)
@@ -66,7 +60,6 @@ taxes_at_once w c os =
 -- ---- RECRUIT
 
 module _ (w : WorldValue) where
-  -- one payment of RECRUIT changes its unit and region alone, by the unit's recruits and their price
   recruit_pays : Pays true (after_recruiting w) (λ n. with_recruits w) with_less_peasants
   recruit_pays = record {
     mine = λ d e u is (q, around).
@@ -82,8 +75,6 @@ module _ (w : WorldValue) where
     twice = λ q s t. ap (λ p. record q { peasants = p }) (less_both q.peasants s t);
   }
 
--- RECRUIT changes all units and regions at once: each unit gains its recruits and pays their price, and each region
--- loses as many peasants
 pub recruits_at_once : RecruitsAtOnce
 recruits_at_once w c os =
     all_at_once recruit_pots w (λ n. with_recruits w) with_less_peasants c os (recruit_pays w)
@@ -92,7 +83,6 @@ recruits_at_once w c os =
 -- ---- WORK
 
 module _ (w : WorldValue) where
-  -- one payment of WORK changes its unit alone, by its wages
   work_pays : Pays false (after_work w) (λ n u places. with_more_money u (wages_for w u.region places)) unchanged_region
   work_pays = record {
     mine = λ d e u is here. ap (λ (s : CampaignValue). get s.units e.0) (worked_is w d e u is) ∙ get-insert_same d.units e.0 (paid_unit d e.0 u (wages_for w u.region e.1));
@@ -103,7 +93,6 @@ module _ (w : WorldValue) where
     twice = λ q s t. refl;
   }
 
--- WORK pays all units at once: each gains the wages of its work places, and no region changes
 pub works_at_once : WorksAtOnce
 works_at_once w c os =
     all_at_once work_pots w (λ n u places. with_more_money u (wages_for w u.region places)) unchanged_region c os (work_pays w)
@@ -112,53 +101,39 @@ works_at_once w c os =
 -- ---- PRODUCE
 
 module _ (asked : FinMap nat_cmp ℕ) (w : WorldValue) where
-  -- using an item leaves all regions as they are
   used_regions : (d : CampaignValue) (n i amount : ℕ) → (with_used d n i amount).regions ≡ d.regions
   used_regions d n i amount = by_unit d n (λ (s : CampaignValue). s.regions ≡ d.regions) _ refl (λ u is. refl)
 
-  -- making an item leaves all regions as they are
   made_regions : (d : CampaignValue) (n i amount : ℕ) → (with_made d n i amount).regions ≡ d.regions
   made_regions d n i amount = by_unit d n (λ (s : CampaignValue). s.regions ≡ d.regions) _ refl (λ u is. refl)
 
-  -- the regions of the second campaign are those of the first
   abbrev HasItsRegions : CampaignValue → CampaignValue → Type 0
   HasItsRegions d s = s.regions ≡ d.regions
 
-  -- the production of a unit leaves all regions as they are
   produced_regions : (d : CampaignValue) (e : ℕ × ℕ) → (after_production asked w d e).regions ≡ d.regions
   unfolding after_production
   produced_regions d e =
-      by_option (HasItsRegions d) _ (get asked e.0) d refl (λ i says.
-      by_option (HasItsRegions d) _ (slice_get w.items i) d refl (λ x is.
+      by_option (HasItsRegions d) _ (numbered_item w (get asked e.0)) d refl (λ (i, x) is.
       let amount = e.1 * x.raw_count in
       made_regions (with_raw_used d e.0 amount x.raw) e.0 i e.1
-      ∙ by_option (HasItsRegions d) (λ r. with_used d e.0 r amount) x.raw d refl (λ r raw. used_regions d e.0 r amount)))
+      ∙ by_option (HasItsRegions d) (λ r. with_used d e.0 r amount) x.raw d refl (λ r raw. used_regions d e.0 r amount))
 
   -- a unit that is there has, after its production, more of the item that it made and less of the raw items
   -- (`unit_after_production`)
   produced_unit : (d : CampaignValue) (e : ℕ × ℕ) (u : Unit) → get d.units e.0 ≡ Some u → get (after_production asked w d e).units e.0 ≡ Some (unit_after_production w u e.1 (get asked e.0))
   unfolding after_production
-  produced_unit d e u is = by_item (get asked e.0)
+  produced_unit d e u is = by_item (numbered_item w (get asked e.0))
     where
-      -- after its production the unit has the pieces that it made more, and `amount` less of the raw item `o`, if there
-      -- is one
       by_raw : (i amount : ℕ) (o : Option ℕ) → get (with_made (with_raw_used d e.0 amount o) e.0 i e.1).units e.0 ≡ Some (record u { holding = with_pieces_added (with_raw_taken u.holding o amount) i e.1 })
       by_raw i amount None = made_unit w d e.0 i e.1 u is
       by_raw i amount (Some r) = made_unit w (with_used d e.0 r amount) e.0 i e.1 (record u { holding = with_raw_taken u.holding (Some r) amount }) (used_unit w d e.0 r amount u is)
 
-      -- after its production the unit has more of the world's item `o` and less of the raw items (`maker_of`); without
-      -- an item `o` the unit is as it was
-      by_world : (i : ℕ) (o : Option Item) → get (option_map_or (with_item_made d e.0 e.1 i) o d).units e.0 ≡ Some (option_map_or (maker_of u e.1 i) o u)
-      by_world i None = is
-      by_world i (Some x) = by_raw i (e.1 * x.raw_count) x.raw
-
-      -- after its production the unit has more of the item `o` that its order names, and less of the raw items
-      -- (`unit_after_production`); without such an item the unit is as it was
-      by_item : (o : Option ℕ) → get (option_map_or (λ i. option_map_or (with_item_made d e.0 e.1 i) (slice_get w.items i) d) o d).units e.0 ≡ Some (unit_after_production w u e.1 o)
+      -- after its production the unit has more of the world's item `o` that its order names, and less of the raw items
+      -- (`maker_of`); without such an item the unit is as it was
+      by_item : (o : Option (ℕ × Item)) → get (option_map_or (λ f. with_item_made d e.0 e.1 f.0 f.1) o d).units e.0 ≡ Some (option_map_or (λ f. maker_of u e.1 f.0 f.1) o u)
       by_item None = is
-      by_item (Some i) = by_world i (slice_get w.items i)
+      by_item (Some (i, x)) = by_raw i (e.1 * x.raw_count) x.raw
 
-  -- the production of a unit changes this unit alone, by the pieces that it made and the raw items that it used
   produce_pays : Pays false (after_production asked w) (λ n u made. unit_after_production w u made (get asked n)) unchanged_region
   produce_pays = record {
     mine = λ d e u is here. produced_unit d e u is;
@@ -169,8 +144,6 @@ module _ (asked : FinMap nat_cmp ℕ) (w : WorldValue) where
     twice = λ q s t. refl;
   }
 
--- PRODUCE changes all units at once: each gains the pieces that it made and loses the raw items that they take; no
--- region changes
 pub produces_at_once : ProducesAtOnce
 produces_at_once w c os =
     let items = items_by produce_pots w c os in

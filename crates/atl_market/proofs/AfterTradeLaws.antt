@@ -45,28 +45,22 @@ trade_is : (trade : Trade) (h : HoldingValue) (stock share : ℕ) (m : Market) �
 trade_is Sell h stock share m = refl
 trade_is Buy h stock share m = refl
 
--- the result of a trade has the old stock, plus the share by SELL or less the share by BUY (`stock_after`), whatever
--- the unit holds
 stock_traded : (trade : Trade) (h : HoldingValue) (stock share : ℕ) (m : Market) → (trade_result_of trade h stock share m).stock ≡ stock_after trade stock share
 stock_traded Sell h stock share m = refl
 stock_traded Buy h stock share m = refl
 
--- trading nothing leaves the stock as it is
 none_traded : (trade : Trade) (stock : ℕ) → stock_after trade stock 0 ≡ stock
 none_traded Sell stock = omega arith
 none_traded Buy stock = omega arith
 
--- trading twice changes the stock as trading both amounts at once
 traded_twice : (trade : Trade) (stock s t : ℕ) → stock_after trade (stock_after trade stock s) t ≡ stock_after trade stock (s + t)
 traded_twice Sell stock s t = omega arith
 traded_twice Buy stock s t = omega arith
 
 module _ (d : CampaignValue) (n : ℕ) (u : Unit) (i : ℕ) (entry : BooksEntry) (deal : TradeResult) (is : get d.units n ≡ Some u) where
-  -- the units after the result of a trade is set: unit `n` with its new holding, the others as they were
   dealt_units : (with_trade_booked d n u i entry deal).units ≡ insert d.units n (record u { holding = with_trade_result u.holding i deal })
   dealt_units = ap (λ o. (with_holding_at d n (with_trade_result u.holding i deal) o).units) is
 
-  -- the regions after the result of a trade is set: the unit's region with its new stock, the others as they were
   dealt_regions : (with_trade_booked d n u i entry deal).regions ≡ with_changed_value (λ r. restocked r i deal.stock) d.regions u.region
   dealt_regions = ap (λ o. with_changed_value (λ r. restocked r i deal.stock) (with_holding_at d n (with_trade_result u.holding i deal) o).regions u.region) is
 
@@ -77,12 +71,9 @@ module _ (trade : Trade) (items : FinMap nat_cmp ℕ) (w : WorldValue) where
   abbrev trader : ℕ → UnitChange
   trader n u share = trader_of trade u share (market_for w u (get items n))
 
-  -- the trade of a unit that is there exchanges its share of goods and the money for it, if it has a market (`trader`)
   unit_traded : (d : CampaignValue) (e : ℕ × ℕ) (u : Unit) → get d.units e.0 ≡ Some u → get (after_trade trade items w d e).units e.0 ≡ Some (trader e.0 u e.1)
   unit_traded d e u is = by_market (market_for w u (get items e.0)) refl
     where
-      -- the trade exchanges the unit's share of goods and the money for it, or nothing without a market `o`
-      -- (`trader_of`)
       by_market : (o : Option Market) → market_for w u (get items e.0) ≡ o → get (after_trade trade items w d e).units e.0 ≡ Some (trader_of trade u e.1 o)
       by_market None at = ap (λ (s : CampaignValue). get s.units e.0) (traded_is trade items w d e u is None at) ∙ is
       by_market (Some m) at =
@@ -104,12 +95,10 @@ module _ (trade : Trade) (items : FinMap nat_cmp ℕ) (w : WorldValue) (units : 
   abbrev IsTraded : ℕ → Region → Type 0
   IsTraded r q = HasNewStocks q (stock_after trade) (drawn_here r) (get (after_trade trade items w d e).regions r)
 
-  -- for `without_market`: what a unit with a share of 0 draws from a pot is 0, whether it may draw from it (`b`) or not
   none_drawn : (b : Bool) (share : ℕ) → share ≡ 0 → cond b share 0 ≡ 0
   none_drawn true share none = none
   none_drawn false share none = refl
 
-  -- without a market, and with a share of 0, no stock of any region changes (`IsTraded`)
   without_market : market_for w u (get items e.0) ≡ None → e.1 ≡ 0 → (r : ℕ) (q : Region) → get d.regions r ≡ Some q → IsTraded r q
   without_market at none r q around = record {
     stocks = q.stocks;
@@ -118,15 +107,12 @@ module _ (trade : Trade) (items : FinMap nat_cmp ℕ) (w : WorldValue) (units : 
   }
 
   module _ (m : Market) (at : market_for w u (get items e.0) ≡ Some m) (says : get items e.0 ≡ Some m.item) where
-    -- the result of the unit's trade with market `m`
     abbrev deal : TradeResult
     deal = trade_result_of trade u.holding (stock_of d u.region m.item) e.1 m
 
-    -- a region with the stock of the market's item that the trade leaves
     abbrev restock : Region → Region
     restock q = restocked q m.item deal.stock
 
-    -- the trade changes the region that the unit is in, by its new stock (`restock`), and no other region
     regions_are : (r : ℕ) → get (after_trade trade items w d e).regions r ≡ get (with_changed_value restock d.regions u.region) r
     regions_are r =
         ap (λ (s : CampaignValue). get s.regions r) (traded_is trade items w d e u is (Some m) at)
@@ -136,12 +122,9 @@ module _ (trade : Trade) (items : FinMap nat_cmp ℕ) (w : WorldValue) (units : 
     draws : (r i : ℕ) → draws_item units items (r, i) e.0 ≡ (u.region == r && m.item == i)
     draws r i = ap (λ o. is_in_region r o && asks_for_item i (get items e.0)) there ∙ ap (λ o. u.region == r && asks_for_item i o) says
 
-    -- where the unit doesn't draw from the pot of region `r` and item `i`, the trade leaves the stock there as it is
     undrawn : (r i stock : ℕ) → draws_item units items (r, i) e.0 ≡ false → stock ≡ stock_after trade stock (drawn_here r i)
     undrawn r i stock other = sym (ap (λ b. stock_after trade stock (cond b e.1 0)) other ∙ none_traded trade stock)
 
-    -- in the unit's own region the trade changes the stock of the market's item by the share, and no other stock
-    -- (`IsTraded`)
     here : (r : ℕ) (q : Region) → r ≡ u.region → get d.regions r ≡ Some q → IsTraded r q
     here r q same around = record {
       stocks = with_amount_of q.stocks m.item deal.stock;
@@ -151,18 +134,14 @@ module _ (trade : Trade) (items : FinMap nat_cmp ℕ) (w : WorldValue) (units : 
       amounts = amounts;
     }
       where
-        -- in its own region the unit draws from the pot of the market's item alone
         mine : (i : ℕ) → draws_item units items (r, i) e.0 ≡ (m.item == i)
         mine i = draws r i ∙ ap (λ b. b && m.item == i) (ap (λ k. u.region == k) same ∙ same_number u.region)
 
-        -- the market's stock after the trade is its stock before, plus the share by SELL or less the share by BUY
-        -- (`stock_after`)
         stock : deal.stock ≡ stock_after trade (amount_of q.stocks m.item) e.1
         stock =
             stock_traded trade u.holding (stock_of d u.region m.item) e.1 m
             ∙ ap (λ k. stock_after trade k e.1) (stock_is d u.region q m.item (ap (get d.regions) (sym same) ∙ around))
 
-        -- each stock of the region changes by what the unit draws of the item (`drawn_here`)
         amounts : (i : ℕ) → amount_of (with_amount_of q.stocks m.item deal.stock) i ≡ stock_after trade (amount_of q.stocks i) (drawn_here r i)
         amounts i = elim (cases_eq i m.item) [
           | inl one ↦
@@ -174,7 +153,6 @@ module _ (trade : Trade) (items : FinMap nat_cmp ℕ) (w : WorldValue) (units : 
               ∙ undrawn r i (amount_of q.stocks i) (mine i ∙ other_number m.item i (λ one. apart (sym one)))
         ]
 
-    -- the trade leaves the stocks of each region but the unit's own as they were (`IsTraded`)
     elsewhere : (r : ℕ) (q : Region) → r ≢ u.region → get d.regions r ≡ Some q → IsTraded r q
     elsewhere r q apart around = record {
       stocks = q.stocks;
@@ -187,8 +165,6 @@ module _ (trade : Trade) (items : FinMap nat_cmp ℕ) (w : WorldValue) (units : 
   region_traded : IsWorld w → (market_for w u (get items e.0) ≡ None → e.1 ≡ 0) → (r : ℕ) (q : Region) → get d.regions r ≡ Some q → IsTraded r q
   region_traded world none r q around = by_market (market_for w u (get items e.0)) refl
     where
-      -- the trade changes each stock of region `r` by what the unit draws of the item, and nothing else of the region
-      -- (`IsTraded`); by the two cases of `o`, the market of the unit's order
       by_market : (o : Option Market) → market_for w u (get items e.0) ≡ o → IsTraded r q
       by_market None at = without_market at (none at) r q around
       by_market (Some m) at =
@@ -198,11 +174,9 @@ module _ (trade : Trade) (items : FinMap nat_cmp ℕ) (w : WorldValue) (units : 
 -- ---- one unit trades after the other
 
 module _ (trade : Trade) (items : FinMap nat_cmp ℕ) (w : WorldValue) where
-  -- a campaign after the trade of one share
   abbrev step : CampaignValue → ℕ × ℕ → CampaignValue
   step d e = after_trade trade items w d e
 
-  -- a unit with a lower number than all units that are still to trade stays as it is
   untraded_stays : (d : CampaignValue) (es : List (ℕ × ℕ)) (n : ℕ) → AllByRecursion (λ e. n < e.0) es → get (fold (after_trade trade items w) d es).units n ≡ get d.units n
   untraded_stays d [] n above = refl
   untraded_stays d (e ∷ es) n above = untraded_stays (step d e) es n above.1 ∙ traded_others trade items w d e n (λ same. absurd (omega (arith, same, above.0)))
@@ -246,15 +220,12 @@ module _ (trade : Trade) (items : FinMap nat_cmp ℕ) (w : WorldValue) where
         }
 
 module _ (trade : Trade) (w : WorldValue) (c : CampaignValue) (os : List Task) where
-  -- the item that each unit's order of SELL or BUY names, by unit
   abbrev named : FinMap nat_cmp ℕ
   named = items_by (trade_pots trade) w c os
 
-  -- how many pieces each unit gets to trade, by unit
   abbrev given : FinMap nat_cmp ℕ
   given = given_by (trade_pots trade) w c os
 
-  -- for `without_share`: a share that is at most 0 is 0
   none_left : (share : ℕ) → share ≤ 0 → share ≡ 0
   none_left share low = omega (arith, low)
 
@@ -265,14 +236,11 @@ module _ (trade : Trade) (w : WorldValue) (c : CampaignValue) (os : List Task) w
   without_share n share u asked (Some i) low says at =
       none_left share (subst (λ k. share ≤ trade_want trade u.holding asked k) (ap (market_for w u) (sym (says i refl)) ∙ at) low)
 
-  -- each unit with a share is there, and its share is 0 if it has no market
   each_trades : Every (λ n share. Trades trade named w c (n, share)) given
   each_trades n share is =
       let (u, t, there, own, low, fine, says) = given_is_named (trade_pots trade) w c (trades_give trade w c) os n share is in
       (u, there, λ at. without_share n share u (count_in t.order_value.operands) (item_in t.order_value.operands) low says at)
 
--- SELL and BUY change all units and stocks at once, in a campaign of a world (`IsWorld`). Each unit changes by its
--- share, and each stock by what the units of its region trade of the item.
 pub trades_at_once : TradesAtOnce
 unfolding after_sharing
 trades_at_once trade w c os world =

@@ -19,7 +19,6 @@ use Rattle.atl_market.specs.PotPhase.{PotMeaning, after_sharing, given_by, items
 use Rattle.atl_market.proofs.DrawLaws.{AreUntouched, Drawers, all_pairs, drawn, still, untouched, draws_region}
 use Rattle.atl_market.proofs.PotLaws.{found_other}
 
--- for `regions_drained` and `drawn_is_sum`: 0 plus a number is the number
 zero_plus : (a : ℕ) → 0 + a ≡ a
 zero_plus a = omega arith
 
@@ -32,25 +31,17 @@ HasRegion false d u = ⊤
 -- One payment changes its unit by `gets` and its unit's region by `gives`, and no other unit or region. Giving 0 is no
 -- change, and giving two amounts in turn is giving their sum.
 pub record Pays (needs : Bool) (step : CampaignValue → ℕ × ℕ → CampaignValue) (gets : ℕ → UnitChange) (gives : RegionChange) : Type 0 where
-  -- a payment makes of its unit what `gets` makes of the unit and its share
   pub mine : (d : CampaignValue) (e : ℕ × ℕ) (u : Unit) → get d.units e.0 ≡ Some u → HasRegion needs d u → get (step d e).units e.0 ≡ Some (gets e.0 u e.1)
-  -- a payment changes no unit but its own
   pub others : (d : CampaignValue) (e : ℕ × ℕ) (u : Unit) → get d.units e.0 ≡ Some u → HasRegion needs d u → (k : ℕ) → k ≢ e.0 → get (step d e).units k ≡ get d.units k
-  -- a payment makes of the region of its unit what `gives` makes of the region and the share
   pub region : (d : CampaignValue) (e : ℕ × ℕ) (u : Unit) (q : Region) → get d.units e.0 ≡ Some u → get d.regions u.region ≡ Some q → get (step d e).regions u.region ≡ Some (gives q e.1)
-  -- a payment changes no region but the one that its unit is in
   pub regions : (d : CampaignValue) (e : ℕ × ℕ) (u : Unit) → get d.units e.0 ≡ Some u → HasRegion needs d u → (k : ℕ) → k ≢ u.region → get (step d e).regions k ≡ get d.regions k
-  -- a region that gives 0 stays as it is
   pub nothing : (q : Region) → gives q 0 ≡ q
-  -- a region that gives two amounts in turn becomes what it becomes where it gives their sum
   pub twice : (q : Region) (s t : ℕ) → gives (gives q s) t ≡ gives q (s + t)
 
 module _ {needs : Bool} {step : CampaignValue → ℕ × ℕ → CampaignValue} {gets : ℕ → UnitChange} {gives : RegionChange} (pays : Pays needs step gets gives) where
-  -- a payment removes no region that the payment of any unit needs
   still_around : (d : CampaignValue) (e : ℕ × ℕ) (u v : Unit) → get d.units e.0 ≡ Some u → HasRegion needs d u → HasRegion needs d v → HasRegion needs (step d e) v
   still_around d e u v is here there = by_need needs (λ k apart. pays.regions d e u is here k apart) (λ q at. pays.region d e u q is at) there
     where
-      -- the region of unit `v` is still there after the payment, if it is needed (`b`)
       by_need : (b : Bool) → ((k : ℕ) → k ≢ u.region → get (step d e).regions k ≡ get d.regions k) → ((q : Region) → get d.regions u.region ≡ Some q → get (step d e).regions u.region ≡ Some (gives q e.1)) → HasRegion b d v → HasRegion b (step d e) v
       by_need false others mine there = tt
       by_need true others mine (q, at) = elim (cases_eq v.region u.region) [
@@ -65,19 +56,14 @@ module _ {needs : Bool} {step : CampaignValue → ℕ × ℕ → CampaignValue} 
 
     -- in campaign `d` the shares `es` can be paid, in the order of unit numbers: their units are as in `c`, and there
     record AreReady (d : CampaignValue) (es : List (ℕ × ℕ)) : Type 0 where
-      -- the shares are in the order of unit numbers, one for each unit
       rise : Rise es
-      -- the units of the shares are in `d` as they are in `c`
       same : AreUntouched c d es
-      -- each share can be paid in `d`: its unit is there, and so is the unit's region where that is needed
       payable : AllByRecursion (CanBePaid d) es
 
-    -- after a payment each unit that could be paid can still be paid
     payable_still : (d : CampaignValue) (e : ℕ × ℕ) (u : Unit) (es : List (ℕ × ℕ)) → get d.units e.0 ≡ Some u → HasRegion needs d u → AllByRecursion (CanBePaid d) es → AllByRecursion (CanBePaid (step d e)) es
     payable_still d e u [] is here all = tt
     payable_still d e u (f ∷ es) is here ((v, there, around), all) = ((v, there, still_around d e u v is here around), payable_still d e u es is here all)
 
-    -- after the first payment of a list the later payments can be made (`AreReady`)
     ready_still : (d : CampaignValue) (e : ℕ × ℕ) (es : List (ℕ × ℕ)) (u : Unit) → get d.units e.0 ≡ Some u → HasRegion needs d u → AreReady d (e ∷ es) → AreReady (step d e) es
     ready_still d e es u is here ready = record {
       rise = ready.rise.1;
@@ -85,7 +71,6 @@ module _ {needs : Bool} {step : CampaignValue → ℕ × ℕ → CampaignValue} 
       payable = payable_still d e u es is here ready.payable.1;
     }
 
-    -- a unit with a lower number than all those still to be paid stays as it is
     unpaid_stays : (d : CampaignValue) (es : List (ℕ × ℕ)) (n : ℕ) → AreReady d es → AllByRecursion (λ e. n < e.0) es → get (fold step d es).units n ≡ get d.units n
     unpaid_stays d [] n ready above = refl
     unpaid_stays d (e ∷ es) n ready above =
@@ -111,8 +96,6 @@ module _ {needs : Bool} {step : CampaignValue → ℕ × ℕ → CampaignValue} 
               units_paid (step d e) es rest n u (pays.others d e v now here n apart ∙ is) ∙ ap (λ o. Some (paid_unit (gets n) u o)) (sym (found_other e es n apart))
         ]
 
-    -- after payments that can be made (`AreReady`), in the order of unit numbers, each region has changed by what its
-    -- units got together
     regions_drained : (d : CampaignValue) (es : List (ℕ × ℕ)) → AreReady d es → (r : ℕ) (q : Region) → get d.regions r ≡ Some q → get (fold step d es).regions r ≡ Some (gives q (drawn (draws_region c.units r) es))
     regions_drained d [] ready r q is = is ∙ ap Some (sym (pays.nothing q))
     regions_drained d (e ∷ es) ready r q is =
@@ -131,12 +114,10 @@ module _ {needs : Bool} {step : CampaignValue → ℕ × ℕ → CampaignValue} 
               ∙ sym (ap (λ b. Some (gives q (cond b e.1 0 + drawn (draws_region c.units r) es))) other)
         ]
 
--- what is drawn from a pot is the sum of what the units that draw from it got
 pub drawn_is_sum : (draws : Drawers) (es : List (ℕ × ℕ)) → drawn draws es ≡ sum (map (λ e. e.1) (filter (λ e. draws e.0) es))
 drawn_is_sum draws [] = refl
 drawn_is_sum draws (e ∷ es) = by_test (draws e.0) (drawn_is_sum draws es)
   where
-    -- what is drawn is the sum of the drawing units' shares, whether the first unit draws (`b`) or not
     by_test : (b : Bool) → drawn draws es ≡ sum (map (λ f. f.1) (filter (λ f. draws f.0) es))
         → cond b e.1 0 + drawn draws es ≡ sum (map (λ f. f.1) (cond b (e ∷ filter (λ f. draws f.0) es) (filter (λ f. draws f.0) es)))
     by_test true rest = ap (λ k. e.1 + k) rest ∙ sym (sum_by-cons (λ x. x) e.1 (map (λ f. f.1) (filter (λ f. draws f.0) es)))

@@ -22,8 +22,6 @@ use Rattle.atl_market.specs.Bounds.{CanBuild, build_remaining}
 use Rattle.atl_phase.proofs.MeaningLaws.{same_month_by}
 use Rattle.atl_phase.proofs.OrderEffectLaws.{bound_unused_by}
 
--- ---- where units hold what they held, and nothing is booked
-
 -- A change that leaves what BUILD needs (`CanBuild`), and keeps the month, books, totals and what BUILD may still book,
 -- is one that BUILD may make (`StepsWell`).
 pub unbooked_change_steps_well : (w : WorldValue) (c d : CampaignValue) → CanBuild w d → IsSameMonth c d → d.books ≡ c.books → ((t : Thing) → total d t ≡ total c t) → ((e : BooksEntry) (t : Thing) → build_remaining d e t ≡ build_remaining c e t) → StepsWell CanBuild build_remaining w c d
@@ -34,26 +32,19 @@ unbooked_change_steps_well w c d can same books totals reserves = record {
   uses_bound = λ e t. bound_unused_by (build_remaining c e t) (build_remaining d e t) (amount_in c.books e t) (amount_in d.books e t) (reserves e t) (ap (λ b. amount_in b e t) books);
 }
 
--- ---- a structure more
-
 -- the name that a structure is begun with, such as `Ship 7`, keeps the rule of names for numbers up to 999,999,999
 pub first_name_ok : (k : Kind) (number : ℕ) → number ≤ last_unit → IsTrue (name_ok (name_prefix k ++ decimal number))
 first_name_ok k number l = by_sort k.ship
   where
-    -- the first name of a ship keeps the rule of names, and so does that of a building
     by_sort : (ship : Bool) → name_ok ((if ship then codes "Ship " else codes "Building ") ++ decimal number) ≡ true
     by_sort true = numbered_name_ok (codes "Ship ") (record { bytes = refl; begins = refl; some = lit≤ tt; few = lit≤ tt }) number l
     by_sort false = numbered_name_ok (codes "Building ") (record { bytes = refl; begins = refl; some = lit≤ tt; few = lit≤ tt }) number l
 
--- adding a structure, while fewer than 10,000 were begun, keeps what BUILD needs of the campaign (`CanBuild`)
 pub raised_well : (w : WorldValue) (c : CampaignValue) (s : Structure) (fresh : IsFresh w c s) (room : c.next_structure ≤ most_structures) (can : CanBuild w c) → StepsWell CanBuild build_remaining w c (raised w c s fresh room can.steady)
 raised_well w c s fresh room can =
     unbooked_change_steps_well w c (raised w c s fresh room can.steady) (record { steady = steady_raised w c s fresh room can.steady; kinds = can.kinds })
     (same_month_by refl) refl (total_raised w c s fresh room can.steady) (λ e t. refl)
 
--- ---- more of a structure is done
-
--- doing more of a structure, at most up to its kind's size, keeps what BUILD needs of the campaign (`CanBuild`)
 pub built_well : (w : WorldValue) (c : CampaignValue) (k : ℕ) (s : Structure) (done : ℕ) (is : get c.structures k ≡ Some s) (more : s.done ≤ done) (most : done ≤ size_of w s.kind) (can : CanBuild w c) → StepsWell CanBuild build_remaining w c (built w c k s done is)
 built_well w c k s done is more most can =
     unbooked_change_steps_well w c (built w c k s done is) (record { steady = steady_built w c k s done is more most can.steady; kinds = can.kinds })

@@ -54,11 +54,9 @@ use Rattle.atl_market.proofs.BuildPlaceLaws.{place_well}
 use Rattle.atl_market.proofs.BuildUsedLaws.{others_stay, used, used_for_well, used_room, user, user_there}
 use Rattle.atl_market.proofs.ItemUseLaws.{used_is}
 
--- a number that isn't 0 is at least 1
 nonzero_is_positive : (n : ℕ) → (n == 0) ≡ false → 1 ≤ n
 nonzero_is_positive n is = grind (arith, nat_tests)
 
--- if `a` isn't at most `b`, `b` is less than `a`
 more_than : (a b : ℕ) → nat_le a b ≡ false → b < a
 more_than a b is = grind (arith, nat_tests)
 
@@ -74,7 +72,6 @@ next_within c numbered room = omega (arith, numbered.count, room)
 pub limit_by_next : (c : CampaignValue) → IsNumbered c.structures c.next_structure → nat_lt most_structures c.next_structure ≡ is_structure_limit c
 limit_by_next c numbered = rw numbered.count (by_count most_structures (len c.structures))
   where
-    -- for `limit_by_next`: `most` is less than `count + 1` exactly if it is at most `count`
     by_count : (most count : ℕ) → nat_lt most (count + 1) ≡ nat_le most count
     by_count most count = grind (arith, nat_tests)
 
@@ -82,19 +79,12 @@ limit_by_next c numbered = rw numbered.count (by_count most_structures (len c.st
 
 -- a unit has all that it needs to begin a structure of a kind: men, land, the level, material, and room for a structure
 pub record CanBegin (w : WorldValue) (c : CampaignValue) (u : Unit) (k : Kind) : Type 0 where
-  -- the unit has at least one man
   pub men : 1 ≤ u.holding.men
-  -- the unit's region is land
   pub land : is_land_at w u.region ≡ true
-  -- the unit has at least the level that the kind asks for, in the skill of the kind
   pub skill : k.level ≤ level_in u.holding k.skill
-  -- the unit holds at least one piece of the kind's material
   pub material : 1 ≤ amount_of u.holding.items k.material
-  -- the campaign has fewer than 10,000 structures
   pub room : len c.structures < most_structures
 
--- A unit without a fault of `BUILD kind` can begin a structure: it has men, level and material, is on land, and the
--- campaign has room for the structure.
 pub can_begin : (w : WorldValue) (c : CampaignValue) (u : Unit) (k : Kind) → begin_fault w c u k ≡ None → CanBegin w c u k
 can_begin w c u k is =
     let limit = (is_structure_limit c, StructureLimit) ∷ [] in
@@ -115,17 +105,11 @@ can_begin w c u k is =
 
 -- a unit has all that it needs to continue a structure: men, the level and material, and the structure isn't complete
 pub record CanGoOn (u : Unit) (s : Structure) (k : Kind) : Type 0 where
-  -- the unit has at least one man
   pub men : 1 ≤ u.holding.men
-  -- less of the structure is done than the size of its kind
   pub missing : s.done < k.size
-  -- the unit has at least the level that the kind asks for, in the skill of the kind
   pub skill : k.level ≤ level_in u.holding k.skill
-  -- the unit holds at least one piece of the kind's material
   pub material : 1 ≤ amount_of u.holding.items k.material
 
--- a unit without a fault of `BUILD` in a structure can continue it: it has men, level and material, and the
--- structure isn't complete
 pub can_go_on : (u : Unit) (s : Structure) (k : Kind) → inside_fault u s k ≡ None → CanGoOn u s k
 can_go_on u s k is =
     let material = (amount_of u.holding.items k.material == 0, NoMaterial) ∷ [] in
@@ -143,44 +127,35 @@ can_go_on u s k is =
 
 -- ---- the size that is added
 
--- for `size_some`: the least of three numbers from 1 on is at least 1
 least_is_positive : (x y z : ℕ) → 1 ≤ x → 1 ≤ y → 1 ≤ z → 1 ≤ min (min x y) z
 least_is_positive x y z a b c = omega (arith, a, b, c)
 
--- for `size_held`: the least of three numbers is at most the second
 least_within_second : (x y z : ℕ) → min (min x y) z ≤ y
 least_within_second x y z = omega arith
 
--- for `size_missing`: the least of three numbers is at most the third
 least_within_third : (x y z : ℕ) → min (min x y) z ≤ z
 least_within_third x y z = omega arith
 
--- for `size_some`: the product of two numbers from 1 on is at least 1
 product_is_positive : (a b : ℕ) → 1 ≤ a → 1 ≤ b → 1 ≤ a * b
 product_is_positive a b l m = let h : a * 1 ≤ a * b = mul-le-mul_left a m in omega (arith, l, h)
 
 module _ (k : Kind) (h : HoldingValue) (done : ℕ) where
-  -- the size that a unit adds to a structure is at most the material that it holds
   pub size_held : size_added k h done ≤ amount_of h.items k.material
   size_held = least_within_second (h.men * level_in h k.skill) (amount_of h.items k.material) (k.size - done)
 
-  -- the size that a unit adds to a structure is at most what is missing of the structure
   pub size_missing : size_added k h done ≤ k.size - done
   size_missing = least_within_third (h.men * level_in h k.skill) (amount_of h.items k.material) (k.size - done)
 
-  -- a unit with men, level and material adds at least 1 to a structure that isn't complete
   size_some : 1 ≤ h.men → 1 ≤ level_in h k.skill → 1 ≤ amount_of h.items k.material → done < k.size → 1 ≤ size_added k h done
   size_some men level material missing =
       least_is_positive (h.men * level_in h k.skill) (amount_of h.items k.material) (k.size - done) (product_is_positive h.men (level_in h k.skill) men level) material (omega (arith, missing))
 
--- the size that is found by the number of a kind is that kind's `size`
 kind_size : (w : WorldValue) (i : ℕ) (k : Kind) → slice_get w.kinds i ≡ Some k → size_of w i ≡ k.size
 kind_size w i k is = ap (λ o. option_map_or (λ (x : Kind). x.size) o most_size) is
 
 -- ---- a structure is begun
 
 module _ (w : WorldValue) (c : CampaignValue) (n kind : ℕ) (u : Unit) (k : Kind) (is : get c.units n ≡ Some u) where
-  -- how much of the new structure is done as the unit begins it
   abbrev size : ℕ
   size = size_added k u.holding 0
 
@@ -196,30 +171,24 @@ module _ (w : WorldValue) (c : CampaignValue) (n kind : ℕ) (u : Unit) (k : Kin
   begun_is : after_start c n kind k u.region size ≡ from_used after_use
   begun_is = ap from_used (used_is w c n k.material size u is)
 
-  -- beginning a structure leaves the other units as they are
   begun_stays : (j : ℕ) → j ≢ n → get (after_start c n kind k u.region size).units j ≡ get c.units j
   begun_stays j apart =
       ap (λ (d : CampaignValue). get d.units j) begun_is ∙ place_stays (with_new_structure after_use kind k u.region size) n u.region c.next_structure j apart
       ∙ others_stay w c n k.material size u is j apart
 
   module _ (kind_is : slice_get w.kinds kind ≡ Some k) (can : CanBuild w c) (fit : CanBegin w c u k) where
-    -- the kind names a material and a skill of the world (`IsKind`)
     good : IsKind (length w.items) (length w.skills) k
     good = can.kinds kind k kind_is
 
-    -- the number of the next structure is at most 10,000, as the unit can begin a structure
     room : c.next_structure ≤ most_structures
     room = next_within c can.steady.next.structures fit.room
 
-    -- using the material keeps what BUILD needs of the campaign (`CanBuild`)
     one_well : StepsWell CanBuild build_remaining w c after_use
     one_well = used_for_well w c n k.material size u is (size_held k u.holding 0) good.material can
 
-    -- the structure that the unit begins, with its first name
     abbrev new : Structure
     new = new_structure c.next_structure kind k u.region size
 
-    -- the new structure may be added to the campaign in which the material is used (`IsFresh`)
     fresh : IsFresh w after_use new
     fresh = record {
       kind = slice_get_within w.kinds kind k kind_is;
@@ -231,11 +200,9 @@ module _ (w : WorldValue) (c : CampaignValue) (n kind : ℕ) (u : Unit) (k : Kin
       ownerless = refl;
     }
 
-    -- the campaign in which the new structure is added, and the unit hasn't entered it yet
     after_raising : CampaignValue
     after_raising = raised w after_use new fresh room one_well.holds_still.steady
 
-    -- beginning a structure keeps what BUILD needs of the campaign (`CanBuild`)
     begun_well : StepsWell CanBuild build_remaining w c (after_start c n kind k u.region size)
     unfolding after_raising
     begun_well =
@@ -250,11 +217,9 @@ module _ (w : WorldValue) (c : CampaignValue) (n kind : ℕ) (u : Unit) (k : Kin
 -- ---- more of a structure is done
 
 module _ (w : WorldValue) (c : CampaignValue) (n : ℕ) (u : Unit) (s : Structure) (k : Kind) (is : get c.units n ≡ Some u) where
-  -- the size that the unit adds to the structure that it is inside
   abbrev added : ℕ
   added = size_added k u.holding s.done
 
-  -- the campaign after unit `n` used the material for what it adds to the structure
   abbrev paid : CampaignValue
   paid = used w c n k.material added u is
 
@@ -266,24 +231,19 @@ module _ (w : WorldValue) (c : CampaignValue) (n : ℕ) (u : Unit) (s : Structur
   on_is : after_building_on c n k.material added u.structure (s.done + added) ≡ further paid
   on_is = ap further (used_is w c n k.material added u is)
 
-  -- continuing a structure leaves the other units as they are
   on_stays : (j : ℕ) → j ≢ n → get (after_building_on c n k.material added u.structure (s.done + added)).units j ≡ get c.units j
   on_stays j apart = ap (λ (d : CampaignValue). get d.units j) on_is ∙ others_stay w c n k.material added u is j apart
 
   module _ (there : get c.structures u.structure ≡ Some s) (kind_is : slice_get w.kinds s.kind ≡ Some k) (can : CanBuild w c) (fit : CanGoOn u s k) where
-    -- using the material keeps what BUILD needs of the campaign (`CanBuild`)
     paid_well : StepsWell CanBuild build_remaining w c paid
     paid_well = used_for_well w c n k.material added u is (size_held k u.holding s.done) (can.kinds s.kind k kind_is).material can
 
-    -- what is done of the structure after it was continued is at most its kind's size
     most : s.done + added ≤ size_of w s.kind
     most = subst (λ x. s.done + added ≤ x) (sym (kind_size w s.kind k kind_is)) (up added s.done k.size (size_missing k u.holding s.done) fit.missing)
       where
-        -- for `most`: what is done of a size, and an addition of at most what is missing, are together at most the size
         up : (a d m : ℕ) → a ≤ m - d → d < m → d + a ≤ m
         up a d m l h = omega (arith, l, h)
 
-    -- continuing a structure keeps what BUILD needs of the campaign, if the unit has what it needs for it (`CanGoOn`)
     on_well : StepsWell CanBuild build_remaining w c (after_building_on c n k.material added u.structure (s.done + added))
     on_well =
         let done_is = built_is w paid u.structure s (s.done + added) there in
@@ -299,20 +259,16 @@ begin_cases : (P : CampaignValue → Type 0) (w : WorldValue) (c : CampaignValue
 unfolding begin
 begin_cases P w c n kind k u same go = by_fault (begin_fault w c u k) refl
   where
-    -- for `begin_cases`: `P` holds after `BUILD kind`, whether the order has a fault `o` or not
     by_fault : (o : Option EventFault) → begin_fault w c u k ≡ o → P (unless c o (after_start c n kind k u.region (size_added k u.holding 0), Done (size_added k u.holding 0))).0
     by_fault (Some fault) e = same
     by_fault None e = go (can_begin w c u k e)
 
--- `P` holds of the campaign after `BUILD`, if it holds of the campaign before, and of the one in which the unit
--- continued its structure, where it can (`CanGoOn`).
 go_on_cases : (P : CampaignValue → Type 0) (w : WorldValue) (c : CampaignValue) (n : ℕ) (u : Unit) → P c
     → ((s : Structure) (k : Kind) → get c.structures u.structure ≡ Some s → slice_get w.kinds s.kind ≡ Some k → CanGoOn u s k
     → P (after_building_on c n k.material (size_added k u.holding s.done) u.structure (s.done + size_added k u.holding s.done))) → P (go_on w n c u).0
 unfolding go_on
 go_on_cases P w c n u same go = by_structure (get c.structures u.structure) refl
   where
-    -- for `go_on_cases`: `P` holds after `BUILD` inside structure `s`, whether the order has a fault `o` or not
     by_fault : (s : Structure) (k : Kind) → get c.structures u.structure ≡ Some s → slice_get w.kinds s.kind ≡ Some k → (o : Option EventFault) → inside_fault u s k ≡ o
         → P (unless c o (after_building_on c n k.material (size_added k u.holding s.done) u.structure (s.done + size_added k u.holding s.done), Done (size_added k u.holding s.done))).0
     by_fault s k there kind_is (Some fault) e = same
@@ -323,30 +279,24 @@ go_on_cases P w c n u same go = by_structure (get c.structures u.structure) refl
     outside true = same
     outside false = same
 
-    -- for `go_on_cases`: `P` holds after `BUILD` inside structure `s`, whether the world has its kind or not
     by_kind : (s : Structure) → get c.structures u.structure ≡ Some s → (o : Option Kind) → slice_get w.kinds s.kind ≡ o → P (go_on_at c n u (option_map (λ k. (s, k)) o)).0
     by_kind s there None kind_is = outside (u.holding.men == 0)
     by_kind s there (Some k) kind_is = by_fault s k there kind_is (inside_fault u s k) refl
 
-    -- for `go_on_cases`: `P` holds after `BUILD`, whether the unit is inside a structure or not
     by_structure : (o : Option Structure) → get c.structures u.structure ≡ o → P (go_on_at c n u (option_and_then (with_kind w) o)).0
     by_structure None there = outside (u.holding.men == 0)
     by_structure (Some s) there = by_kind s there (slice_get w.kinds s.kind) refl
 
 module _ (w : WorldValue) (c : CampaignValue) (n : ℕ) (u : Unit) (is : get c.units n ≡ Some u) where
-  -- `BUILD kind` keeps what BUILD needs of the campaign (`CanBuild`), with a fault or without
   begin_well : (kind : ℕ) (k : Kind) → slice_get w.kinds kind ≡ Some k → CanBuild w c → StepsWell CanBuild build_remaining w c (begin w n kind k c u).0
   begin_well kind k kind_is can = begin_cases (λ d. StepsWell CanBuild build_remaining w c d) w c n kind k u (well_same w c can) (λ fit. begun_well w c n kind u k is kind_is can fit)
 
-  -- `BUILD` keeps what BUILD needs of the campaign (`CanBuild`), with a fault or without
   go_on_well : CanBuild w c → StepsWell CanBuild build_remaining w c (go_on w n c u).0
   go_on_well can = go_on_cases (λ d. StepsWell CanBuild build_remaining w c d) w c n u (well_same w c can) (λ s k there kind_is fit. on_well w c n u s k is there kind_is can fit)
 
-  -- `BUILD kind` leaves the other units as they are
   begin_stays : (kind : ℕ) (k : Kind) (j : ℕ) → j ≢ n → get (begin w n kind k c u).0.units j ≡ get c.units j
   begin_stays kind k j apart = begin_cases (λ d. get d.units j ≡ get c.units j) w c n kind k u refl (λ fit. begun_stays w c n kind u k is j apart)
 
-  -- `BUILD` leaves the other units as they are
   go_on_stays : (j : ℕ) → j ≢ n → get (go_on w n c u).0.units j ≡ get c.units j
   go_on_stays j apart = go_on_cases (λ d. get d.units j ≡ get c.units j) w c n u refl (λ s k there kind_is fit. on_stays w c n u s k is j apart)
 
@@ -356,28 +306,22 @@ module _ (w : WorldValue) (c : CampaignValue) (n : ℕ) (u : Unit) (is : get c.u
 remaining_within : (w : WorldValue) (c : CampaignValue) → CanBuild w c → (e : BooksEntry) (t : Thing) → build_remaining c e t ≤ build_moves e t
 remaining_within w c can e t = by_thing t
   where
-    -- what is at most `most` for each holding is, over all units, at most `most` times the count of units
     all_within : (f : HoldingValue → ℕ) (most : ℕ) → ((h : HoldingValue) → IsHolding h → f h ≤ most) → sum_over (λ (u : Unit). f u.holding) c.units ≤ length (entries c.units) * most
     all_within f most each = sum_within (λ (u : Unit). f u.holding) most (entries c.units) (each-from_every (λ n u. f u.holding ≤ most) c.units (λ n u is. each u.holding (can.steady.numbers.units n u is).1))
 
-    -- for `remaining_within`: a holding's limit for each of at most 100,000 units is together at most `most_moved`
     few : (s n : ℕ) → s ≤ n * holding_limit → n ≤ most_units → s ≤ most_moved
     few s n l m = omega (arith, l, m)
 
-    -- for `remaining_within`: a sum that is at most 0 for each unit is at most 0
     nothing : (s n : ℕ) → s ≤ n * 0 → s ≤ 0
     nothing s n l = omega (arith, l)
 
-    -- for `remaining_within`: the sum of 0 over all units is at most 0
     none : sum_over (λ (u : Unit). 0) c.units ≤ 0
     none = nothing (sum_over (λ (u : Unit). 0) c.units) (length (entries c.units)) (all_within (λ h. 0) 0 (λ h is. omega arith))
 
-    -- what BUILD may still book of item `i` is at most `most_moved` under Used (`b`), and 0 under other entries
     by_entry : (i : ℕ) (b : Bool) → sum_over (λ (u : Unit). if b then amount_of u.holding.items i else 0) c.units ≤ (if b then most_moved else 0)
     by_entry i true = few (sum_over (λ (u : Unit). amount_of u.holding.items i) c.units) (length (entries c.units)) (all_within (λ h. amount_of h.items i) holding_limit (λ h is. amount_within h i is)) (omega (arith, len-entries c.units, can.steady.numbers.few_units))
     by_entry i false = none
 
-    -- what BUILD may still book of thing `s` is within the bound of the phase
     by_thing : (s : Thing) → build_remaining c e s ≤ build_moves e s
     by_thing Money = none
     by_thing People = none
@@ -395,29 +339,24 @@ build_orderly = record {
   bounded = remaining_within;
 }
   where
-    -- an order of BUILD keeps what BUILD needs of the campaign (`CanBuild`), whatever its operands are
     well : (w : WorldValue) (c : CampaignValue) (n : ℕ) (x : Unit) → get c.units n ≡ Some x → CanBuild w c → (s : OperandsValue) → IfSome (build_effect w n s) (λ effect. StepsWell CanBuild build_remaining w c (effect c x).0)
     well w c n x is can (operands.Kind (Some kind)) = by_kind (slice_get w.kinds kind) refl
       where
-        -- `BUILD kind` keeps what BUILD needs of the campaign, whether the world has the kind or not
         by_kind : (o : Option Kind) → slice_get w.kinds kind ≡ o → IfSome (option_map (begin w n kind) o) (λ effect. StepsWell CanBuild build_remaining w c (effect c x).0)
         by_kind None kind_is = tt
         by_kind (Some k) kind_is = begin_well w c n x is kind k kind_is can
     well w c n x is can (operands.Kind None) = go_on_well w c n x is can
     well w c n x is can other = tt
 
-    -- an order of BUILD leaves the units other than its own as they are, whatever its operands are
     stays : (w : WorldValue) (c : CampaignValue) (n : ℕ) (x : Unit) → get c.units n ≡ Some x → (j : ℕ) → j ≢ n → (s : OperandsValue) → IfSome (build_effect w n s) (λ effect. get (effect c x).0.units j ≡ get c.units j)
     stays w c n x is j apart (operands.Kind (Some kind)) = by_kind (slice_get w.kinds kind)
       where
-        -- `BUILD kind` leaves the other units as they are, whether the world has the kind or not
         by_kind : (o : Option Kind) → IfSome (option_map (begin w n kind) o) (λ effect. get (effect c x).0.units j ≡ get c.units j)
         by_kind None = tt
         by_kind (Some k) = begin_stays w c n x is kind k j apart
     stays w c n x is j apart (operands.Kind None) = go_on_stays w c n x is j apart
     stays w c n x is j apart other = tt
 
--- a phase that leaves what BUILD needs (`CanBuild`) leaves a steady campaign, with the same bound on the books
 pub leaves_steady : (w : WorldValue) (c d : CampaignValue) → LeavesWell CanBuild build_moves w c d → LeavesWell IsSteady build_moves w c d
 leaves_steady w c d h = record { leaves_it = h.leaves_it.steady; same_month = h.same_month; balances = h.balances; near = h.near }
 
@@ -435,16 +374,12 @@ can_use w c n item amount u is enough known can room = record {
 
 -- ---- the code does what is defined
 
--- a structure under a number, and its kind, are what `structure_and_kind_at` finds
 structure_and_kind_found : (w : WorldValue) (c : CampaignValue) (structure : ℕ) (s : Structure) (k : Kind) → get c.structures structure ≡ Some s → slice_get w.kinds s.kind ≡ Some k → structure_and_kind_at w c structure ≡ Some (s, k)
 structure_and_kind_found w c structure s k there kind_is = ap (option_and_then (with_kind w)) there ∙ ap (option_map {U = Structure × Kind} (λ x. (s, x))) kind_is
 
--- the campaign after unit `n` began a structure with `size` of it done, and the outcome Done with that size
 abbrev begun_outcome : CampaignValue → (n kind : ℕ) → Kind → (region size : ℕ) → CampaignValue × Outcome
 begun_outcome c n kind k region size = (after_start c n kind k region size, Done size)
 
--- the campaign after unit `n` used `size` pieces of material for a structure, of which `done` is done then; and the
--- outcome Done with `size`
 abbrev continued_outcome : CampaignValue → (n material size structure done : ℕ) → CampaignValue × Outcome
 continued_outcome c n material size structure done = (after_building_on c n material size structure done, Done size)
 
@@ -457,7 +392,6 @@ begin_done w c d f n kind u k size says is none first asked_is size_is =
     let chain : faction_effect (begin w n kind k) c f n ≡ whole = ap (effect_on (begin w n kind k) c) is ∙ ap (λ o. unless c o whole) none in
     rw (first, asked_is, size_is) (sym chain)
 
--- where `BUILD` has no fault, the campaign and outcome that the code makes are those of its definition (`go_on`)
 pub go_on_done : (w : WorldValue) (c d : CampaignValue) (f n : ℕ) (u : Unit) (s : Structure) (k : Kind) (size says : ℕ) → of_faction f (get c.units n) ≡ Some u → get c.structures u.structure ≡ Some s → slice_get w.kinds s.kind ≡ Some k
     → inside_fault u s k ≡ None → d ≡ after_building_on c n k.material size u.structure (s.done + size) → says ≡ size → size ≡ size_added k u.holding s.done → (d, Done says) ≡ faction_effect (go_on w n) c f n
 unfolding go_on
@@ -471,7 +405,5 @@ go_on_done w c d f n u s k size says is there kind_is none first asked_is size_i
 pub done_small : (u : Unit) (s : Structure) (k : Kind) → inside_fault u s k ≡ None → k.size ≤ most_size → s.done + size_added k u.holding s.done ≤ most_size
 done_small u s k none small = up (size_added k u.holding s.done) s.done k.size (size_missing k u.holding s.done) (can_go_on u s k none).missing small
   where
-    -- for `done_small`: what is done of a size, and an addition of at most what is missing, are at most the greatest
-    -- size of a kind
     up : (a d m : ℕ) → a ≤ m - d → d < m → m ≤ most_size → d + a ≤ most_size
     up a d m l h small = omega (arith, l, h, small)

@@ -18,16 +18,13 @@ use Rattle.atl_phase.proofs.PlacingLaws.{placed_campaign, place_is, placed_stead
 use Rattle.atl_market.specs.Bounds.{CanBuild, build_remaining, still_bookable}
 use Rattle.atl_market.proofs.BuildBegunLaws.{unbooked_change_steps_well}
 
--- for `remaining_stays`: if `a + h` is `b + g`, and `g` is `h`, then `a` is `b`
 equal_addends_cancel : (a b h g : ℕ) → a + h ≡ b + g → g ≡ h → a ≡ b
 equal_addends_cancel a b h g e f = omega (arith, e, f)
 
 module _ (w : WorldValue) (c : CampaignValue) (n : ℕ) (u : Unit) (s : ℕ) (is : get c.units n ≡ Some u) (can : CanBuild w c) (apart : u.structure ≢ s) where
-  -- the campaign after unit `n` went into structure `s`; 0 is no structure
   abbrev placed : CampaignValue
   placed = placed_campaign w c n u s is can.steady apart
 
-  -- moving unit `n` into structure `s` keeps what BUILD may still book
   remaining_stays : (e : BooksEntry) (t : Thing) → build_remaining placed e t ≡ build_remaining c e t
   remaining_stays e t =
       let f = λ (x : Unit). still_bookable e t x.holding in

@@ -35,20 +35,16 @@ use Rattle.atl_market.proofs.ThereLaws.{by_unit}
 
 -- ---- what a unit holds less
 
--- a holding with `amount` less of an item
 abbrev with_material_used : HoldingValue → (item amount : ℕ) → HoldingValue
 with_material_used h item amount = record h { items = with_amount_of h.items item (amount_of h.items item - amount) }
 
--- a holding with less of an item has that much less of the item, and as much as before of any other
 item_less : (h : HoldingValue) (item amount j : ℕ) → amount ≤ amount_of h.items item → amount_of h.items j ≡ amount_of (with_material_used h item amount).items j + cond (eq_by_cmp nat_cmp j item) amount 0
 item_less h item amount j enough =
     by_test (eq_by_cmp nat_cmp j item) refl ∙ ap (λ x. x + cond (eq_by_cmp nat_cmp j item) amount 0) (sym (amount_after_setting h.items item (amount_of h.items item - amount) j))
   where
-    -- for `item_less`: an amount is what is left of it when `n` is taken, plus `n`
     here : (x a n : ℕ) → n ≤ a → x ≡ a → x ≡ (a - n) + n
     here x a n l e = omega (arith, l, e)
 
-    -- what the unit had of item `j` is what it has left plus what it used, whether `j` is the item used or not
     by_test : (q : Bool) → eq_by_cmp nat_cmp j item ≡ q → amount_of h.items j ≡ cond q (amount_of h.items item - amount) (amount_of h.items j) + cond q amount 0
     by_test true is = here (amount_of h.items j) (amount_of h.items item) amount enough (ap (amount_of h.items) (compared_equal_is_equal item j is))
     by_test false is = omega arith
@@ -66,17 +62,13 @@ usable_less h item amount enough e Money = refl
 usable_less h item amount enough e People = refl
 usable_less h item amount enough e (Item j) = by_entry (entry_index e == entry_index Used)
   where
-    -- what BUILD may book of item `j` falls by what was used of it under Used, and is 0 under any other entry
     by_entry : (b : Bool) → (if b then amount_of h.items j else 0) ≡ (if b then amount_of (with_material_used h item amount).items j else 0) + (if b then cond (eq_by_cmp nat_cmp j item) amount 0 else 0)
     by_entry true = item_less h item amount j enough
     by_entry false = refl
 
--- the bound on what the use of `amount` of an item books is at most `use_bound`: `amount` under Used of this item, 0
--- elsewhere
 only_used : (item amount : ℕ) (e : BooksEntry) (t : Thing) → moves_only amount Used (Item item) e t ≤ use_bound item amount e t
 only_used item amount e t = by_number (amount_number e t == amount_number Used (Item item)) refl
   where
-    -- for `only_used`: `use_bound` gives at least `amount` where both of its tests hold, for the entry and for the item
     at : (b d : Bool) → b ≡ true → d ≡ true → amount ≤ (if b then cond d amount 0 else 0)
     at true true f g = omega arith
     at true false f g = cc
@@ -86,8 +78,6 @@ only_used item amount e t = by_number (amount_number e t == amount_number Used (
     numbers : (i j p q : ℕ) → entry_count * i + p ≡ entry_count * j + q → p < entry_count → q < entry_count → (i ≡ j) × (p ≡ q)
     numbers i j p q e l m = (omega (arith, e, l, m), omega (arith, e, l, m))
 
-    -- if the amount of entry `e` and thing `s` is in the books under the number of Used of the item, `use_bound` gives
-    -- at least `amount` for `e` and `s`
     by_thing : (s : Thing) → entry_count * thing_index s + entry_index e ≡ entry_count * thing_index (Item item) + entry_index Used → amount ≤ use_bound item amount e s
     by_thing Money same = let p = numbers 0 (2 + item) (entry_index e) (entry_index Used) same (entry_small e) (entry_small Used) in absurd (omega (arith, p.0))
     by_thing People same = let p = numbers 1 (2 + item) (entry_index e) (entry_index Used) same (entry_small e) (entry_small Used) in absurd (omega (arith, p.0))
@@ -98,15 +88,12 @@ only_used item amount e t = by_number (amount_number e t == amount_number Used (
         at (entry_index e == entry_index Used) (eq_by_cmp nat_cmp j item) (let f : (entry_index e == entry_index Used) ≡ true = grind (arith, nat_tests) in f)
         (sym (unsigned_ties j item) ∙ (let g : (j == item) ≡ true = grind (arith, nat_tests) in g))
 
-    -- the bound on using the item is at most `use_bound`, whether the amount's number is that of Used of the item or
-    -- not
     by_number : (b : Bool) → (amount_number e t == amount_number Used (Item item)) ≡ b → (if b then amount else 0) ≤ use_bound item amount e t
     by_number true is = by_thing t (let same : entry_count * thing_index t + entry_index e ≡ entry_count * thing_index (Item item) + entry_index Used = grind (arith, nat_tests) in same)
     by_number false is = omega arith
 
 -- ---- the campaign
 
--- for `uses_bound`: a sum falls by `x`, if one of its terms falls by `x`
 sum_falls_with_term : (s t f g x : ℕ) → s + f ≡ t + g → f ≡ g + x → s + x ≡ t
 sum_falls_with_term s t f g x e h = omega (arith, e, h)
 
@@ -119,20 +106,16 @@ module _ (w : WorldValue) (c : CampaignValue) (n item amount : ℕ) (u : Unit) (
   abbrev pub used : CampaignValue
   used = with_booking (item_held c n u item (amount_of u.holding.items item - amount)) Used (Item item) (neg_ℤ (pos amount))
 
-  -- the unit is there after it used the item
   pub user_there : get used.units n ≡ Some user
   user_there = get-insert_same c.units n user
 
-  -- using the item leaves the other units as they are
   pub others_stay : (k : ℕ) → k ≢ n → get used.units k ≡ get c.units k
   others_stay k apart = get-insert_other c.units n k user apart
 
   module _ (enough : amount ≤ amount_of u.holding.items item) (known : item < length w.items) (can : CanBuild w c) where
-    -- using the item keeps the campaign steady and its books balanced, and books only the amount used
     well : LeavesWell IsSteady (moves_only amount Used (Item item)) w c used
     well = subst (LeavesWell IsSteady (moves_only amount Used (Item item)) w c) (used_is w c n item amount u is) (used_up_to w c n item amount amount (omega arith) u is known enough can.steady)
 
-    -- using the item lowers what BUILD may still book by at least as much as it moves the books (`UsesBound`)
     uses_bound : (e : BooksEntry) (t : Thing) → UsesBound (build_remaining c e t) (build_remaining used e t) (amount_in c.books e t) (amount_in used.books e t)
     uses_bound e t =
         let f = λ (x : Unit). still_bookable e t x.holding in
@@ -151,23 +134,19 @@ module _ (w : WorldValue) (c : CampaignValue) (n item amount : ℕ) (u : Unit) (
 
 -- ---- what stays
 
--- using an item changes no structure
 pub same_structures : (c : CampaignValue) (n item amount : ℕ) → (with_used c n item amount).structures ≡ c.structures
 same_structures c n item amount = by_unit c n (λ (d : CampaignValue). d.structures ≡ c.structures) _ refl (λ u is. refl)
 
--- using an item keeps the next structure's number
 pub same_next : (c : CampaignValue) (n item amount : ℕ) → (with_used c n item amount).next_structure ≡ c.next_structure
 same_next c n item amount = by_unit c n (λ (d : CampaignValue). d.next_structure ≡ c.next_structure) _ refl (λ u is. refl)
 
 -- ---- there is room for what a unit may use
 
--- books with room for all that BUILD may use have room for what a unit uses of an item that it holds
 pub used_room : (c : CampaignValue) (n item amount : ℕ) (u : Unit) → get c.units n ≡ Some u → amount ≤ amount_of u.holding.items item → HaveRoom (build_remaining c) c → HasRoom amount (amount_in c.books Used (Item item))
 used_room c n item amount u is enough room =
     let f = λ (x : Unit). still_bookable Used (Item item) x.holding in
     amount_room_for_less amount (build_remaining c Used (Item item)) (amount_in c.books Used (Item item))
     (within amount (amount_of u.holding.items item) (sum_over f (remove c.units n)) (build_remaining c Used (Item item)) enough (sum_over-remove c.units n f u is)) (room Used (Item item))
   where
-    -- for `used_room`: an amount that is at most one term of a sum is at most the sum
     within : (a b s r : ℕ) → a ≤ b → s + b ≡ r → a ≤ r
     within a b s r l e = omega (arith, l, e)

@@ -20,21 +20,17 @@ use Rattle.atl_market.specs.Pots.{amount_given, pot_shares, takers_in, wants_in}
 use Rattle.atl_market.proofs.PotLaws.{IsRisen, gives_each_pot, only_takers_get, taker_listed, takers_risen}
 use Rattle.atl_campaign.proofs.NumberListLaws.{IsListed}
 
--- for `with_first`: each number on a list (`IsListed`) is above `n`, if each element of the list is (`AllByRecursion`)
 listed_is_above : (n : ℕ) (ns : List ℕ) → AllByRecursion (λ k. n < k) ns → (k : ℕ) → IsListed k ns → n < k
 listed_is_above n [] h k is = absurd is
 listed_is_above n (m ∷ ns) h k (inl same) = subst (λ j. n < j) (sym same) h.0
 listed_is_above n (m ∷ ns) h k (inr rest) = listed_is_above n ns h.1 k rest
 
--- for `listed_above`: a number of the list `n ∷ ns` that is above `n` is one of `ns`
 above_head_is_in_tail : (k n : ℕ) (ns : List ℕ) → n < k → IsListed k (n ∷ ns) → IsListed k ns
 above_head_is_in_tail k n ns above is = elim is [ inl same ↦ absurd (omega (arith, above, same)) | inr rest ↦ rest ]
 
--- for `with_first`: a number of the list `n ∷ ns` that isn't `n` is one of `ns`
 other_than_head_is_in_tail : (k n : ℕ) (ns : List ℕ) → k ≢ n → IsListed k (n ∷ ns) → IsListed k ns
 other_than_head_is_in_tail k n ns apart is = elim is [ inl same ↦ absurd (apart same) | inr rest ↦ rest ]
 
--- if `P` holds of each number and its share (`EachEntry`), it holds of each of these pairs (`AllByRecursion`)
 pub all_pairs : (P : ℕ × ℕ → Type 0) (es : List (ℕ × ℕ)) → EachEntry (λ n share. P (n, share)) es → AllByRecursion P es
 all_pairs P [] h = tt
 all_pairs P (e ∷ es) h = (h.0, all_pairs P es h.1)
@@ -57,23 +53,17 @@ module _ (draws : Drawers) where
     abbrev pub DrawsItsAmount : List ℕ → ℕ × ℕ → Type 0
     DrawsItsAmount ns e = draws e.0 ≡ true → IsListed e.0 ns × (amount e.0 ≡ e.1)
 
-    -- units above `n` that draw and are on the list `n ∷ ns`, with their amounts as shares (`DrawsItsAmount`), are on
-    -- `ns`
     listed_above : (n : ℕ) (ns : List ℕ) (es : List (ℕ × ℕ)) → AllByRecursion (λ f. n < f.0) es → AllByRecursion (DrawsItsAmount (n ∷ ns)) es → AllByRecursion (DrawsItsAmount ns) es
     listed_above n ns [] above all = tt
     listed_above n ns (f ∷ es) above all = (λ draws. let (is, same) = all.0 draws in (above_head_is_in_tail f.0 n ns above.0 is, same), listed_above n ns es above.1 all.1)
 
-    -- for `with_first`: if the units of all shares have numbers above `k`, their numbers are above each `n` that is at
-    -- most `k`
     lower : (n k : ℕ) (es : List (ℕ × ℕ)) → n ≤ k → AllByRecursion (λ f. k < f.0) es → AllByRecursion (λ f. n < f.0) es
     lower n k [] low above = tt
     lower n k (f ∷ es) low above = (omega (arith, low, above.0), lower n k es low above.1)
 
-    -- for `nothing_drawn`: 0 plus a number that is 0 is 0
     none_first : (rest : ℕ) → rest ≡ 0 → 0 + rest ≡ 0
     none_first rest h = omega (arith, h)
 
-    -- if only units of the empty list may draw from the pot (`DrawsItsAmount []`), nothing is drawn
     nothing_drawn : (es : List (ℕ × ℕ)) → AllByRecursion (DrawsItsAmount []) es → drawn es ≡ 0
     nothing_drawn [] all = refl
     nothing_drawn (e ∷ es) all =
@@ -82,17 +72,12 @@ module _ (draws : Drawers) where
           | false ↦ λ _. none_first (drawn es) (nothing_drawn es all.1)
         ] refl
 
-    -- for `with_first`: if others draw `rest`, at most `others`, then with `mine` they draw at most `all`: `mine` and
-    -- `others` together
     both : (mine rest others all : ℕ) → rest ≤ others → all ≡ mine + others → mine + rest ≤ all
     both mine rest others all h e = omega (arith, h, e)
 
-    -- for `with_first`: if what others draw (`rest`) is at most `all`, so is 0 plus it
     none_of : (rest all : ℕ) → rest ≤ all → 0 + rest ≤ all
     none_of rest all h = omega (arith, h)
 
-    -- for `with_first`: if what others draw (`drawing`) is at most `others`, it is at most `all`, which is `first` and
-    -- `others`
     skipped : (drawing others first all : ℕ) → drawing ≤ others → all ≡ first + others → drawing ≤ all
     skipped drawing others first all h e = omega (arith, h, e)
 
@@ -101,7 +86,6 @@ module _ (draws : Drawers) where
     abbrev DrawAtMostTheirAmounts : List ℕ → Type 0
     DrawAtMostTheirAmounts ns = (es : List (ℕ × ℕ)) → IsRisen ns → Rise es → AllByRecursion (DrawsItsAmount ns) es → drawn es ≤ sum (map amount ns)
 
-    -- the units of a list with one more unit in front draw at most the sum of their amounts, if those of the list do
     with_first : (n : ℕ) (ns : List ℕ) → DrawAtMostTheirAmounts ns → (es : List (ℕ × ℕ)) → IsRisen (n ∷ ns) → Rise es → AllByRecursion (DrawsItsAmount (n ∷ ns)) es → drawn es ≤ sum (map amount (n ∷ ns))
     with_first n ns rest [] up rise all = omega arith
     with_first n ns rest (e ∷ es) up rise all =
@@ -121,7 +105,6 @@ module _ (draws : Drawers) where
           | false ↦ λ _. none_of (drawn es) (sum (map amount (n ∷ ns))) (with_first n ns rest es up rise.1 all.1)
         ] refl
 
-    -- the units of a sorted list draw at most the sum of their amounts
     pub drawn_among : (ns : List ℕ) → DrawAtMostTheirAmounts ns
     drawn_among [] es up rise all = let none = nothing_drawn es all in omega (arith, none)
     drawn_among (n ∷ ns) es up rise all = with_first n ns (drawn_among ns) es up rise all
@@ -131,11 +114,8 @@ module _ (draws : Drawers) where
 -- Pots by a key: the region of each (`pot_region`), which units draw from it (`draws`), and what is left of it in a
 -- region (`left`).
 pub record DrawnPots (K : Type 0) : Type 0 where
-  -- the number of the region that a pot is in
   pub pot_region : K → ℕ
-  -- which units draw from a pot, by their numbers
   pub draws : K → Drawers
-  -- how much there is in a pot while its region is the given one
   pub left : K → Region → ℕ
 
 module _ {K : Type 0} (pots : DrawnPots K) where
@@ -150,27 +130,21 @@ module _ {K : Type 0} (pots : DrawnPots K) where
       → (q : Region) × (get d.regions (pots.pot_region k) ≡ Some q) × (pots.left k x + cond (pots.draws k e.0) e.1 0 ≡ pots.left k q)
 
   module _ (d : CampaignValue) (e : ℕ × ℕ) (es : List (ℕ × ℕ)) (enough : HaveEnough d (e ∷ es)) where
-    -- if the pots have enough for all shares, each pot from which the first unit draws has enough for its share
     pub first_draws : (k : K) (q : Region) → get d.regions (pots.pot_region k) ≡ Some q → pots.draws k e.0 ≡ true → e.1 ≤ pots.left k q
     first_draws k q around mine = at_least (pots.left k q) (subst (λ b. cond b e.1 0 + drawn (pots.draws k) es ≤ pots.left k q) mine (enough k q around))
       where
-        -- for `first_draws`: a share is at most the pot if it and what later units draw are together at most the pot
         at_least : (all : ℕ) → e.1 + drawn (pots.draws k) es ≤ all → e.1 ≤ all
         at_least all h = omega (arith, h)
 
-    -- if the pots have enough for all shares, they have enough for the later shares after the first unit had its turn
     pub others_draw : (after : CampaignValue) → Drains d e after → HaveEnough after es
     others_draw after drains k x is =
         let (q, around, less) = drains k x is in
         left_over (cond (pots.draws k e.0) e.1 0) (drawn (pots.draws k) es) (pots.left k x) (pots.left k q) (enough k q around) less
       where
-        -- for `others_draw`: if `share` and `rest` make at most `all`, what later units draw (`rest`) is at most `all`
-        -- less `share`
         left_over : (share rest less all : ℕ) → share + rest ≤ all → less + share ≡ all → rest ≤ less
         left_over share rest less all h k = omega (arith, h, k)
 
   module _ (d : CampaignValue) (e : ℕ × ℕ) (after : CampaignValue) where
-    -- for `region_drains` and `nothing_drains`: a number plus 0 is the number
     no_less : (a : ℕ) → a + 0 ≡ a
     no_less a = omega arith
 
@@ -188,15 +162,12 @@ module _ {K : Type 0} (pots : DrawnPots K) where
           (x, sym (get-insert_other d.regions r (pots.pot_region k) (f q) apart) ∙ put, subst (λ b. pots.left k x + cond b e.1 0 ≡ pots.left k x) (sym (others k apart)) (no_less (pots.left k x)))
     ]
       where
-        -- the region `x` of pot `k` afterwards is its region in `d` with region `r` replaced by `f q`
         put : get (insert d.regions r (f q)) (pots.pot_region k) ≡ Some x
         put = sym (ap (λ m. get m (pots.pot_region k)) (changed ∙ changed-known f d.regions r q around)) ∙ found
 
-    -- if a unit's share is 0 and no region changes, all pots lose just what the unit draws, which is nothing (`Drains`)
     pub nothing_drains : after.regions ≡ d.regions → e.1 ≡ 0 → Drains d e after
     nothing_drains same none k x found = (x, sym (ap (λ m. get m (pots.pot_region k)) same) ∙ found, ap (λ s. pots.left k x + cond (pots.draws k e.0) s 0) none ∙ neither (pots.draws k e.0) (pots.left k x))
       where
-        -- for `nothing_drains`: an amount plus a share of 0, whether drawn or not, is the amount
         neither : (b : Bool) (a : ℕ) → a + cond b 0 0 ≡ a
         neither true a = no_less a
         neither false a = no_less a
@@ -213,25 +184,20 @@ module _ (units : FinMap nat_cmp Unit) (left : Region → ℕ) where
   region_pots = record { pot_region = λ r. r; draws = draws_region units; left = λ r q. left q }
 
   module _ (d : CampaignValue) (e : ℕ × ℕ) (u : Unit) (q : Region) (there : get units e.0 ≡ Some u) (around : get d.regions u.region ≡ Some q) where
-    -- if the unit's own region alone changes, and its pot loses the share, all pots of regions lose just what the unit
-    -- draws (`Drains`)
     pub one_drains : (after : CampaignValue) (f : Region → Region) → after.regions ≡ (region_changed f d u.region).regions → left (f q) + e.1 ≡ left q → Drains region_pots d e after
     one_drains after f changed less =
         region_drains region_pots d e after u.region q around f changed
         (λ k same. subst (λ b. left (f q) + cond b e.1 0 ≡ left q) (sym (ap (is_in_region k) there ∙ ap (λ r. u.region == r) same ∙ same_number u.region)) less)
         (λ k apart. ap (is_in_region k) there ∙ other_number u.region k (λ is. apart (sym is)))
 
-    -- a unit's region has enough for the unit's share, if the pots have enough for all shares
     pub one_draws : (es : List (ℕ × ℕ)) → HaveEnough region_pots d (e ∷ es) → e.1 ≤ left q
     one_draws es enough = first_draws region_pots d e es enough u.region q around (ap (is_in_region u.region) there ∙ same_number u.region)
 
 -- The pot of a region is enough for all who draw from it: they get shares of it, which are together at most the pot.
 module _ (pot_of : ℕ → ℕ) (wants : FinMap nat_cmp ℕ) (c : CampaignValue) (r : ℕ) (draws : Drawers) (given : FinMap nat_cmp ℕ) where
-  -- the amount that a unit gets of its region's pot
   abbrev amount : ℕ → ℕ
   amount n = amount_given pot_of wants c n
 
-  -- the units of region `r` that have a want
   abbrev takers : List ℕ
   takers = takers_in wants c.units r
 
@@ -240,7 +206,6 @@ module _ (pot_of : ℕ → ℕ) (wants : FinMap nat_cmp ℕ) (c : CampaignValue)
   abbrev pub DrawShares : Type 0
   DrawShares = (n share : ℕ) → get given n ≡ Some share → draws n ≡ true → (get (pot_shares pot_of wants c) n ≡ Some share) × (is_in_region r (get c.units n) ≡ true)
 
-  -- each unit with a share that draws from the pot is one of the region's units with a want, and gets its amount
   listed : DrawShares → (n share : ℕ) → get given n ≡ Some share → DrawsItsAmount draws amount takers (n, share)
   listed shared n share found drawing =
       let (is, is_at) = shared n share found drawing in
@@ -248,11 +213,9 @@ module _ (pot_of : ℕ → ℕ) (wants : FinMap nat_cmp ℕ) (c : CampaignValue)
       let here : u.region ≡ r = eqb-true u.region r (ap (is_in_region r) (sym at) ∙ is_at) in
       (subst (λ k. IsListed n (takers_in wants c.units k)) here (taker_listed wants c.units n want u wanted at), ap (λ o. unwrap_or o 0) is)
 
-  -- for `shares_are_enough`: what is at most the lesser of a pot and a sum is at most the pot
   least : (drawing pot all : ℕ) → drawing ≤ min pot all → drawing ≤ pot
   least drawing pot all h = omega (arith, h)
 
-  -- the pot of region `r` of the campaign is enough for all that draw from it, if their shares are shares of that pot
   pub shares_are_enough : DrawShares → HasValue c.regions r → drawn draws (entries given) ≤ pot_of r
   shares_are_enough shared there =
       let drawing = drawn draws (entries given) in
@@ -271,12 +234,10 @@ module _ (c : CampaignValue) where
   abbrev pub AreUntouched : CampaignValue → List (ℕ × ℕ) → Type 0
   AreUntouched d es = AllByRecursion (λ e. get d.units e.0 ≡ get c.units e.0) es
 
-  -- units still to be paid are as in `c` (`AreUntouched`) also after a unit with a lower number changed
   pub still : (d after : CampaignValue) (n : ℕ) (es : List (ℕ × ℕ)) → ((k : ℕ) → k ≢ n → get after.units k ≡ get d.units k) → AllByRecursion (λ f. n < f.0) es → AreUntouched d es → AreUntouched after es
   still d after n [] same above all = tt
   still d after n (f ∷ es) same above all = (same f.0 (λ e. absurd (omega (arith, e, above.0))) ∙ all.0, still d after n es same above.1 all.1)
 
-  -- in campaign `c` itself the units of all shares are as in `c` (`AreUntouched`)
   pub untouched : (es : List (ℕ × ℕ)) → AreUntouched c es
   untouched [] = tt
   untouched (e ∷ es) = (refl, untouched es)
@@ -286,18 +247,12 @@ module _ (c : CampaignValue) where
 -- The shares still to come can be paid in campaign `d`. The campaign is early, and the units of the shares are as they
 -- were when the phase began (in `c`). Each share is one that its unit can have (`Fits`), and each pot has enough.
 pub record SharesArePayable {K : Type 0} (pots : DrawnPots K) (Fits : ℕ × ℕ → Type 0) (w : WorldValue) (c d : CampaignValue) (es : List (ℕ × ℕ)) : Type 0 where
-  -- the campaign `d` is early
   pub early : IsEarly w d
-  -- the shares are in the order of unit numbers, one for each unit
   pub rise : Rise es
-  -- the units of the shares are in `d` as they are in `c`
   pub same : AreUntouched c d es
-  -- each share is one that its unit can have (`Fits`)
   pub fits : AllByRecursion Fits es
-  -- each pot has enough for the shares of all units that draw from it
   pub enough : HaveEnough pots d es
 
--- after the first unit was paid, and its share left the pots, the later shares can be paid (`SharesArePayable`)
 pub ready_after : {K : Type 0} (pots : DrawnPots K) {Fits : ℕ × ℕ → Type 0} (w : WorldValue) (c d : CampaignValue) (e : ℕ × ℕ) (es : List (ℕ × ℕ)) (after : CampaignValue)
     → SharesArePayable pots Fits w c d (e ∷ es) → IsEarly w after → ((k : ℕ) → k ≢ e.0 → get after.units k ≡ get d.units k)
     → Drains pots d e after → SharesArePayable pots Fits w c after es

@@ -27,16 +27,12 @@ use Rattle.atl_phase.proofs.MeaningLaws.{same_month_by}
 -- Unit and region together have as many people and items after an exchange as before it. Their money together changes
 -- by what is booked.
 pub record KeepsTogether (u : Unit) (q : Region) (f : Region → Region) (more : HoldingValue) (z : ℤ) : Type 0 where
-  -- the money of unit and region together after the exchange is what it was before, plus what is booked
   pub money : pos (more.money + (f q).money) ≡ pos (u.holding.money + q.money) +ℤ z
-  -- unit and region together have as many men and peasants after the exchange as before it
   pub people : more.men + (f q).peasants ≡ u.holding.men + q.peasants
-  -- unit and region together have as much of each item after the exchange as before it
   pub items : (i : ℕ) → amount_of more.items i + amount_of (f q).stocks i ≡ amount_of u.holding.items i + amount_of q.stocks i
 
 module _ (w : WorldValue) (c : CampaignValue) (n : ℕ) (u : Unit) (q : Region) (f : Region → Region) (more : HoldingValue) (entry : BooksEntry) (z : ℤ)
     (is : get c.units n ≡ Some u) (around : get c.regions u.region ≡ Some q) where
-  -- the campaign in which unit `n` holds what the exchange leaves it (`more`); its region isn't changed yet
   abbrev supplied : CampaignValue
   supplied = record c { units = insert c.units n (record u { holding = more }) }
 
@@ -44,7 +40,6 @@ module _ (w : WorldValue) (c : CampaignValue) (n : ℕ) (u : Unit) (q : Region) 
   abbrev left : CampaignValue
   left = region_changed f supplied u.region
 
-  -- the campaign in which unit `n` holds `more`, its region is changed by `f`, and the money `z` is booked
   abbrev exchanged : CampaignValue
   exchanged = with_booking left entry Money z
 
@@ -53,22 +48,17 @@ module _ (w : WorldValue) (c : CampaignValue) (n : ℕ) (u : Unit) (q : Region) 
   total_of : KeepsTogether u q f more z → (t : Thing) → pos (total exchanged t) ≡ pos (total c t) +ℤ booked_for t Money z
   total_of keeps t = by_thing t (total-booking left entry Money t z) (total-region f supplied u.region q around t) (total-new_holding w c n u more is t)
     where
-      -- for `total_of`: the total of an item is before (`e`) and after (`a`) the exchange the same, if what the unit
-      -- gains of the item is what the region loses
       same : (a b d e g h i j : ℕ) → a ≡ b → b + g ≡ d + h → d + i ≡ e + j → j + h ≡ i + g → a ≡ e
       same a b d e g h i j s k l m = omega (arith, s, k, l, m)
 
-      -- for `total_of`: what is booked of an item, which is nothing, leaves the item's total as it is
       none_booked : (x i : ℕ) → pos x +ℤ booked_for (Item i) Money z ≡ pos x
       none_booked x i =
           let other : (2 + i == 0) ≡ false = grind (arith, nat_tests) in
           ap (λ b. pos x +ℤ cond b z (pos 0)) other ∙ zero_more
         where
-          -- for `none_booked`: a number plus 0 is the number
           zero_more : pos x +ℤ pos 0 ≡ pos x
           zero_more = omega (arith, ints)
 
-      -- the total of money, people or an item changes by what is booked, given what each step changes of it
       by_thing : (t : Thing) → total exchanged t ≡ total left t → total left t + region_amount t q ≡ total supplied t + region_amount t (f q)
           → total supplied t + unit_amount t u.holding ≡ total c t + unit_amount t more → pos (total exchanged t) ≡ pos (total c t) +ℤ booked_for t Money z
       by_thing Money s a b = omega (arith, ints, s, a, b, keeps.money)

@@ -39,7 +39,6 @@ use Rattle.atl_market.proofs.ThereLaws.{by_unit, unit_there}
 total_moves_with_amount : (x y t k a l : ℕ) (z : ℤ) → x ≡ y → y + k ≡ t + a → k ≡ l → pos a ≡ pos l +ℤ z → pos x ≡ pos t +ℤ z
 total_moves_with_amount x y t k a l z e f g h = omega (arith, ints, e, f, g, h)
 
--- for `total_of`: the new total `x` is the old total `t`, if an amount takes the place of an equal one
 total_stays_with_amount : (x y t k : ℕ) → x ≡ y → y + k ≡ t + k → pos x ≡ pos t +ℤ pos 0
 total_stays_with_amount x y t k e f = omega (arith, ints, e, f)
 
@@ -47,22 +46,18 @@ total_stays_with_amount x y t k e f = omega (arith, ints, e, f)
 abbrev pub item_held : CampaignValue → ℕ → Unit → (item amount : ℕ) → CampaignValue
 item_held c n u i amount = with_holding_at c n (record u.holding { items = with_amount_of u.holding.items i amount }) (Some u)
 
--- setting how much of item `i` a unit has (`with_item`), where the unit is there, gives the campaign `item_held`
 item_is : (c : CampaignValue) (n : ℕ) (u : Unit) (i amount : ℕ) → get c.units n ≡ Some u → with_item c n i amount ≡ item_held c n u i amount
 item_is c n u i amount is = changed_held (λ h. record h { items = with_amount_of h.items i amount }) c (with_item c n i amount) n refl u is
 
 -- ---- a unit holds another amount of an item, which is booked
 
 module _ (w : WorldValue) (c : CampaignValue) (n : ℕ) (u : Unit) (i amount : ℕ) (is : get c.units n ≡ Some u) where
-  -- the holding of unit `u` with `amount` of item `i`
   abbrev more : HoldingValue
   more = record u.holding { items = with_amount_of u.holding.items i amount }
 
-  -- the campaign in which unit `n` holds `amount` of item `i`
   abbrev with_set : CampaignValue
   with_set = item_held c n u i amount
 
-  -- a holding that keeps the rules of holdings keeps them with `amount` of a world's item, if that is within the limit
   may : i < length w.items → amount ≤ holding_limit → MayHave w u.holding → MayHave w more
   may known most old = record {
     limits = record { men = old.limits.men; money = old.limits.money; items = every_amount (λ j a. (1 ≤ a) × (a ≤ holding_limit)) u.holding.items i amount (λ some. (some, most)) old.limits.items };
@@ -73,12 +68,10 @@ module _ (w : WorldValue) (c : CampaignValue) (n : ℕ) (u : Unit) (i amount : �
   }
 
   module _ (e : BooksEntry) (z : ℤ) where
-    -- the campaign in which the unit holds `amount` of the item, and `z` of the item is booked under entry `e`
     abbrev after : CampaignValue
     after = with_booking with_set e (Item i) z
 
     module _ (change : pos amount ≡ pos (amount_of u.holding.items i) +ℤ z) where
-      -- the new total `x` of item `j` is the old one, `t`, plus `z` if `j` is `i`, the item set for the unit
       by_test : (j : ℕ) (q : Bool) → eq_by_cmp nat_cmp j i ≡ q → (x y t : ℕ) → x ≡ y → y + amount_of u.holding.items j ≡ t + cond q amount (amount_of u.holding.items j) → pos x ≡ pos t +ℤ cond (2 + j == 2 + i) z (pos 0)
       by_test j true q x y t a b =
           let j_is : j ≡ i = compared_equal_is_equal i j q in
@@ -90,7 +83,6 @@ module _ (w : WorldValue) (c : CampaignValue) (n : ℕ) (u : Unit) (i amount : �
           let other : (2 + j == 2 + i) ≡ false = grind (arith, nat_tests) in
           total_stays_with_amount x y t (amount_of u.holding.items j) a b ∙ sym (ap (λ p. pos t +ℤ cond p z (pos 0)) other)
 
-      -- a thing's total changes by what is booked of it, given what setting the item and the booking change of it
       total_of : (t : Thing) → total after t ≡ total with_set t → total with_set t + unit_amount t u.holding ≡ total c t + unit_amount t more → pos (total after t) ≡ pos (total c t) +ℤ booked_for t (Item i) z
       total_of Money a b =
           let other : (0 == 2 + i) ≡ false = grind (arith, nat_tests) in
@@ -119,24 +111,19 @@ module _ (w : WorldValue) (c : CampaignValue) (n : ℕ) (u : Unit) (i amount : �
 
 -- ---- what is used
 
--- for `used_up_to`: an amount less a part of it, as a whole number with sign, is the amount minus the part
 taken_off : (a k : ℕ) → k ≤ a → pos (a - k) ≡ pos a +ℤ neg_ℤ (pos k)
 taken_off a k l = omega (arith, ints, l)
 
--- for `made_well`: the sum of two amounts, as a whole number with sign, is the sum of both
 put_to : (a k : ℕ) → pos (a + k) ≡ pos a +ℤ pos k
 put_to a k = omega (arith, ints)
 
 module _ (w : WorldValue) (c : CampaignValue) (n i k : ℕ) where
-  -- using `k` of an item (`with_used`), for a unit that is there, takes it from the unit and books it as used
   pub used_is : (u : Unit) → get c.units n ≡ Some u → with_used c n i k ≡ with_booking (item_held c n u i (amount_of u.holding.items i - k)) entries.Used (Item i) (neg_ℤ (pos k))
   used_is u is = unit_there c n _ u is ∙ ap (λ d. with_booking d entries.Used (Item i) (neg_ℤ (pos k))) (item_is c n u i (amount_of u.holding.items i - k) is)
 
-  -- making `k` of an item (`with_made`), for a unit that is there, gives it to the unit and books it as made
   pub made_is : (u : Unit) → get c.units n ≡ Some u → with_made c n i k ≡ with_booking (item_held c n u i (amount_of u.holding.items i + k)) entries.Made (Item i) (pos k)
   made_is u is = unit_there c n _ u is ∙ ap (λ d. with_booking d entries.Made (Item i) (pos k)) (item_is c n u i (amount_of u.holding.items i + k) is)
 
-  -- a unit of a steady campaign holds at most a holding's limit of an item
   held_within : (u : Unit) → get c.units n ≡ Some u → IsSteady w c → amount_of u.holding.items i ≤ holding_limit
   held_within u is steady = amount_within u.holding i (steady.numbers.units n u is).1
 
@@ -148,13 +135,11 @@ module _ (w : WorldValue) (c : CampaignValue) (n i k : ℕ) where
       subst (λ d. LeavesWell IsSteady (moves_only limit entries.Used (Item i)) w c d) (sym (used_is u there))
       (set_well w c n u i (a - k) there entries.Used (neg_ℤ (pos k)) (taken_off a k enough) limit known (omega (arith, within)) (within-neg k limit most) steady)
 
-  -- using an item that a unit can use keeps the campaign steady and its books balanced, and books that use alone
   pub used_well : CanUse w c n i k → LeavesWell IsSteady (moves_only holding_limit entries.Used (Item i)) w c (with_used c n i k)
   used_well can =
       let within = held_within can.unit can.there can.steady in
       used_up_to holding_limit (omega (arith, within, can.enough)) can.unit can.there can.known can.enough can.steady
 
-  -- making an item that a unit can make keeps the campaign steady and its books balanced, and books what is made alone
   pub made_well : CanMake w c n i k → LeavesWell IsSteady (moves_only holding_limit entries.Made (Item i)) w c (with_made c n i k)
   made_well can =
       let u = can.unit in
@@ -162,36 +147,27 @@ module _ (w : WorldValue) (c : CampaignValue) (n i k : ℕ) where
       subst (λ d. LeavesWell IsSteady (moves_only holding_limit entries.Made (Item i)) w c d) (sym (made_is u can.there))
       (set_well w c n u i (a + k) can.there entries.Made (pos k) (put_to a k) holding_limit can.known can.fits (within-pos k holding_limit (omega (arith, can.fits))) can.steady)
 
-  -- after unit `n` used `k` of an item, the unit is there, with `k` less of the item
   pub used_unit : (u : Unit) → get c.units n ≡ Some u → get (with_used c n i k).units n ≡ Some (record u { holding = record u.holding { items = with_amount_of u.holding.items i (amount_of u.holding.items i - k) } })
   used_unit u is = ap (λ (d : CampaignValue). get d.units n) (used_is u is) ∙ get-insert_same c.units n (record u { holding = record u.holding { items = with_amount_of u.holding.items i (amount_of u.holding.items i - k) } })
 
-  -- after unit `n` made `k` of an item, the unit is there, with `k` more of the item
   pub made_unit : (u : Unit) → get c.units n ≡ Some u → get (with_made c n i k).units n ≡ Some (record u { holding = record u.holding { items = with_amount_of u.holding.items i (amount_of u.holding.items i + k) } })
   made_unit u is = ap (λ (d : CampaignValue). get d.units n) (made_is u is) ∙ get-insert_same c.units n (record u { holding = record u.holding { items = with_amount_of u.holding.items i (amount_of u.holding.items i + k) } })
 
-  -- setting a unit's amount of an item leaves the other units as they are
   item_others : (amount m : ℕ) → m ≢ n → get (with_item c n i amount).units m ≡ get c.units m
   item_others amount m apart = change_keeps_others (λ u. record u { holding = record u.holding { items = with_amount_of u.holding.items i amount } }) c n m apart
 
-  -- using an item leaves the other units as they are
   pub used_others : (m : ℕ) → m ≢ n → get (with_used c n i k).units m ≡ get c.units m
   used_others m apart = by_unit c n (λ (d : CampaignValue). get d.units m ≡ get c.units m) _ refl (λ u is. item_others (amount_of u.holding.items i - k) m apart)
 
-  -- making an item leaves the other units as they are
   pub made_others : (m : ℕ) → m ≢ n → get (with_made c n i k).units m ≡ get c.units m
   made_others m apart = by_unit c n (λ (d : CampaignValue). get d.units m ≡ get c.units m) _ refl (λ u is. item_others (amount_of u.holding.items i + k) m apart)
 
--- taking `k` of item `r` from a holding leaves it no more of item `i` than it had
 pub no_more : (h : HoldingValue) (r i k : ℕ) → amount_of (with_amount_of h.items r (amount_of h.items r - k)) i ≤ amount_of h.items i
 no_more h r i k = subst (λ a. a ≤ amount_of h.items i) (sym (amount_after_setting h.items r (amount_of h.items r - k) i)) (by_test (eq_by_cmp nat_cmp i r) refl)
   where
-    -- for `no_more`: `a` less `k` is at most `b`, which is `a`
     less : (a b k : ℕ) → b ≡ a → a - k ≤ b
     less a b k e = omega (arith, e)
 
-    -- for `no_more`: taking `k` of item `r` leaves no more of item `i` than there was, whether `i` is `r` or another
-    -- item
     by_test : (q : Bool) → eq_by_cmp nat_cmp i r ≡ q → cond q (amount_of h.items r - k) (amount_of h.items i) ≤ amount_of h.items i
     by_test true is = less (amount_of h.items r) (amount_of h.items i) k (ap (amount_of h.items) (compared_equal_is_equal r i is))
     by_test false is = omega arith

@@ -1,5 +1,5 @@
 -- Laws of what units make in PRODUCE: the code's map is the one that is defined, and no unit makes more than it wants.
-use Rattle.std.proofs.Common.{◌≡◌, ℕ, ◌<◌, ◌≤◌, Bool, true, false, cond, List, [], ◌∷◌, map, Option, Some, None, is_some, refl, sym, ap, subst, ◌∙◌, inl, inr, arith}
+use Rattle.std.proofs.Common.{◌≡◌, ℕ, ◌<◌, ◌≤◌, Bool, true, false, cond, List, [], ◌∷◌, map, Option, Some, None, refl, sym, ap, subst, ◌∙◌, inl, inr, arith}
 use Rattle.std.specs.Prelude.{unwrap_or}
 use Rattle.std.specs.List.{AllByRecursion}
 use Rattle.std.specs.Cmp.{nat_cmp_total}
@@ -11,7 +11,7 @@ use Rattle.atl_campaign.specs.Campaign.{CampaignValue}
 use Rattle.atl_campaign.proofs.ReadBackLaws.{Rise, entries_rise}
 use Rattle.atl_records.proofs.EveryLaws.{first, none_some}
 use Rattle.atl_market.specs.Puts.{with_entries}
-use Rattle.atl_market.specs.Produce.{made_amounts, amount_made, output_at, output_item, output_share, produce_pots}
+use Rattle.atl_market.specs.Produce.{made_amounts, amount_made, output_at, output_item, output_share, produce_pots, takes_raw}
 use Rattle.atl_market.proofs.ItemPotLaws.{items_give}
 use Rattle.atl_market.proofs.PotLaws.{found_other, risen_put}
 use Rattle.atl_market.proofs.WantLaws.{GivesToWants}
@@ -23,17 +23,14 @@ module _ (f : ℕ × ℕ → ℕ) where
   abbrev instead : List (ℕ × ℕ) → List (ℕ × ℕ)
   instead es = map (λ e. (e.0, f e)) es
 
-  -- if the numbers of entries are above `k`, they are so with other amounts under them (`instead`)
   above_instead : (k : ℕ) (es : List (ℕ × ℕ)) → AllByRecursion (λ e. k < e.0) es → AllByRecursion (λ e. k < e.0) (instead es)
   above_instead k [] above = tt
   above_instead k (e ∷ es) above = (above.0, above_instead k es above.1)
 
-  -- if the numbers of entries rise, they rise also with other amounts under them (`instead`)
   rise_instead : (es : List (ℕ × ℕ)) → Rise es → Rise (instead es)
   rise_instead [] rise = tt
   rise_instead (e ∷ es) rise = (above_instead e.0 es rise.0, rise_instead es rise.1)
 
-  -- a number found among the entries of `instead` is found among the entries themselves, and its amount is given by `f`
   found_instead : (es : List (ℕ × ℕ)) (n a : ℕ) → find nat_cmp n (instead es) ≡ Some a → (b : ℕ) × (find nat_cmp n es ≡ Some b) × (a ≡ f (n, b))
   found_instead [] n a is = none_some a is
   found_instead (e ∷ es) n a is = elim (cases_eq n e.0) [
@@ -49,15 +46,12 @@ module _ (f : ℕ × ℕ → ℕ) where
 -- ---- what is made
 
 module _ (asked : FinMap nat_cmp ℕ) (w : WorldValue) (c : CampaignValue) (wants : FinMap nat_cmp ℕ) where
-  -- putting the amounts made into the empty map, unit by unit, gives the map of the definition (`made_amounts`)
   pub makes_are : with_entries empty (map (λ e. (e.0, amount_made w asked c wants e)) (entries wants)) ≡ made_amounts asked w c wants
   makes_are = risen_put (instead (amount_made w asked c wants) (entries wants)) (rise_instead (amount_made w asked c wants) (entries wants) (entries_rise wants))
 
-  -- no unit makes more than it wants
   least : (n want : ℕ) → get wants n ≡ Some want → amount_made w asked c wants (n, want) ≤ want
-  least n want wanted = by_item (is_some (output_item w asked n))
+  least n want wanted = by_item (takes_raw w (get asked n))
     where
-      -- a unit's share `o` of what its region gives of its item, or 0 without one, is at most its want
       by_share : (o : Option ℕ) → output_share w asked c wants n ≡ o → unwrap_or o 0 ≤ want
       by_share None is = omega arith
       by_share (Some share) is =
@@ -66,11 +60,10 @@ module _ (asked : FinMap nat_cmp ℕ) (w : WorldValue) (c : CampaignValue) (want
           subst (λ k. share ≤ k) same low
 
       -- a unit makes at most its want, whether out of what its region gives (`b`) or out of raw items
-      by_item : (b : Bool) → cond b (unwrap_or (output_share w asked c wants n) 0) want ≤ want
-      by_item true = by_share (output_share w asked c wants n) refl
-      by_item false = omega arith
+      by_item : (b : Bool) → cond b want (unwrap_or (output_share w asked c wants n) 0) ≤ want
+      by_item false = by_share (output_share w asked c wants n) refl
+      by_item true = omega arith
 
--- PRODUCE gives only to units with a want, and to none more than it wants
 pub produce_gives_to_wants : (w : WorldValue) (c : CampaignValue) → GivesToWants produce_pots w c
 produce_gives_to_wants w c asked wants n share is =
     let all = entries wants in

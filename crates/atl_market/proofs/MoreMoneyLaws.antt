@@ -24,19 +24,15 @@ module _ (c : CampaignValue) (n : ℕ) (u : Unit) (money : ℕ) where
   richer = record c { units = insert c.units n paid_unit }
 
   module _ (is : get c.units n ≡ Some u) where
-    -- setting the money of unit `n`, which is there, to `money` more makes the campaign `richer`
     pub richer_is : with_money c n (u.holding.money + money) ≡ richer
     richer_is = ap (λ m. record c { units = m }) (changed-known (λ (v : Unit). record v { holding = record v.holding { money = u.holding.money + money } }) c.units n u is)
 
-    -- more money for unit `n` leaves the other units as they are
     pub others_stay : (k : ℕ) → k ≢ n → get richer.units k ≡ get c.units k
     others_stay k apart = get-insert_other c.units n k paid_unit apart
 
-    -- a unit with more money is no worse off
     paid_no_worse : IsNoWorse u paid_unit
     paid_no_worse = record { faction = refl; region = refl; structure = refl; name = refl; guard = refl; men = omega arith; money = omega arith; items = λ i. omega arith; days = λ s. omega arith }
 
-    -- more money for one unit leaves no unit worse off
     pub richer_no_worse : AreNoWorse c richer
     richer_no_worse k v there = elim (cases_eq k n) [
       | inl same ↦

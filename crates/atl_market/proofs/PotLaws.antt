@@ -28,19 +28,16 @@ use Rattle.atl_shares.proofs.ShareLaws.{all_is_given, share_at_most, length-shar
 abbrev pub Entries : Type 0
 Entries = List (ℕ × ℕ)
 
--- for `zip_apart`: an option that can't be Some is None
 none_if_not_some : {X : Type 0} (o : Option X) → ((x : X) → o ≡ Some x → ⊥) → o ≡ None
 none_if_not_some None h = refl
 none_if_not_some (Some x) h = absurd (h x refl)
 
--- an option that isn't None holds a value
 has_value_if_some : {X : Type 0} (o : Option X) → is_some o ≡ true → (x : X) × (o ≡ Some x)
 has_value_if_some None h = absurd (false≢true h)
 has_value_if_some (Some x) h = (x, refl)
 
 -- ---- what is found under a number
 
--- a value found under a number in the first of two lists of entries is also found in both together
 pub found_first : {V : Type 0} (n : ℕ) (es fs : List (ℕ × V)) (s : V) → find nat_cmp n es ≡ Some s → find nat_cmp n (es ++ fs) ≡ Some s
 found_first n [] fs s h = none_some s h
 found_first n (e ∷ es) fs s h =
@@ -49,7 +46,6 @@ found_first n (e ∷ es) fs s h =
       | false ↦ found_first n es fs s
     ] h
 
--- under a number that the first of two lists of entries doesn't have, both together have what the second has
 pub found_later : {V : Type 0} (n : ℕ) (es fs : List (ℕ × V)) → find nat_cmp n es ≡ None → find nat_cmp n (es ++ fs) ≡ find nat_cmp n fs
 found_later n [] fs h = refl
 found_later n (e ∷ es) fs h =
@@ -58,7 +54,6 @@ found_later n (e ∷ es) fs h =
       | false ↦ found_later n es fs
     ] h
 
--- under a number other than the first entry's, all entries have what the later ones have
 pub found_other : {V : Type 0} (e : ℕ × V) (es : List (ℕ × V)) (n : ℕ) → n ≢ e.0 → find nat_cmp n (e ∷ es) ≡ find nat_cmp n es
 found_other e es n apart = ap (λ b. cond b (Some e.1) (find nat_cmp n es)) (sym (unsigned_ties n e.0) ∙ other_number n e.0 apart)
 
@@ -67,21 +62,18 @@ abbrev pub IsApart : Entries → Type 0
 IsApart [] = ⊤
 IsApart (e ∷ es) = (find nat_cmp e.0 es ≡ None) × IsApart es
 
--- the amount found under a number among the later entries is found among all, if no two have the same number
 found_tail : (e : ℕ × ℕ) (es : Entries) (n s : ℕ) → IsApart (e ∷ es) → find nat_cmp n es ≡ Some s → find nat_cmp n (e ∷ es) ≡ Some s
 found_tail e es n s apart is = elim (cases_eq n e.0) [
   | inl same ↦ none_some s (sym apart.0 ∙ ap (λ k. find nat_cmp k es) (sym same) ∙ is)
   | inr other ↦ found_other e es n other ∙ is
 ]
 
--- what holds of each number and amount found among entries with different numbers holds of each of these entries
 pub each_found : (P : ℕ × ℕ → Type 0) (es : Entries) → IsApart es → ((n s : ℕ) → find nat_cmp n es ≡ Some s → P (n, s)) → AllByRecursion P es
 each_found P [] apart h = tt
 each_found P (e ∷ es) apart h = (h e.0 e.1 (first e es), each_found P es apart.1 (λ n s is. h n s (found_tail e es n s apart is)))
 
 -- ---- entries put into a map in turn
 
--- a number that none of the entries has keeps its value in a map into which they are put
 pub others_keep_value : (m : FinMap nat_cmp ℕ) (es : Entries) (n : ℕ) → find nat_cmp n es ≡ None → get (with_entries m es) n ≡ get m n
 others_keep_value m [] n h = refl
 others_keep_value m (e ∷ es) n h =
@@ -90,8 +82,6 @@ others_keep_value m (e ∷ es) n h =
       | false ↦ λ g none. others_keep_value (insert m e.0 e.1) es n none ∙ g
     ] (get-insert nat_cmp_total m e.0 e.1 n) h
 
--- if `P` holds of the number and the value of each entry (`AllByRecursion`), it holds of each also as `EachEntry`
--- says it
 as_pairs : (P : ℕ → ℕ → Type 0) (es : Entries) → AllByRecursion (λ e. P e.0 e.1) es → EachEntry P es
 as_pairs P [] h = tt
 as_pairs P (e ∷ es) h = (h.0, as_pairs P es h.1)
@@ -103,11 +93,9 @@ module _ (g : ℕ → Option ℕ) where
   abbrev pub AgreeWith : Entries → Type 0
   AgreeWith es = AllByRecursion (λ e. g e.0 ≡ Some e.1) es
 
-  -- an entry that has the value that `g` has for its number, put into a map, gives its number that value
   put_here : (m : FinMap nat_cmp ℕ) (e : ℕ × ℕ) (n s : ℕ) → n ≡ e.0 → g e.0 ≡ Some e.1 → g n ≡ Some s → get (insert m e.0 e.1) n ≡ Some s
   put_here m e n s same says is = ap (get (insert m e.0 e.1)) same ∙ get-insert_same m e.0 e.1 ∙ sym says ∙ ap g (sym same) ∙ is
 
-  -- a value that `g` has, once in a map, is still in it after entries that agree with `g` (`AgreeWith`) are put in
   agreeing_stays : (m : FinMap nat_cmp ℕ) (es : Entries) (n s : ℕ) → AgreeWith es → g n ≡ Some s → get m n ≡ Some s → get (with_entries m es) n ≡ Some s
   agreeing_stays m [] n s says is at = at
   agreeing_stays m (e ∷ es) n s says is at =
@@ -116,7 +104,6 @@ module _ (g : ℕ → Option ℕ) where
         | inr apart ↦ get-insert_other m e.0 n e.1 apart ∙ at
       ])
 
-  -- entries that agree with `g` (`AgreeWith`), put into a map, give each of their numbers the value that `g` has for it
   agreeing_comes : (m : FinMap nat_cmp ℕ) (es : Entries) (n s : ℕ) → AgreeWith es → g n ≡ Some s → is_some (find nat_cmp n es) ≡ true → get (with_entries m es) n ≡ Some s
   agreeing_comes m [] n s says is some = absurd (false≢true some)
   agreeing_comes m (e ∷ es) n s says is some = elim (cases_eq n e.0) [
@@ -128,12 +115,10 @@ module _ (g : ℕ → Option ℕ) where
   pub agreeing_put : (es : Entries) → AgreeWith es → ((n s : ℕ) → g n ≡ Some s → is_some (find nat_cmp n es) ≡ true) → (n : ℕ) → get (with_entries empty es) n ≡ g n
   agreeing_put es says whole n = by_find (find nat_cmp n es) refl
     where
-      -- for `agreeing_put`: `g` has no value for a number that isn't among the entries, which have all numbers of `g`
       nothing : find nat_cmp n es ≡ None → (o : Option ℕ) → g n ≡ o → o ≡ None
       nothing none None is = refl
       nothing none (Some s) is = absurd (false≢true (ap is_some (sym none) ∙ whole n s is))
 
-      -- the map of the entries has for `n` what `g` has, whether `n` is among the entries or not
       by_find : (o : Option ℕ) → find nat_cmp n es ≡ o → get (with_entries empty es) n ≡ g n
       by_find None is = others_keep_value empty es n is ∙ get-empty nat_cmp n ∙ sym (nothing is (g n) refl)
       by_find (Some s) is =
@@ -142,25 +127,20 @@ module _ (g : ℕ → Option ℕ) where
 
 -- ---- entries with different numbers
 
--- a map into which entries with different numbers were put has under each number what is found among the entries
 pub found_put : (es : Entries) → IsApart es → (n : ℕ) → get (with_entries empty es) n ≡ find nat_cmp n es
 found_put es apart = agreeing_put (λ n. find nat_cmp n es) es (each_found (λ e. find nat_cmp e.0 es ≡ Some e.1) es apart (λ n s is. is)) (λ n s is. ap is_some is)
 
--- a number below those of all entries isn't found among them
 lower_number_not_found : (k : ℕ) (es : Entries) → AllByRecursion (λ e. k < e.0) es → find nat_cmp k es ≡ None
 lower_number_not_found k [] above = refl
 lower_number_not_found k (e ∷ es) above = found_other e es k (λ same. absurd (omega (arith, same, above.0))) ∙ lower_number_not_found k es above.1
 
--- no two of the entries have the same number, if their numbers rise
 rise_apart : (es : Entries) → Rise es → IsApart es
 rise_apart [] rise = tt
 rise_apart (e ∷ es) rise = (lower_number_not_found e.0 es rise.0, rise_apart es rise.1)
 
--- putting entries whose numbers rise into the empty map, in turn, gives the map of these entries
 pub risen_put : (es : Entries) → Rise es → with_entries empty es ≡ from_entries es
 risen_put es rise = same_map nat_cmp_total nat_cmp-IsAntisymmetric _ _ (λ n. found_put es (rise_apart es rise) n ∙ sym (get-from_entries nat_cmp_total es n))
 
--- the first value if there is one, else the second
 abbrev or_else : {V : Type 0} → Option V → Option V → Option V
 or_else None old = old
 or_else (Some s) old = Some s
@@ -170,14 +150,11 @@ last_put : {V : Type 0} (m : FinMap nat_cmp V) (es : List (ℕ × V)) (n : ℕ) 
 last_put m [] n = refl
 last_put {V} m (e ∷ es) n = last_put (insert m e.0 e.1) es n ∙ by_find (find nat_cmp n (reverse es)) refl ∙ sym (ap (λ fs. or_else (find nat_cmp n fs) (get m n)) (reverse-append (e ∷ []) es))
   where
-    -- for `last_put`: what the entries after `e` have for `n` (`o`), or else the map with `e` put in, is what all
-    -- entries have, or else the map
     by_find : (o : Option V) → find nat_cmp n (reverse es) ≡ o → or_else o (get (insert m e.0 e.1) n) ≡ or_else (find nat_cmp n (reverse es ++ e ∷ [])) (get m n)
     by_find (Some s) is = ap (λ o. or_else o (get m n)) (sym (found_first n (reverse es) (e ∷ []) s is))
     by_find None is =
         get-insert nat_cmp_total m e.0 e.1 n ∙ by_test (is_eq (nat_cmp n e.0)) ∙ ap (λ o. or_else o (get m n)) (sym (found_later n (reverse es) (e ∷ []) is))
       where
-        -- the map with entry `e` put in has under `n` the entry's value if its number is `n` (`b`), else what it had
         by_test : (b : Bool) → cond b (Some e.1) (get m n) ≡ or_else (cond b (Some e.1) None) (get m n)
         by_test true = refl
         by_test false = refl
@@ -187,37 +164,30 @@ pub put_in_turn : {V : Type 0} (es : List (ℕ × V)) → with_entries empty es 
 put_in_turn {V} es = same_map nat_cmp_total nat_cmp-IsAntisymmetric _ _ (λ n.
     last_put empty es n ∙ ap (or_else (find nat_cmp n (reverse es))) (get-empty nat_cmp n) ∙ or_none (find nat_cmp n (reverse es)) ∙ sym (get-from_entries nat_cmp_total (reverse es) n))
   where
-    -- for `put_in_turn`: the first value of an option and None (`or_else`) is that option
     or_none : (o : Option V) → or_else o None ≡ o
     or_none None = refl
     or_none (Some s) = refl
 
 -- ---- entries that regions give, where a number gets one share at most
 
--- a number found among the entries that `f` gives for an element of a list is found among those of all its elements
 pub found_among : (f : ℕ → Entries) (n : ℕ) (xs : List ℕ) (x : ℕ) → list_any (eq_by_cmp nat_cmp x) xs ≡ true → is_some (find nat_cmp n (f x)) ≡ true → is_some (find nat_cmp n (flat_map f xs)) ≡ true
 found_among f n [] x among some = absurd (false≢true among)
 found_among f n (y ∷ xs) x among some = by_first (λ h. found_among f n xs x h some) (find nat_cmp n (f y)) refl (eq_by_cmp nat_cmp x y) refl among
   where
-    -- a number is found among all entries, whether the entries of the first element have it or those of later ones
     by_first : (list_any (eq_by_cmp nat_cmp x) xs ≡ true → is_some (find nat_cmp n (flat_map f xs)) ≡ true)
         → (o : Option ℕ) → find nat_cmp n (f y) ≡ o → (b : Bool) → eq_by_cmp nat_cmp x y ≡ b → (b || list_any (eq_by_cmp nat_cmp x) xs) ≡ true → is_some (find nat_cmp n (flat_map f (y ∷ xs))) ≡ true
     by_first rest (Some s) is b at h = ap is_some (found_first n (f y) (flat_map f xs) s is)
     by_first rest None is true at h = absurd (false≢true (sym (ap is_some is) ∙ ap (λ z. is_some (find nat_cmp n (f z))) (sym (eqb-true x y (unsigned_ties x y ∙ at))) ∙ some))
     by_first rest None is false at h = ap is_some (found_later n (f y) (flat_map f xs) is) ∙ rest h
 
--- what holds of all entries that `f` gives for each element of a list holds of all these entries, one list after the
--- other
 pub each_flat : {A : Type 0} (P : ℕ × ℕ → Type 0) (f : A → Entries) (xs : List A) → AllByRecursion (λ x. AllByRecursion P (f x)) xs → AllByRecursion P (flat_map f xs)
 each_flat P f [] h = tt
 each_flat P f (x ∷ xs) h = append_each P (f x) (flat_map f xs) h.0 (each_flat P f xs h.1)
 
 module _ (f : ℕ → Entries) where
-  -- the entries of some regions, one region after the other
   abbrev from_all : List ℕ → Entries
   from_all rs = flat_map f rs
 
-  -- a number found among the entries of some regions is found among those of one of them
   pub somewhere : (n s : ℕ) (rs : List ℕ) → find nat_cmp n (from_all rs) ≡ Some s → (r : ℕ) × (list_any (eq_by_cmp nat_cmp r) rs ≡ true) × (find nat_cmp n (f r) ≡ Some s)
   somewhere n s [] h = none_some s h
   somewhere n s (r ∷ rs) h =
@@ -236,7 +206,6 @@ module _ (f : ℕ → Entries) where
 
 -- ---- pairs of numbers and amounts
 
--- if `P` holds of each of the numbers that are paired with amounts, it holds of a number found among the pairs
 zip_found : (P : ℕ → Type 0) (ns ss : List ℕ) (n s : ℕ) → AllByRecursion P ns → find nat_cmp n (zip ns ss) ≡ Some s → P n
 zip_found P [] ss n s h is = none_some s is
 zip_found P (k ∷ ns) [] n s h is = none_some s is
@@ -247,11 +216,9 @@ zip_found P (k ∷ ns) (t ∷ ss) n s h is =
       | Greater ↦ λ _. zip_found P ns ss n s h.1
     ] refl is
 
--- a list of numbers is sorted, without duplicates
 abbrev pub IsRisen : List ℕ → Type 0
 IsRisen ns = InOrder (λ (n k : ℕ). n < k) ns
 
--- no two of the entries have the same number, if they pair sorted numbers with amounts
 zip_apart : (ns ss : List ℕ) → IsRisen ns → IsApart (zip ns ss)
 zip_apart [] ss h = tt
 zip_apart (n ∷ ns) [] h = tt
@@ -270,53 +237,42 @@ zip_all g (n ∷ ns) (s ∷ ss) l apart h =
 
 -- ---- lists of numbers
 
--- if `P` holds of every number on a list, it holds of each element of the list (`AllByRecursion`)
 all_listed : (P : ℕ → Type 0) (ns : List ℕ) → ((n : ℕ) → IsListed n ns → P n) → AllByRecursion P ns
 all_listed P [] h = tt
 all_listed P (n ∷ ns) h = (h n (inl refl), all_listed P ns (λ k is. h k (inr is)))
 
--- if `P` holds of `f x` for each element `x` of a list, it holds of each element of the list mapped by `f`
 each_mapped : {X Y : Type 0} (f : X → Y) (P : Y → Type 0) (xs : List X) → AllByRecursion (λ x. P (f x)) xs → AllByRecursion P (map f xs)
 each_mapped f P [] h = tt
 each_mapped f P (x ∷ xs) h = (h.0, each_mapped f P xs h.1)
 
--- the numbers of entries whose numbers rise are sorted
 keys_risen : {V : Type 0} (es : List (ℕ × V)) → Rise es → IsRisen (map (λ e. e.0) es)
 keys_risen [] h = tt
 keys_risen (e ∷ es) h = (each_mapped (λ f. f.0) (λ k. e.0 < k) es h.0, keys_risen es h.1)
 
 module _ {X : Type 0} (p : X → Bool) where
-  -- if the elements of a list are in order by `R` (`InOrder`), so are those that pass a test
   kept_in_order : (R : X → X → Type 0) (xs : List X) → InOrder R xs → InOrder R (filter p xs)
   kept_in_order R [] h = tt
   kept_in_order R (x ∷ xs) h = either (kept_in_order R xs h.1) (p x)
     where
-      -- for `kept_in_order`: the elements that pass are in order, with `x` in front if it passes (`b`), else without it
       either : InOrder R (filter p xs) → (b : Bool) → InOrder R (cond b (x ∷ filter p xs) (filter p xs))
       either rest true = (filter_each p (R x) xs h.0, rest)
       either rest false = rest
 
 module _ (p : ℕ → Bool) (n : ℕ) where
-  -- a number on a list that passes a test is among those that pass it
   kept_listed : (ns : List ℕ) → p n ≡ true → IsListed n ns → IsListed n (filter p ns)
   kept_listed [] h is = is
   kept_listed (k ∷ ns) h is = by_test (kept_listed ns h) (p k) refl is
     where
-      -- for `kept_listed`: `n`, which passes and is on the list `k ∷ ns`, is among those of it that pass, whether `k`
-      -- passes (`b`) or not
       by_test : (IsListed n ns → IsListed n (filter p ns)) → (b : Bool) → p k ≡ b → IsListed n (k ∷ ns) → IsListed n (cond b (k ∷ filter p ns) (filter p ns))
       by_test rest true e (inl same) = inl same
       by_test rest true e (inr later) = inr (rest later)
       by_test rest false e (inl same) = absurd (false≢true (sym e ∙ ap p (sym same) ∙ h))
       by_test rest false e (inr later) = rest later
 
-  -- a number among those of a list that pass a test is on the list, and passes it
   kept_was : (ns : List ℕ) → IsListed n (filter p ns) → IsListed n ns × (p n ≡ true)
   kept_was [] is = absurd is
   kept_was (k ∷ ns) is = by_test (kept_was ns) (p k) refl is
     where
-      -- for `kept_was`: a number `n` that is among those of `k ∷ ns` that pass is on this list and passes, whether `k`
-      -- passes (`b`) or not
       by_test : (IsListed n (filter p ns) → IsListed n ns × (p n ≡ true)) → (b : Bool) → p k ≡ b → IsListed n (cond b (k ∷ filter p ns) (filter p ns)) → IsListed n (k ∷ ns) × (p n ≡ true)
       by_test rest true e (inl same) = (inl same, ap p same ∙ e)
       by_test rest true e (inr later) = let (was, passes) = rest later in (inr was, passes)
@@ -329,21 +285,18 @@ module _ (wants : FinMap nat_cmp ℕ) (units : FinMap nat_cmp Unit) where
   abbrev pub IsTaker : ℕ → ℕ → Type 0
   IsTaker r n = ((u : Unit) × (get units n ≡ Some u) × (u.region ≡ r)) × HasValue wants n
 
-  -- each unit listed for region `r` as one with a want is in the region and has a want (`IsTaker`)
   takers_each : (r : ℕ) → AllByRecursion (IsTaker r) (takers_in wants units r)
   takers_each r = all_listed (IsTaker r) (takers_in wants units r) (λ n is.
       let (among, want) = kept_was (λ k. is_some (get wants k)) n (numbers_in_region r units) is in
       let (u, at, here) = listed_passing (λ (v : Unit). v.region == r) units n among in
       ((u, at, eqb-true u.region r here), has_value_if_some (get wants n) want))
 
-  -- the numbers of a region's units that have a want are sorted
   pub takers_risen : (r : ℕ) → IsRisen (takers_in wants units r)
   takers_risen r =
       let here = λ (e : ℕ × Unit). e.1.region == r in
       kept_in_order (λ n. is_some (get wants n)) (λ (n k : ℕ). n < k) (numbers_in_region r units)
       (keys_risen (filter here (entries units)) (kept_in_order here (λ (e f : ℕ × Unit). e.0 < f.0) (entries units) (entries_rise units)))
 
-  -- each unit that has a want in a region is listed among those that have one
   pub taker_listed : (n want : ℕ) (u : Unit) → get wants n ≡ Some want → get units n ≡ Some u → IsListed n (takers_in wants units u.region)
   taker_listed n want u wanted is =
       kept_listed (λ k. is_some (get wants k)) n (numbers_in_region u.region units) (ap is_some wanted) (passing_listed (λ (v : Unit). v.region == u.region) units n u is (same_number u.region))
@@ -355,11 +308,9 @@ module _ (pot_of : ℕ → ℕ) (wants : FinMap nat_cmp ℕ) (units : FinMap nat
   abbrev given_in : ℕ → Entries
   given_in r = shares_in pot_of wants units r
 
-  -- each unit with a share of a region is one of those there that have a want
   pub given_takes : (r n s : ℕ) → find nat_cmp n (given_in r) ≡ Some s → IsTaker wants units r n
   given_takes r n s is = zip_found (IsTaker wants units r) (takers_in wants units r) (shares (pot_of r) (wants_in wants units r)) n s (takers_each wants units r) is
 
-  -- no unit has two shares of a region
   pub given_apart : (r : ℕ) → IsApart (given_in r)
   given_apart r = zip_apart (takers_in wants units r) (shares (pot_of r) (wants_in wants units r)) (takers_risen wants units r)
 
@@ -373,11 +324,9 @@ module _ (pot_of : ℕ → ℕ) (wants : FinMap nat_cmp ℕ) (units : FinMap nat
       let share : Some s ≡ Some t = sym is ∙ ap (λ k. find nat_cmp n (given_in k)) region ∙ also in
       cc
 
--- if `P` holds of the number of each region of a campaign, it holds of all keys of the map of regions
 pub each_region : (P : ℕ → Type 0) (c : CampaignValue) → ((r : ℕ) → HasValue c.regions r → P r) → AllByRecursion P (keys c.regions)
 each_region P c h = by_entries (entries c.regions) (each-from_every (λ r q. get c.regions r ≡ Some q) c.regions (λ r q is. is))
   where
-    -- if `P` holds of each region's number, it holds of the numbers of listed entries that are regions of the campaign
     by_entries : (es : List (ℕ × Region)) → EachEntry (λ r q. get c.regions r ≡ Some q) es → AllByRecursion P (map (λ e. e.0) es)
     by_entries [] all = tt
     by_entries (e ∷ es) all = (h e.0 (e.1, all.0), by_entries es all.1)
@@ -388,12 +337,10 @@ module _ (pot_of : ℕ → ℕ) (wants : FinMap nat_cmp ℕ) (c : CampaignValue)
   unfolding pot_shares
   found_is n = get-from_entries nat_cmp_total (flat_map (shares_in pot_of wants c.units) (keys c.regions)) n
 
-  -- a share found among those of a region of the campaign is the unit's share
   pub given_is : (r n s : ℕ) → HasValue c.regions r → find nat_cmp n (shares_in pot_of wants c.units r) ≡ Some s → share_of pot_of wants c n ≡ Some s
   given_is r n s (q, is) found =
       found_is n ∙ there (shares_in pot_of wants c.units) n r s (λ k t also. gives_one pot_of wants c.units n k r t s also found) found (keys c.regions) (sym (contains_key-keys c.regions r) ∙ ap is_some is)
 
-  -- each share of a region of the campaign is its unit's share
   pub region_agrees : (r : ℕ) → HasValue c.regions r → AllByRecursion (λ e. share_of pot_of wants c e.0 ≡ Some e.1) (shares_in pot_of wants c.units r)
   region_agrees r region = each_found (λ e. share_of pot_of wants c e.0 ≡ Some e.1) (shares_in pot_of wants c.units r) (given_apart pot_of wants c.units r) (λ n s is. given_is r n s region is)
 
@@ -408,15 +355,12 @@ module _ (pot_of : ℕ → ℕ) (wants : FinMap nat_cmp ℕ) (c : CampaignValue)
 
 -- ---- the regions where a unit has a want
 
--- a number that is in a map is still in it after another entry is put in
 still_in_after_insert : (m : FinMap nat_cmp ℕ) (k v n : ℕ) → is_some (get m n) ≡ true → is_some (get (insert m k v) n) ≡ true
 still_in_after_insert m k v n h = ap is_some (get-insert nat_cmp_total m k v n) ∙ elim (is_eq (nat_cmp n k)) as (λ b. is_some (cond b (Some v) (get m n)) ≡ true) [ true ↦ refl | false ↦ h ]
 
--- a number under which a value was put into a map is in the map
 pub inserted_is_in : (m : FinMap nat_cmp ℕ) (n v : ℕ) → is_some (get (insert m n v) n) ≡ true
 inserted_is_in m n v = ap is_some (get-insert_same m n v)
 
--- a number that is in a map is still in it after entries are put in
 pub still_in_after_entries : (m : FinMap nat_cmp ℕ) (es : List (ℕ × ℕ)) (n : ℕ) → is_some (get m n) ≡ true → is_some (get (with_entries m es) n) ≡ true
 still_in_after_entries m [] n h = h
 still_in_after_entries m (e ∷ es) n h = still_in_after_entries (insert m e.0 e.1) es n (still_in_after_insert m e.0 e.1 n h)
@@ -426,7 +370,6 @@ module _ (wants : FinMap nat_cmp ℕ) (c : CampaignValue) where
   abbrev asked_at : ℕ × ℕ → Entries
   asked_at e = region_at e.0 (get c.units e.0)
 
-  -- the region of each unit with an entry is in the map into which the regions of these units were put
   asked_each : (m : FinMap nat_cmp ℕ) (es : Entries) → AllByRecursion (λ e. (u : Unit) → get c.units e.0 ≡ Some u → is_some (get (with_entries m (flat_map asked_at es)) u.region) ≡ true) es
   asked_each m [] = tt
   asked_each m (e ∷ es) =
@@ -436,16 +379,13 @@ module _ (wants : FinMap nat_cmp ℕ) (c : CampaignValue) where
         subst (λ k. AllByRecursion (λ f. (u : Unit) → get c.units f.0 ≡ Some u → is_some (get k u.region) ≡ true) es) (sym both) (asked_each (with_entries m (asked_at e)) es),
       )
 
-  -- the region of a unit that has a want is among the regions with wants
   taker_asks : (n : ℕ) (u : Unit) → HasValue wants n → get c.units n ≡ Some u → is_some (get (regions_with_wants wants c) u.region) ≡ true
   taker_asks n u (want, wanted) is =
       every-from_each (λ k x. (v : Unit) → get c.units k ≡ Some v → is_some (get (regions_with_wants wants c) v.region) ≡ true) wants (as_pairs _ (entries wants) (asked_each empty (entries wants))) n want wanted u is
 
-  -- in a region that isn't among the regions with wants no unit has a want
   pub none_asked : (r : ℕ) → is_some (get (regions_with_wants wants c) r) ≡ false → takers_in wants c.units r ≡ []
   none_asked r free = by_takers (takers_in wants c.units r) (takers_each wants c.units r)
     where
-      -- for `none_asked`: a list of units with a want in region `r` is empty, as `r` isn't among the regions with wants
       by_takers : (ns : List ℕ) → AllByRecursion (IsTaker wants c.units r) ns → ns ≡ []
       by_takers [] all = refl
       by_takers (n ∷ ns) all =
@@ -454,7 +394,6 @@ module _ (wants : FinMap nat_cmp ℕ) (c : CampaignValue) where
 
 -- ---- the laws of `pot_shares`
 
--- the units of a region that have a want get the shares of its pot by their wants, in unit order
 pub shares_each_pot : SharesEachPot
 shares_each_pot pot_of wants c r region =
     let takers = takers_in wants c.units r in
@@ -462,15 +401,12 @@ shares_each_pot pot_of wants c r region =
     let long : length given ≡ length takers = length-shares (pot_of r) (wants_in wants c.units r) ∙ length-map takers (want_of wants) in
     zip_all (share_of pot_of wants c) takers given long (given_apart pot_of wants c.units r) (λ n s is. given_is pot_of wants c r n s region is)
 
--- `g` has for each of the numbers `ns` a share of at most its want, if it maps `ns` to the shares `ss`, and these are
--- at most the wants
 each_has_share_within_want : (g : ℕ → Option ℕ) (want : ℕ → ℕ) (ns ss : List ℕ) → map g ns ≡ map Some ss → ((i : ℕ) → get_or ss i 0 ≤ get_or (map want ns) i 0) → (n : ℕ) → IsListed n ns → (share : ℕ) × (g n ≡ Some share) × (share ≤ want n)
 each_has_share_within_want g want [] ss same low n is = absurd is
 each_has_share_within_want g want (k ∷ ns) [] same low n is = cc
 each_has_share_within_want g want (k ∷ ns) (s ∷ ss) same low n (inl at) = (s, ap g at ∙ (cc), subst (λ j. s ≤ want j) (sym at) (low 0))
 each_has_share_within_want g want (k ∷ ns) (s ∷ ss) same low n (inr rest) = each_has_share_within_want g want ns ss (cc) (λ i. low (suc i)) n rest
 
--- each unit that has a want and is in a region of the campaign has a share, at most its want
 pub each_taker_gets : EachTakerGets
 each_taker_gets pot_of wants c n want u wanted is region =
     let takers = takers_in wants c.units u.region in
@@ -478,7 +414,6 @@ each_taker_gets pot_of wants c n want u wanted is region =
     let (share, has, low) = each_has_share_within_want (share_of pot_of wants c) (want_of wants) takers given (shares_each_pot pot_of wants c u.region region) (share_at_most (pot_of u.region) (wants_in wants c.units u.region)) n (taker_listed wants c.units n want u wanted is) in
     (share, has, subst (λ o. share ≤ unwrap_or o 0) wanted low)
 
--- each unit that has a share wants at least that much, and is in a region of the campaign
 pub only_takers_get : OnlyTakersGet
 only_takers_get pot_of wants c n s is =
     let (r, region, given) = somewhere (shares_in pot_of wants c.units) n s (keys c.regions) (sym (found_is pot_of wants c n) ∙ is) in
@@ -488,32 +423,25 @@ only_takers_get pot_of wants c n s is =
     let same : t ≡ s = cc in
     (want, u, wanted, subst (λ k. k ≤ want) same low, at, is_at)
 
--- each unit that has a share of a pot wants at least that much
 pub pots_give : (pot_of : ℕ → ℕ) (c : CampaignValue) (wants : FinMap nat_cmp ℕ) (n share : ℕ) → get (pot_shares pot_of wants c) n ≡ Some share → (want : ℕ) × (get wants n ≡ Some want) × (share ≤ want)
 pots_give pot_of c wants n share is = let (want, u, wanted, low, at, region) = only_takers_get pot_of wants c n share is in (want, wanted, low)
 
--- if `g` maps the numbers `ns` to Some of the amounts `ss`, then with 0 in the place of None it maps them to `ss`
 mapped_with_default : (g : ℕ → Option ℕ) (ns ss : List ℕ) → map g ns ≡ map Some ss → map (λ n. unwrap_or (g n) 0) ns ≡ ss
 mapped_with_default g ns ss h = mapped ns ∙ ap (map (λ o. unwrap_or o 0)) h ∙ back ss
   where
-    -- for `mapped_with_default`: mapping numbers to amounts is mapping them to options, and then each option to its
-    -- amount
     mapped : (ns : List ℕ) → map (λ n. unwrap_or (g n) 0) ns ≡ map (λ o. unwrap_or o 0) (map g ns)
     mapped [] = refl
     mapped (n ∷ ns) = ap (λ l. unwrap_or (g n) 0 ∷ l) (mapped ns)
 
-    -- for `mapped_with_default`: the amounts of options that are Some of some amounts are these amounts
     back : (ss : List ℕ) → map (λ o. unwrap_or o 0) (map Some ss) ≡ ss
     back [] = refl
     back (s ∷ ss) = ap (λ l. s ∷ l) (back ss)
 
--- the units of a region that have a want get its whole pot together, or all that they want if that is less
 pub gives_each_pot : GivesEachPot
 gives_each_pot pot_of wants c r region =
     ap sum (mapped_with_default (share_of pot_of wants c) (takers_in wants c.units r) (shares (pot_of r) (wants_in wants c.units r)) (shares_each_pot pot_of wants c r region))
     ∙ all_is_given (pot_of r) (wants_in wants c.units r)
 
--- the shares in a region follow from its pot, its units with a want and their wants alone
 pub other_regions_do_not_count : OtherRegionsDoNotCount
 other_regions_do_not_count pot_of other_pots wants other_wants c other r here there pots takers wanted =
     shares_each_pot pot_of wants c r here

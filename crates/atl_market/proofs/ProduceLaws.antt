@@ -1,13 +1,13 @@
 -- Laws of PRODUCE: it keeps a campaign steady, its books balanced and units without an order as they are; all shares
 -- can be made.
-use Rattle.std.proofs.Common.{◌≡◌, ◌≢◌, ◌==◌, ℕ, ◌+◌, ◌-◌, ◌*◌, ◌/◌, ◌≤◌, ◌<◌, Bool, true, false, List, [], ◌∷◌, length, Option, Some, None, refl, sym, subst, ◌∙◌, arith}
+use Rattle.std.proofs.Common.{◌≡◌, ◌≢◌, ◌==◌, ℕ, ◌+◌, ◌-◌, ◌*◌, ◌/◌, ◌≤◌, ◌<◌, Bool, true, false, List, [], ◌∷◌, length, Option, Some, None, option_map, refl, sym, subst, ◌∙◌, arith}
 use Rattle.std.specs.Prelude.{ℤ, IfSome, fold, min, if◌then◌else◌}
 use Rattle.std.specs.List.{AllByRecursion, slice_get}
 use Rattle.std.specs.Option.{option_map_or}
 use Rattle.std.specs.Ordering.{nat_cmp}
 use Rattle.std.specs.FinMap.{FinMap, entries, get}
 use Rattle.std.proofs.lemmas.Bool.Decides.{nat_tests}
-use Rattle.std.proofs.lemmas.Option.{slice_get_within}
+use Rattle.std.proofs.lemmas.Option.{same_Some, slice_get_within}
 use Rattle.std.proofs.Math.Nat.{mul-div-le, mul-le-mul_right, mul_comm}
 use Rattle.atl_world.specs.Worlds.{IsWorld, WorldValue}
 use Rattle.atl_world.specs.declared.world.Item.{Item}
@@ -35,7 +35,7 @@ use Rattle.atl_phase.proofs.MeaningLaws.{IsBoundWithin, both_leave_well, amount_
 use Rattle.atl_market.specs.Making.{CanMake, CanMakeOf, CanProduce, CanUse, HasRoomAndRaw}
 use Rattle.atl_market.specs.PotPhase.{after_sharing, given_by, item_in, items_by}
 use Rattle.atl_market.specs.Bounds.{CanInTurn}
-use Rattle.atl_market.specs.Produce.{after_production, item_of, produce_fault, most_makeable, most_makeable_of, produce_moves, produce_pots, up_to_raw, with_raw_used}
+use Rattle.atl_market.specs.Produce.{after_production, item_of, most_makeable, most_makeable_of, numbered_item, produce_fault, produce_moves, produce_pots, up_to_raw, with_raw_used}
 use Rattle.atl_market.specs.Goods.{with_made, with_used}
 use Rattle.atl_market.specs.Unordered.{OthersAreNoWorse}
 use Rattle.atl_market.proofs.DrawLaws.{all_pairs}
@@ -48,22 +48,18 @@ use Rattle.atl_market.proofs.WantLaws.{few_given, given_is_named}
 
 -- ---- what is moved
 
--- for `used_less` and `made_less`: a bound that is a holding's limit or 0 is at most a holding's limit
 limit_or_zero_within_limit : (b : Bool) → (if b then holding_limit else 0) ≤ holding_limit
 limit_or_zero_within_limit true = omega arith
 limit_or_zero_within_limit false = omega arith
 
--- for `used_less` and `made_less`: the bound that moves only the amount numbered `b` is 0 for another one, numbered `a`
 other_amount_not_moved : (a b : ℕ) → a ≢ b → (if a == b then holding_limit else 0) ≤ 0
 other_amount_not_moved a b apart = let other : (a == b) ≡ false = grind (arith, nat_tests) in rw other (omega arith)
 
--- the bound on using one item is, for each amount of the books, at most that of PRODUCE
 used_less : (r : ℕ) → IsBoundWithin (moves_only holding_limit booked.Used (things.Item r)) (produce_moves holding_limit)
 used_less r booked.Made (things.Item j) = limit_or_zero_within_limit (amount_number booked.Made (things.Item j) == amount_number booked.Used (things.Item r))
 used_less r booked.Used (things.Item j) = limit_or_zero_within_limit (amount_number booked.Used (things.Item j) == amount_number booked.Used (things.Item r))
 used_less r e t = other_amount_not_moved (amount_number e t) (amount_number booked.Used (things.Item r)) (omega arith)
 
--- the bound on making one item is, for each amount of the books, at most that of PRODUCE
 made_less : (i : ℕ) → IsBoundWithin (moves_only holding_limit booked.Made (things.Item i)) (produce_moves holding_limit)
 made_less i booked.Made (things.Item j) = limit_or_zero_within_limit (amount_number booked.Made (things.Item j) == amount_number booked.Made (things.Item i))
 made_less i booked.Used (things.Item j) = limit_or_zero_within_limit (amount_number booked.Used (things.Item j) == amount_number booked.Made (things.Item i))
@@ -76,33 +72,37 @@ steps_within_produce steps one all few booked.Made (things.Item i) = few
 steps_within_produce steps one all few booked.Used (things.Item i) = few
 steps_within_produce steps one all few e t = omega arith
 
--- the bound on using an item is 0 under Made
 used_none : (r j : ℕ) → (if amount_number booked.Made (things.Item j) == amount_number booked.Used (things.Item r) then holding_limit else 0) ≤ 0
 used_none r j = other_amount_not_moved (amount_number booked.Made (things.Item j)) (amount_number booked.Used (things.Item r)) (omega arith)
 
--- the bound on making an item is 0 under Used
 made_none : (i j : ℕ) → (if amount_number booked.Used (things.Item j) == amount_number booked.Made (things.Item i) then holding_limit else 0) ≤ 0
 made_none i j = other_amount_not_moved (amount_number booked.Used (things.Item j)) (amount_number booked.Made (things.Item i)) (omega arith)
 
--- the bounds on using one item and making another are together within that of PRODUCE
 both_less : (r i : ℕ) → IsBoundWithin (both_move (moves_only holding_limit booked.Used (things.Item r)) (moves_only holding_limit booked.Made (things.Item i))) (produce_moves holding_limit)
 both_less r i booked.Made (things.Item j) = omega (arith, used_none r j, made_less i booked.Made (things.Item j))
 both_less r i booked.Used (things.Item j) = omega (arith, used_less r booked.Used (things.Item j), made_none i j)
 both_less r i e t = omega (arith, used_less r e t, made_less i e t)
 
--- an amount with room for what `moves_only holding_limit` may move of it has room for a holding's limit
 pub only_room : (e : BooksEntry) (t : Thing) (z : ℤ) → HasRoom (moves_only holding_limit e t e t) z → HasRoom holding_limit z
 only_room e t z room = subst (λ b. HasRoom (if b then holding_limit else 0) z) (same_number (amount_number e t)) room
 
 -- ---- one step
 
+-- the number and the item that `numbered_item` finds are the number that the order names, and the world's item under it
+of_numbered : (w : WorldValue) (asked : Option ℕ) (f : ℕ × Item) → numbered_item w asked ≡ Some f → (asked ≡ Some f.0) × (slice_get w.items f.0 ≡ Some f.1)
+of_numbered w None f is = none_some f is
+of_numbered w (Some i) f is = by_world (slice_get w.items i) refl is
+  where
+    -- for `of_numbered`: the world has the item (`o`), since one is found
+    by_world : (o : Option Item) → slice_get w.items i ≡ o → option_map (λ x. (i, x)) o ≡ Some f → (Some i ≡ Some f.0) × (slice_get w.items f.0 ≡ Some f.1)
+    by_world None there found = none_some f found
+    by_world (Some x) there found = subst (λ (g : ℕ × Item). (Some i ≡ Some g.0) × (slice_get w.items g.0 ≡ Some g.1)) (same_Some (i, x) f found) (refl, there)
+
 module _ (asked : FinMap nat_cmp ℕ) (w : WorldValue) (c : CampaignValue) (e : ℕ × ℕ) where
   module _ (can : CanProduce asked w c e) (i : ℕ) (x : Item) (says : get asked e.0 ≡ Some i) (there : slice_get w.items i ≡ Some x) where
-    -- the unit of a share that can be produced holds at most a holding's limit of each item
     held : (r : ℕ) → amount_of can.unit.holding.items r ≤ holding_limit
     held r = amount_within can.unit.holding r (can.steady.numbers.units e.0 can.unit can.there).1
 
-    -- the unit can use the raw items for its share
     can_use : (r : ℕ) → x.raw ≡ Some r → CanUse w c e.0 r (e.1 * x.raw_count)
     can_use r raw =
         let fits = can.fits i x says there in
@@ -128,7 +128,6 @@ module _ (asked : FinMap nat_cmp ℕ) (w : WorldValue) (c : CampaignValue) (e : 
           room = amount_room_for_less e.1 holding_limit (amount_in c.books booked.Made (things.Item i)) (omega (arith, fits.fits)) (can.room booked.Made (things.Item i));
         }
 
-    -- the unit can still make the item after it used the raw items
     can_after : (r : ℕ) → x.raw ≡ Some r → CanMake w (with_used c e.0 r (e.1 * x.raw_count)) e.0 i e.1
     can_after r raw =
         let fits = can.fits i x says there in
@@ -147,20 +146,16 @@ module _ (asked : FinMap nat_cmp ℕ) (w : WorldValue) (c : CampaignValue) (e : 
               (room_less (both_move (moves_only holding_limit booked.Used (things.Item r)) (moves_only holding_limit booked.Made (things.Item i))) (produce_moves holding_limit) c (both_less r i) can.room) booked.Made (things.Item i)));
         }
       where
-        -- for `can_after`: if an amount has room for the share within a holding's limit, so has any smaller amount
         below : (a b : ℕ) → a ≤ b → b + e.1 ≤ holding_limit → a + e.1 ≤ holding_limit
         below a b l m = omega (arith, l, m)
 
-    -- the unit can make the item after it used the raw items, if any go into it
     can_make_then : CanMake w (with_raw_used c e.0 (e.1 * x.raw_count) x.raw) e.0 i e.1
     can_make_then = by_raw x.raw refl
       where
-        -- the unit can make the item after it used the raw item `o`, or at once if none goes into it
         by_raw : (o : Option ℕ) → x.raw ≡ o → CanMake w (with_raw_used c e.0 (e.1 * x.raw_count) o) e.0 i e.1
         by_raw None is = can_at_once
         by_raw (Some r) is = can_after r is
 
-    -- the unit can use the raw items and make the item
     pub can_make_item : CanMakeOf w c e.0 e.1 i x
     can_make_item = record {
       use_raw = can_use;
@@ -168,11 +163,9 @@ module _ (asked : FinMap nat_cmp ℕ) (w : WorldValue) (c : CampaignValue) (e : 
       make = can_make_then;
     }
 
-    -- using the raw items and making the item keeps the campaign steady and its books balanced, within PRODUCE's bound
     item_well : LeavesWell IsSteady (produce_moves holding_limit) w c (with_made (with_raw_used c e.0 (e.1 * x.raw_count) x.raw) e.0 i e.1)
     item_well = by_raw x.raw refl
       where
-        -- making the item keeps the campaign steady and its books balanced, whether a raw item `o` goes into it or not
         by_raw : (o : Option ℕ) → x.raw ≡ o → LeavesWell IsSteady (produce_moves holding_limit) w c (with_made (with_raw_used c e.0 (e.1 * x.raw_count) o) e.0 i e.1)
         by_raw None is = well_within (moves_only holding_limit booked.Made (things.Item i)) (produce_moves holding_limit) w c (with_made c e.0 i e.1) (made_less i) (made_well w c e.0 i e.1 can_at_once)
         by_raw (Some r) is =
@@ -187,30 +180,25 @@ module _ (asked : FinMap nat_cmp ℕ) (w : WorldValue) (c : CampaignValue) (e : 
   unfolding after_production
   produced_well can =
       let unchanged = well_unchanged (produce_moves holding_limit) w c can.steady in
-      by_option (λ d. LeavesWell IsSteady (produce_moves holding_limit) w c d) _ (get asked e.0) c unchanged (λ i says.
-      by_option (λ d. LeavesWell IsSteady (produce_moves holding_limit) w c d) _ (slice_get w.items i) c unchanged (λ x is. item_well can i x says is))
+      by_option (λ d. LeavesWell IsSteady (produce_moves holding_limit) w c d) _ (numbered_item w (get asked e.0)) c unchanged
+      (λ f is. let (says, there) = of_numbered w (get asked e.0) f is in item_well can f.0 f.1 says there)
 
-  -- unit `k` is in campaign `d` as it was in `c`
   abbrev IsStill : ℕ → CampaignValue → Type 0
   IsStill k d = get d.units k ≡ get c.units k
 
-  -- the production of a unit leaves the other units as they are
   pub produced_others : (k : ℕ) → k ≢ e.0 → get (after_production asked w c e).units k ≡ get c.units k
   unfolding after_production
   produced_others k apart =
-      by_option (IsStill k) _ (get asked e.0) c refl (λ i says.
-      by_option (IsStill k) _ (slice_get w.items i) c refl (λ x is.
+      by_option (IsStill k) _ (numbered_item w (get asked e.0)) c refl (λ (i, x) is.
       let amount = e.1 * x.raw_count in
       made_others w (with_raw_used c e.0 amount x.raw) e.0 i e.1 k apart
-      ∙ by_option (IsStill k) (λ r. with_used c e.0 r amount) x.raw c refl (λ r raw. used_others w c e.0 r amount k apart)))
+      ∙ by_option (IsStill k) (λ r. with_used c e.0 r amount) x.raw c refl (λ r raw. used_others w c e.0 r amount k apart))
 
--- PRODUCE leaves each unit for which its own faction wrote no order of PRODUCE no worse off
 pub produce_keeps_others : (w : WorldValue) (c : CampaignValue) (os : List Task) → OthersAreNoWorse os c (after_sharing produce_pots w c os)
 produce_keeps_others w c os = others_no_worse produce_pots w (λ items. produced_others items w) c (produce_gives_to_wants w c) os
 
 -- ---- what a unit makes it can make
 
--- an order that names no item has a fault
 needs_item : (w : WorldValue) (h : HoldingValue) → produce_fault h (item_of w None) ≡ None → ⊥
 needs_item w h fine = by_men (h.men == 0) fine
   where
@@ -220,7 +208,6 @@ needs_item w h fine = by_men (h.men == 0) fine
     by_men false never = none_some NoSkill (sym never)
 
 module _ (w : WorldValue) (c : CampaignValue) (os : List Task) where
-  -- the item that each unit's order of PRODUCE names, by unit
   abbrev items : FinMap nat_cmp ℕ
   items = items_by produce_pots w c os
 
@@ -234,39 +221,31 @@ module _ (w : WorldValue) (c : CampaignValue) (os : List Task) where
       let (u, t, there, own, low, fine, named) = given_is_named produce_pots w c (produce_gives_to_wants w c) os n made is in
       (u, there, by_item u (item_in t.order_value.operands) low fine named)
     where
-      -- a unit makes at most what it can make of the item `s` that its order names, which is its item in `items`
       by_item : (u : Unit) (s : Option ℕ) → made ≤ most_makeable w u.holding s → produce_fault u.holding (item_of w s) ≡ None → ((i : ℕ) → s ≡ Some i → get items n ≡ Some i) → made ≤ most_makeable w u.holding (get items n)
       by_item u None low fine named = absurd (needs_item w u.holding fine)
       by_item u (Some i) low fine named = subst (λ o. made ≤ most_makeable w u.holding o) (sym (named i refl)) low
 
--- what the raw items allow, up to `most`, is at most `most`
 up_to_most : (h : HoldingValue) (count : ℕ) (raw : Option ℕ) (most : ℕ) → up_to_raw h count raw most ≤ most
 up_to_most h count None most = omega arith
 up_to_most h count (Some r) most = omega arith
 
--- what the raw items allow is at most the raw items held, divided by `count` and rounded down
 up_to_held : (h : HoldingValue) (count : ℕ) (raw : Option ℕ) (most r : ℕ) → raw ≡ Some r → up_to_raw h count raw most ≤ amount_of h.items r / count
 up_to_held h count raw most r is = subst (λ o. up_to_raw h count o most ≤ amount_of h.items r / count) (sym is) (omega arith)
 
--- for `fits_by`: `held` and `made` together are at most `limit`, if `made` is at most the room that `held` leaves under
--- the limit
 has_room : (made skilled limit held most : ℕ) → held ≤ limit → made ≤ most → most ≤ min skilled (limit - held) → held + made ≤ limit
 has_room made skilled limit held most fits low least = omega (arith, fits, low, least)
 
--- for `fits_by`: `held` is enough for at most `held / count` pieces, at `count` each
 has_raw : (made count held : ℕ) → made ≤ held / count → made * count ≤ held
 has_raw made count held low = omega (arith, mul-le-mul_right count low, mul-div-le held count, mul_comm (held / count) count)
 
--- for `fits_by`: the raw item of an item of the world is an item of the world
 raw_in : (items r : ℕ) (o : Option ℕ) → o ≡ Some r → IfSome o (λ k. k < items) → r < items
 raw_in items r None is known = none_some r is
 raw_in items r (Some k) is known = let same : k ≡ r = cc in subst (λ m. m < items) same known
 
 module _ (asked : FinMap nat_cmp ℕ) (w : WorldValue) (c : CampaignValue) (world : IsWorld w) (steady : IsSteady w c) where
-  -- a unit has room and raw items for at most as much as it can make, in a steady campaign of a world
   fits_by : (n made : ℕ) (u : Unit) → get c.units n ≡ Some u → made ≤ most_makeable w u.holding (get asked n) → (i : ℕ) (x : Item) → get asked n ≡ Some i → slice_get w.items i ≡ Some x → HasRoomAndRaw w u made i x
   fits_by n made u there low i x says is =
-      let all : made ≤ most_makeable_of u.holding i x = subst (λ o. made ≤ option_map_or (most_makeable_of u.holding i) o 0) is (subst (λ o. made ≤ most_makeable w u.holding o) says low) in
+      let all : made ≤ most_makeable_of u.holding i x = subst (λ o. made ≤ option_map_or (λ (f : ℕ × Item). most_makeable_of u.holding f.0 f.1) (option_map (λ y. (i, y)) o) 0) is (subst (λ o. made ≤ most_makeable w u.holding o) says low) in
       let skilled = u.holding.men * level_in_any u.holding x.skill in
       let most = min skilled (holding_limit - amount_of u.holding.items i) in
       record {
@@ -283,11 +262,9 @@ abbrev HasRoomFor : (FinMap nat_cmp ℕ) → WorldValue → CampaignValue → �
 HasRoomFor asked w c e = (u : Unit) × (get c.units e.0 ≡ Some u) × ((i : ℕ) (x : Item) → get asked e.0 ≡ Some i → slice_get w.items i ≡ Some x → HasRoomAndRaw w u e.1 i x)
 
 module _ (asked : FinMap nat_cmp ℕ) (w : WorldValue) where
-  -- the bound on what the production of one unit books
   abbrev step_moves : BookBound
   step_moves = produce_moves holding_limit
 
-  -- units that are still to make their shares keep room and raw items for them when a unit of a lower number changes
   still : (c d : CampaignValue) (n : ℕ) (es : List (ℕ × ℕ)) → ((k : ℕ) → k ≢ n → get d.units k ≡ get c.units k) → AllByRecursion (λ f. n < f.0) es → AllByRecursion (HasRoomFor asked w c) es → AllByRecursion (HasRoomFor asked w d) es
   still c d n [] same above all = tt
   still c d n (f ∷ es) same above ((u, there, fits), all) = ((u, same f.0 (λ e. absurd (omega (arith, e, above.0))) ∙ there, fits), still c d n es same above.1 all)
@@ -304,21 +281,17 @@ module _ (asked : FinMap nat_cmp ℕ) (w : WorldValue) where
       )
 
 module _ (w : WorldValue) (c : CampaignValue) (world : IsWorld w) (steady : IsSteady w c) (os : List Task) where
-  -- the amounts that units make, with their numbers, sorted by unit
   abbrev shares : List (ℕ × ℕ)
   shares = entries (given_by produce_pots w c os)
 
-  -- the item that each unit's order of PRODUCE names, by unit
   abbrev named : FinMap nat_cmp ℕ
   named = items_by produce_pots w c os
 
-  -- each unit that makes something is there and has room and raw items for it
   each_fits : Every (λ n made. HasRoomFor named w c (n, made)) (given_by produce_pots w c os)
   each_fits n made is =
       let (u, there, low) = given_can w c os n made is in
       (u, there, fits_by named w c world steady n made u there low)
 
-  -- at most 100,000 units make something, as many as there may be
   few : length shares ≤ most_units
   few = omega (arith, few_given produce_pots w c (produce_gives_to_wants w c) os, steady.numbers.few_units)
 
@@ -326,7 +299,6 @@ module _ (w : WorldValue) (c : CampaignValue) (world : IsWorld w) (steady : IsSt
   little : IsBoundWithin (moved_times (length shares) (produce_moves holding_limit)) (produce_moves most_moved)
   little e t = steps_within_produce (length shares) holding_limit most_moved (omega (arith, few)) e t
 
-  -- all shares of PRODUCE can be made in turn, in a steady campaign whose books have room for the phase
   pub can_share_out : HaveRoom (produce_moves most_moved) c → CanInTurn (CanProduce named w) (after_production named w) c shares
   can_share_out room =
       produce_in_turn named w c shares (entries_rise (given_by produce_pots w c os)) steady (room_less (moved_times (length shares) (produce_moves holding_limit)) (produce_moves most_moved) c little room)

@@ -42,7 +42,6 @@ use Rattle.atl_market.proofs.PotLaws.{pots_give}
 use Rattle.atl_market.proofs.WantLaws.{few_given, given_is_wanted}
 use Rattle.atl_market.specs.Payable.{CanRecruit}
 
--- the peasants of a region, from which its pot is drawn
 abbrev peasants_of : Region → ℕ
 peasants_of q = q.peasants
 
@@ -61,11 +60,9 @@ abbrev pub with_recruits_booked : CampaignValue → ℕ → Unit → Region → 
 with_recruits_booked c n u q recruits cost = with_booking (region_changed (with_fewer_peasants q recruits) (with_recruits_joined c n u recruits cost) u.region) Recruiting Money (neg_ℤ (pos cost))
 
 module _ (w : WorldValue) (c : CampaignValue) (n : ℕ) (u : Unit) (q : Region) (recruits cost : ℕ) (is : get c.units n ≡ Some u) (around : get c.regions u.region ≡ Some q) where
-  -- the campaign after `recruits` peasants of the unit's region joined unit `n` for `cost`
   abbrev after : CampaignValue
   after = with_recruits_booked c n u q recruits cost
 
-  -- what unit `n` holds after the recruits joined it and their cost was paid
   abbrev more : HoldingValue
   more = with_paid_recruits u.holding recruits cost
 
@@ -77,12 +74,10 @@ module _ (w : WorldValue) (c : CampaignValue) (n : ℕ) (u : Unit) (q : Region) 
   abbrev left : CampaignValue
   left = region_changed (with_fewer_peasants q recruits) peopled u.region
 
-  -- setting the unit, the peasants and the books, as the code does, makes the campaign after recruiting (`after`)
   recruits_are : with_booking (with_peasants (with_holding c n more) u.region (q.peasants - recruits)) Recruiting Money (neg_ℤ (pos cost)) ≡ after
   recruits_are = ap (λ o. with_booking (with_peasants (with_holding_at c n more o) u.region (q.peasants - recruits)) Recruiting Money (neg_ℤ (pos cost))) is
 
   module _ (fits : u.holding.men + recruits ≤ men_limit) (payable : cost ≤ u.holding.money) (enough : recruits ≤ q.peasants) (early : IsEarly w c) where
-    -- the unit's holding with its recruits keeps all rules of holdings
     may : MayHave w more
     may =
         let old = may_have w c n u is early.steady in
@@ -95,11 +90,9 @@ module _ (w : WorldValue) (c : CampaignValue) (n : ℕ) (u : Unit) (q : Region) 
           days = λ s days there. let (some, most) = old.days s days there in (some, omega (arith, most));
         }
 
-    -- unit and region together have the people that they had, and the money that the unit pays is booked
     together : KeepsTogether u q (with_fewer_peasants q recruits) more (neg_ℤ (pos cost))
     together = record { money = omega (arith, ints, payable); people = omega (arith, enough); items = λ i. refl }
 
-    -- recruiting keeps the campaign early and its books balanced, and books only the cost of the recruits
     recruits_leave_well : LeavesWell IsEarly (recruit_moves holding_limit) w c after
     recruits_leave_well =
         let within = early.steady.numbers.regions u.region q around in
@@ -110,7 +103,6 @@ module _ (w : WorldValue) (c : CampaignValue) (n : ℕ) (u : Unit) (q : Region) 
 -- ---- one step
 
 module _ (w : WorldValue) (c : CampaignValue) (e : ℕ × ℕ) where
-  -- what the recruits of the share `e` cost together
   abbrev price : ℕ
   price = e.1 * w.rules.recruit_price
 
@@ -120,27 +112,21 @@ module _ (w : WorldValue) (c : CampaignValue) (e : ℕ × ℕ) where
   unfolding after_recruiting
   recruited_is u q is around = unit_there c e.0 _ u is ∙ region_there c u.region _ q around ∙ recruits_are w c e.0 u q e.1 price is around
 
-  -- recruiting by a unit that can recruit moves the unit's share of peasants into the unit, and takes and books their
-  -- price (`with_recruits_booked`)
   made_is : (can : CanRecruit w c e) → after_recruiting w c e ≡ with_recruits_booked c e.0 can.at.unit can.at.region e.1 price
   made_is can = recruited_is can.at.unit can.at.region can.at.there can.at.around
 
-  -- recruiting by a unit that can recruit keeps the campaign early and its books balanced, and books only what it pays
   pub recruited_well : CanRecruit w c e → LeavesWell IsEarly (recruit_moves holding_limit) w c (after_recruiting w c e)
   recruited_well can =
       subst (λ d. LeavesWell IsEarly (recruit_moves holding_limit) w c d) (sym (made_is can))
       (recruits_leave_well w c e.0 can.at.unit can.at.region e.1 price can.at.there can.at.around can.fits can.payable can.enough can.early)
 
-  -- recruiting by a unit that can recruit takes its recruits out of its region's peasants, and out of no other region's
   recruited_drains : (can : CanRecruit w c e) (units : FinMap nat_cmp Unit) → get units e.0 ≡ Some can.at.unit → Drains (region_pots units peasants_of) c e (after_recruiting w c e)
   recruited_drains can units there =
       one_drains units peasants_of c e can.at.unit can.at.region there can.at.around (after_recruiting w c e) (with_fewer_peasants can.at.region e.1) (ap (λ (d : CampaignValue). d.regions) (made_is can)) (less can.at.region.peasants can.enough)
     where
-      -- for `recruited_drains`: the peasants that are left and the recruits are together the peasants from before
       less : (all : ℕ) → e.1 ≤ all → all - e.1 + e.1 ≡ all
       less all enough = omega (arith, enough)
 
-  -- recruiting by a unit leaves the other units as they are
   pub recruited_others : (k : ℕ) → k ≢ e.0 → get (after_recruiting w c e).units k ≡ get c.units k
   unfolding after_recruiting
   recruited_others k apart =
@@ -149,18 +135,15 @@ module _ (w : WorldValue) (c : CampaignValue) (e : ℕ × ℕ) where
       ap (λ o. get (with_holding_at c e.0 (with_paid_recruits u.holding e.1 price) o).units k) is
       ∙ get-insert_other c.units e.0 k (record u { holding = with_paid_recruits u.holding e.1 price }) apart))
 
--- RECRUIT leaves each unit for which its own faction wrote no order of RECRUIT no worse off
 pub recruit_keeps_others : (w : WorldValue) (c : CampaignValue) (os : List Task) → OthersAreNoWorse os c (after_sharing recruit_pots w c os)
 recruit_keeps_others w c os = others_no_worse recruit_pots w (λ items. recruited_others w) c (λ items. pots_give (recruits_at w c) c) os
 
 -- ---- all shares can be given in turn
 
--- the bound on what recruiting by one unit books
 abbrev step_moves : BookBound
 step_moves = recruit_moves holding_limit
 
 module _ (w : WorldValue) (c : CampaignValue) where
-  -- the pots of RECRUIT, by region: the peasants of each region
   abbrev pots : DrawnPots ℕ
   pots = region_pots c.units peasants_of
 
@@ -168,17 +151,12 @@ module _ (w : WorldValue) (c : CampaignValue) where
   abbrev CanHave : ℕ × ℕ → Type 0
   CanHave e = (u : Unit) × (get c.units e.0 ≡ Some u) × (u.holding.men + e.1 ≤ men_limit) × (e.1 * w.rules.recruit_price ≤ u.holding.money)
 
-  -- in a campaign the listed units can have their shares of RECRUIT, and the regions have peasants enough
-  -- (`SharesArePayable`)
   abbrev AreToJoin : CampaignValue → List (ℕ × ℕ) → Type 0
   AreToJoin = SharesArePayable pots CanHave w c
 
-  -- the books of a campaign have room for the price of all listed shares (unit, share) of RECRUIT
   abbrev CanBook : CampaignValue → List (ℕ × ℕ) → Type 0
   CanBook d es = HaveRoom (moved_times (length es) step_moves) d
 
-  -- if units and regions allow the shares still to come (`AreToJoin`), and the books have room for them, the first
-  -- share can be given
   first_can : (d : CampaignValue) (e : ℕ × ℕ) (es : List (ℕ × ℕ)) → AreToJoin d (e ∷ es) → CanBook d (e ∷ es) → CanRecruit w d e
   first_can d e es ready room =
       let (u, there, fits, payable) = ready.fits.0 in
@@ -187,8 +165,6 @@ module _ (w : WorldValue) (c : CampaignValue) where
       let draws = one_draws c.units peasants_of d e u q there around es ready.enough in
       record { at = record { unit = u; there = now; region = q; around = around }; fits = fits; payable = payable; enough = draws; early = ready.early; room = first_room step_moves d e es room }
 
-  -- if units and regions allow the shares still to come (`AreToJoin`), and the books have room for them, they can be
-  -- given in turn
   all_can : (d : CampaignValue) (es : List (ℕ × ℕ)) → AreToJoin d es → CanBook d es → CanInTurn (CanRecruit w) (after_recruiting w) d es
   all_can d [] ready room = tt
   all_can d (e ∷ es) ready room =
@@ -201,37 +177,30 @@ module _ (w : WorldValue) (c : CampaignValue) where
       )
 
   module _ (early : IsEarly w c) (os : List Task) (room : HaveRoom (recruit_moves most_moved) c) where
-    -- the numbers of the units that get recruits, with their shares, sorted by unit
     abbrev shares : List (ℕ × ℕ)
     shares = entries (given_by recruit_pots w c os)
 
-    -- a unit with `men` men has room for a share of at most its want: the least of `count`, `payable` and its room
     wanted_fits : (count payable men share : ℕ) → men ≤ men_limit → share ≤ min count (min payable (men_limit - men)) → men + share ≤ men_limit
     wanted_fits count payable men share fits low = omega (arith, fits, low)
 
-    -- a unit with this money can pay for a share of at most its want: the least of `count`, what it can pay, and `most`
     wanted_payable : (count money price most share : ℕ) → share ≤ min count (min (money / price) most) → share * price ≤ money
     wanted_payable count money price most share low =
         let few : share ≤ money / price = omega (arith, low) in
         omega (arith, mul-le-mul_right price few, mul-div-le money price, mul_comm (money / price) price)
 
-    -- each unit that gets recruits is there, has room for them, and can pay for them
     each_fits : Every (λ n share. CanHave (n, share)) (given_by recruit_pots w c os)
     each_fits n share is =
         let (u, o, there, own, low) = given_is_wanted recruit_pots w c (λ items. pots_give (recruits_at w c) c) os n share is in
         (u, there, wanted_fits _ _ u.holding.men share (early.steady.numbers.units n u there).1.men low, wanted_payable _ u.holding.money w.rules.recruit_price _ share low)
 
-    -- for `all_enough`: a region's peasants divided by a number, rounded down, are at most all its peasants
     part : (all one : ℕ) → all / one ≤ all
     part all one = div-le_self all one
 
-    -- each region has peasants enough for all its recruits
     all_enough : HaveEnough pots c shares
     all_enough r q around =
         let few : drawn (draws_region c.units r) shares ≤ q.peasants / w.rules.recruit_fraction = subst (λ pot. drawn (draws_region c.units r) shares ≤ pot) (ap (λ o. option_map_or (λ (x : Region). x.peasants / w.rules.recruit_fraction) o 0) around) (pot_is_enough _ _ c r (q, around)) in
         omega (arith, few, part q.peasants w.rules.recruit_fraction)
 
-    -- at most 100,000 units get recruits, as many as there may be
     few : length shares ≤ most_units
     few = omega (arith, few_given recruit_pots w c (λ items. pots_give (recruits_at w c) c) os, early.steady.numbers.few_units)
 
@@ -239,7 +208,6 @@ module _ (w : WorldValue) (c : CampaignValue) where
     little : (e : BooksEntry) (t : Thing) → moved_times (length shares) step_moves e t ≤ recruit_moves most_moved e t
     little e t = few_holdings (length shares) few Recruiting Money e t
 
-    -- all shares of RECRUIT can be given in turn, in an early campaign whose books have room for the phase
     pub can_share_out : CanInTurn (CanRecruit w) (after_recruiting w) c shares
     can_share_out = all_can c shares (record {
       early = early;

@@ -23,7 +23,7 @@ use Rattle.atl_phase.specs.Month.{Aliases, MonthValue}
 use Rattle.atl_phase.specs.PhaseOrders.{IsInMailing, Task, is_month_long, key_of, order_counts, orders_by_unit, orders_of, tasks_of}
 use Rattle.atl_phase.specs.Reports.{is_from, report_for, report_of}
 use Rattle.atl_phase.proofs.EventLaws.{Fits, Gives, TakesThose, all_orders, gives_by_orders, one_reported, report_if, report_in_phase, reports_after, reports_at, reports_made, reports_of_orders}
-use Rattle.atl_phase.proofs.PickedLaws.{values-passing}
+use Rattle.atl_phase.proofs.PickedLaws.{sorted-passing}
 use Rattle.atl_phase.proofs.ReportLaws.{alone, in_turn, is_at, line_of_order, one_in_phase, second_false}
 use Rattle.atl_market.specs.Build.{build_effect, build_spec, build_step, is_building}
 use Rattle.atl_market.specs.PotPhase.{PotMeaning, events_by, given_by, outcome_of, pots_by_orders, unit_for}
@@ -120,7 +120,7 @@ module _ (c : CampaignValue) (aliases : Aliases) (faction line : ℕ) (low : 0 <
   unfolding work_orders
   work_left m =
       let ts = orders_by_unit is_month_long m in
-      sym (values-passing ByUnit at (written_work ts ++ idle_work c ts) (subst (IsDistinct have_same_key) (all_are c ts) (work_apart c ts (month_long_keys_differ m))))
+      sym (sorted-passing ByUnit at (written_work ts ++ idle_work c ts) (subst (IsDistinct have_same_key) (all_are c ts) (work_apart c ts (month_long_keys_differ m))))
       ∙ ap (λ us. values (from_entries {R = slice_cmp nat_cmp} (map (λ u. (key_of ByUnit u, u)) us)))
       (filter-append at (written_work ts) (idle_work c ts) ∙ ap₂ (λ us vs. us ++ vs) (in_turn (λ u. is_work u.order_value.verb) at ts) (none_idle (filter (is_idle ts) (entries c.units))) ∙ append-nil _)
 
@@ -137,7 +137,7 @@ work_gives = record {
       ∙ ap (λ rs. reports_at t.faction t.line m ++ filter (is_from t.faction t.line) rs) (reports_made (λ u. outcome_of work_pots w c (given_by work_pots w c ts) u (unit_for work_pots w c u)) ts)
       ∙ ap (λ rs. reports_at t.faction t.line m ++ rs) (reports_of_orders aliases t.faction t.line ts
       ∙ ap (map report_for) (work_left c aliases t.faction t.line (line_of_order w aliases readings fit t there) m
-      ∙ ap₂ (λ x y. sorted (filter passing (filter (is_at aliases t.faction t.line) (values (orders_of is_month_long ByUnit x y))))) ea er
+      ∙ ap₂ (λ x y. sorted (filter passing (filter (is_at aliases t.faction t.line) (orders_of is_month_long ByUnit x y)))) ea er
       ∙ ap (λ us. sorted (filter passing us)) (one_in_phase w aliases readings fit t there is_month_long ByUnit)
       ∙ ap sorted (passing_one t month_long) ∙ alone t ByUnit (is_work t.order_value.verb && month_long))
       ∙ one_reported t (is_work t.order_value.verb && month_long));

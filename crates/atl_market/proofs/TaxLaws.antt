@@ -40,7 +40,6 @@ use Rattle.atl_market.proofs.PotLaws.{pots_give}
 use Rattle.atl_market.proofs.WantLaws.{given_is_wanted}
 use Rattle.atl_market.specs.Payable.{CanTax}
 
--- the money of a region, which is its pot
 abbrev money_of : Region → ℕ
 money_of q = q.money
 
@@ -55,24 +54,19 @@ abbrev pub after_share_taken : CampaignValue → ℕ → Unit → Region → ℕ
 after_share_taken c n u q share = region_changed (with_share_taken q share) (richer c n u share) u.region
 
 module _ (w : WorldValue) (c : CampaignValue) (n : ℕ) (u : Unit) (q : Region) (share : ℕ) (is : get c.units n ≡ Some u) (around : get c.regions u.region ≡ Some q) where
-  -- the campaign after the unit took its share
   abbrev after : CampaignValue
   after = after_share_taken c n u q share
 
-  -- setting the money of the unit and of its region makes the campaign after the unit took its share (`after`)
   pub tax_is : with_region_money (with_money c n (u.holding.money + share)) u.region (q.money - share) ≡ after
   tax_is = ap (λ d. with_region_money d u.region (q.money - share)) (richer_is c n u share is)
 
   module _ (enough : share ≤ q.money) where
-    -- the total of each thing is the same after the unit took its share as before, given what each of the steps changes
     same_total : (t : Thing) → total after t + region_amount t q ≡ total (richer c n u share) t + region_amount t (with_share_taken q share q)
         → total (richer c n u share) t + unit_amount t u.holding ≡ total c t + unit_amount t (paid c n u share) → total after t ≡ total c t
     same_total Money a b = omega (arith, a, b, enough)
     same_total People a b = omega (arith, a, b)
     same_total (Item i) a b = same (total after (Item i)) (total (richer c n u share) (Item i)) (total c (Item i)) (amount_of q.stocks i) (amount_of u.holding.items i) a b
       where
-        -- for `same_total`: the total of an item stays the same (`x` is `z`), as the region has as much of it as before
-        -- (`j`), and so has the unit (`k`)
         same : (x y z j k : ℕ) → x + j ≡ y + j → y + k ≡ z + k → x ≡ z
         same x y z j k a b = omega (arith, a, b)
 
@@ -95,32 +89,26 @@ module _ (w : WorldValue) (c : CampaignValue) (n : ℕ) (u : Unit) (q : Region) 
 -- ---- one step
 
 module _ (w : WorldValue) (c : CampaignValue) (e : ℕ × ℕ) where
-  -- the tax of a unit that is there, in a region that is there, moves the share of money from the region to the unit
   pub taxed_is : (u : Unit) (q : Region) → get c.units e.0 ≡ Some u → get c.regions u.region ≡ Some q → after_tax c e ≡ after_share_taken c e.0 u q e.1
   unfolding after_tax
   taxed_is u q is around = unit_there c e.0 _ u is ∙ region_there c u.region _ q around ∙ tax_is w c e.0 u q e.1 is around
 
-  -- the tax of a unit that can take it keeps the campaign early and its books balanced, and books nothing
   pub taxed_well : CanTax w c e → LeavesWell IsEarly moves_nothing w c (after_tax c e)
   taxed_well can =
       subst (λ d. LeavesWell IsEarly moves_nothing w c d) (sym (taxed_is can.at.unit can.at.region can.at.there can.at.around))
       (tax_leaves_well w c e.0 can.at.unit can.at.region e.1 can.at.there can.at.around can.enough can.fits can.early)
 
-  -- the tax of a unit that can take it leaves the other units as they are
   taxed_others : CanTax w c e → (k : ℕ) → k ≢ e.0 → get (after_tax c e).units k ≡ get c.units k
   taxed_others can k apart = ap (λ (d : CampaignValue). get d.units k) (taxed_is can.at.unit can.at.region can.at.there can.at.around) ∙ others_stay c e.0 can.at.unit e.1 can.at.there k apart
 
-  -- the tax of a unit that can take it takes its share out of its region's money, and out of no other region's
   taxed_drains : (can : CanTax w c e) (units : FinMap nat_cmp Unit) → get units e.0 ≡ Some can.at.unit → Drains (region_pots units money_of) c e (after_tax c e)
   taxed_drains can units there =
       one_drains units money_of c e can.at.unit can.at.region there can.at.around (after_tax c e) (with_share_taken can.at.region e.1)
       (ap (λ (d : CampaignValue). d.regions) (taxed_is can.at.unit can.at.region can.at.there can.at.around)) (less can.at.region.money can.enough)
     where
-      -- for `taxed_drains`: the money that is left and the share are together the money from before
       less : (all : ℕ) → e.1 ≤ all → all - e.1 + e.1 ≡ all
       less all enough = omega (arith, enough)
 
-  -- the tax of one unit leaves no unit worse off
   taxed_no_worse : AreNoWorse c (after_tax c e)
   unfolding after_tax
   taxed_no_worse =
@@ -129,12 +117,10 @@ module _ (w : WorldValue) (c : CampaignValue) (e : ℕ × ℕ) where
       subst (λ (d : CampaignValue). AreNoWorse c (with_region_money d u.region (q.money - e.1))) (sym (richer_is c e.0 u e.1 is))
       (λ k v there. richer_no_worse c e.0 u e.1 is k v there)))
 
--- the tax of several units in turn leaves no unit worse off
 each_no_worse : (w : WorldValue) (c : CampaignValue) (es : List (ℕ × ℕ)) → AreNoWorse c (fold after_tax c es)
 each_no_worse w c [] = are_no_worse c
 each_no_worse w c (e ∷ es) = are_no_worse_twice c (after_tax c e) (fold after_tax (after_tax c e) es) (taxed_no_worse w c e) (each_no_worse w (after_tax c e) es)
 
--- TAX leaves no unit worse off
 pub tax_keeps_units : (w : WorldValue) (c : CampaignValue) (os : List Task) → AreNoWorse c (after_sharing tax_pots w c os)
 unfolding after_sharing
 tax_keeps_units w c os = each_no_worse w c (entries (given_by tax_pots w c os))
@@ -142,21 +128,15 @@ tax_keeps_units w c os = each_no_worse w c (entries (given_by tax_pots w c os))
 -- ---- all shares can be paid in turn
 
 module _ (w : WorldValue) (c : CampaignValue) where
-  -- the pots of TAX, by region: the money of each region
   abbrev pots : DrawnPots ℕ
   pots = region_pots c.units money_of
 
-  -- the unit of a pair (unit, share) is in the campaign, and has room for its share of money
   abbrev HasRoomFor : ℕ × ℕ → Type 0
   HasRoomFor e = (u : Unit) × (get c.units e.0 ≡ Some u) × (u.holding.money + e.1 ≤ holding_limit)
 
-  -- in a campaign the listed units have room for their shares of TAX, and the regions have money enough
-  -- (`SharesArePayable`)
   abbrev AreTaken : CampaignValue → List (ℕ × ℕ) → Type 0
   AreTaken = SharesArePayable pots HasRoomFor w c
 
-  -- if units and regions allow the shares still to come (`AreTaken`), the unit of the first share can take it
-  -- (`CanTax`)
   first_can : (d : CampaignValue) (e : ℕ × ℕ) (es : List (ℕ × ℕ)) → AreTaken d (e ∷ es) → CanTax w d e
   first_can d e es ready =
       let (u, there, fits) = ready.fits.0 in
@@ -165,7 +145,6 @@ module _ (w : WorldValue) (c : CampaignValue) where
       let draws = one_draws c.units money_of d e u q there around es ready.enough in
       record { at = record { unit = u; there = now; region = q; around = around }; fits = fits; enough = draws; early = ready.early }
 
-  -- if units and regions allow the shares still to come (`AreTaken`), they can be paid in turn, from campaign `d` on
   all_can : (d : CampaignValue) (es : List (ℕ × ℕ)) → AreTaken d es → CanInTurn (CanTax w) after_tax d es
   all_can d [] ready = tt
   all_can d (e ∷ es) ready =
@@ -176,25 +155,20 @@ module _ (w : WorldValue) (c : CampaignValue) where
       )
 
   module _ (early : IsEarly w c) (os : List Task) where
-    -- the numbers of the units that get tax, with their shares, sorted by unit
     abbrev shares : List (ℕ × ℕ)
     shares = entries (given_by tax_pots w c os)
 
-    -- a unit has room for a share of at most its want: the lesser of what its men take (`men`) and its room
     wanted_fits : (money men share : ℕ) → money ≤ holding_limit → share ≤ min men (holding_limit - money) → money + share ≤ holding_limit
     wanted_fits money men share fits low = omega (arith, fits, low)
 
-    -- each unit that gets tax is there and has room for its share
     each_fits : Every (λ n share. HasRoomFor (n, share)) (given_by tax_pots w c os)
     each_fits n share is =
         let (u, o, there, own, low) = given_is_wanted tax_pots w c (λ items. pots_give (money_at c) c) os n share is in
         (u, there, wanted_fits u.holding.money _ share (early.steady.numbers.units n u there).1.money low)
 
-    -- each region has money enough for the shares of all its units
     all_enough : HaveEnough pots c shares
     all_enough r q around = subst (λ pot. drawn (draws_region c.units r) shares ≤ pot) (ap (λ o. option_map_or money_of o 0) around) (pot_is_enough _ _ c r (q, around))
 
-    -- all shares of TAX can be paid in turn, in an early campaign
     pub can_share_out : CanInTurn (CanTax w) after_tax c shares
     can_share_out = all_can c shares (record {
       early = early;

@@ -12,26 +12,19 @@ use Rattle.atl_phase.specs.There.{at_region, at_unit}
 pub by_option : {A B : Type 0} (P : B → Type 0) (f : A → B) (o : Option A) (otherwise : B) → P otherwise → ((x : A) → o ≡ Some x → P (f x)) → P (option_map_or f o otherwise)
 by_option {A} P f o otherwise without with = by_case o refl
   where
-    -- for `by_option`: `P` holds of what `option_map_or` gives, whether the option is None or Some
     by_case : (p : Option A) → o ≡ p → P (option_map_or f p otherwise)
     by_case None is = without
     by_case (Some x) is = with x is
 
 module _ (c : CampaignValue) (n : ℕ) where
-  -- if unit `n` is in the campaign, `at_unit` gives what `change` makes of the unit
   pub unit_there : (change : Unit → CampaignValue) (u : Unit) → get c.units n ≡ Some u → at_unit c n change ≡ change u
   unit_there change u is = ap (λ o. option_map_or change o c) is
 
-  -- `P` holds of what `at_unit` gives, if it holds of the campaign, and of what `change` makes of unit `n`, if the unit
-  -- is there
   pub by_unit : (P : CampaignValue → Type 0) (change : Unit → CampaignValue) → P c → ((u : Unit) → get c.units n ≡ Some u → P (change u)) → P (at_unit c n change)
   by_unit P change without with = by_option P change (get c.units n) c without with
 
-  -- if region `n` is in the campaign, `at_region` gives what `change` makes of the region
   pub region_there : (change : Region → CampaignValue) (q : Region) → get c.regions n ≡ Some q → at_region c n change ≡ change q
   region_there change q is = ap (λ o. option_map_or change o c) is
 
-  -- `P` holds of what `at_region` gives, if it holds of the campaign, and of what `change` makes of region `n`, if the
-  -- region is there
   pub by_region : (P : CampaignValue → Type 0) (change : Region → CampaignValue) → P c → ((q : Region) → get c.regions n ≡ Some q → P (change q)) → P (at_region c n change)
   by_region P change without with = by_option P change (get c.regions n) c without with

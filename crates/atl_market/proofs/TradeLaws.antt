@@ -47,7 +47,7 @@ use Rattle.atl_phase.proofs.ChangeLaws.{changed_held}
 use Rattle.atl_phase.proofs.MarkLaws.{marks_by}
 use Rattle.atl_phase.proofs.MeaningLaws.{room_less, well_unchanged, well_within}
 use Rattle.atl_market.specs.AtOnce.{is_in_region}
-use Rattle.atl_market.specs.ItemPots.{asks_for_item, wants_for}
+use Rattle.atl_market.specs.ItemPots.{asks_for_item, share_for, wants_for}
 use Rattle.atl_market.specs.PotPhase.{after_sharing, count_in, given_by, item_in, items_by, wants_by}
 use Rattle.atl_market.specs.Bounds.{CanInTurn}
 use Rattle.atl_market.specs.Trade.{after_trade, limit_of, market_for, market_pot, trade_entry, trade_fault, trade_moves, trade_pot, trade_pots, trade_result_of, trade_want, with_trade_booked, with_trade_result}
@@ -58,7 +58,7 @@ use Rattle.atl_market.specs.declared.trade.Trade.{Trade}
 use Rattle.atl_market.specs.declared.trade.Trade.TheVariants.{Sell, Buy}
 use Rattle.atl_market.proofs.DrawLaws.{SharesArePayable, Drains, DrawnPots, HaveEnough, all_pairs, drawn, first_draws, nothing_drains, ready_after, region_drains, shares_are_enough, untouched}
 use Rattle.atl_market.proofs.ExchangeLaws.{KeepsTogether, exchange_well}
-use Rattle.atl_market.proofs.ItemPotLaws.{items_give, share_for, shares_at}
+use Rattle.atl_market.proofs.ItemPotLaws.{items_give, shares_at}
 use Rattle.atl_market.proofs.UnorderedLaws.{others_no_worse}
 use Rattle.atl_market.proofs.ProduceLaws.{only_room}
 use Rattle.atl_market.proofs.ThereLaws.{by_option, by_unit, unit_there}
@@ -69,17 +69,11 @@ use Rattle.atl_market.proofs.WantLaws.{GivesToWants, few_given, given_is_named}
 
 -- the result of a trade is within all limits, leaves unit and stock together as much of the item, and books the money
 pub record ResultFits (w : WorldValue) (u : Unit) (i before : ℕ) (d : TradeResult) : Type 0 where
-  -- the trade leaves the unit at most 999,999,999 money
   pub money : d.money ≤ holding_limit
-  -- the trade leaves the unit at most 999,999,999 of the item
   pub amount : d.amount ≤ holding_limit
-  -- the stock that the trade leaves is at most the limit of the region's market, 999,999,999 where there is none
   pub stock : d.stock ≤ stock_limit w u.region i
-  -- unit and stock together have as much of the item as before; `before` is the stock before the trade
   pub goods : d.amount + d.stock ≡ amount_of u.holding.items i + before
-  -- the unit's money after the trade is what it was plus what is booked
   pub paid : pos d.money ≡ pos u.holding.money +ℤ d.booked
-  -- the money to book, whether gained or paid, is at most 999,999,999
   pub small : IsWithin holding_limit d.booked
 
 -- a campaign in which unit `n` has the money and the amount of an item that a trade leaves
@@ -91,11 +85,9 @@ abbrev pub after_deal : CampaignValue → ℕ → Unit → ℕ → BooksEntry �
 after_deal c n u i entry d = with_booking (region_changed (λ r. restocked r i d.stock) (with_trader_set c n u i d) u.region) entry Money d.booked
 
 module _ (w : WorldValue) (c : CampaignValue) (n : ℕ) (u : Unit) (q : Region) (i : ℕ) (entry : BooksEntry) (d : TradeResult) (is : get c.units n ≡ Some u) (around : get c.regions u.region ≡ Some q) where
-  -- the campaign after unit `n` traded with the result `d`
   abbrev after : CampaignValue
   after = after_deal c n u i entry d
 
-  -- what unit `n` holds after the trade
   abbrev more : HoldingValue
   more = with_trade_result u.holding i d
 
@@ -107,13 +99,10 @@ module _ (w : WorldValue) (c : CampaignValue) (n : ℕ) (u : Unit) (q : Region) 
   abbrev left : CampaignValue
   left = region_changed (λ r. restocked r i d.stock) paid u.region
 
-  -- setting unit `n`, which is there, its region's stock and the books to the result of the trade gives the campaign
-  -- `after`
   pub deal_is : with_trade_booked c n u i entry d ≡ after
   deal_is = ap (λ o. with_booking (with_stock (with_holding_at c n more o) u.region i d.stock) entry Money d.booked) is
 
   module _ (fits : ResultFits w u i (amount_of q.stocks i) d) (known : i < length w.items) (market : IsSome (market_of w u.region i)) (early : IsEarly w c) where
-    -- what the unit holds after the trade keeps all rules of holdings
     may : MayHave w more
     may =
         let old = may_have w c n u is early.steady in
@@ -125,17 +114,14 @@ module _ (w : WorldValue) (c : CampaignValue) (n : ℕ) (u : Unit) (q : Region) 
           days = old.days;
         }
 
-    -- unit and region together have the goods that they had, and the money that the unit gains or pays is booked
     together : KeepsTogether u q (λ r. restocked r i d.stock) more d.booked
     together = record { money = omega (arith, ints, fits.paid); people = refl; items = items }
       where
-        -- unit and region together have what they had of item `j`, whether `j` is the item that is traded or not
         by_test : (j : ℕ) (b : Bool) → eq_by_cmp nat_cmp j i ≡ b
             → cond b d.amount (amount_of u.holding.items j) + cond b d.stock (amount_of q.stocks j) ≡ amount_of u.holding.items j + amount_of q.stocks j
         by_test j true is_i = fits.goods ∙ ap (λ k. amount_of u.holding.items k + amount_of q.stocks k) (sym (compared_equal_is_equal i j is_i))
         by_test j false is_other = refl
 
-        -- unit and region together have as much of each item after the trade as before it
         items : (j : ℕ) → amount_of more.items j + amount_of (restocked q i d.stock).stocks j ≡ amount_of u.holding.items j + amount_of q.stocks j
         items j =
             ap (λ k. k + amount_of (restocked q i d.stock).stocks j) (amount_after_setting u.holding.items i d.amount j)
@@ -151,20 +137,14 @@ module _ (w : WorldValue) (c : CampaignValue) (n : ℕ) (u : Unit) (q : Region) 
 
 -- a market of unit `u`'s region that trades the item which an order names
 pub record IsMarketFor (w : WorldValue) (u : Unit) (item : Option ℕ) (m : Market) : Type 0 where
-  -- the order names the item of the market
   pub named_item : item ≡ Some m.item
-  -- the market is the one of the unit's region for its item
   pub there : market_of w u.region m.item ≡ Some m
-  -- the market keeps the rules of markets, and its item is one of the world's items
   pub bounds : IsMarket (length w.items) m.item m
 
--- the market found for a unit's order is of the unit's region and of the order's item, and keeps the rules of markets
 pub market_is : (w : WorldValue) → IsWorld w → (u : Unit) (item : Option ℕ) (m : Market) → market_for w u item ≡ Some m → IsMarketFor w u item m
 market_is w world u None m is = none_some m is
 market_is w world u (Some i) m is = by_plan (get w.regions u.region) refl is
   where
-    -- the market for item `i` that the world has in the unit's region `o` is the market of that region and item
-    -- (`IsMarketFor`)
     by_plan : (o : Option RegionPlan) → get w.regions u.region ≡ o → option_and_then (λ (p : RegionPlan). get p.markets i) o ≡ Some m → IsMarketFor w u (Some i) m
     by_plan None at found = none_some m found
     by_plan (Some p) at found =
@@ -175,35 +155,27 @@ market_is w world u (Some i) m is = by_plan (get w.regions u.region) refl is
 -- ---- the result of a trade is within all limits
 
 module _ (w : WorldValue) (u : Unit) (m : Market) (stock share : ℕ) (there : market_of w u.region m.item ≡ Some m) (holds : IsHolding u.holding) (low : stock ≤ m.limit) where
-  -- the limit of the stock of the unit's region for the market's item is the market's limit
   limit_is : stock_limit w u.region m.item ≡ m.limit
   limit_is = ap (λ o. option_map_or (λ (x : Market). x.limit) o most_amount) there
 
-  -- for `deal_fits`: an amount within a limit is still within it after `k` is taken off
   less : (a k limit : ℕ) → a ≤ limit → a - k ≤ limit
   less a k limit most = omega (arith, most)
 
-  -- for `deal_fits`: if `k` goes from what the unit has (`a`) to the stock (`s`), their sum stays the same
   gone : (a s k : ℕ) → k ≤ a → a - k + (s + k) ≡ a + s
   gone a s k enough = omega (arith, enough)
 
-  -- for `deal_fits`: if `k` goes from the stock (`s`) to what the unit has (`a`), their sum stays the same
   come : (a s k : ℕ) → k ≤ s → a + k + (s - k) ≡ a + s
   come a s k enough = omega (arith, enough)
 
-  -- for `deal_fits`: the sum of two amounts, as a whole number with sign, is the sum of both
   put_to : (a k : ℕ) → pos (a + k) ≡ pos a +ℤ pos k
   put_to a k = omega (arith, ints)
 
-  -- for `deal_fits`: an amount less a part of it, as a whole number with sign, is the amount minus the part
   taken_off : (a k : ℕ) → k ≤ a → pos (a - k) ≡ pos a +ℤ neg_ℤ (pos k)
   taken_off a k enough = omega (arith, ints, enough)
 
-  -- for `deal_fits`: if a sum is within a limit, so is its part `k`
   part : (a k limit : ℕ) → a + k ≤ limit → k ≤ limit
   part a k limit fits = omega (arith, fits)
 
-  -- for `deal_fits`: an amount that is at most one within a limit is within the limit
   up_to : (a k limit : ℕ) → k ≤ a → a ≤ limit → k ≤ limit
   up_to a k limit few most = omega (arith, few, most)
 
@@ -228,15 +200,12 @@ module _ (w : WorldValue) (u : Unit) (m : Market) (stock share : ℕ) (there : m
 
 -- ---- one step
 
--- where region `r` is in the campaign as `q`, its stock of an item (`stock_of`) is the one that `q` has
 pub stock_is : (c : CampaignValue) (r : ℕ) (q : Region) (i : ℕ) → get c.regions r ≡ Some q → stock_of c r i ≡ amount_of q.stocks i
 stock_is c r q i around = ap (λ o. option_map_or (λ (x : Region). amount_of x.stocks i) o 0) around
 
--- in an early campaign a region's stock of an item is at most the limit for it there (`stock_limit`)
 stock_low : (w : WorldValue) (c : CampaignValue) (r : ℕ) (q : Region) (i : ℕ) → IsEarly w c → get c.regions r ≡ Some q → amount_of q.stocks i ≤ stock_limit w r i
 stock_low w c r q i early around = by_amount (get q.stocks i) refl
   where
-    -- the stock `o` that the region lists of the item, or 0 if it lists none, is at most the limit
     by_amount : (o : Option ℕ) → get q.stocks i ≡ o → unwrap_or o 0 ≤ stock_limit w r i
     by_amount None is = omega arith
     by_amount (Some a) is = ((early.steady.numbers.regions r q around).stocks i a is).1
@@ -249,7 +218,6 @@ draws_item units items k n = is_in_region k.0 (get units n) && asks_for_item k.1
 abbrev pub item_pots : Trade → WorldValue → FinMap nat_cmp Unit → FinMap nat_cmp ℕ → DrawnPots (ℕ × ℕ)
 item_pots trade w units items = record { pot_region = λ k. k.0; draws = draws_item units items; left = λ k q. market_pot trade (limit_of w k.1 k.0) (amount_of q.stocks k.1) }
 
--- after a trade of `share` pieces that the market's pot allows, the pot has `share` less
 pot_less : (trade : Trade) (h : HoldingValue) (limit stock share : ℕ) (m : Market) → limit ≡ m.limit → PotAllowsShare trade stock share (Some m)
     → market_pot trade limit (trade_result_of trade h stock share m).stock + share ≡ market_pot trade limit stock
 pot_less Sell h limit stock share m same pot = omega (arith, same, pot)
@@ -260,28 +228,23 @@ abbrev pub traded_at : Trade → CampaignValue → ℕ × ℕ → Unit → Optio
 traded_at trade c e u o = option_map_or (λ m. with_trade_booked c e.0 u m.item (trade_entry trade) (trade_result_of trade u.holding (stock_of c u.region m.item) e.1 m)) o c
 
 module _ (trade : Trade) (items : FinMap nat_cmp ℕ) (w : WorldValue) (c : CampaignValue) (e : ℕ × ℕ) where
-  -- the trade of a unit that is there is with the market of its region for its order's item, if there is one
   pub traded_is : (u : Unit) → get c.units e.0 ≡ Some u → (o : Option Market) → market_for w u (get items e.0) ≡ o → after_trade trade items w c e ≡ traded_at trade c e u o
   unfolding after_trade
   traded_is u is o at = unit_there c e.0 _ u is ∙ ap (traded_at trade c e u) at
 
   module _ (can : CanTrade trade items w c e) (m : Market) (at : market_for w can.at.unit (get items e.0) ≡ Some m) where
-    -- the result of the unit's trade with the market
     abbrev deal : TradeResult
     deal = trade_result_of trade can.at.unit.holding (amount_of can.at.region.stocks m.item) e.1 m
 
-    -- the market is one of the unit's region, and trades the item of the unit's order
     market : IsMarketFor w can.at.unit (get items e.0) m
     market = market_is w can.world can.at.unit (get items e.0) m at
 
-    -- a unit that can trade and has this market trades with it: unit, stock and books are set to the result
     made_is : after_trade trade items w c e ≡ after_deal c e.0 can.at.unit m.item (trade_entry trade) deal
     made_is =
         traded_is can.at.unit can.at.there (Some m) at
         ∙ ap (λ stock. with_trade_booked c e.0 can.at.unit m.item (trade_entry trade) (trade_result_of trade can.at.unit.holding stock e.1 m)) (stock_is c can.at.unit.region can.at.region m.item can.at.around)
         ∙ deal_is w c e.0 can.at.unit can.at.region m.item (trade_entry trade) deal can.at.there can.at.around
 
-    -- the result of the unit's trade is within all limits
     fits : ResultFits w can.at.unit m.item (amount_of can.at.region.stocks m.item) deal
     fits =
         let u = can.at.unit in
@@ -289,30 +252,25 @@ module _ (trade : Trade) (items : FinMap nat_cmp ℕ) (w : WorldValue) (c : Camp
         let low = subst (λ k. amount_of can.at.region.stocks m.item ≤ k) limit (stock_low w c u.region can.at.region m.item can.early can.at.around) in
         deal_fits w u m (amount_of can.at.region.stocks m.item) e.1 market.there (can.early.steady.numbers.units e.0 u can.at.there).1 low trade (subst (CanAfford trade u.holding e.1) at can.deal) (can.pot m at)
 
-    -- the unit's trade with market `m` keeps the campaign early and its books balanced, within one trade's bound
     made_well : LeavesWell IsEarly (trade_moves trade holding_limit) w c (after_trade trade items w c e)
     made_well =
         subst (λ d. LeavesWell IsEarly (trade_moves trade holding_limit) w c d) (sym made_is)
         (deal_well w c e.0 can.at.unit can.at.region m.item (trade_entry trade) deal can.at.there can.at.around fits market.bounds.item (subst IsSome (sym market.there) refl) can.early)
 
-    -- the unit's trade with market `m` takes the share out of the pot of its region and item, and out of no other
     made_drains : (units : FinMap nat_cmp Unit) → get units e.0 ≡ Some can.at.unit → Drains (item_pots trade w units items) c e (after_trade trade items w c e)
     made_drains units there =
         region_drains (item_pots trade w units items) c e (after_trade trade items w c e) can.at.unit.region can.at.region can.at.around (λ r. restocked r m.item deal.stock) (ap (λ (d : CampaignValue). d.regions) made_is)
         (λ k same. here k same (eq_by_cmp nat_cmp k.1 m.item) refl)
         (λ k apart. ap (λ b. b && asks_for_item k.1 (get items e.0)) (ap (is_in_region k.0) there ∙ other_number can.at.unit.region k.0 (λ is. apart (sym is))))
       where
-        -- for `made_drains`: a number plus 0 is the number
         no_less : (a : ℕ) → a + 0 ≡ a
         no_less a = omega arith
 
-        -- the unit draws from a pot of its own region exactly if the pot is of the market's item
         draws_market_item : (k : ℕ × ℕ) → k.0 ≡ can.at.unit.region → draws_item units items k e.0 ≡ (m.item == k.1)
         draws_market_item k same =
             ap (λ b. b && asks_for_item k.1 (get items e.0)) (ap (is_in_region k.0) there ∙ ap (λ r. can.at.unit.region == r) same ∙ same_number can.at.unit.region)
             ∙ ap (asks_for_item k.1) market.named_item
 
-        -- a pot of the unit's region has the share less if it is of the market's item, and else stays as it was
         here : (k : ℕ × ℕ) → k.0 ≡ can.at.unit.region → (b : Bool) → eq_by_cmp nat_cmp k.1 m.item ≡ b
             → market_pot trade (limit_of w k.1 k.0) (amount_of (with_amount_of can.at.region.stocks m.item deal.stock) k.1) + cond (draws_item units items k e.0) e.1 0 ≡ market_pot trade (limit_of w k.1 k.0) (amount_of can.at.region.stocks k.1)
         here k same true is =
@@ -333,24 +291,20 @@ module _ (trade : Trade) (items : FinMap nat_cmp ℕ) (w : WorldValue) (c : Camp
   pub traded_well : CanTrade trade items w c e → LeavesWell IsEarly (trade_moves trade holding_limit) w c (after_trade trade items w c e)
   traded_well can = by_market (market_for w can.at.unit (get items e.0)) refl
     where
-      -- the trade keeps the campaign early and its books balanced, whether there is a market `o` or not
       by_market : (o : Option Market) → market_for w can.at.unit (get items e.0) ≡ o → LeavesWell IsEarly (trade_moves trade holding_limit) w c (after_trade trade items w c e)
       by_market None at =
           subst (λ d. LeavesWell IsEarly (trade_moves trade holding_limit) w c d) (sym (traded_is can.at.unit can.at.there None at))
           (well_unchanged (trade_moves trade holding_limit) w c can.early)
       by_market (Some m) at = made_well can m at
 
-  -- the trade of a unit that can trade takes the share out of the pot of its region and item, and out of no other
   traded_drains : (can : CanTrade trade items w c e) (units : FinMap nat_cmp Unit) → get units e.0 ≡ Some can.at.unit → Drains (item_pots trade w units items) c e (after_trade trade items w c e)
   traded_drains can units there = by_market (market_for w can.at.unit (get items e.0)) refl
     where
-      -- the trade takes the share out of the pot of its region and item alone, whether there is a market `o` or not
       by_market : (o : Option Market) → market_for w can.at.unit (get items e.0) ≡ o → Drains (item_pots trade w units items) c e (after_trade trade items w c e)
       by_market None at =
           nothing_drains (item_pots trade w units items) c e (after_trade trade items w c e) (ap (λ (d : CampaignValue). d.regions) (traded_is can.at.unit can.at.there None at)) (subst (CanAfford trade can.at.unit.holding e.1) at can.deal)
       by_market (Some m) at = made_drains can m at units there
 
-  -- the trade of a unit leaves the other units as they are
   pub traded_others : (k : ℕ) → k ≢ e.0 → get (after_trade trade items w c e).units k ≡ get c.units k
   unfolding after_trade
   traded_others k apart =
@@ -361,29 +315,23 @@ module _ (trade : Trade) (items : FinMap nat_cmp ℕ) (w : WorldValue) (c : Camp
 
 -- ---- who gets something
 
--- SELL and BUY give only to units with a want, and to none more than it wants
 pub trades_give : (trade : Trade) (w : WorldValue) (c : CampaignValue) → GivesToWants (trade_pots trade) w c
 trades_give trade w c items wants n share is = items_give (get items) (trade_pot trade w c) wants c n share (sym (shares_at (get items) (trade_pot trade w c) wants c n) ∙ is)
 
--- SELL and BUY leave each unit for which its own faction wrote no order of the phase no worse off
 pub trade_keeps_others : (trade : Trade) (w : WorldValue) (c : CampaignValue) (os : List Task) → OthersAreNoWorse os c (after_sharing (trade_pots trade) w c os)
 trade_keeps_others trade w c os = others_no_worse (trade_pots trade) w (λ items. traded_others trade items w) c (trades_give trade w c) os
 
 -- what a unit wants to trade it can afford, if its holding is within the limits
 module _ (h : HoldingValue) (m : Market) (says share : ℕ) (holds : IsHolding h) where
-  -- for `wanted_fits`: a share of at most the least of three numbers is at most the second and the third
   few_of : (says a b : ℕ) → share ≤ min says (min a b) → (share ≤ a) × (share ≤ b)
   few_of says a b low = (omega (arith, low), omega (arith, low))
 
-  -- for `wanted_fits`: a share of at most the quotient of money and price costs at most that money
   times : (money price : ℕ) → share ≤ money / price → share * price ≤ money
   times money price few = omega (arith, mul-le-mul_right price few, mul-div-le money price, mul_comm (money / price) price)
 
-  -- for `wanted_fits`: if `k` is at most the room that `a` leaves under a limit, `a` and `k` are within it together
   room_for : (a k limit : ℕ) → a ≤ limit → k ≤ limit - a → a + k ≤ limit
   room_for a k limit fits few = omega (arith, fits, few)
 
-  -- a unit whose holding is within the limits can afford a share of at most its want
   pub wanted_fits : (trade : Trade) → share ≤ trade_want trade h says (Some m) → CanAfford trade h share (Some m)
   wanted_fits Sell low =
       let (few, payable) = few_of says (amount_of h.items m.item) ((holding_limit - h.money) / m.pays) low in
@@ -395,24 +343,18 @@ module _ (h : HoldingValue) (m : Market) (says share : ℕ) (holds : IsHolding h
 -- ---- all shares can be traded in turn
 
 module _ (trade : Trade) (items : FinMap nat_cmp ℕ) (w : WorldValue) (world : IsWorld w) (c : CampaignValue) where
-  -- the bound on what the trade of one unit books
   abbrev step_moves : BookBound
   step_moves = trade_moves trade holding_limit
 
-  -- the pots of SELL or BUY, by region and item
   abbrev pots : DrawnPots (ℕ × ℕ)
   pots = item_pots trade w c.units items
 
-  -- the unit of a pair (unit, share) is in campaign `c`, and can afford the share
   abbrev CanHave : ℕ × ℕ → Type 0
   CanHave e = (u : Unit) × (get c.units e.0 ≡ Some u) × CanAfford trade u.holding e.1 (market_for w u (get items e.0))
 
-  -- in a campaign the listed units can afford their shares of SELL or BUY, and the pots have enough for all
-  -- (`SharesArePayable`)
   abbrev AreToTrade : CampaignValue → List (ℕ × ℕ) → Type 0
   AreToTrade = SharesArePayable pots CanHave w c
 
-  -- the books of a campaign have room for the money of all listed shares (unit, share) of SELL or BUY
   abbrev CanBook : CampaignValue → List (ℕ × ℕ) → Type 0
   CanBook d es = HaveRoom (moved_times (length es) step_moves) d
 
@@ -420,13 +362,10 @@ module _ (trade : Trade) (items : FinMap nat_cmp ℕ) (w : WorldValue) (world : 
   has_pot : (limit stock share : ℕ) (m : Market) → limit ≡ m.limit → stock ≤ m.limit → share ≤ market_pot trade limit stock → PotAllowsShare trade stock share (Some m)
   has_pot limit stock share m same low few = by_trade trade few
     where
-      -- for `has_pot`: if the share is at most the pot, the market has room for it (SELL) or has it in stock (BUY)
       by_trade : (t : Trade) → share ≤ market_pot t limit stock → PotAllowsShare t stock share (Some m)
       by_trade Sell few = omega (arith, same, low, few)
       by_trade Buy few = few
 
-  -- if units and pots allow the shares still to come (`AreToTrade`), and the books have room for them, the first share
-  -- can be traded
   first_can : (d : CampaignValue) (e : ℕ × ℕ) (es : List (ℕ × ℕ)) → AreToTrade d (e ∷ es) → CanBook d (e ∷ es) → CanTrade trade items w d e
   first_can d e es ready room =
       let (u, there, deal) = ready.fits.0 in
@@ -449,8 +388,6 @@ module _ (trade : Trade) (items : FinMap nat_cmp ℕ) (w : WorldValue) (world : 
         room = first_room step_moves d e es room;
       }
 
-  -- if units and pots allow the shares still to come (`AreToTrade`), and the books have room for them, they can be
-  -- traded in turn
   all_can : (d : CampaignValue) (es : List (ℕ × ℕ)) → AreToTrade d es → CanBook d es → CanInTurn (CanTrade trade items w) (after_trade trade items w) d es
   all_can d [] ready room = tt
   all_can d (e ∷ es) ready room =
@@ -463,47 +400,37 @@ module _ (trade : Trade) (items : FinMap nat_cmp ℕ) (w : WorldValue) (world : 
       )
 
 module _ (trade : Trade) (w : WorldValue) (world : IsWorld w) (c : CampaignValue) (early : IsEarly w c) (os : List Task) (room : HaveRoom (trade_moves trade most_moved) c) where
-  -- the item that each unit's order of SELL or BUY names, by unit
   abbrev named : FinMap nat_cmp ℕ
   named = items_by (trade_pots trade) w c os
 
-  -- how many pieces each unit gets to trade in the phase, by unit
   abbrev given : FinMap nat_cmp ℕ
   given = given_by (trade_pots trade) w c os
 
-  -- the units that get to trade in the phase, by number, each with how many pieces, sorted by unit
   abbrev shares : List (ℕ × ℕ)
   shares = entries given
 
-  -- the bound on what the trade of one unit books
   abbrev moves : BookBound
   moves = trade_moves trade holding_limit
 
-  -- the pots of SELL or BUY, by region and item
   abbrev drawn_pots : DrawnPots (ℕ × ℕ)
   drawn_pots = item_pots trade w c.units named
 
-  -- the unit of a pair (unit, share) is in campaign `c`, and can afford to trade the share
   abbrev MayTrade : ℕ × ℕ → Type 0
   MayTrade = CanHave trade named w world c
 
-  -- each unit that gets to trade is there and can afford its share (`MayTrade`)
   each_fits : Every (λ n share. MayTrade (n, share)) given
   each_fits n share is =
       let (u, t, there, own, low, fine, says) = given_is_named (trade_pots trade) w c (trades_give trade w c) os n share is in
       (u, there, by_item u there (count_in t.order_value.operands) (item_in t.order_value.operands) low fine says)
     where
-      -- a unit can afford a share of at most its want, whether there is a market `m` or not
       by_market : (asked : ℕ) (u : Unit) → get c.units n ≡ Some u → (m : Option Market) → share ≤ trade_want trade u.holding asked m → CanAfford trade u.holding share m
       by_market asked u there None low = omega (arith, low)
       by_market asked u there (Some m) low = wanted_fits u.holding m asked share (early.steady.numbers.units n u there).1 trade low
 
-      -- the unit can afford its share of the item `s` that its order names, which is its item in `named`
       by_item : (u : Unit) → get c.units n ≡ Some u → (asked : ℕ) (s : Option ℕ) → share ≤ trade_want trade u.holding asked (market_for w u s) → trade_fault trade u.holding (market_for w u s) ≡ None → ((i : ℕ) → s ≡ Some i → get named n ≡ Some i) → CanAfford trade u.holding share (market_for w u (get named n))
       by_item u there asked None low fine says = none_some NoMarket (sym fine)
       by_item u there asked (Some i) low fine says = subst (λ o. CanAfford trade u.holding share (market_for w u o)) (sym (says i refl)) (by_market asked u there (market_for w u (Some i)) low)
 
-  -- the pot of each region and item is at least as much as all shares that are taken out of it
   all_enough : HaveEnough drawn_pots c shares
   all_enough k q around =
       let wants = wants_by (trade_pots trade) w c os in
@@ -513,12 +440,10 @@ module _ (trade : Trade) (w : WorldValue) (world : IsWorld w) (c : CampaignValue
       let says = for_item k.1 (get named n) parts.1 in
       (sym (ap (share_for (get named) (trade_pot trade w c) wants c n) says) ∙ sym (shares_at (get named) (trade_pot trade w c) wants c n) ∙ is, parts.0)) (q, around))
     where
-      -- for `all_enough`: if a unit that asks for `o` passes the test for item `i`, it asks for item `i`
       for_item : (i : ℕ) (o : Option ℕ) → asks_for_item i o ≡ true → o ≡ Some i
       for_item i None never = cc
       for_item i (Some j) same = ap Some (eqb-true j i same)
 
-  -- at most 100,000 units get a share, as many as there may be
   few : length shares ≤ most_units
   few = omega (arith, few_given (trade_pots trade) w c (trades_give trade w c) os, early.steady.numbers.few_units)
 
@@ -526,7 +451,6 @@ module _ (trade : Trade) (w : WorldValue) (world : IsWorld w) (c : CampaignValue
   little : (e : BooksEntry) (t : Thing) → moved_times (length shares) moves e t ≤ trade_moves trade most_moved e t
   little e t = few_holdings (length shares) few (trade_entry trade) Money e t
 
-  -- all shares of SELL or BUY can be traded in turn, in an early campaign whose books have room for the phase
   pub can_share_out : CanInTurn (CanTrade trade named w) (after_trade trade named w) c shares
   can_share_out = all_can trade named w world c c shares (record {
     early = early;
@@ -546,7 +470,6 @@ module _ (trade : Trade) (w : WorldValue) (world : IsWorld w) (c : CampaignValue
 
 -- ---- what the code sets, books and marks
 
--- a trade that a unit can make has a result that can be booked
 pub can_book_result : (trade : Trade) (items : FinMap nat_cmp ℕ) (w : WorldValue) (c : CampaignValue) (n share : ℕ) → CanTrade trade items w c (n, share)
     → (u : Unit) (m : Market) (stock : ℕ) (entry : BooksEntry) (d : TradeResult) → get c.units n ≡ Some u → market_for w u (get items n) ≡ Some m → stock ≡ stock_of c u.region m.item
     → entry ≡ trade_entry trade → d ≡ trade_result_of trade u.holding stock share m → CanBookTrade c n entry d
@@ -568,21 +491,17 @@ can_book_result trade items w c n share can u m stock entry d there at stock_at 
       room = subst (λ f. HasRoom holding_limit (amount_in c.books f Money)) (sym entry_at) (only_room (trade_entry trade) Money (amount_in c.books (trade_entry trade) Money) (can.room (trade_entry trade) Money));
     }
 
--- in an early campaign each stock is at most 999,999,999
 pub stock_most : (w : WorldValue) (c : CampaignValue) (r i : ℕ) → IsWorld w → IsEarly w c → stock_of c r i ≤ most_amount
 stock_most w c r i world early = by_region (get c.regions r) refl
   where
-    -- the limit of the region's stock is at most 999,999,999, whether the region is one of the world's (`o`) or not
     by_market : (q : Region) → amount_of q.stocks i ≤ stock_limit w r i → (o : Option RegionPlan) → get w.regions r ≡ o → stock_limit w r i ≤ most_amount
     by_market q low None at = subst (λ p. option_map_or (λ (x : Market). x.limit) (option_and_then (λ (p : RegionPlan). get p.markets i) p) most_amount ≤ most_amount) (sym at) (omega arith)
     by_market q low (Some p) at = subst (λ p. option_map_or (λ (x : Market). x.limit) (option_and_then (λ (p : RegionPlan). get p.markets i) p) most_amount ≤ most_amount) (sym at) (limited (get p.markets i) refl)
       where
-        -- the limit of a market `o`, or 999,999,999 without a market, is at most 999,999,999
         limited : (o : Option Market) → get p.markets i ≡ o → option_map_or (λ (x : Market). x.limit) o most_amount ≤ most_amount
         limited None is = omega arith
         limited (Some m) is = ((world.regions r p at).markets i m is).limit
 
-    -- the stock is at most 999,999,999, whether the region `o` is there or not
     by_region : (o : Option Region) → get c.regions r ≡ o → option_map_or (λ (x : Region). amount_of x.stocks i) o 0 ≤ most_amount
     by_region None is = omega arith
     by_region (Some q) is =
@@ -592,14 +511,11 @@ stock_most w c r i world early = by_region (get c.regions r) refl
 
 -- a campaign `c`, then `d` with other goods of a unit, and then `e` with another stock of a region
 module _ (c d e : MarkedCampaign) (n region item stock : ℕ) (f : HoldingValue → HoldingValue) (set : ChangesHolding c d n f) (put : e.value ≡ with_stock d.value region item stock) where
-  -- setting a unit's goods and then a stock keeps the books as they were
   pub traded_books : e.value.books ≡ c.value.books
   traded_books = ap (λ (s : CampaignValue). s.books) put ∙ ap (λ (s : CampaignValue). s.books) set.value
 
-  -- setting a unit's goods and then a stock marks all that changes
   pub traded_marks : MarksStock d region item stock e.marks → MarksChanges c e
   traded_marks how = marks-trans c d e set.marks (marks_by d e _ put refl (marks-stock d region item stock e.marks how))
 
-  -- after a unit's goods and then a region's stock were set, the campaign is `c` with both set
   pub traded_what : (u : Unit) → get c.value.units n ≡ Some u → e.value ≡ with_stock (with_holding c.value n (f u.holding)) region item stock
   traded_what u is = put ∙ ap (λ s. with_stock s region item stock) (changed_held f c.value d.value n set.value u is ∙ sym (ap (with_holding_at c.value n (f u.holding)) is))

@@ -19,20 +19,16 @@ use Rattle.atl_market.specs.Bounds.{CanInTurn}
 pub few_holdings : (k : ℕ) → k ≤ most_units → (a : BooksEntry) (b : Thing) (e : BooksEntry) (t : Thing) → moved_times k (moves_only holding_limit a b) e t ≤ moves_only most_moved a b e t
 few_holdings k few a b e t = by_test (amount_number e t == amount_number a b)
   where
-    -- for `few_holdings`: `k` times a holding's limit is at most `most_moved`, and `k` times 0 is 0
     by_test : (same : Bool) → k * (if same then holding_limit else 0) ≤ (if same then most_moved else 0)
     by_test true = omega (arith, few)
     by_test false = omega (arith, few)
 
--- the bounds on one step and on the steps after it are together at most the bound on all steps
 pub one_more : {B : Type 0} (book_bound : BookBound) (x : B) (xs : List B) → IsBoundWithin (both_move book_bound (moved_times (length xs) book_bound)) (moved_times (length (x ∷ xs)) book_bound)
 one_more book_bound x xs e t = let one : length (x ∷ xs) * book_bound e t ≡ length xs * book_bound e t + book_bound e t = suc-mul (length xs) (book_bound e t) in omega arith
 
--- books with room for all steps together have room for the first step
 pub first_room : {B : Type 0} (book_bound : BookBound) (c : CampaignValue) (x : B) (xs : List B) → HaveRoom (moved_times (length (x ∷ xs)) book_bound) c → HaveRoom book_bound c
 first_room book_bound c x xs room = room_less book_bound (moved_times (length (x ∷ xs)) book_bound) c (λ e t. omega (arith, one_more book_bound x xs e t)) room
 
--- after the first step, which moved the books within its bound, the books have room for the later steps
 pub later_room : {B : Type 0} {leaves : Condition} (book_bound : BookBound) (w : WorldValue) (c d : CampaignValue) (x : B) (xs : List B)
     → LeavesWell leaves book_bound w c d → HaveRoom (moved_times (length (x ∷ xs)) book_bound) c → HaveRoom (moved_times (length xs) book_bound) d
 later_room book_bound w c d x xs well room =

@@ -27,11 +27,9 @@ use Rattle.atl_market.proofs.UnmailedPotLaws.{orders_with_verbs, others_items, p
 
 -- ---- what a unit uses
 
--- a unit with `amount` of an item
 abbrev with_item_amount : (item amount : ℕ) → Unit → Unit
 with_item_amount i amount u = record u { holding = record u.holding { items = with_amount_of u.holding.items i amount } }
 
--- using an item leaves all units their men
 used_men : (c : CampaignValue) (n i amount : ℕ) → HaveTheirMen c (with_used c n i amount)
 used_men c n i amount =
     by_unit c n (HaveTheirMen c) _ (men_stay c) (λ u is.
@@ -40,7 +38,6 @@ used_men c n i amount =
 
 -- ---- BUILD
 
--- beginning a structure leaves all units their men
 begun_men : (c : CampaignValue) (n kind : ℕ) (k : Kind) (region size : ℕ) → HaveTheirMen c (after_start c n kind k region size)
 begun_men c n kind k region size =
     let used = with_used c n k.material size in
@@ -48,70 +45,57 @@ begun_men c n kind k region size =
     men_twice c used (with_place new n region c.next_structure) (used_men c n k.material size)
     (men_twice used new (with_place new n region c.next_structure) (men_same used new refl) (place_men new n region c.next_structure))
 
--- `BUILD kind` leaves all units their men
 begin_men : (w : WorldValue) (c : CampaignValue) (n kind : ℕ) (k : Kind) (u : Unit) → HaveTheirMen c (begin w n kind k c u).0
 unfolding begin
 begin_men w c n kind k u = let size = size_added k u.holding 0 in men_unless c (after_start c n kind k u.region size) (Done size) (begin_fault w c u k) (begun_men c n kind k u.region size)
 
--- continuing a structure leaves all units their men
 gone_on_men : (c : CampaignValue) (n material size structure done : ℕ) → HaveTheirMen c (after_building_on c n material size structure done)
 gone_on_men c n material size structure done = let used = with_used c n material size in men_twice c used (after_building_on c n material size structure done) (used_men c n material size) (men_same used (after_building_on c n material size structure done) refl)
 
--- `BUILD` leaves all units their men
 go_on_men : (w : WorldValue) (c : CampaignValue) (n : ℕ) (u : Unit) → HaveTheirMen c (go_on w n c u).0
 unfolding go_on
 go_on_men w c n u = by_structure (get c.structures u.structure)
   where
-    -- `BUILD` inside structure `s` leaves all units their men, whether the world has its kind or not
     by_kind : (s : Structure) (o : Option Kind) → HaveTheirMen c (go_on_at c n u (option_map (λ k. (s, k)) o)).0
     by_kind s None = men_unless c c (Done 0) (outside_fault u) (men_stay c)
     by_kind s (Some k) = let size = size_added k u.holding s.done in men_unless c (after_building_on c n k.material size u.structure (s.done + size)) (Done size) (inside_fault u s k) (gone_on_men c n k.material size u.structure (s.done + size))
 
-    -- `BUILD` leaves all units their men, whether the unit is inside a structure or not
     by_structure : (o : Option Structure) → HaveTheirMen c (go_on_at c n u (option_and_then (with_kind w) o)).0
     by_structure None = men_unless c c (Done 0) (outside_fault u) (men_stay c)
     by_structure (Some s) = by_kind s (slice_get w.kinds s.kind)
 
--- an order of BUILD leaves units of other factions than the order's their men
 built_men : (w : WorldValue) (c : CampaignValue) (f n : ℕ) (x : Unit) (s : OperandsValue) → IfSome (build_effect w n s) (λ effect. OthersHaveMen f c (effect c x).0)
 built_men w c f n x (operands.Kind (Some kind)) = by_kind (slice_get w.kinds kind)
   where
-    -- `BUILD kind` leaves units of other factions than the order's their men, whether the world has the kind or not
     by_kind : (o : Option Kind) → IfSome (option_map (begin w n kind) o) (λ effect. OthersHaveMen f c (effect c x).0)
     by_kind None = tt
     by_kind (Some k) = others_men f c (begin w n kind k c x).0 (begin_men w c n kind k x)
 built_men w c f n x (operands.Kind None) = others_men f c (go_on w n c x).0 (go_on_men w c n x)
 built_men w c f n x other = tt
 
--- each step of BUILD leaves units of other factions than the order's their men
 build_leaves_men : LeavesOthersMen build_step
 build_leaves_men w a c t x own = built_men w c t.faction t.unit x t.order_value.operands
 
--- the phase BUILD leaves units of factions without a mailing their men and items (`LeavesUnmailed`)
 pub build_leaves : PhaseLeavesUnmailed build_spec
 build_leaves = carried_leaves build_step is_building build_leaves_men (unmailed_keep_items is_building own_faction items_of_no_worse)
 
 -- ---- PRODUCE
 
--- making an item leaves all units their men
 made_men : (c : CampaignValue) (n i amount : ℕ) → HaveTheirMen c (with_made c n i amount)
 made_men c n i amount =
     by_unit c n (HaveTheirMen c) _ (men_stay c) (λ u is.
     let more = amount_of u.holding.items i + amount in
     men_put c (with_booking (with_item c n i more) Made (Item i) (pos amount)) n u (with_item_amount i more u) is (record { faction = refl; men = refl }) (changed-known (with_item_amount i more) c.units n u is))
 
--- the production of one unit leaves all units their men
 produced_men : (asked : FinMap nat_cmp ℕ) (w : WorldValue) (c : CampaignValue) (e : ℕ × ℕ) → HaveTheirMen c (produce.after_production asked w c e)
 unfolding produce.after_production
 produced_men asked w c e =
-    by_option (HaveTheirMen c) _ (get asked e.0) c (men_stay c) (λ i says.
-    by_option (HaveTheirMen c) _ (slice_get w.items i) c (men_stay c) (λ x is.
+    by_option (HaveTheirMen c) _ (produce.numbered_item w (get asked e.0)) c (men_stay c) (λ (i, x) is.
     let used = produce.with_raw_used c e.0 (e.1 * x.raw_count) x.raw in
     men_twice c used (with_made used e.0 i e.1)
     (by_option (HaveTheirMen c) (λ r. with_used c e.0 r (e.1 * x.raw_count)) x.raw c (men_stay c) (λ r raw. used_men c e.0 r (e.1 * x.raw_count)))
-    (made_men used e.0 i e.1)))
+    (made_men used e.0 i e.1))
 
--- the phase PRODUCE leaves units of factions without a mailing their men and items (`LeavesUnmailed`)
 pub produce_leaves : PhaseLeavesUnmailed produce.produce_spec
 produce_leaves =
     shared_leave produce.produce_pots (orders_with_verbs produce.is_produce)

@@ -43,26 +43,22 @@ abbrev pub orders_with_verbs : (Verb → Bool) → CampaignValue → MonthValue 
 orders_with_verbs is_of c = orders_by_unit is_of
 
 module _ (p : PotMeaning) (w : WorldValue) (c : CampaignValue) where
-  -- the events of a phase with pots report no men of unit `n` who starved
   none_starve : (given : FinMap nat_cmp ℕ) (os : List Task) (n : ℕ) → starved_in (map (event_of p w c given) os) n ≡ 0
   none_starve given [] n = refl
   none_starve given (o ∷ os) n =
       sum_by-cons (λ (e : Event). if e.unit == n then men_starved_by e.verb e.outcome else 0) (event_of p w c given o) (map (event_of p w c given) os)
       ∙ ap (λ x. (if o.unit == n then 0 else 0) + x) (none_starve given os n) ∙ nobody (o.unit == n)
     where
-      -- for `none_starve`: an order adds 0 men who starved to a count of 0, whether or not it is for unit `n`
       nobody : (b : Bool) → (if b then 0 else 0) + 0 ≡ 0
       nobody true = refl
       nobody false = refl
 
-  -- a phase with pots adds no men who starved to the events
   pots_report_none_starved : (events : List Event) (os : List Task) (n : ℕ) → starved_in (events ++ events_by p w c os) n ≡ starved_in events n
   unfolding events_by
   pots_report_none_starved events os n =
       sum_by-append (λ (e : Event). if e.unit == n then men_starved_by e.verb e.outcome else 0) events (map (event_of p w c (given_by p w c os)) os)
       ∙ ap (λ x. starved_in events n + x) (none_starve (given_by p w c os) os n) ∙ plus_none (starved_in events n)
     where
-      -- for `pots_report_none_starved`: a count of men plus 0 is the count
       plus_none : (x : ℕ) → x + 0 ≡ x
       plus_none x = omega arith
 
@@ -78,19 +74,15 @@ module _ (p : PotMeaning) (orders : CampaignValue → MonthValue → List Task) 
   shared_leave {keeps} men items =
       whole_leaves {meaning = shared} {keeps = keeps} (λ w c m. refl) (λ w c m n. pots_report_none_starved p w c m.events (orders c m) n) (λ w c m h. men w c m) (λ w c m h. items w c (shared w c m).0 m h)
 
-  -- a phase keeps the men of units of factions without a mailing, if each payment keeps the men of all units
   pub paid_men : ((w : WorldValue) (items : FinMap nat_cmp ℕ) (d : CampaignValue) (e : ℕ × ℕ) → HaveTheirMen d (p.paid items w d e)) → (w : WorldValue) (c : CampaignValue) (m : MonthValue) → UnmailedAre HasItsMen m c (shared w c m).0
   unfolding after_sharing
   paid_men paid w c m n u there none = let items = items_by p w c (orders c m) in men_in_turn (p.paid items w) (paid w items) c (entries (given_by p w c (orders c m))) n u there
 
--- units of factions without a mailing keep their names and items (`HasItsItems`) in a phase after which no unit is
--- worse off
 pub none_worse : (w : WorldValue) (c d : CampaignValue) (m : MonthValue) → AreNoWorse c d → UnmailedAre HasItsItems m c d
 none_worse w c d m h n u there none = let (v, after, better) = h n u there in record { unit = v; there = after; is_unaffected = items_of_no_worse u v better }
 
 -- ---- TAX
 
--- one payment of TAX leaves all units their men
 tax_men : (w : WorldValue) (c : CampaignValue) (e : ℕ × ℕ) → HaveTheirMen c (after_tax c e)
 unfolding after_tax
 tax_men w c e =
@@ -99,13 +91,11 @@ tax_men w c e =
     men_changed (λ v. record v { holding = record v.holding { money = u.holding.money + e.1 } }) (λ v. record { faction = refl; men = refl })
     c (with_region_money (with_money c e.0 (u.holding.money + e.1)) u.region (q.money - e.1)) e.0 refl))
 
--- the phase TAX leaves units of factions without a mailing their men and items (`LeavesUnmailed`)
 pub tax_leaves : PhaseLeavesUnmailed tax_spec
 tax_leaves = shared_leave tax_pots (orders_with_verbs is_tax) (paid_men tax_pots (orders_with_verbs is_tax) (λ w items. tax_men w)) none_worse
 
 -- ---- WORK
 
--- one payment of WORK leaves all units their men
 work_men : (w : WorldValue) (c : CampaignValue) (e : ℕ × ℕ) → HaveTheirMen c (after_work w c e)
 unfolding after_work
 work_men w c e =
@@ -114,35 +104,28 @@ work_men w c e =
     men_changed (λ v. record v { holding = record v.holding { money = u.holding.money + wages } }) (λ v. record { faction = refl; men = refl })
     c (with_booking (with_money c e.0 (u.holding.money + wages)) Wages Money (pos wages)) e.0 refl)
 
--- the phase WORK leaves units of factions without a mailing their men and items (`LeavesUnmailed`)
 pub work_leaves : PhaseLeavesUnmailed work_spec
 work_leaves = shared_leave work_pots work_orders (paid_men work_pots work_orders (λ w items. work_men w)) none_worse
 
 -- ---- RECRUIT
 
--- no order of a list is for unit `n` and from faction `f`, if none of the list is from faction `f`
 none_listed : (n f : ℕ) (ts : List Task) → AllByRecursion (λ t. t.faction ≢ f) ts → list_any (λ o. o.unit == n && o.faction == f) ts ≡ false
 none_listed n f [] h = refl
 none_listed n f (t ∷ ts) h = neither (t.unit == n) (t.faction == f) _ (other_number t.faction f h.0) (none_listed n f ts h.1)
   where
-    -- for `none_listed`: no order is found if the first is from another faction (`b`) and none among the later (`d`)
     neither : (a b d : Bool) → b ≡ false → d ≡ false → (a && b || d) ≡ false
     neither true b d e g = rw (e, g) refl
     neither false b d e g = g
 
 module _ (is_of : Verb → Bool) (m : MonthValue) where
-  -- a unit of a faction that sent no mailing has no order of its own faction
   pub unordered : (n : ℕ) (u : Unit) → get m.readings u.faction ≡ None → has_own_order (orders_by_unit is_of m) n u ≡ false
   unordered n u none =
       let ts = orders_by_unit is_of m in
       none_listed n u.faction ts (recursion_from_All (λ t. t.faction ≢ u.faction) ts (none_ordered is_of ByUnit m u.faction none))
 
-  -- if units without an order of their own faction are no worse off, units of factions without a mailing keep their
-  -- items
   pub others_items : (c d : CampaignValue) → OthersAreNoWorse (orders_by_unit is_of m) c d → UnmailedAre HasItsItems m c d
   others_items c d h n u there none = let (v, after, better) = h n u there (unordered n u none) in record { unit = v; there = after; is_unaffected = items_of_no_worse u v better }
 
--- the phase RECRUIT leaves units of factions without a mailing their men and items (`LeavesUnmailed`)
 pub recruit_leaves : PhaseLeavesUnmailed recruit_spec
 recruit_leaves =
     shared_leave recruit_pots (orders_with_verbs is_recruit)
@@ -157,7 +140,6 @@ recruit_leaves =
 -- ---- SELL and BUY
 
 module _ (trade : Trade) where
-  -- SELL or BUY leaves units of factions without a mailing their men and items (`LeavesUnmailed`)
   trade_leaves : LeavesUnmailed (trade_meaning trade) (trade_keeps trade)
   trade_leaves =
       shared_leave (trade_pots trade) (orders_with_verbs (is_trade trade))
@@ -169,10 +151,8 @@ module _ (trade : Trade) where
       })
       (λ w c d m. others_items (is_trade trade) m c d)
 
--- the phase SELL leaves units of factions without a mailing their men and items (`LeavesUnmailed`)
 pub sell_leaves : PhaseLeavesUnmailed sell_spec
 sell_leaves = trade_leaves Sell
 
--- the phase BUY leaves units of factions without a mailing their men and items (`LeavesUnmailed`)
 pub buy_leaves : PhaseLeavesUnmailed buy_spec
 buy_leaves = trade_leaves Buy

@@ -21,7 +21,6 @@ use Rattle.atl_market.proofs.DrawLaws.{all_pairs}
 use Rattle.atl_market.proofs.PotLaws.{put_in_turn}
 use Rattle.atl_market.proofs.WantLaws.{GivesToWants, optional_entry_first, carries_out}
 
--- for `unwanted`: two tests are both false, if their disjunction is false
 neither : (a b : Bool) → (a || b) ≡ false → (a ≡ false) × (b ≡ false)
 neither true b h = absurd (false≢true (sym h))
 neither false b h = (refl, h)
@@ -29,20 +28,15 @@ neither false b h = (refl, h)
 -- ---- units without an order want nothing
 
 module _ (p : PotMeaning) (w : WorldValue) (c : CampaignValue) (n : ℕ) (u : Unit) (there : get c.units n ≡ Some u) where
-  -- whether an order is for unit `n` and of its own faction
   abbrev own : Task → Bool
   own o = o.unit == n && o.faction == u.faction
 
-  -- an order for unit `n` from the unit's faction can't fail the test `own`
   no_order : (o : Task) → o.unit ≡ n → (u.faction == o.faction) ≡ true → own o ≡ false → ⊥
   no_order o unit faction is = false≢true (sym (clash o.unit n o.faction u.faction unit faction is))
     where
-      -- for `no_order`: the test that `own` makes can't be false where the units `a` and `b` are equal, and the
-      -- factions `f` and `g`
       clash : (a b f g : ℕ) → a ≡ b → (g == f) ≡ true → (a == b && f == g) ≡ false → true ≡ false
       clash a b f g same one none = grind (arith, nat_tests)
 
-  -- an order that isn't for unit `n`, or isn't from its own faction, gives the unit no want
   unwanted_by : (m : FinMap nat_cmp ℕ) (o : Task) (r : Result Unit EventFault) → unit_for p w c o ≡ r → own o ≡ false → get (with_entry_if_some m (option_map (λ v. (o.unit, p.want w v o)) (result_ok r))) n ≡ get m n
   unwanted_by m o (Err f) is none = refl
   unwanted_by m o (Ok v) is none =
@@ -52,7 +46,6 @@ module _ (p : PotMeaning) (w : WorldValue) (c : CampaignValue) (n : ℕ) (u : Un
       let unit : v ≡ u = cc in
       no_order o (sym same) (subst (λ (x : Unit). (x.faction == o.faction) ≡ true) unit of.own) none)
 
-  -- orders of which none is for unit `n` and from its own faction give the unit no want
   unwanted : (m : FinMap nat_cmp ℕ) (os : List Task) → has_own_order os n u ≡ false → get (with_entries m (filter_map (want_by p w c) os)) n ≡ get m n
   unwanted m [] none = refl
   unwanted m (o ∷ os) none =
@@ -61,7 +54,6 @@ module _ (p : PotMeaning) (w : WorldValue) (c : CampaignValue) (n : ℕ) (u : Un
       ∙ unwanted (with_entry_if_some m (want_by p w c o)) os rest
       ∙ unwanted_by m o (unit_for p w c o) refl first
 
-  -- a unit without an order of its own faction gets nothing, if the phase gives only to units with a want
   not_given : GivesToWants p w c → (os : List Task) → has_own_order os n u ≡ false → (share : ℕ) → get (given_by p w c os) n ≡ Some share → ⊥
   not_given gives os none share is =
       let (want, wanted, low) = gives (items_by p w c os) (wants_by p w c os) n share is in
@@ -70,7 +62,6 @@ module _ (p : PotMeaning) (w : WorldValue) (c : CampaignValue) (n : ℕ) (u : Un
 -- ---- units without an order stay as they are
 
 module _ (step : CampaignValue → ℕ × ℕ → CampaignValue) (others : (c : CampaignValue) (e : ℕ × ℕ) (k : ℕ) → k ≢ e.0 → get (step c e).units k ≡ get c.units k) where
-  -- payments of which none is for unit `n` leave the unit as it is
   pub passed_over : (c : CampaignValue) (es : List (ℕ × ℕ)) (n : ℕ) → AllByRecursion (λ e. n ≢ e.0) es → get (fold step c es).units n ≡ get c.units n
   passed_over c [] n apart = refl
   passed_over c (e ∷ es) n apart = passed_over (step c e) es n apart.1 ∙ others c e n apart.0
@@ -85,8 +76,6 @@ without_order_stays p w others c gives os n u there none =
     let apart = each-from_every (λ k share. n ≢ k) given (λ k share is same. not_given p w c n u there gives os none share (ap (get given) same ∙ is)) in
     passed_over (p.paid (items_by p w c os) w) (others (items_by p w c os)) c (entries given) n (all_pairs (λ e. n ≢ e.0) (entries given) apart)
 
--- A phase with pots leaves units without an order of their own faction no worse off. This supposes that payments go
--- only to units with a want, and that each changes its own unit alone.
 pub others_no_worse : (p : PotMeaning) (w : WorldValue) → ((items : FinMap nat_cmp ℕ) (c : CampaignValue) (e : ℕ × ℕ) (k : ℕ) → k ≢ e.0 → get (p.paid items w c e).units k ≡ get c.units k)
     → (c : CampaignValue) → GivesToWants p w c → (os : List Task) → OthersAreNoWorse os c (after_sharing p w c os)
 others_no_worse p w others c gives os n u there none = (u, without_order_stays p w others c gives os n u there none ∙ there, no_worse u)

@@ -3,7 +3,6 @@
 use Rattle.std.proofs.Common.{◌≡◌, ◌≢◌, ℕ, ◌==◌, ◌<◌, ◌≤◌, Bool, true, false, cond, List, [], ◌∷◌, ◌++◌, length, Option, Some, None, is_some, refl, sym, ap, subst, ◌∙◌, inl, inr, arith}
 use Rattle.std.specs.Prelude.{Result, Ok, Err, is_ok, option_map}
 use Rattle.std.specs.List.{AllByRecursion, IsDistinct, cons_option, filter_map}
-use Rattle.std.specs.Option.{option_map_or}
 use Rattle.std.specs.Result.{result_ok}
 use Rattle.std.specs.Map.{keys_of}
 use Rattle.std.specs.Ordering.{nat_cmp, eq_by_cmp}
@@ -18,7 +17,6 @@ use Rattle.std.proofs.lemmas.Map.Steps.{length-le_from_keys}
 use Rattle.atl_world.specs.Limits.{most_amount}
 use Rattle.atl_world.specs.Worlds.{WorldValue}
 use Rattle.atl_records.specs.declared.event.EventFault.{EventFault}
-use Rattle.atl_records.specs.declared.event.EventFault.TheVariants.{NotYours}
 use Rattle.atl_records.specs.declared.records.Unit.{Unit}
 use Rattle.atl_records.specs.Every.{Every}
 use Rattle.atl_campaign.specs.Campaign.{CampaignValue}
@@ -29,7 +27,7 @@ use Rattle.atl_phase.specs.PhaseOrders.{Task}
 use Rattle.atl_phase.specs.OrderEffects.{of_faction}
 use Rattle.atl_phase.proofs.MapOfListLaws.{find_is}
 use Rattle.atl_market.proofs.PotLaws.{put_in_turn}
-use Rattle.atl_market.specs.PotPhase.{PotMeaning, given_by, item_by, item_in, items_by, unit_for, want_by, wants_by}
+use Rattle.atl_market.specs.PotPhase.{PotMeaning, carrier_of, given_by, item_by, item_in, items_by, unit_for, unless_fault, want_by, wants_by}
 use Rattle.atl_market.specs.Pots.{AreWants}
 use Rattle.atl_market.specs.Puts.{with_entry_if_some, with_entries}
 
@@ -39,36 +37,28 @@ GivesToWants p w c =
     (items wants : FinMap nat_cmp ℕ) (n share : ℕ) → get (p.grants items w c wants) n ≡ Some share
     → (want : ℕ) × (get wants n ≡ Some want) × (share ≤ want)
 
--- putting two lists of entries into a map, one after the other, is putting in the first list and then the second
 pub appended_entries : {V : Type 0} (m : FinMap nat_cmp V) (es fs : List (ℕ × V)) → with_entries m (es ++ fs) ≡ with_entries (with_entries m es) fs
 appended_entries m es fs = fold-append (λ so_far entry. insert so_far entry.0 entry.1) m es fs
 
--- putting a list of entries with an optional entry in front into a map is putting in that entry, if it is there, and
--- then the list
 pub optional_entry_first : {V : Type 0} (m : FinMap nat_cmp V) (o : Option (ℕ × V)) (es : List (ℕ × V)) → with_entries m (cons_option o es) ≡ with_entries (with_entry_if_some m o) es
 optional_entry_first m None es = refl
 optional_entry_first m (Some e) es = refl
 
--- what holds of all entries of a map and of a list holds of all entries of the map into which the list is put
 pub every-with_each : (P : ℕ → ℕ → Type 0) (m : FinMap nat_cmp ℕ) (es : List (ℕ × ℕ)) → AllByRecursion (λ e. P e.0 e.1) es → Every P m → Every P (with_entries m es)
 every-with_each P m [] each old = old
 every-with_each P m (e ∷ es) each old = every-with_each P (insert m e.0 e.1) es each.1 (every-insert P m e.0 e.1 each.0 old)
 
--- each want in a map is still at most 999,999,999 (`AreWants`) after one more such want is put in
 pub one_want : (m : FinMap nat_cmp ℕ) (n want : ℕ) → want ≤ most_amount → AreWants m → AreWants (insert m n want)
 one_want m n want low old = every-insert (λ number want. want ≤ most_amount) m n want low old
 
--- for `others`: a number isn't equal to one above it
 differs : (k n : ℕ) → k < n → eq_by_cmp nat_cmp k n ≡ false
 differs k n l = sym (unsigned_ties k n) ∙ (let t : (k == n) ≡ false = grind (arith, nat_tests) in t)
 
--- entries sorted by their numbers, each once, differ in their numbers
 rise_apart : (es : List (ℕ × ℕ)) → Rise es → IsDistinct (eq_by_cmp nat_cmp) (keys_of es)
 unfolding IsDistinct
 rise_apart [] h = tt
 rise_apart (e ∷ es) h = (others e.0 es h.0, rise_apart es h.1)
   where
-    -- for `rise_apart`: a number below those of all entries is equal to none of them
     others : (k : ℕ) (es : List (ℕ × ℕ)) → AllByRecursion (λ f. k < f.0) es → AllByRecursion (λ n. eq_by_cmp nat_cmp k n ≡ false) (keys_of es)
     others k [] h = tt
     others k (f ∷ es) h = (differs k f.0 h.0, others k es h.1)
@@ -81,53 +71,37 @@ module _ (p : PotMeaning) (w : WorldValue) (c : CampaignValue) where
 
   -- unit `u` carries order `t` out: it is there, its own faction wrote the order, and there is no fault
   pub record CarriesOut (t : Task) (u : Unit) : Type 0 where
-    -- the unit is in the campaign, under the number that the order names
     pub there : get c.units t.unit ≡ Some u
-    -- the unit's own faction wrote the order
     pub own : (u.faction == t.faction) ≡ true
-    -- the phase finds no fault in the order
     pub no_fault : p.fault w u t ≡ None
 
-  -- the unit that carries an order out, or else its fault: the one that the phase finds, or NotYours without a unit
-  abbrev unless_fault : Task → Option Unit → Result Unit EventFault
-  unless_fault t o = option_map_or (λ v. option_map_or Err (p.fault w v t) (Ok v)) o (Err NotYours)
-
-  -- the unit that `unit_for` returns for an order carries the order out (`CarriesOut`)
   pub carries_out : (t : Task) (u : Unit) → unit_for p w c t ≡ Ok u → CarriesOut t u
   unfolding unit_for
   carries_out t u is = by_unit (get c.units t.unit) refl is
     where
-      -- for `carries_out`: a unit `v` of the order's faction carries the order out if the phase finds no fault (`f`)
-      by_fault : (v : Unit) → get c.units t.unit ≡ Some v → (v.faction == t.faction) ≡ true → (f : Option EventFault) → p.fault w v t ≡ f → option_map_or Err f (Ok v) ≡ Ok u → CarriesOut t u
+      by_fault : (v : Unit) → get c.units t.unit ≡ Some v → (v.faction == t.faction) ≡ true → (f : Option EventFault) → p.fault w v t ≡ f → unless_fault f v ≡ Ok u → CarriesOut t u
       by_fault v at own (Some f) fault h = none_some u (ap result_ok h)
       by_fault v at own None fault h = subst (CarriesOut t) (same_Some _ _ (ap result_ok h)) (record { there = at; own = own; no_fault = fault })
 
-      -- for `carries_out`: a unit `v` that is there carries the order out, if it is of its faction (`b`) without a
-      -- fault
-      by_test : (v : Unit) → get c.units t.unit ≡ Some v → (b : Bool) → (v.faction == t.faction) ≡ b → unless_fault t (cond b (Some v) None) ≡ Ok u → CarriesOut t u
+      by_test : (v : Unit) → get c.units t.unit ≡ Some v → (b : Bool) → (v.faction == t.faction) ≡ b → carrier_of p w c t (cond b (Some v) None) ≡ Ok u → CarriesOut t u
       by_test v at true own h = by_fault v at own (p.fault w v t) refl h
       by_test v at false own h = none_some u (ap result_ok h)
 
-      -- for `carries_out`: the unit `u` that `unless_fault` returns for the unit with the order's number (`o`) carries
-      -- the order out
-      by_unit : (o : Option Unit) → get c.units t.unit ≡ o → unless_fault t (of_faction t.faction o) ≡ Ok u → CarriesOut t u
+      -- for `carries_out`: the unit `u` that `carrier_of` returns for the unit with the order's number (`o`) carries
+      by_unit : (o : Option Unit) → get c.units t.unit ≡ o → carrier_of p w c t (of_faction t.faction o) ≡ Ok u → CarriesOut t u
       by_unit None at h = none_some u (ap result_ok h)
       by_unit (Some v) at h = by_test v at (v.faction == t.faction) refl h
 
   module _ (m items : FinMap nat_cmp ℕ) (t : Task) where
-    -- the unit of order `t` with what it wants by the order, as an entry; None where the order has a fault
     abbrev wanting : Result Unit EventFault → Option (ℕ × ℕ)
     wanting r = option_map (λ u. (t.unit, p.want w u t)) (result_ok r)
 
-    -- the unit of order `t` with the item that the order names, as an entry; None where it names none
     abbrev named : Option ℕ → Option (ℕ × ℕ)
     named s = option_map (λ i. (t.unit, i)) s
 
-    -- with the item of an order put into `items`, its unit has there the item that the order names
     item_put : (s : Option ℕ) (i : ℕ) → s ≡ Some i → get (with_entry_if_some items (named s)) t.unit ≡ Some i
     item_put s i is = ap (λ o. get (with_entry_if_some items (named o)) t.unit) is ∙ get-insert_same items t.unit i
 
-    -- putting the item of an order into `items` changes nothing under the numbers of other units
     item_elsewhere : (s : Option ℕ) (n : ℕ) → n ≢ t.unit → get (with_entry_if_some items (named s)) n ≡ get items n
     item_elsewhere None n apart = refl
     item_elsewhere (Some i) n apart = get-insert_other items t.unit n i apart
@@ -153,8 +127,6 @@ module _ (p : PotMeaning) (w : WorldValue) (c : CampaignValue) where
           (v, o, here, own, wanted, fine, λ i is_i. item_elsewhere (item_in t.order_value.operands) n apart ∙ names i is_i)
     ]
 
-  -- if each want in map `m` is of an order without a fault (`IsWanted`), so is each once the orders `ts` put their
-  -- wants and items into the maps
   all_wanted : (m items : FinMap nat_cmp ℕ) (ts : List Task) → Every (IsWanted items) m → Every (IsWanted (with_entries items (filter_map (item_by p w c) ts))) (with_entries m (filter_map (want_by p w c) ts))
   all_wanted m items [] old = old
   all_wanted m items (t ∷ ts) old =
@@ -162,7 +134,6 @@ module _ (p : PotMeaning) (w : WorldValue) (c : CampaignValue) where
       (subst (Every (IsWanted (with_entries (with_entry_if_some items (item_by p w c t)) (filter_map (item_by p w c) ts)))) (sym (optional_entry_first m (want_by p w c t) (filter_map (want_by p w c) ts)))
       (all_wanted (with_entry_if_some m (want_by p w c t)) (with_entry_if_some items (item_by p w c t)) ts (wanted_by m items t (unit_for p w c t) refl old)))
 
-  -- each want that a phase reads from its orders is that of some order without a fault
   wants_are_wanted : (ts : List Task) → Every (IsWanted (items_by p w c ts)) (wants_by p w c ts)
   wants_are_wanted ts =
       subst (Every (IsWanted (items_by p w c ts))) (put_in_turn (filter_map (want_by p w c) ts))
@@ -177,20 +148,16 @@ module _ (p : PotMeaning) (w : WorldValue) (c : CampaignValue) where
         let (u, t, there, own, same, fine, named) = wants_are_wanted ts n want wanted in
         (u, t, there, own, subst (λ k. share ≤ k) same low, fine, named)
 
-    -- each unit gets at most what it wants by some order for it
     pub given_is_wanted : (ts : List Task) → Every (λ n share. (u : Unit) × (t : Task) × (get c.units n ≡ Some u) × (t.unit ≡ n) × (share ≤ p.want w u t)) (given_by p w c ts)
     given_is_wanted ts n share is = let (u, t, there, own, low, fine, named) = given_is_named ts n share is in (u, t, there, own, low)
 
-    -- each unit that gets something is there
     in_units : (os : List Task) (n : ℕ) → is_some (get (given_by p w c os) n) ≡ true → is_some (get c.units n) ≡ true
     in_units os n got = by_share (get (given_by p w c os) n) refl got
       where
-        -- a unit that is given an amount `o` is there
         by_share : (o : Option ℕ) → get (given_by p w c os) n ≡ o → is_some o ≡ true → is_some (get c.units n) ≡ true
         by_share None is h = absurd (false≢true h)
         by_share (Some share) is h = let (u, o, there, own, low) = given_is_wanted os n share is in ap is_some there
 
-    -- the units that get something in the phase are at most as many as all units of the campaign
     pub few_given : (os : List Task) → length (entries (given_by p w c os)) ≤ len c.units
     few_given os =
         let m = given_by p w c os in

@@ -49,7 +49,6 @@ use Rattle.atl_market.specs.Payable.{CanWork}
 -- ---- one unit gets its wages
 
 module _ (w : WorldValue) (c : CampaignValue) (n : ℕ) (u : Unit) (money : ℕ) (is : get c.units n ≡ Some u) where
-  -- what the unit holds after it was paid
   abbrev more : HoldingValue
   more = paid c n u money
 
@@ -61,15 +60,12 @@ module _ (w : WorldValue) (c : CampaignValue) (n : ℕ) (u : Unit) (money : ℕ)
   abbrev pub wages_paid : CampaignValue
   wages_paid = with_booking given Wages Money (pos money)
 
-  -- setting the unit's money to what it has with its wages, and booking these, gives the campaign `wages_paid`
   wages_are : with_booking (with_money c n (u.holding.money + money)) Wages Money (pos money) ≡ wages_paid
   wages_are = ap (λ d. with_booking d Wages Money (pos money)) (richer_is c n u money is)
 
-  -- once the unit got its wages, the total of each thing has grown by what is booked of it
   total_paid : (t : Thing) → pos (total wages_paid t) ≡ pos (total c t) +ℤ booked_for t Money (pos money)
   total_paid t = total_of t (total-booking given Wages Money t (pos money)) (total-new_holding w c n u more is t)
     where
-      -- the total of money, people or an item grows by what is booked, given what paying and booking change of it
       total_of : (t : Thing) → total wages_paid t ≡ total given t → total given t + unit_amount t u.holding ≡ total c t + unit_amount t more → pos (total wages_paid t) ≡ pos (total c t) +ℤ booked_for t Money (pos money)
       total_of Money a b = omega (arith, ints, a, b)
       total_of People a b = omega (arith, ints, a, b)
@@ -78,11 +74,9 @@ module _ (w : WorldValue) (c : CampaignValue) (n : ℕ) (u : Unit) (money : ℕ)
           ap pos (same (total wages_paid (Item i)) (total given (Item i)) (total c (Item i)) (amount_of u.holding.items i) a b)
           ∙ sym (ap (λ q. pos (total c (Item i)) +ℤ cond q (pos money) (pos 0)) other ∙ zero_more (total c (Item i)))
         where
-          -- for `total_of`: an item's total stays the same (`x` is `z`), as the unit holds the same of it (`k`)
           same : (x y z k : ℕ) → x ≡ y → y + k ≡ z + k → x ≡ z
           same x y z k a b = omega arith
 
-          -- for `total_of`: a number plus 0 is the number
           zero_more : (x : ℕ) → pos x +ℤ pos 0 ≡ pos x
           zero_more x = omega (arith, ints)
 
@@ -97,47 +91,39 @@ module _ (w : WorldValue) (c : CampaignValue) (n : ℕ) (u : Unit) (money : ℕ)
     near = booked-near c.books Wages Money (pos money) holding_limit (within-pos money holding_limit (omega (arith, fits)));
   }
 
-  -- wages for unit `n` leave the other units as they are
   pub wages_leave_others : (k : ℕ) → k ≢ n → get wages_paid.units k ≡ get c.units k
   wages_leave_others k apart = others_stay c n u money is k apart
 
-  -- no unit is worse off once unit `n` got wages
   pub wages_no_worse : AreNoWorse c wages_paid
   wages_no_worse k v there = richer_no_worse c n u money is k v there
 
 -- ---- one step
 
 module _ (w : WorldValue) (c : CampaignValue) (e : ℕ × ℕ) where
-  -- the work of a unit that is there gives it its wages
   pub worked_is : (u : Unit) (is : get c.units e.0 ≡ Some u) → after_work w c e ≡ wages_paid w c e.0 u (wages_for w u.region e.1) is
   unfolding after_work
   worked_is u is = unit_there c e.0 _ u is ∙ wages_are w c e.0 u (wages_for w u.region e.1) is
 
-  -- the work of a unit that can be paid keeps the campaign steady and its books balanced, and books only wages
   pub worked_well : CanWork w c e → LeavesWell IsSteady (work_moves holding_limit) w c (after_work w c e)
   worked_well can =
       subst (λ d. LeavesWell IsSteady (work_moves holding_limit) w c d) (sym (worked_is can.unit can.there))
       (wages_leave_well w c e.0 can.unit (wages_for w can.unit.region e.1) can.there can.fits can.steady)
 
-  -- the work of a unit that can be paid leaves the other units as they are
   pub worked_others : CanWork w c e → (k : ℕ) → k ≢ e.0 → get (after_work w c e).units k ≡ get c.units k
   worked_others can k apart =
       ap (λ (d : CampaignValue). get d.units k) (worked_is can.unit can.there)
       ∙ wages_leave_others w c e.0 can.unit (wages_for w can.unit.region e.1) can.there k apart
 
-  -- the work of one unit leaves no unit worse off
   pub worked_no_worse : AreNoWorse c (after_work w c e)
   unfolding after_work
   worked_no_worse =
       by_unit c e.0 (AreNoWorse c) _ (are_no_worse c) (λ u is.
       subst (λ d. AreNoWorse c d) (sym (wages_are w c e.0 u (wages_for w u.region e.1) is)) (wages_no_worse w c e.0 u (wages_for w u.region e.1) is))
 
--- the work of several units in turn leaves no unit worse off
 each_no_worse : (w : WorldValue) (c : CampaignValue) (es : List (ℕ × ℕ)) → AreNoWorse c (fold (after_work w) c es)
 each_no_worse w c [] = are_no_worse c
 each_no_worse w c (e ∷ es) = are_no_worse_twice c (after_work w c e) (fold (after_work w) (after_work w c e) es) (worked_no_worse w c e) (each_no_worse w (after_work w c e) es)
 
--- WORK leaves no unit worse off
 pub work_keeps_units : (w : WorldValue) (c : CampaignValue) (os : List Task) → AreNoWorse c (after_sharing work_pots w c os)
 unfolding after_sharing
 work_keeps_units w c os = each_no_worse w c (entries (given_by work_pots w c os))
@@ -149,11 +135,9 @@ abbrev pub HasRoomFor : WorldValue → CampaignValue → ℕ × ℕ → Type 0
 HasRoomFor w c e = (u : Unit) × (get c.units e.0 ≡ Some u) × (u.holding.money + wages_for w u.region e.1 ≤ holding_limit)
 
 module _ (w : WorldValue) where
-  -- the bound on what the work of one unit books
   abbrev step_moves : BookBound
   step_moves = work_moves holding_limit
 
-  -- units that are still to be paid keep their room for wages (`HasRoomFor`) when a unit with a lower number changes
   still : (c d : CampaignValue) (n : ℕ) (es : List (ℕ × ℕ)) → ((k : ℕ) → k ≢ n → get d.units k ≡ get c.units k) → AllByRecursion (λ f. n < f.0) es → AllByRecursion (HasRoomFor w c) es → AllByRecursion (HasRoomFor w d) es
   still c d n [] same above all = tt
   still c d n (f ∷ es) same above ((u, there, fits), all) = ((u, same f.0 (λ e. absurd (omega (arith, e, above.0))) ∙ there, fits), still c d n es same above.1 all)
@@ -166,7 +150,6 @@ module _ (w : WorldValue) where
       let well = worked_well w c e can in
       (can, work_in_turn (after_work w c e) es rise.1 well.leaves_it (later_room step_moves w c (after_work w c e) e es well room) (still c (after_work w c e) e.0 es (worked_others w c e can) rise.0 all))
 
-  -- a unit whose money is within the limit has room for the wages of as many work places as it wants
   wanted_fits : (u : Unit) (o : Option Terrain) (places : ℕ) → u.holding.money ≤ holding_limit → places ≤ work_want u o → u.holding.money + places * option_map_or (λ (t : Terrain). t.wage) o 0 ≤ holding_limit
   wanted_fits u None places fits low = omega (arith, fits)
   wanted_fits u (Some t) places fits low =
@@ -177,17 +160,14 @@ module _ (w : WorldValue) where
       omega (arith, split, cost, fits, mul_comm places t.wage)
 
   module _ (c : CampaignValue) (steady : IsSteady w c) (os : List Task) where
-    -- the numbers of the units that get work places, with their shares, sorted by unit
     abbrev shares : List (ℕ × ℕ)
     shares = entries (given_by work_pots w c os)
 
-    -- each unit that gets work places is there and has room for their wages
     each_fits : Every (λ n places. HasRoomFor w c (n, places)) (given_by work_pots w c os)
     each_fits n places is =
         let (u, o, there, own, low) = given_is_wanted work_pots w c (λ items. pots_give (places_at w) c) os n places is in
         (u, there, wanted_fits u (terrain_of w u.region) places (steady.numbers.units n u there).1.money low)
 
-    -- at most 100,000 units get work places, as many as there may be
     few : length shares ≤ most_units
     few = omega (arith, few_given work_pots w c (λ items. pots_give (places_at w) c) os, steady.numbers.few_units)
 
@@ -195,7 +175,6 @@ module _ (w : WorldValue) where
     little : (e : BooksEntry) (t : Thing) → moved_times (length shares) step_moves e t ≤ work_moves most_moved e t
     little e t = few_holdings (length shares) few Wages Money e t
 
-    -- all shares of WORK can be paid in turn, in a steady campaign whose books have room for the phase
     pub can_share_out : HaveRoom (work_moves most_moved) c → CanInTurn (CanWork w) (after_work w) c shares
     can_share_out room = work_in_turn c shares (entries_rise (given_by work_pots w c os)) steady (room_less (moved_times (length shares) step_moves) (work_moves most_moved) c little room) (all_pairs (HasRoomFor w c) shares (each-from_every (λ n places. HasRoomFor w c (n, places)) (given_by work_pots w c os) each_fits))
 

@@ -21,7 +21,7 @@ use Rattle.atl_campaign.proofs.GroupLaws.{filter_apart, filter_each}
 use Rattle.atl_records.proofs.EveryLaws.{each-from_every, get-insert_other, other_number, same_number}
 use Rattle.atl_campaign.proofs.MapOfRowsLaws.{each_follows}
 use Rattle.atl_phase.specs.Month.{MonthValue}
-use Rattle.atl_phase.specs.PhaseOrders.{Task, is_month_long, key_of, orders_by_unit, task_of}
+use Rattle.atl_phase.specs.PhaseOrders.{Task, is_month_long, key_of, orders_by_unit, task_of, sorted_by}
 use Rattle.atl_phase.specs.declared.phase_order.Arrangement.TheVariants.{ByUnit}
 use Rattle.atl_phase.specs.declared.phase_order.PhaseOrder.{PhaseOrder}
 use Rattle.atl_phase.proofs.MappedLaws.{no_entries}
@@ -30,11 +30,10 @@ use Rattle.atl_phase.specs.OrderEffects.{is_of_faction}
 use Rattle.atl_market.specs.Puts.{with_entries}
 use Rattle.atl_market.specs.Idle.{all_idle_orders, all_work, idle_order, own_unit, own_writers}
 use Rattle.atl_market.specs.Unordered.{has_own_order}
-use Rattle.atl_market.specs.Work.{idle_task, idle_work, is_idle, is_work, sorted_by_unit, work_orders, written_work}
+use Rattle.atl_market.specs.Work.{idle_task, idle_work, is_idle, is_work, work_orders, written_work}
 use Rattle.atl_market.proofs.PotLaws.{inserted_is_in, still_in_after_entries}
 use Rattle.atl_market.proofs.WantLaws.{appended_entries}
 
--- for `values_apart`: a test `b` that holds (`T b`) is equal to `true`
 is_so : (b : Bool) → T b → b ≡ true
 is_so true h = refl
 is_so false h = absurd h
@@ -42,11 +41,9 @@ is_so false h = absurd h
 -- ---- values that a map lists, each under its own key, differ in their keys
 
 module _ {K X : Type 0} (R : K → K → Ordering) (exact : IsAntisymmetric R) (key : X → K) where
-  -- each entry is under the key of its value
   abbrev AreKeyed : List (K × X) → Type 0
   AreKeyed = AllByRecursion (λ e. e.0 ≡ key e.1)
 
-  -- entries under the keys of their values stay so when a value is put in under its key
   keyed-put : (x : X) (es : List (K × X)) → AreKeyed es → AreKeyed (put R (key x) x es)
   keyed-put x [] all = (refl, tt)
   keyed-put x (e ∷ es) all =
@@ -56,26 +53,22 @@ module _ {K X : Type 0} (R : K → K → Ordering) (exact : IsAntisymmetric R) (
         | Greater ↦ λ _. (all.0, keyed-put x es all.1)
       ] refl
 
-  -- in the map of some values, each put in under its key, each entry is under the key of its value (`AreKeyed`)
   keyed-listed : IsTotalOrder R → (xs : List X) → AreKeyed (entries (from_entries {R = R} (map (λ x. (key x, x)) xs)))
   keyed-listed o [] = subst AreKeyed (sym (no_entries R)) tt
   keyed-listed o (x ∷ xs) =
       subst AreKeyed (sym (entries-insert o (from_entries (map (λ x. (key x, x)) xs)) (key x) x)) (keyed-put x (entries (from_entries (map (λ x. (key x, x)) xs))) (keyed-listed o xs))
 
-  -- for `others`: an ordering that is Less isn't Equal
   apart_of : (o : Ordering) → is_lt o ≡ true → is_eq o ≡ false
   apart_of Less h = refl
   apart_of Equal h = absurd (false≢true h)
   apart_of Greater h = refl
 
-  -- the values of entries with keys above that of `x` have another key than `x`
   others : (x : X) (k : K) (es : List (K × X)) → k ≡ key x → below_all R k es ≡ true → AreKeyed es → AllByRecursion (λ y. eq_by_cmp R (key x) (key y) ≡ false) (map (λ e. e.1) es)
   others x k [] is low all = tt
   others x k (e ∷ es) is low all =
       let parts = and_parts _ _ low in
       (ap is_eq (λ i. R (sym is i) (sym all.0 i)) ∙ apart_of (R k e.0) parts.0, others x k es is parts.1 all.1)
 
-  -- the values of sorted entries, each under its own key, differ in their keys
   listed_apart : (es : List (K × X)) → is_sorted R es ≡ true → AreKeyed es → IsDistinct (λ x y. eq_by_cmp R (key x) (key y)) (map (λ e. e.1) es)
   unfolding IsDistinct
   listed_apart [] up all = tt
@@ -91,30 +84,24 @@ module _ {K X : Type 0} (R : K → K → Ordering) (exact : IsAntisymmetric R) (
 abbrev work_key : Task → List ℕ
 work_key = key_of ByUnit
 
--- whether two orders have the same key
 abbrev pub have_same_key : Task → Task → Bool
 have_same_key a b = eq_by_cmp (slice_cmp nat_cmp) (work_key a) (work_key b)
 
--- if `have_same_key` says that two orders have the same key, their keys are equal
 keys_tie : (a b : Task) → have_same_key a b ≡ true → work_key a ≡ work_key b
 keys_tie a b h = slice_cmp-IsAntisymmetric nat_cmp-IsAntisymmetric (work_key a) (work_key b) ((Equal-is (slice_cmp nat_cmp (work_key a) (work_key b))).0 h)
 
--- two orders that aren't both for one unit and from one faction differ in their keys
 other_orders_differ_in_key : (a b : Task) → (a.unit ≡ b.unit → a.faction ≡ b.faction → ⊥) → have_same_key a b ≡ false
 other_orders_differ_in_key a b differ = false_from_ne_true (have_same_key a b) (λ h. let e = keys_tie a b h in differ (ap (λ k. get_or k 0 0) e) (ap (λ k. get_or k 2 0) e))
 
--- no two month-long orders have the same key
 pub month_long_keys_differ : (m : MonthValue) → IsDistinct have_same_key (orders_by_unit is_month_long m)
 month_long_keys_differ m = values_apart (slice_cmp nat_cmp) (slice_cmp-IsAntisymmetric nat_cmp-IsAntisymmetric) (key_of ByUnit) nat_list_cmp_total _
 
 -- ---- the units that have an order of their own faction
 
 module _ (c : CampaignValue) where
-  -- if an order is from its unit's own faction, the unit is in the map of writers
   abbrev IsAmongWriters : FinMap nat_cmp ℕ → Task → Type 0
   IsAmongWriters writers o = is_of_faction o.faction (get c.units o.unit) ≡ true → is_some (get writers o.unit) ≡ true
 
-  -- after the writers of some orders are put into a map, it has the unit of each order from the unit's own faction
   own_is_listed : (m : FinMap nat_cmp ℕ) (os : List Task) → AllByRecursion (IsAmongWriters (with_entries m (flat_map (own_unit c) os))) os
   own_is_listed m [] = tt
   own_is_listed m (o ∷ os) =
@@ -127,19 +114,14 @@ module _ (c : CampaignValue) where
   -- ---- the work of units without an order
 
   module _ (os : List Task) where
-    -- the map of the units that have an order of their own faction
     abbrev writers : FinMap nat_cmp ℕ
     writers = own_writers c os
 
     -- an order is the work of a unit that is there and isn't in the map of writers, and is from the unit's own faction
     pub record IsIdle (o : Task) : Type 0 where
-      -- the unit that the order is for
       pub unit : Unit
-      -- the unit is in the campaign, under the number that the order names
       pub there : get c.units o.unit ≡ Some unit
-      -- the order is from the unit's own faction
       pub own : o.faction ≡ unit.faction
-      -- the unit isn't in the map of those that have an order of their own faction
       pub unordered : is_some (get writers o.unit) ≡ false
 
     -- the order of WORK that the code adds for unit n, if it adds one, is `IsIdle`: n is there, the order is of n's own
@@ -148,17 +130,13 @@ module _ (c : CampaignValue) where
     idle_if n u true is there = (record { unit = u; there = there; own = refl; unordered = not-true _ (and_parts _ _ is).1 }, tt)
     idle_if n u false is there = tt
 
-    -- the work that the code adds for some units is the work of units without an order (`IsIdle`)
     idle_each : (es : List (ℕ × Unit)) → EachEntry (λ n u. get c.units n ≡ Some u) es → AllByRecursion IsIdle (flat_map (idle_order writers) es)
     idle_each [] h = tt
     idle_each ((n, u) ∷ es) h = append_each IsIdle (idle_order writers (n, u)) (flat_map (idle_order writers) es) (idle_if n u _ refl h.0) (idle_each es h.1)
 
-    -- each order of WORK that the code adds is from its unit's own faction, which wrote none of `os` for the unit
-    -- (`IsIdle`)
     each_idle : AllByRecursion IsIdle (all_idle_orders c os)
     each_idle = idle_each (entries c.units) (each-from_every (λ n u. get c.units n ≡ Some u) c.units (λ n u is. is))
 
-    -- the order of WORK that the code adds for a unit, if it adds one, is for that unit
     of_unit : (e : ℕ × Unit) → AllByRecursion (λ o. o.unit ≡ e.0) (idle_order writers e)
     of_unit (n, u) = elim (nat_lt 0 u.holding.men && not (is_some (get writers n))) as (λ b. AllByRecursion (λ (o : Task). o.unit ≡ n) (cond b (idle_task n u.faction ∷ []) [])) [ true ↦ (refl, tt) | false ↦ tt ]
 
@@ -167,7 +145,6 @@ module _ (c : CampaignValue) where
     unfolding IsDistinct
     just_one (n, u) = elim (nat_lt 0 u.holding.men && not (is_some (get writers n))) as (λ b. IsDistinct have_same_key (cond b (idle_task n u.faction ∷ []) [])) [ true ↦ (tt, tt) | false ↦ tt ]
 
-    -- no two of the orders that the code adds for units without an order have the same key
     idle_apart : IsDistinct have_same_key (all_idle_orders c os)
     idle_apart =
         flat_apart have_same_key (idle_order writers) (λ (e f : ℕ × Unit). e.0 < f.0) (λ e o. o.unit ≡ e.0)
@@ -175,11 +152,9 @@ module _ (c : CampaignValue) where
 
     -- ---- written orders, and the added ones
 
-    -- for `written_idle`: equal numbers pass the test for equality
     same_faction : (a b : ℕ) → a ≡ b → (a == b) ≡ true
     same_faction a b e = grind (arith, nat_tests)
 
-    -- a written order and one that is added for a unit without an order differ in their keys
     written_idle : (o i : Task) → IsAmongWriters writers o → IsIdle i → have_same_key o i ≡ false
     written_idle o i listed idle =
         other_orders_differ_in_key o i (λ unit faction.
@@ -187,7 +162,6 @@ module _ (c : CampaignValue) where
         let own : is_of_faction o.faction (get c.units o.unit) ≡ true = ap (is_of_faction o.faction) there ∙ same_faction idle.unit.faction o.faction (sym idle.own ∙ sym faction) in
         false≢true (sym (ap (λ n. is_some (get writers n)) unit ∙ idle.unordered) ∙ listed own))
 
-    -- no two of the orders of WORK, written or not, have the same key
     pub work_apart : IsDistinct have_same_key os → IsDistinct have_same_key (all_work c os)
     work_apart apart =
         let chosen = filter (λ (o : Task). is_work o.order_value.verb) os in
@@ -205,28 +179,23 @@ writes_own c (o ∷ os) n u is m =
     ap (λ (k : FinMap nat_cmp ℕ). is_some (get k n)) (appended_entries m (own_unit c o) (flat_map (own_unit c) os))
     ∙ writes_own c os n u is (with_entries m (own_unit c o)) ∙ ap (λ b. has_own_order os n u || b) one ∙ swapped (has_own_order os n u) (o.unit == n && o.faction == u.faction) (is_some (get m n))
   where
-    -- for `writes_own`: whether one of three tests holds doesn't depend on the order of the tests
     swapped : (a b d : Bool) → (a || (b || d)) ≡ ((b || a) || d)
     swapped true true d = refl
     swapped true false d = refl
     swapped false true d = refl
     swapped false false d = refl
 
-    -- the unit of an order for unit `n` is of the order's faction exactly if the faction of `u` is that faction
     here : o.unit ≡ n → is_of_faction o.faction (get c.units o.unit) ≡ (u.faction == o.faction)
     here same = ap (λ k. is_of_faction o.faction (get c.units k)) same ∙ ap (is_of_faction o.faction) is
 
-    -- unit `n` is among the writers after an order for it exactly if its own faction wrote that (`b`), or it was before
     put_for : (b : Bool) → o.unit ≡ n → is_some (get (with_entries m (cond b ((o.unit, o.faction) ∷ []) [])) n) ≡ (b || is_some (get m n))
     put_for true same = ap (λ k. is_some (get (insert m o.unit o.faction) k)) (sym same) ∙ inserted_is_in m o.unit o.faction
     put_for false same = refl
 
-    -- an order for another unit changes nothing in the map of writers under `n`
     put_elsewhere : (b : Bool) → n ≢ o.unit → get (with_entries m (cond b ((o.unit, o.faction) ∷ []) [])) n ≡ get m n
     put_elsewhere true apart = get-insert_other m o.unit n o.faction apart
     put_elsewhere false apart = refl
 
-    -- after an order unit `n` is among the writers exactly if its own faction wrote the order for it, or it was before
     one : is_some (get (with_entries m (own_unit c o)) n) ≡ ((o.unit == n && o.faction == u.faction) || is_some (get m n))
     one = elim (cases_eq n o.unit) [
       | inl same ↦
@@ -237,37 +206,30 @@ writes_own c (o ∷ os) n u is m =
           ∙ sym (ap (λ b. (b && o.faction == u.faction) || is_some (get m n)) (other_number o.unit n (λ same. apart (sym same))))
     ]
 
--- a unit is in the map of writers exactly if its own faction wrote one of the orders for it
 is_writer : (c : CampaignValue) (os : List Task) (n : ℕ) (u : Unit) → get c.units n ≡ Some u → is_some (get (own_writers c os) n) ≡ has_own_order os n u
 is_writer c os n u is = writes_own c os n u is empty ∙ ap (λ o. has_own_order os n u || is_some o) (get-empty nat_cmp n) ∙ or_false (has_own_order os n u)
   where
-    -- for `is_writer`: a test or false is the test
     or_false : (b : Bool) → (b || false) ≡ b
     or_false true = refl
     or_false false = refl
 
 module _ (c : CampaignValue) (ts : List Task) where
-  -- the orders of WORK that are defined for those of some units for which their own faction wrote none
   abbrev of_idle : List (ℕ × Unit) → List Task
   of_idle es = map (λ e. idle_task e.0 e.1.faction) (filter (is_idle ts) es)
 
-  -- the order of WORK that the code adds for a unit, if it adds one, is the one that `is_idle` and `idle_task` define
   one_idle : (n : ℕ) (u : Unit) → get c.units n ≡ Some u → idle_order (own_writers c ts) (n, u) ≡ cond (is_idle ts (n, u)) (idle_task n u.faction ∷ []) []
   one_idle n u is = ap (λ b. cond (nat_lt 0 u.holding.men && not b) (idle_task n u.faction ∷ []) []) (is_writer c ts n u is)
 
-  -- the orders of WORK that the code adds for some units are those that are defined for them (`of_idle`)
   idle_are : (es : List (ℕ × Unit)) → EachEntry (λ n u. get c.units n ≡ Some u) es → flat_map (idle_order (own_writers c ts)) es ≡ of_idle es
   idle_are [] h = refl
   idle_are ((n, u) ∷ es) h =
       ap (λ os. os ++ flat_map (idle_order (own_writers c ts)) es) (one_idle n u h.0)
       ∙ ap (λ os. cond (is_idle ts (n, u)) (idle_task n u.faction ∷ []) [] ++ os) (idle_are es h.1) ∙ by_test (is_idle ts (n, u))
     where
-      -- the orders defined for the units have one more for unit `n` in front, exactly if the unit is idle (`b`)
       by_test : (b : Bool) → cond b (idle_task n u.faction ∷ []) [] ++ of_idle es ≡ map (λ e. idle_task e.0 e.1.faction) (cond b ((n, u) ∷ filter (is_idle ts) es) (filter (is_idle ts) es))
       by_test true = refl
       by_test false = refl
 
-  -- the code's list of all orders of WORK is the written ones and those that `idle_work` defines
   pub all_are : all_work c ts ≡ written_work ts ++ idle_work c ts
   all_are = ap (λ os. written_work ts ++ os) (idle_are (entries c.units) (each-from_every (λ n u. get c.units n ≡ Some u) c.units (λ n u is. is)))
 
@@ -277,4 +239,4 @@ unfolding work_orders
 work_sorted c m os list are moved up =
     let ts = orders_by_unit is_month_long m in
     listed_tasks (key_of ByUnit) os list (all_work c ts) are (work_apart c ts (month_long_keys_differ m)) moved up
-    ∙ ap sorted_by_unit (all_are c ts)
+    ∙ ap (sorted_by (key_of ByUnit)) (all_are c ts)

@@ -1,7 +1,6 @@
 -- The laws that SELL, BUY, TAX, RECRUIT, PRODUCE and WORK change all units and regions at once.
 -- See docs/RULES.md, "Pots".
 use Rattle.std.specs.Prelude.{◌+◌, ◌-◌, ◌*◌, ℕ, List, Option}
-use Rattle.std.specs.List.{slice_get}
 use Rattle.std.specs.Option.{option_map_or}
 use Rattle.std.specs.FinMap.{get}
 use Rattle.atl_world.specs.Worlds.{IsWorld, WorldValue}
@@ -13,7 +12,7 @@ use Rattle.atl_campaign.specs.Campaign.{CampaignValue}
 use Rattle.atl_phase.specs.PhaseOrders.{Task}
 use Rattle.atl_market.specs.AtOnce.{PaysAtOnce, PaysItemsAtOnce, RegionChange, UnitChange, unchanged_region}
 use Rattle.atl_market.specs.PotPhase.{items_by}
-use Rattle.atl_market.specs.Produce.{produce_pots}
+use Rattle.atl_market.specs.Produce.{numbered_item, produce_pots}
 use Rattle.atl_market.specs.Recruit.{recruit_pots, with_paid_recruits}
 use Rattle.atl_market.specs.Tax.{tax_pots}
 use Rattle.atl_market.specs.Trade.{market_for, trade_pots}
@@ -47,9 +46,10 @@ stock_after Buy stock traded = stock - traded
 -- reverse.
 abbrev pub TradesAtOnce : Type 0
 TradesAtOnce =
-    (trade : Trade) (w : WorldValue) (c : CampaignValue) (os : List Task) → IsWorld w
-    → PaysItemsAtOnce (trade_pots trade) w (get (items_by (trade_pots trade) w c os))
-    (λ n u share. trader_of trade u share (market_for w u (get (items_by (trade_pots trade) w c os) n))) (stock_after trade) c os
+    (trade : Trade) (w : WorldValue) (c : CampaignValue) (os : List Task) → IsWorld w →
+    let item_of = get (items_by (trade_pots trade) w c os) in
+    PaysItemsAtOnce (trade_pots trade) w item_of (λ n u share. trader_of trade u share (market_for w u (item_of n)))
+    (stock_after trade) c os
 
 -- a unit with its share of money added to its own
 abbrev pub with_more_money : UnitChange
@@ -98,14 +98,15 @@ maker_of u made item x =
 
 -- a unit that made `made` pieces of the item that its order names (`asked`); as it was where the world has no such item
 abbrev pub unit_after_production : WorldValue → Unit → (made : ℕ) → Option ℕ → Unit
-unit_after_production w u made asked = option_map_or (λ i. option_map_or (maker_of u made i) (slice_get w.items i) u) asked u
+unit_after_production w u made asked = option_map_or (λ e. maker_of u made e.0 e.1) (numbered_item w asked) u
 
 -- The law that all units make items by PRODUCE at once. Each gains the pieces that it made and loses the raw items that
 -- they take, and no region changes.
 abbrev pub ProducesAtOnce : Type 0
 ProducesAtOnce =
-    (w : WorldValue) (c : CampaignValue) (os : List Task)
-    → PaysAtOnce produce_pots w (λ n u made. unit_after_production w u made (get (items_by produce_pots w c os) n)) unchanged_region c os
+    (w : WorldValue) (c : CampaignValue) (os : List Task) →
+    let item_of = get (items_by produce_pots w c os) in
+    PaysAtOnce produce_pots w (λ n u made. unit_after_production w u made (item_of n)) unchanged_region c os
 
 -- The law that all units are paid for WORK at once. Each has the wages of its places added to its money, and no region
 -- changes.

@@ -1,6 +1,6 @@
 -- Pots of items: the units of a region that ask for the same item share what the region has of it.
 -- See docs/RULES.md, "Pots".
-use Rattle.std.specs.Prelude.{◌==◌, ℕ, Bool, false, Option, option_and_then, option_map}
+use Rattle.std.specs.Prelude.{◌==◌, ℕ, Bool, false, Option, Some, None, option_map}
 use Rattle.std.specs.List.{filter_map}
 use Rattle.std.specs.Option.{option_map_or}
 use Rattle.std.specs.Ordering.{nat_cmp}
@@ -18,13 +18,15 @@ module _ (item_of : ℕ → Option ℕ) where
   wants_for wants item = retain_keys wants (λ number. asks_for_item item (item_of number))
 
   module _ (pot_of : (item region : ℕ) → ℕ) (wants : FinMap nat_cmp ℕ) (c : CampaignValue) where
-    -- The share that a unit, by its number, gets of what its region has of the item that it asks for, if it asks for
-    -- one.
+    -- the share that a unit, by its number, gets of what its region has of an item; None where no item is given
+    abbrev pub share_for : ℕ → Option ℕ → Option ℕ
+    share_for number None = None
+    share_for number (Some item) = share_of (pot_of item) (wants_for wants item) c number
+
+    -- the share that a unit, by its number, gets of the item that it asks for
     abbrev pub item_share : ℕ → Option ℕ
-    item_share number =
-        option_and_then (λ item. share_of (pot_of item) (wants_for wants item) c number) (item_of number)
+    item_share number = share_for number (item_of number)
 
     -- a map, by unit, of the shares of all units that have a want and get a share
     abbrev pub item_shares : FinMap nat_cmp ℕ
-    item_shares =
-        from_entries (filter_map (λ e. option_map (λ share. (e.0, share)) (item_share e.0)) (entries wants))
+    item_shares = from_entries (filter_map (λ e. option_map (λ share. (e.0, share)) (item_share e.0)) (entries wants))

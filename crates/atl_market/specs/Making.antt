@@ -18,30 +18,20 @@ use Rattle.atl_market.specs.Produce.{produce_moves, with_raw_used}
 
 -- unit `n` can use `amount` of item `i`: it is there and holds enough, and the books have room for it
 pub record CanUse (w : WorldValue) (c : CampaignValue) (n i amount : ℕ) : Type 0 where
-  -- the unit under the number `n`
   pub unit : Unit
-  -- the unit is in the campaign, under the number `n`
   pub there : get c.units n ≡ Some unit
-  -- the item is one of the world's items
   pub known : i < length w.items
-  -- the unit holds at least `amount` of the item
   pub enough : amount ≤ amount_of unit.holding.items i
-  -- the campaign is steady
   pub steady : IsSteady w c
   -- the books have room for a use of `amount` of the item
   pub room : HasRoom amount (amount_in c.books Used (things.Item i))
 
 -- unit `n` can make `amount` of item `i`: it is there and has room for it, and so have the books
 pub record CanMake (w : WorldValue) (c : CampaignValue) (n i amount : ℕ) : Type 0 where
-  -- the unit under the number `n`
   pub unit : Unit
-  -- the unit is in the campaign, under the number `n`
   pub there : get c.units n ≡ Some unit
-  -- the item is one of the world's items
   pub known : i < length w.items
-  -- the unit holds at most 999,999,999 of the item with `amount` more of it
   pub fits : amount_of unit.holding.items i + amount ≤ holding_limit
-  -- the campaign is steady
   pub steady : IsSteady w c
   -- the books have room for `amount` more of the item made
   pub room : HasRoom amount (amount_in c.books Made (things.Item i))
@@ -57,9 +47,7 @@ pub record CanMakeOf (w : WorldValue) (c : CampaignValue) (n made i : ℕ) (x : 
 
 -- a unit has room for `made` of item `i`, and holds the raw items for them
 pub record HasRoomAndRaw (w : WorldValue) (u : Unit) (made i : ℕ) (x : Item) : Type 0 where
-  -- the item is one of the world's items
   pub known : i < length w.items
-  -- the unit holds at most 999,999,999 of the item with the `made` pieces added
   pub fits : amount_of u.holding.items i + made ≤ holding_limit
   -- the raw item, if one goes into the item, is one of the world's items
   pub raw_known : (r : ℕ) → x.raw ≡ Some r → r < length w.items
@@ -69,13 +57,10 @@ pub record HasRoomAndRaw (w : WorldValue) (u : Unit) (made i : ℕ) (x : Item) :
 -- The unit of a pair (unit, share) can make its share of its item. It is there, and has room and raw items for the
 -- share. The books have room for 999,999,999 of each item made, and as much used.
 pub record CanProduce (asked : FinMap nat_cmp ℕ) (w : WorldValue) (c : CampaignValue) (e : ℕ × ℕ) : Type 0 where
-  -- the unit under the number of the pair
   pub unit : Unit
-  -- the unit is in the campaign, under the number of the pair
   pub there : get c.units e.0 ≡ Some unit
   -- the unit has room and raw items for its share of the item that it asks for, if the world has this item
   pub fits : (i : ℕ) (x : Item) → get asked e.0 ≡ Some i → slice_get w.items i ≡ Some x → HasRoomAndRaw w unit e.1 i x
-  -- the campaign is steady
   pub steady : IsSteady w c
   -- the books have room for 999,999,999 of each item made, and as much of each used
   pub room : HaveRoom (produce_moves holding_limit) c

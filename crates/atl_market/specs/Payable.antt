@@ -13,30 +13,23 @@ use Rattle.atl_market.specs.Work.{wages_for, work_moves}
 
 -- unit `n` is in the campaign, and so is the region that it is in (`around`)
 pub record IsSomewhere (c : CampaignValue) (n : ℕ) : Type 0 where
-  -- the unit under the number `n`
   pub unit : Unit
-  -- the unit is in the campaign, under the number `n`
   pub there : get c.units n ≡ Some unit
-  -- the region that the unit is in
   pub region : Region
-  -- the region is in the campaign, under the number of the unit's region
   pub around : get c.regions unit.region ≡ Some region
 
 -- the unit of a pair (unit, share) can take its share of tax: it has room for the money, and its region has it
 pub record CanTax (w : WorldValue) (c : CampaignValue) (e : ℕ × ℕ) : Type 0 where
-  -- the unit of the pair and its region are in the campaign
   pub at : IsSomewhere c e.0
   -- the unit has at most 999,999,999 money with its share added
   pub fits : at.unit.holding.money + e.1 ≤ holding_limit
   -- the region has at least as much money as the share
   pub enough : e.1 ≤ at.region.money
-  -- the campaign is early
   pub early : IsEarly w c
 
 -- The unit of a pair (unit, share) can get its share of recruits. It has the money and room for the men, its region has
 -- the peasants, and the books have room.
 pub record CanRecruit (w : WorldValue) (c : CampaignValue) (e : ℕ × ℕ) : Type 0 where
-  -- the unit of the pair and its region are in the campaign
   pub at : IsSomewhere c e.0
   -- the unit has at most 999,999 men with its recruits added
   pub fits : at.unit.holding.men + e.1 ≤ men_limit
@@ -44,20 +37,16 @@ pub record CanRecruit (w : WorldValue) (c : CampaignValue) (e : ℕ × ℕ) : Ty
   pub payable : e.1 * w.rules.recruit_price ≤ at.unit.holding.money
   -- the region has at least as many peasants as recruits join the unit
   pub enough : e.1 ≤ at.region.peasants
-  -- the campaign is early
   pub early : IsEarly w c
   -- the books have room for 999,999,999 money paid for recruits
   pub room : HaveRoom (recruit_moves holding_limit) c
 
 -- the unit of a pair (unit, share) can be paid for its work places: it is there, and it and the books have room
 pub record CanWork (w : WorldValue) (c : CampaignValue) (e : ℕ × ℕ) : Type 0 where
-  -- the unit under the number of the pair
   pub unit : Unit
-  -- the unit is in the campaign, under the number of the pair
   pub there : get c.units e.0 ≡ Some unit
   -- the unit has at most 999,999,999 money with the wages of its work places added
   pub fits : unit.holding.money + wages_for w unit.region e.1 ≤ holding_limit
-  -- the campaign is steady
   pub steady : IsSteady w c
   -- the books have room for 999,999,999 money of wages
   pub room : HaveRoom (work_moves holding_limit) c

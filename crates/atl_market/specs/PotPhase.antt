@@ -2,7 +2,6 @@
 -- it is read from the campaign as the phase began. See docs/RULES.md, "Pots".
 use Rattle.std.specs.Prelude.{ℕ, Bool, List, map, reverse, Option, Some, None, option_map, unwrap_or, Result, Ok, Err, if◌then◌else◌}
 use Rattle.std.specs.List.{filter_map, fold}
-use Rattle.std.specs.Option.{option_map_or}
 use Rattle.std.specs.Result.{is_ok, result_ok}
 use Rattle.std.specs.Ordering.{nat_cmp}
 use Rattle.std.specs.FinMap.{FinMap, entries, from_entries, get}
@@ -57,14 +56,23 @@ pub record PotMeaning : Type 0 where
 abbrev pub by_unit : List (ℕ × ℕ) → FinMap nat_cmp ℕ
 by_unit es = from_entries (reverse es)
 
+-- a unit without a fault, or the fault
+abbrev pub unless_fault : Option EventFault → Unit → Result Unit EventFault
+unless_fault None u = Ok u
+unless_fault (Some fault) u = Err fault
+
 module _ (p : PotMeaning) (w : WorldValue) (c : CampaignValue) where
   -- ---- who takes part
 
-  -- The unit that carries an order out, or the order's fault: NotYours where the unit isn't there or isn't of the
-  -- order's faction, else the phase's own fault (`fault`).
+  -- the unit of the order's faction that carries the order out, or the fault that the phase finds; NotYours without a
+  -- unit
+  abbrev pub carrier_of : Task → Option Unit → Result Unit EventFault
+  carrier_of t None = Err NotYours
+  carrier_of t (Some u) = unless_fault (p.fault w u t) u
+
+  -- the unit that carries an order out, or the order's fault
   unfoldable pub unit_for : Task → Result Unit EventFault
-  unit_for t =
-      option_map_or (λ u. option_map_or Err (p.fault w u t) (Ok u)) (of_faction t.faction (get c.units t.unit)) (Err NotYours)
+  unit_for t = carrier_of t (of_faction t.faction (get c.units t.unit))
 
   -- the number of the unit that carries an order out, with what it wants; none where the order has a fault
   abbrev pub want_by : Task → Option (ℕ × ℕ)

@@ -1,6 +1,6 @@
 -- PRODUCE: units make items out of raw items, or out of what the terrain of their region gives.
 -- See docs/RULES.md, "Producing".
-use Rattle.std.specs.Prelude.{◌-◌, ◌*◌, ◌/◌, ◌==◌, ℕ, Bool, true, false, map, min, nat_lt, Option, Some, None, is_some, option_and_then, unwrap_or, if◌then◌else◌, [], ◌∷◌}
+use Rattle.std.specs.Prelude.{◌-◌, ◌*◌, ◌/◌, ◌==◌, ℕ, Bool, true, false, map, min, nat_lt, Option, Some, None, is_some, option_and_then, option_map, unwrap_or, if◌then◌else◌, [], ◌∷◌}
 use Rattle.std.specs.List.{slice_get}
 use Rattle.std.specs.Ordering.{nat_cmp}
 use Rattle.std.specs.Option.{option_map_or}
@@ -35,6 +35,10 @@ is_produce verb = false
 abbrev pub item_of : WorldValue → Option ℕ → Option Item
 item_of w asked = option_and_then (slice_get w.items) asked
 
+-- the number that an order names, with the world's item under it, if there is one
+abbrev pub numbered_item : WorldValue → Option ℕ → Option (ℕ × Item)
+numbered_item w asked = option_and_then (λ i. option_map (λ x. (i, x)) (slice_get w.items i)) asked
+
 -- ---- how much a unit can make
 
 -- how many pieces of an item a unit's raw items allow, at `count` each, up to `most`; `most` where no raw item goes in
@@ -49,13 +53,17 @@ most_makeable_of h i x =
 
 -- the most that a unit can make of the item that its order names; 0 where that is no item of the world
 abbrev pub most_makeable : WorldValue → HoldingValue → Option ℕ → ℕ
-most_makeable w h asked = option_map_or (λ i. option_map_or (most_makeable_of h i) (slice_get w.items i) 0) asked 0
+most_makeable w h asked = option_map_or (λ e. most_makeable_of h e.0 e.1) (numbered_item w asked) 0
 
 -- ---- what the terrains give
 
+-- whether a raw item goes into the item that an order names; true where that is no item of the world
+abbrev pub takes_raw : WorldValue → Option ℕ → Bool
+takes_raw w asked = option_map_or (λ x. is_some x.raw) (item_of w asked) true
+
 -- the item that a unit makes out of what its region gives: the one that its order names, if no raw item goes into it
 abbrev pub output_item : WorldValue → FinMap nat_cmp ℕ → ℕ → Option ℕ
-output_item w asked n = option_and_then (λ x. if is_some x.raw then None else get asked n) (item_of w (get asked n))
+output_item w asked n = if takes_raw w (get asked n) then None else get asked n
 
 -- how much of an item a region's terrain gives
 abbrev pub output_at : WorldValue → (item region : ℕ) → ℕ
@@ -68,11 +76,11 @@ output_share w asked c wants n = item_share (output_item w asked) (output_at w) 
 
 -- ---- who makes how much
 
--- How much a unit makes, by its number and its want: its share of what its region gives of the item, or, out of raw
--- items, all that it wants.
+-- how much a unit makes, by its number and its want: out of raw items all that it wants, else its share of what its
+-- region gives of the item
 abbrev pub amount_made : WorldValue → FinMap nat_cmp ℕ → CampaignValue → FinMap nat_cmp ℕ → ℕ × ℕ → ℕ
 amount_made w asked c wants (n, want) =
-    if is_some (output_item w asked n) then unwrap_or (output_share w asked c wants n) 0 else want
+    if takes_raw w (get asked n) then want else unwrap_or (output_share w asked c wants n) 0
 
 -- how much each unit that has a want makes, by unit
 abbrev pub made_amounts : FinMap nat_cmp ℕ → WorldValue → CampaignValue → FinMap nat_cmp ℕ → FinMap nat_cmp ℕ
@@ -91,7 +99,7 @@ with_item_made c n made i x = with_made (with_raw_used c n (made * x.raw_count) 
 -- a campaign after a unit, by its number, made `made` pieces of the item that its order names
 unfoldable pub after_production : FinMap nat_cmp ℕ → WorldValue → CampaignValue → ℕ × ℕ → CampaignValue
 after_production asked w c (n, made) =
-    option_map_or (λ i. option_map_or (with_item_made c n made i) (slice_get w.items i) c) (get asked n) c
+    option_map_or (λ e. with_item_made c n made e.0 e.1) (numbered_item w (get asked n)) c
 
 -- ---- the faults
 

@@ -35,17 +35,13 @@ PotAllowsShare Buy stock share (Some m) = share ≤ stock
 
 -- the conditions on a market's numbers: its two prices are at least 1, and its limit is at most 999,999,999
 pub record IsPriced (m : Market) : Type 0 where
-  -- the money that a unit pays for a piece is at least 1
   pub price : 1 ≤ m.price
-  -- the money that the market pays for a piece is at least 1
   pub pays : 1 ≤ m.pays
-  -- the largest stock of the market is at most 999,999,999
   pub limit : m.limit ≤ most_amount
 
 -- The unit of a pair (unit, share) can trade its share of its order's item: it can afford it, and the market's pot and
 -- the books allow it.
 pub record CanTrade (trade : Trade) (items : FinMap nat_cmp ℕ) (w : WorldValue) (c : CampaignValue) (e : ℕ × ℕ) : Type 0 where
-  -- the unit of the pair and its region are in the campaign
   pub at : IsSomewhere c e.0
   -- the unit can trade its share with the market of its order's item; without a market the share is 0
   pub deal : CanAfford trade at.unit.holding e.1 (market_for w at.unit (get items e.0))
@@ -53,18 +49,14 @@ pub record CanTrade (trade : Trade) (items : FinMap nat_cmp ℕ) (w : WorldValue
   pub pot :
       (m : Market) → market_for w at.unit (get items e.0) ≡ Some m
       → PotAllowsShare trade (amount_of at.region.stocks m.item) e.1 (Some m)
-  -- the world keeps the rules of worlds
   pub world : IsWorld w
-  -- the campaign is early
   pub early : IsEarly w c
   -- the books have room for 999,999,999 money of the trade, sold or bought
   pub room : HaveRoom (trade_moves trade holding_limit) c
 
 -- the result of a trade is within the limits of unit `n`, which is there, and the books have room for it
 pub record CanBookTrade (c : CampaignValue) (n : ℕ) (entry : BooksEntry) (d : TradeResult) : Type 0 where
-  -- the unit under the number `n`
   pub unit : Unit
-  -- the unit is in the campaign, under the number `n`
   pub there : get c.units n ≡ Some unit
   -- the trade leaves the unit at most 999,999,999 money
   pub money : d.money ≤ holding_limit

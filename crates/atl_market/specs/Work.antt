@@ -1,9 +1,7 @@
 -- WORK: units share the work places of their region's terrain, and each place pays the wage. See docs/RULES.md, "Work".
 use Rattle.std.specs.Prelude.{◌+◌, ◌-◌, ◌*◌, ◌/◌, ◌==◌, ◌&&◌, ◌++◌, ℕ, pos, Bool, true, false, List, [], ◌∷◌, map, filter, min, nat_lt, Option, not}
 use Rattle.std.specs.Option.{option_map_or}
-use Rattle.std.specs.Ordering.{nat_cmp}
-use Rattle.std.specs.Cmp.Lexicographic.{slice_cmp}
-use Rattle.std.specs.FinMap.{entries, from_entries, values}
+use Rattle.std.specs.FinMap.{entries}
 use Rattle.atl_world.specs.Worlds.{WorldValue}
 use Rattle.atl_world.specs.declared.world.Terrain.{Terrain}
 use Rattle.atl_world.specs.ByNumber.{terrain_of}
@@ -20,7 +18,7 @@ use Rattle.atl_records.specs.Limits.{holding_limit}
 use Rattle.atl_campaign.specs.Campaign.{CampaignValue, with_booking, with_money}
 use Rattle.atl_phase.specs.Month.{MonthValue}
 use Rattle.atl_phase.specs.Meaning.{BookBound, Meaning, moves_only}
-use Rattle.atl_phase.specs.PhaseOrders.{Task, is_month_long, key_of, orders_by_unit}
+use Rattle.atl_phase.specs.PhaseOrders.{Task, is_month_long, key_of, orders_by_unit, sorted_by}
 use Rattle.atl_phase.specs.NoWorse.{all_no_worse}
 use Rattle.atl_phase.specs.declared.phase_order.Arrangement.TheVariants.{ByUnit}
 use Rattle.atl_phase.specs.Outcomes.{first_fault}
@@ -53,16 +51,12 @@ is_work verb = false
 abbrev pub written_work : List Task → List Task
 written_work ts = filter (λ t. is_work t.order_value.verb) ts
 
--- orders sorted by unit, line and faction, as the orders of a phase are
-abbrev pub sorted_by_unit : List Task → List Task
-sorted_by_unit ts = values (from_entries {R = slice_cmp nat_cmp} (map (λ t. (key_of ByUnit t, t)) ts))
-
--- The orders of the phase WORK: the month-long ones that are WORK, and one for each unit with men without a month-long
--- order.
+-- The orders of the phase WORK, sorted as those of other phases: the month-long ones that are WORK, and one for each
+-- unit with men without a month-long order.
 unfoldable pub work_orders : CampaignValue → MonthValue → List Task
 work_orders c m =
     let month_long = orders_by_unit is_month_long m in
-    sorted_by_unit (written_work month_long ++ idle_work c month_long)
+    sorted_by (key_of ByUnit) (written_work month_long ++ idle_work c month_long)
 
 -- ---- what they earn
 

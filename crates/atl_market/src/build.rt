@@ -32,7 +32,6 @@ use std::alloc::{AllocError, Global};
 #[derive(Drop, Clone, Copy)]
 pub struct BuildPhase;
 
-/// The world's kind of structures under a number, if there is one.
 fn kind_of(world: &World, number: u16) -> Option<&Kind>
     ensures { option_copied result ≡ slice_get world.now.kinds number }
 {
@@ -58,8 +57,6 @@ fn is_structure_limit(campaign: &Campaign) -> bool
     campaign.next_structure() > MOST_STRUCTURES
 }
 
-/// The first fault of `BUILD kind`, if there is one: NoMen, AtSea, NoSkill, NoMaterial,
-/// StructureLimit.
 fn begin_fault(world: &World, campaign: &Campaign, unit: &Unit, kind: &Kind) -> Option<EventFault>
     requires { IsNumbered campaign.now.value.structures campaign.now.value.next_structure }
     ensures { result ≡ begin_fault world.now campaign.now.value unit.now kind.now }
@@ -79,7 +76,6 @@ fn begin_fault(world: &World, campaign: &Campaign, unit: &Unit, kind: &Kind) -> 
     }
 }
 
-/// The fault of `BUILD` by a unit that is inside no structure: NoMen, else NotInside.
 fn outside_fault(unit: &Unit) -> EventFault
     ensures { Some result ≡ outside_fault unit.now }
 {
@@ -90,8 +86,6 @@ fn outside_fault(unit: &Unit) -> EventFault
     }
 }
 
-/// The first fault of `BUILD` by a unit inside a structure, if there is one: NoMen, Complete,
-/// NoSkill, NoMaterial.
 fn inside_fault(unit: &Unit, structure: &Structure, kind: &Kind) -> Option<EventFault>
     ensures { result ≡ inside_fault unit.now structure.now kind.now }
 {
@@ -154,7 +148,6 @@ fn start_structure(
     Ok(())
 }
 
-/// Carries out `BUILD kind`: the unit begins a structure; with a fault nothing changes.
 #[tactic(auto, unfolding(crate::specs::Build::begin))]
 fn begin(
     alloc: Global,
@@ -187,8 +180,6 @@ fn begin(
     Ok(Outcome::Done(u64::from(size)))
 }
 
-/// Carries out `BUILD`: the unit continues the structure that it is inside; with a fault nothing
-/// changes.
 #[tactic(auto, unfolding(crate::specs::Build::go_on))]
 fn go_on(
     world: &World,
@@ -223,11 +214,9 @@ fn go_on(
     Ok(Outcome::Done(u64::from(size)))
 }
 
-/// The phase carries out orders with the verb BUILD alone.
 impl PhaseVerbs for BuildPhase {
     ghost is_of = { is_building };
 
-    /// Whether the verb is BUILD.
     fn has(&self, verb: Verb) -> bool {
         matches!(verb, Verb::Build)
     }
@@ -262,12 +251,9 @@ impl OrderPhase for BuildPhase {
         }
     }
 
-    /// The law of what each order of BUILD keeps, and how far it moves the books (`IsOrderly`).
-    /// Does nothing.
     fn is_orderly(&self) {}
 }
 
-/// Carries out the orders of BUILD one by one.
 impl Phase for BuildPhase {
     ghost meaning = { build_spec.meaning };
 
@@ -275,7 +261,6 @@ impl Phase for BuildPhase {
 
     ghost keeps = { build_spec.keeps };
 
-    /// Plays BUILD, and returns the campaign and the month after it. AllocError without memory.
     fn run(
         &self,
         alloc: Global,

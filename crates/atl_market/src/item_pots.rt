@@ -28,7 +28,6 @@ pub(crate) trait ItemPots {
     // What must hold for `pot` to be called.
     ghost ready: { Self → Type 0 };
 
-    /// The item that a unit asks for, if it asks for one.
     fn item(&self, unit: u32) -> Option<u16>
         ensures { result ≡ item_of self.now unit };
 
@@ -42,8 +41,6 @@ pub(crate) trait ItemPots {
 /// The wants of units: for each item a map from each unit that asks for it to its want.
 type WantGroups = Numbered<Numbered<u32>>;
 
-/// Puts a unit's want into the group of the item that it asks for, if it has a want and asks for
-/// one.
 fn note_want<P: ItemPots>(
     alloc: Global,
     pots: &P,
@@ -59,7 +56,6 @@ fn note_want<P: ItemPots>(
     }
 }
 
-/// Groups the wants of `units` by the item that each asks for, and in each group by unit.
 fn wants_by_item<P: ItemPots>(
     alloc: Global,
     pots: &P,
@@ -87,8 +83,6 @@ fn takers_of(alloc: Global, wants: &Numbered<u32>) -> Result<Vec<u32>, AllocErro
     Ok(takers)
 }
 
-/// Shares what one region has of each item among the units that ask for it (a group of `groups`),
-/// and puts the shares into a map by unit.
 fn share_items<P: ItemPots>(
     alloc: Global,
     pots: &P,

@@ -12,7 +12,6 @@ use atl_campaign::{Campaign, EventFault, HOLDING_LIMIT, Holding, level_in_any};
 use atl_world::{Item, World};
 use std::alloc::AllocError;
 
-/// The world's item under the number that an order names, if there is one.
 pub(crate) fn item_of(world: &World, asked: Option<u16>) -> Option<&Item>
     ensures value { option_copied result ≡ item_of world.now asked }
     ensures bounds { IfSome result (λ item. 1 ≤ item.now.raw_count) }
@@ -20,16 +19,12 @@ pub(crate) fn item_of(world: &World, asked: Option<u16>) -> Option<&Item>
     world.item(asked?)
 }
 
-/// Whether a unit lacks the skill to make an item: no skill makes it, or the unit's level in its
-/// skill is too low.
 fn is_unskilled(holding: &Holding, item: &Item) -> bool
     ensures { result ≡ is_unskilled holding.now item.now }
 {
     item.skill.is_none() || level_in_any(holding, item.skill) < item.level
 }
 
-/// Whether an item needs raw items, `count` each, and a unit holds too few of them for a single
-/// piece.
 fn is_raw_missing(holding: &Holding, count: u32, raw: Option<u16>) -> bool
     requires { 1 ≤ count }
     ensures { result ≡ is_raw_missing holding.now count raw }
@@ -53,7 +48,6 @@ fn up_to_raw(holding: &Holding, count: u32, raw: Option<u16>, most: u32) -> u32
     }
 }
 
-/// The first fault of PRODUCE, if there is one: NoMen, NoSkill, NoMaterial.
 pub(crate) fn produce_fault(
     world: &World,
     holding: &Holding,
@@ -73,8 +67,6 @@ pub(crate) fn produce_fault(
     is_raw_missing(holding, item.raw_count, item.raw).then_some(EventFault::NoMaterial)
 }
 
-/// How many of an item a unit can make: the least of its men times level, its room for the item,
-/// and what its raw items allow; at most 999,999,999.
 fn most_makeable_of(holding: &Holding, number: u16, item: &Item) -> u32
     requires { 1 ≤ item.now.raw_count }
     ensures value { result ≡ most_makeable_of holding.now number item.now }
@@ -97,7 +89,6 @@ pub(crate) fn most_makeable(world: &World, holding: &Holding, asked: Option<u16>
     }
 }
 
-/// Takes from a unit the raw items for `made` pieces of an item, if any go into it.
 fn use_raw(
     world: &World,
     campaign: &mut Campaign,

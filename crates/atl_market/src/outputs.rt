@@ -3,7 +3,7 @@
 ghost use Rattle.std.specs.Prelude.{⊤, ℕ, ◌≡◌, map, IfOk};
 ghost use Rattle.std.specs.FinMap as finmap;
 ghost use Rattle.atl_market.specs.Pots.{AreWants};
-ghost use Rattle.atl_market.specs.Produce.{made_amounts, amount_made, output_at, output_item, output_share};
+ghost use Rattle.atl_market.specs.Produce.{made_amounts, amount_made, output_at, output_item, output_share, takes_raw};
 ghost use Rattle.atl_market.specs.Puts.{with_entries};
 
 use crate::item_pots::{ItemPots, item_shares};
@@ -15,20 +15,31 @@ use std::alloc::{AllocError, Global};
 /// The pots of PRODUCE: what each region's terrain gives of the items that orders name.
 #[derive(Drop)]
 struct Outputs<'a> {
-    /// The world, whose terrains say what regions give.
     world: &'a World,
     /// The item that each unit's order names, by unit.
     asked: &'a Numbered<u16>,
 }
 
-/// The item that a unit makes out of what its region gives; None if its item needs raw items, or it
-/// asks for none.
+/// Whether a raw item goes into the item that an order names; true where that is no item of the
+/// world.
+fn takes_raw(world: &World, asked: Option<u16>) -> bool
+    ensures { result ≡ takes_raw world.now asked }
+{
+    match item_of(world, asked) {
+        Some(item) => item.raw.is_some(),
+        None => true,
+    }
+}
+
 fn output_item(world: &World, asked: &Numbered<u16>, unit: u32) -> Option<u16>
     ensures { result ≡ output_item world.now asked.now unit }
 {
     let number = asked.get(unit).copied();
-    let item = item_of(world, number)?;
-    if item.raw.is_some() { None } else { number }
+    if takes_raw(world, number) {
+        None
+    } else {
+        number
+    }
 }
 
 /// Each unit asks for the item that it makes without raw items; a region's pot of an item is its
@@ -40,12 +51,10 @@ impl<'a> ItemPots for Outputs<'a> {
 
     ghost ready = { λ _. ⊤ };
 
-    /// The item that a unit makes out of what its region gives, if it makes one without raw items.
     fn item(&self, unit: u32) -> Option<u16> {
         output_item(self.world, self.asked, unit)
     }
 
-    /// How much of an item a region's terrain gives; 0 where there is no terrain.
     fn pot(&self, item: u32, region: u32) -> u64 {
         match self.world.terrain_of(region) {
             Some(terrain) => {
@@ -57,8 +66,6 @@ impl<'a> ItemPots for Outputs<'a> {
     }
 }
 
-/// How much a unit makes: its share of what its region gives of its item, or, where its item needs
-/// raw items, all of its want.
 fn amount_made(
     world: &World,
     campaign: &Campaign,
@@ -72,9 +79,10 @@ fn amount_made(
         ≡ output_share world.now asked.now campaign.now.value wants.now n }
     ensures { result ≡ amount_made world.now asked.now campaign.now.value wants.now (unit, want) }
 {
-    match output_item(world, asked, unit) {
-        Some(_) => shares.get(unit).copied().unwrap_or(0),
-        None => want,
+    if takes_raw(world, asked.get(unit).copied()) {
+        want
+    } else {
+        shares.get(unit).copied().unwrap_or(0)
     }
 }
 

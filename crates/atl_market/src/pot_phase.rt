@@ -103,7 +103,6 @@ pub(crate) fn named_count(order: PhaseOrder<'_>) -> u32
     }
 }
 
-/// The unit that carries an order out, or the order's fault: NotYours, or what the phase finds.
 #[tactic(auto, unfolding(crate::specs::PotPhase::unit_for))]
 fn unit_for<'c, P: PotPhase>(
     phase: &P,
@@ -123,8 +122,6 @@ fn unit_for<'c, P: PotPhase>(
     }
 }
 
-/// Puts what a unit wants by an order, and the item that the order names, into maps by unit, if the
-/// order has no fault.
 #[tactic(auto, using(crate::proofs::WantLaws::one_want))]
 fn note_order<P: PotPhase>(
     phase: &P,
@@ -177,8 +174,6 @@ fn wants_and_items<P: PotPhase>(
     Ok((wants, items))
 }
 
-/// The event of an order: its fault, or Done with the event's number for the unit's amount in
-/// `given`.
 fn event_of<P: PotPhase>(
     phase: &P,
     world: &World,
@@ -199,7 +194,6 @@ fn event_of<P: PotPhase>(
     order.event(outcome)
 }
 
-/// The event of each of `orders`, by the units' amounts in `given`.
 fn events_of<P: PotPhase>(
     alloc: Global,
     phase: &P,

@@ -17,7 +17,6 @@ use std::alloc::{AllocError, Global};
 pub trait Pots {
     ghost use Rattle.std.specs.Prelude.{ℕ};
 
-    // The pot of a region, by its number.
     ghost pot_of: { Self → ℕ → ℕ };
 
     // What must hold for `pot` to be called.
@@ -30,7 +29,6 @@ pub trait Pots {
         ensures bound { result ≤ most_amount };
 }
 
-/// The numbers of the listed units that have a want, in the order of the list.
 fn takers_of(alloc: Global, units: &[u32], wants: &Numbered<u32>) -> Result<Vec<u32>, AllocError>
     ensures { IfOk result (λ takers. takers.items ≡ takers_among wants.now units.now) }
 {
@@ -43,7 +41,6 @@ fn takers_of(alloc: Global, units: &[u32], wants: &Numbered<u32>) -> Result<Vec<
     Ok(takers)
 }
 
-/// What a unit wants, by its number; 0 where it has no want.
 fn want_of(wants: &Numbered<u32>, number: u32) -> u64
     requires { AreWants wants.now }
     ensures value { result ≡ want_of wants.now number }
@@ -52,7 +49,6 @@ fn want_of(wants: &Numbered<u32>, number: u32) -> u64
     u64::from(wants.get(number).copied().unwrap_or(0))
 }
 
-/// What each unit of `takers` wants, in their order; 0 where it has no want.
 fn wants_of(alloc: Global, takers: &[u32], wants: &Numbered<u32>) -> Result<Vec<u64>, AllocError>
     requires { AreWants wants.now }
     ensures value { IfOk result (λ wanted. wanted.items ≡ map (want_of wants.now) takers.now) }

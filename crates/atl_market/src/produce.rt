@@ -21,11 +21,9 @@ use std::alloc::{AllocError, Global};
 #[derive(Drop, Clone, Copy)]
 pub struct ProducePhase;
 
-/// The phase carries out orders with the verb PRODUCE alone.
 impl PhaseVerbs for ProducePhase {
     ghost is_of = { is_produce };
 
-    /// Whether the verb is PRODUCE.
     fn has(&self, verb: Verb) -> bool {
         matches!(verb, Verb::Produce)
     }
@@ -40,18 +38,14 @@ impl PotPhase for ProducePhase {
 
     ghost can_pay = { λ _. CanProduce };
 
-    /// NoMen, NoSkill or NoMaterial, by the item that the order names; None without a fault.
     fn fault(&self, world: &World, unit: &Unit, order: PhaseOrder<'_>) -> Option<EventFault> {
         produce_fault(world, &unit.holding, named_item(order))
     }
 
-    /// The most that the unit can make of the item that the order names.
     fn want(&self, world: &World, unit: &Unit, order: PhaseOrder<'_>) -> u32 {
         most_makeable(world, &unit.holding, named_item(order))
     }
 
-    /// How much each unit makes: its share of its region's output of the item, or, where the item
-    /// is made of a raw item, all that it wants.
     fn grants(
         &self,
         alloc: Global,
@@ -63,12 +57,10 @@ impl PotPhase for ProducePhase {
         made_amounts(alloc, world, campaign, items, wants)
     }
 
-    /// How many pieces the unit makes.
     fn event_number(&self, _world: &World, _unit: &Unit, share: u32) -> u64 {
         u64::from(share)
     }
 
-    /// Takes the raw items for `share` pieces of its item from a unit, and gives it the pieces.
     #[tactic(auto, unfolding(crate::specs::Produce::after_production))]
     fn pay(
         &self,
@@ -96,7 +88,6 @@ pub(crate) fn world_is_well_formed(world: &World)
     let _ = world.items();
 }
 
-/// Carries out all orders of PRODUCE at once, with an event for each.
 impl Phase for ProducePhase {
     ghost meaning = { produce_meaning };
 
@@ -104,7 +95,6 @@ impl Phase for ProducePhase {
 
     ghost keeps = { produce_keeps };
 
-    /// Plays PRODUCE, and returns the campaign and the month after it. AllocError without memory.
     fn run(
         &self,
         alloc: Global,

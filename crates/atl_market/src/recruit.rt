@@ -20,11 +20,9 @@ use std::alloc::{AllocError, Global};
 #[derive(Drop, Clone, Copy)]
 pub struct RecruitPhase;
 
-/// The phase carries out orders with the verb RECRUIT alone.
 impl PhaseVerbs for RecruitPhase {
     ghost is_of = { is_recruit };
 
-    /// Whether the verb is RECRUIT.
     fn has(&self, verb: Verb) -> bool {
         matches!(verb, Verb::Recruit)
     }
@@ -33,9 +31,7 @@ impl PhaseVerbs for RecruitPhase {
 /// The pots of RECRUIT: how many peasants of each region can be recruited.
 #[derive(Drop)]
 struct RecruitPots<'a> {
-    /// The world, which has the `recruit_fraction`.
     world: &'a World,
-    /// The campaign as the phase begins, which has the peasants.
     campaign: &'a Campaign,
 }
 
@@ -45,7 +41,6 @@ impl<'a> Pots for RecruitPots<'a> {
 
     ghost ready = { λ pots. IsEarly pots.world.now pots.campaign.now.value };
 
-    /// How many of a region's peasants can be recruited; 0 where there is no region.
     fn pot(&self, region: u32) -> u64 {
         match self.campaign.region(region) {
             Some(found) => u64::from(found.peasants / self.world.rules().recruit_fraction),
@@ -63,19 +58,16 @@ impl PotPhase for RecruitPhase {
 
     ghost can_pay = { λ _ _. CanRecruit };
 
-    /// NotEnough where the unit's money is less than the price of one recruit; else None.
     fn fault(&self, world: &World, unit: &Unit, _order: PhaseOrder<'_>) -> Option<EventFault> {
         (unit.holding.money() < world.rules().recruit_price).then_some(EventFault::NotEnough)
     }
 
-    /// The number that the order asks for, at most what the unit can pay for and has room for.
     fn want(&self, world: &World, unit: &Unit, order: PhaseOrder<'_>) -> u32 {
         let payable = unit.holding.money() / world.rules().recruit_price;
         let room = MEN_LIMIT - unit.holding.men();
         named_count(order).min(payable.min(room))
     }
 
-    /// The shares of the recruits of each region among its units, by unit.
     fn grants(
         &self,
         alloc: Global,
@@ -87,12 +79,10 @@ impl PotPhase for RecruitPhase {
         pot_shares(alloc, campaign, &RecruitPots { world, campaign }, wants)
     }
 
-    /// How many recruits join the unit.
     fn event_number(&self, _world: &World, _unit: &Unit, share: u32) -> u64 {
         u64::from(share)
     }
 
-    /// Makes `share` peasants of a unit's region men of the unit, and takes and books their price.
     #[tactic(auto, unfolding(crate::specs::Recruit::after_recruiting))]
     fn pay(
         &self,
@@ -121,7 +111,6 @@ impl PotPhase for RecruitPhase {
     }
 }
 
-/// Carries out all orders of RECRUIT at once, with an event for each.
 impl Phase for RecruitPhase {
     ghost meaning = { recruit_meaning };
 
@@ -133,7 +122,6 @@ impl Phase for RecruitPhase {
 
     ghost keeps = { recruit_keeps };
 
-    /// Plays RECRUIT, and returns the campaign and the month after it. AllocError without memory.
     fn run(
         &self,
         alloc: Global,

@@ -18,11 +18,9 @@ use std::alloc::{AllocError, Global};
 #[derive(Drop, Clone, Copy)]
 pub struct TaxPhase;
 
-/// The phase carries out orders with the verb TAX alone.
 impl PhaseVerbs for TaxPhase {
     ghost is_of = { is_tax };
 
-    /// Whether the verb is TAX.
     fn has(&self, verb: Verb) -> bool {
         matches!(verb, Verb::Tax)
     }
@@ -31,17 +29,14 @@ impl PhaseVerbs for TaxPhase {
 /// The pots of TAX: the money of each region.
 #[derive(Drop)]
 struct RegionMoney<'a> {
-    /// The campaign as the phase begins.
     campaign: &'a Campaign,
 }
 
-/// A region's pot is its money.
 impl<'a> Pots for RegionMoney<'a> {
     ghost pot_of = { λ pots. money_at pots.campaign.now.value };
 
     ghost ready = { λ pots. (w : WorldValue) × IsEarly w pots.campaign.now.value };
 
-    /// The money of a region; 0 where there is no region.
     fn pot(&self, region: u32) -> u64 {
         match self.campaign.region(region) {
             Some(found) => u64::from(found.money),
@@ -59,7 +54,6 @@ impl PotPhase for TaxPhase {
 
     ghost can_pay = { λ _ _. CanTax };
 
-    /// NoMen, or NotGuarding without the guard flag; None without a fault.
     fn fault(&self, _world: &World, unit: &Unit, _order: PhaseOrder<'_>) -> Option<EventFault> {
         if unit.holding.men() == 0 {
             return Some(EventFault::NoMen);
@@ -67,13 +61,11 @@ impl PotPhase for TaxPhase {
         (!unit.holding.guard()).then_some(EventFault::NotGuarding)
     }
 
-    /// `tax_per_man` money for each of the unit's men, at most its room for money.
     fn want(&self, world: &World, unit: &Unit, _order: PhaseOrder<'_>) -> u32 {
         let room = HOLDING_LIMIT - unit.holding.money();
         (unit.holding.men() * world.rules().tax_per_man).min(room)
     }
 
-    /// The shares of the money of each region among its units, by unit.
     fn grants(
         &self,
         alloc: Global,
@@ -85,12 +77,10 @@ impl PotPhase for TaxPhase {
         pot_shares(alloc, campaign, &RegionMoney { campaign }, wants)
     }
 
-    /// How much money the unit takes.
     fn event_number(&self, _world: &World, _unit: &Unit, share: u32) -> u64 {
         u64::from(share)
     }
 
-    /// Moves `share` money from a unit's region to the unit.
     #[tactic(auto, unfolding(crate::specs::Tax::after_tax))]
     fn pay(
         &self,
@@ -115,7 +105,6 @@ impl PotPhase for TaxPhase {
     }
 }
 
-/// Carries out all orders of TAX at once, with an event for each.
 impl Phase for TaxPhase {
     ghost meaning = { tax_meaning };
 
@@ -125,7 +114,6 @@ impl Phase for TaxPhase {
 
     ghost keeps = { all_no_worse };
 
-    /// Plays TAX, and returns the campaign and the month after it. AllocError without memory.
     fn run(
         &self,
         alloc: Global,

@@ -41,19 +41,14 @@ pub(crate) enum Trade {
 /// What a unit and its region's market have after the unit's trade, and the money to book for it.
 #[derive(Drop, Clone, Copy, Debug)]
 pub(crate) struct TradeResult {
-    /// The unit's money after the trade.
     pub money: u32,
-    /// How much the unit has of the traded item after the trade.
     pub amount: u32,
-    /// How much of the item the region's market has in stock after the trade.
     pub stock: u32,
     /// The money to book: what the unit got by SELL, or, below 0, what it paid by BUY.
     pub booked: i64,
 }
 
-/// Finds the entry of the books under which a trade is booked.
 impl Trade {
-    /// The entry of the books under which the money of a trade is booked.
     fn entry(self) -> BooksEntry
         ensures { result ≡ trade_entry self }
     {
@@ -64,7 +59,6 @@ impl Trade {
     }
 }
 
-/// The market of a unit's region for the item that its order names, if there is one.
 fn market_for<'a>(world: &'a World, unit: &Unit, item: Option<u16>) -> Option<&'a Market>
     ensures value { option_copied result ≡ market_for world.now unit.now item }
     ensures bounds { IfSome result (λ market. IsPriced market.now) }
@@ -72,8 +66,6 @@ fn market_for<'a>(world: &'a World, unit: &Unit, item: Option<u16>) -> Option<&'
     world.market(unit.region, item?)
 }
 
-/// Whether a unit has too little for any trade: none of the item (SELL), or less money than one
-/// piece costs (BUY).
 fn has_too_little(trade: Trade, holding: &Holding, market: &Market) -> bool
     ensures { result ≡ has_too_little trade holding.now market.now }
 {
@@ -83,8 +75,6 @@ fn has_too_little(trade: Trade, holding: &Holding, market: &Market) -> bool
     }
 }
 
-/// The first fault of SELL or BUY, if there is one: NoMarket without a market, else NotEnough with
-/// too little of the item or of money.
 fn trade_fault(trade: Trade, holding: &Holding, market: Option<&Market>) -> Option<EventFault>
     ensures { result ≡ trade_fault trade holding.now (option_copied market.entry) }
 {
@@ -94,7 +84,6 @@ fn trade_fault(trade: Trade, holding: &Holding, market: Option<&Market>) -> Opti
     has_too_little(trade, holding, market).then_some(EventFault::NotEnough)
 }
 
-/// The most pieces of a market's item that a unit can trade, at most 999,999,999.
 fn most_tradable(trade: Trade, holding: &Holding, market: &Market) -> u32
     requires { IsPriced market.now }
     ensures value { result ≡ most_tradable trade holding.now market.now }
@@ -108,8 +97,6 @@ fn most_tradable(trade: Trade, holding: &Holding, market: &Market) -> u32
     }
 }
 
-/// The result of trading `share` pieces with a market that had `stock` of them: the unit's money
-/// and amount of the item, the market's stock, and the money to book.
 fn trade_result_of(
     trade: Trade,
     holding: &Holding,
@@ -170,7 +157,6 @@ fn book_trade(
     Ok(())
 }
 
-/// The limit of the stock of a region's market for an item; 0 where there is no market.
 fn limit_of(world: &World, item: u32, region: u32) -> u32
     ensures value { result ≡ limit_of world.now item region }
     ensures bound { result ≤ most_amount }
@@ -187,13 +173,9 @@ fn limit_of(world: &World, item: u32, region: u32) -> u32
 /// The pots of SELL or BUY, for each market: the limit less its stock (SELL), or its stock (BUY).
 #[derive(Drop)]
 struct MarketPots<'a> {
-    /// Whether the phase sells or buys.
     trade: Trade,
-    /// The world, which has the limits of stocks.
     world: &'a World,
-    /// The campaign as the phase begins, which has the stocks.
     campaign: &'a Campaign,
-    /// The item that each unit's order names, by unit.
     items: &'a Numbered<u16>,
 }
 
@@ -206,12 +188,10 @@ impl<'a> ItemPots for MarketPots<'a> {
 
     ghost ready = { λ pots. IsEarly pots.world.now pots.campaign.now.value };
 
-    /// The item that a unit's order names, if it names one.
     fn item(&self, unit: u32) -> Option<u16> {
         self.items.get(unit).copied()
     }
 
-    /// What a region's market for an item has room for (SELL) or has in stock (BUY).
     fn pot(&self, item: u32, region: u32) -> u64 {
         let stock = self.campaign.stock(region, item);
         world_is_well_formed(self.world);
@@ -231,8 +211,6 @@ impl PotPhase for Trade {
 
     ghost can_pay = { CanTrade };
 
-    /// NoMarket, or NotEnough with too little of the item (SELL) or of money (BUY); None without a
-    /// fault.
     fn fault(&self, world: &World, unit: &Unit, order: PhaseOrder<'_>) -> Option<EventFault> {
         trade_fault(
             *self,
@@ -241,7 +219,6 @@ impl PotPhase for Trade {
         )
     }
 
-    /// The number that the order asks for, at most what the unit can trade; 0 without a market.
     fn want(&self, world: &World, unit: &Unit, order: PhaseOrder<'_>) -> u32 {
         match market_for(world, unit, named_item(order)) {
             Some(market) => named_count(order).min(most_tradable(*self, &unit.holding, market)),
@@ -249,7 +226,6 @@ impl PotPhase for Trade {
         }
     }
 
-    /// The shares of each market's pot among the units that trade its item there, by unit.
     fn grants(
         &self,
         alloc: Global,
@@ -268,13 +244,10 @@ impl PotPhase for Trade {
         Ok(given)
     }
 
-    /// How many pieces the unit trades.
     fn event_number(&self, _world: &World, _unit: &Unit, share: u32) -> u64 {
         u64::from(share)
     }
 
-    /// Trades `share` pieces between a unit and its market, and books the money; nothing without a
-    /// market.
     #[tactic(auto, unfolding(crate::specs::Trade::after_trade))]
     fn pay(
         &self,
@@ -298,18 +271,15 @@ impl PotPhase for Trade {
     }
 }
 
-/// `Trade::Sell` for a phase that sells, `Trade::Buy` for one that buys.
 fn trade_of(sells: bool) -> Trade
     ensures { result ≡ trade_of sells }
 {
     if sells { Trade::Sell } else { Trade::Buy }
 }
 
-/// The phase carries out orders with the verb SELL alone, or with BUY alone.
 impl<const SELLS: bool> PhaseVerbs for TradePhase<SELLS> {
     ghost is_of = { is_trade (trade_of SELLS) };
 
-    /// Whether the verb is the one of the phase, SELL or BUY.
     fn has(&self, verb: Verb) -> bool {
         match trade_of(SELLS) {
             Trade::Sell => matches!(verb, Verb::Sell),
@@ -318,7 +288,6 @@ impl<const SELLS: bool> PhaseVerbs for TradePhase<SELLS> {
     }
 }
 
-/// Carries out all orders of SELL, or all of BUY, at once, with an event for each.
 impl<const SELLS: bool> Phase for TradePhase<SELLS> {
     ghost meaning = { trade_meaning (trade_of SELLS) };
 
@@ -330,8 +299,6 @@ impl<const SELLS: bool> Phase for TradePhase<SELLS> {
 
     ghost keeps = { trade_keeps (trade_of SELLS) };
 
-    /// Plays SELL or BUY, and returns the campaign and the month after it. AllocError without
-    /// memory.
     fn run(
         &self,
         alloc: Global,

@@ -32,7 +32,6 @@ use std::alloc::{AllocError, Global};
 #[derive(Drop, Clone, Copy)]
 pub struct WorkPhase;
 
-/// A map from each unit for which its own faction wrote one of `orders` to that faction.
 fn own_writers(
     alloc: Global,
     campaign: &Campaign,
@@ -50,7 +49,6 @@ fn own_writers(
     Ok(writers)
 }
 
-/// The orders of WORK among some orders, in their order.
 fn written_work<'m>(
     alloc: Global,
     orders: &[PhaseOrder<'m>],
@@ -152,17 +150,14 @@ fn no_mailing(alloc: Global) -> Mailing {
 /// The pots of WORK: how many work places each region's terrain has.
 #[derive(Drop)]
 struct WorkPlaces<'a> {
-    /// The world, whose terrains have the work places.
     world: &'a World,
 }
 
-/// A region's pot is the `places` of its terrain.
 impl<'a> Pots for WorkPlaces<'a> {
     ghost pot_of = { λ pots. places_at pots.world.now };
 
     ghost ready = { λ _. ⊤ };
 
-    /// How many work places a region's terrain has; 0 where there is no terrain.
     fn pot(&self, region: u32) -> u64 {
         match self.world.terrain_of(region) {
             Some(terrain) => u64::from(terrain.places),
@@ -171,8 +166,6 @@ impl<'a> Pots for WorkPlaces<'a> {
     }
 }
 
-/// The wages, in money, that this number of work places in a region pays; 0 where there is no
-/// terrain.
 fn wages_for(world: &World, region: u32, places: u32) -> u64
     ensures { result ≡ wages_for world.now region places }
 {
@@ -191,13 +184,10 @@ impl PotPhase for WorkPhase {
 
     ghost can_pay = { λ _ _. CanWork };
 
-    /// NoMen for a unit without men; else None.
     fn fault(&self, _world: &World, unit: &Unit, _order: PhaseOrder<'_>) -> Option<EventFault> {
         (unit.holding.men() == 0).then_some(EventFault::NoMen)
     }
 
-    /// How many work places the unit wants: one for each of its men, as far as it has room for the
-    /// wages; 0 where there is no terrain.
     fn want(&self, world: &World, unit: &Unit, _order: PhaseOrder<'_>) -> u32 {
         match world.terrain_of(unit.region) {
             Some(terrain) => {
@@ -208,7 +198,6 @@ impl PotPhase for WorkPhase {
         }
     }
 
-    /// The shares of the work places of each region among its units, by unit.
     fn grants(
         &self,
         alloc: Global,
@@ -220,12 +209,10 @@ impl PotPhase for WorkPhase {
         pot_shares(alloc, campaign, &WorkPlaces { world }, wants)
     }
 
-    /// The wages, in money, of the unit's work places.
     fn event_number(&self, world: &World, unit: &Unit, share: u32) -> u64 {
         wages_for(world, unit.region, share)
     }
 
-    /// Pays a unit the wages of `share` work places, and books them.
     #[tactic(auto, unfolding(crate::specs::Work::after_work))]
     fn pay(
         &self,
@@ -255,7 +242,6 @@ impl Phase for WorkPhase {
 
     ghost keeps = { all_no_worse };
 
-    /// Plays WORK, and returns the campaign and the month after it. AllocError without memory.
     fn run(
         &self,
         alloc: Global,

@@ -93,26 +93,21 @@ pub struct Case {
     pub answers: Vec<String>,
     /// All rows of the campaign before the first command and after each, with ample memory.
     pub rows: Vec<String>,
-    /// The text of the books before the first command.
     pub books: String,
 }
 
-/// Drops the commands and the recorded texts of a case.
 impl Drop for Case {
     fn drop(self) {
         let_go!(self: Case { call, commands, later, answers, rows, books });
     }
 }
 
-/// A list of one command.
 fn one_command(alloc: Global, command: Command) -> Result<Vec<Command>, AllocError> {
     let mut commands = Vec::new(alloc);
     commands.push(command)?;
     Ok(commands)
 }
 
-/// The commands that a call runs, or that are run after it; none for a call that isn't followed by
-/// commands.
 fn commands_of(alloc: Global, call: Call) -> Result<Vec<Command>, AllocError> {
     match call {
         Call::Join | Call::Books => one_command(alloc, join(alloc)?),
@@ -138,7 +133,6 @@ fn wanted(call: Call, at: usize) -> Option<&'static str> {
     }
 }
 
-/// Whether the stored report of a faction has all of `lines`.
 fn reports(campaign: &Campaign, faction: u32, lines: &[&str]) -> bool {
     match campaign.report(faction) {
         Some(report) => lines
@@ -163,9 +157,7 @@ fn is_month_right(campaign: Option<&Campaign>) -> bool {
     }
 }
 
-/// Makes a case: runs its commands with ample memory, and records and judges what comes of them.
 impl Case {
-    /// A case whose commands haven't been run yet.
     fn new(alloc: Global, call: Call) -> Result<Case, AllocError> {
         Ok(Case {
             call,
@@ -177,7 +169,6 @@ impl Case {
         })
     }
 
-    /// Runs the commands with ample memory, and records the books, the answers and the rows.
     fn play<S: Alter>(&mut self, alloc: Global, service: &mut Service<S>) -> Option<()> {
         self.books = books(service)?;
         self.rows.push(rows(alloc, service.campaign())?).ok()?;
@@ -189,8 +180,6 @@ impl Case {
         Some(())
     }
 
-    /// Whether the recorded answers are the wanted ones and, if the call closes a month, the month
-    /// had the wanted outcome.
     fn is_right(&self, campaign: Option<&Campaign>) -> bool {
         let mut are_wanted = true;
         for (at, answer) in self.answers.iter().enumerate() {
@@ -224,7 +213,6 @@ impl Case {
         Case::played(alloc, call, conn)
     }
 
-    /// All rows of the campaign after the first `commands` commands, with ample memory.
     pub fn rows_after(&self, commands: usize) -> &str {
         match self.rows.get(commands) {
             Some(rows) => rows.as_str(),

@@ -1,7 +1,7 @@
 //! Tests each call that needs memory with too little of it: the call must answer Memory and leave
 //! all as before. Either only some blocks are left or, where the heap counts requests for memory
-//! (growths, tests/fuse.c), each growth is refused in turn. With a number `n` on the command line,
-//! only every nth growth is refused. One line is printed for each call.
+//! (growths, tests/faults/fuse.c), each growth is refused in turn. With a number `n` on the command
+//! line, only every nth growth is refused. One line is printed for each call.
 #![tactic(auto)]
 
 mod cases;
@@ -78,8 +78,6 @@ fn with_refusals(
     println!(rt; "{call:?}: never done")
 }
 
-/// Tries a call with few blocks left or, if a step is given, with refused growths, and prints the
-/// result.
 fn try_call(
     rt: &HostRuntime,
     call: Call,

@@ -30,12 +30,10 @@ UNIT 11
 TEACH 10 NEW 1
 ";
 
-/// The bytes of a text as a sequence.
 fn bytes(alloc: Global, text: &str) -> Result<Sequence<u8>, AllocError> {
     Sequence::from_slice(alloc, text.as_bytes())
 }
 
-/// The command `Mail` of a faction, with its pass text and its mailing.
 fn mail(alloc: Global, faction: u32, pass: &str, text: &str) -> Result<Command, AllocError> {
     Ok(Command::Mail {
         faction,
@@ -44,7 +42,6 @@ fn mail(alloc: Global, faction: u32, pass: &str, text: &str) -> Result<Command, 
     })
 }
 
-/// The command by which a third faction, Cork, joins.
 pub fn join(alloc: Global) -> Result<Command, AllocError> {
     Ok(Command::Join {
         name: bytes(alloc, "Cork")?,
@@ -53,12 +50,10 @@ pub fn join(alloc: Global) -> Result<Command, AllocError> {
     })
 }
 
-/// The command by which Bree sends its second mailing.
 pub fn next_mail(alloc: Global) -> Result<Command, AllocError> {
     mail(alloc, 2, "pb", NEXT_OF_BREE)
 }
 
-/// The command that closes month 1.
 pub fn close(alloc: Global) -> Result<Command, AllocError> {
     Ok(Command::Close {
         month: 1,
@@ -67,7 +62,6 @@ pub fn close(alloc: Global) -> Result<Command, AllocError> {
     })
 }
 
-/// The command by which Avalon asks for its report.
 pub fn report(alloc: Global) -> Result<Command, AllocError> {
     Ok(Command::Report {
         faction: 1,
@@ -75,7 +69,6 @@ pub fn report(alloc: Global) -> Result<Command, AllocError> {
     })
 }
 
-/// One command of each kind: join, mail, close and report.
 pub fn all_commands(alloc: Global) -> Result<Vec<Command>, AllocError> {
     let mut commands = Vec::new(alloc);
     commands.push(join(alloc)?)?;
@@ -104,7 +97,6 @@ fn filled<S: Alter + Drop>(alloc: Global, conn: Connection<S>) -> Option<Service
     }
 }
 
-/// Sends a mailing; the result is whether it is stored.
 fn sends<S: Alter>(service: &mut Service<S>, mail: Result<Command, AllocError>) -> bool {
     match &mail {
         Ok(mail) => matches!(&service.run(mail), Answer::Mailed { .. }),

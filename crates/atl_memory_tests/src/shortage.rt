@@ -22,14 +22,12 @@ pub struct Shortage {
     drought: Drought,
 }
 
-/// Drops the drought, which frees all its blocks.
 impl Drop for Shortage {
     fn drop(self) {
         let_go!(self: Shortage { limit, was_refused, drought });
     }
 }
 
-/// Makes memory short for a while, and says whether a growth was refused.
 impl Shortage {
     /// A shortage that hasn't begun; None if there is no room for the lists of a drought.
     pub fn new(alloc: Global) -> Option<Shortage> {
@@ -40,7 +38,6 @@ impl Shortage {
         })
     }
 
-    /// Makes memory short as `limit` says.
     pub fn begin(&mut self, alloc: Global) {
         match self.limit {
             Limit::Growth(growth) => {
@@ -50,7 +47,6 @@ impl Shortage {
         }
     }
 
-    /// Makes memory ample again, and records whether a growth was refused.
     pub fn end(&mut self, alloc: Global) {
         self.was_refused = match self.limit {
             Limit::Growth(_) => Some(fuse::has_refused(alloc)),

@@ -9,8 +9,6 @@ pub fn text_of(alloc: Global, parts: &Parts) -> Option<String> {
     format!(in alloc; "{parts:?}").ok()
 }
 
-/// All rows of a campaign as one text, as `Debug` prints them; None without a campaign, or if
-/// memory is short.
 pub fn rows(alloc: Global, campaign: Option<&Campaign>) -> Option<String> {
     let parts = campaign?.parts().ok()?;
     text_of(alloc, &parts)
@@ -25,7 +23,6 @@ pub fn rows_of<S: Alter + Drop>(alloc: Global, conn: Connection<S>) -> Option<St
     }
 }
 
-/// The text of a service's books; None without a campaign, or if memory is short.
 pub fn books<S: Alter>(service: &Service<S>) -> Option<String> {
     service.books()?.ok()
 }
@@ -45,7 +42,6 @@ pub fn answer_text(alloc: Global, answer: &Answer) -> Option<String> {
     }
 }
 
-/// Whether a text was made, and is the wanted one.
 pub fn is_text(made: Option<String>, wanted: &str) -> bool {
     match &made {
         Some(made) => made.as_str() == wanted,

@@ -20,7 +20,6 @@ enum Behaviour {
     Memory,
     /// The very outcome of ample memory.
     Done,
-    /// Something else, and what.
     Wrong(&'static str),
 }
 
@@ -36,11 +35,9 @@ pub enum TrialResult {
     MadeGood,
     /// The answer is Memory, although no growth was refused.
     Untrue,
-    /// Something else, and what.
     Wrong(&'static str),
 }
 
-/// The outcome of a call, from what it did and whether a growth was refused.
 fn judged(was_refused: Option<bool>, behaviour: Behaviour) -> TrialResult {
     match (was_refused, behaviour) {
         (_, Behaviour::Wrong(what)) => TrialResult::Wrong(what),
@@ -61,7 +58,6 @@ fn after_memory(is_as_before: bool) -> Behaviour {
     }
 }
 
-/// What a call that succeeded did: `Done` if the outcome is that of ample memory, else `Wrong`.
 fn after_success(is_as_wanted: bool) -> Behaviour {
     if is_as_wanted {
         Behaviour::Done
@@ -70,7 +66,6 @@ fn after_success(is_as_wanted: bool) -> Behaviour {
     }
 }
 
-/// Whether the campaign of a service, and the tables of its database, have the rows `wanted`.
 fn has_rows<S: Alter + Drop>(alloc: Global, service: Service<S>, wanted: &str) -> bool {
     is_text(rows(alloc, service.campaign()), wanted)
         && is_text(rows_of(alloc, service.end()), wanted)
@@ -88,7 +83,6 @@ fn is_closed<S: Alter>(service: &mut Service<S>, case: &Case) -> bool {
     is_closed
 }
 
-/// Whether a service is closed, and the tables of its database have the rows `wanted`.
 fn is_left_closed<S: Alter + Drop>(
     alloc: Global,
     mut service: Service<S>,
@@ -102,7 +96,6 @@ fn is_left_closed<S: Alter + Drop>(
 /// otherwise.
 #[derive(Clone, Copy, PartialEq, Eq)]
 enum End {
-    /// All are those of ample memory.
     Done,
     /// This many answers are those of ample memory; then comes Memory, and after it only Closed.
     Memory(usize),
@@ -110,7 +103,6 @@ enum End {
     Astray,
 }
 
-/// How the answers to a case's commands end, compared with those of ample memory.
 fn end_of(alloc: Global, answers: &[Answer], wanted: &[String]) -> End {
     let mut end = End::Done;
     for (at, (answer, wanted)) in answers.iter().zip(wanted.iter()).enumerate() {
@@ -130,8 +122,6 @@ fn end_of(alloc: Global, answers: &[Answer], wanted: &[String]) -> End {
     }
 }
 
-/// What a call did (`Behaviour`), judged by the answers to a case's commands and the state of the
-/// service after them.
 fn judge_answers<S: Alter + Drop>(
     alloc: Global,
     service: Service<S>,
@@ -203,7 +193,6 @@ fn opens<S: Alter + Drop>(
     }
 }
 
-/// Whether a file is still of the first format, and an upgrade now has the outcome of ample memory.
 fn is_still_old<S: Alter + Drop>(alloc: Global, conn: Connection<S>, case: &Case) -> bool {
     match open(alloc, conn) {
         Err(
@@ -245,8 +234,6 @@ fn upgrades<S: Alter + Drop>(
     }
 }
 
-/// Runs the first command of a case with memory short, and judges the answer and the service after
-/// it.
 fn runs<S: Alter + Drop>(
     alloc: Global,
     mut service: Service<S>,
@@ -265,8 +252,6 @@ fn runs<S: Alter + Drop>(
     }
 }
 
-/// Runs all commands of a case by `run_all` with memory short, and judges the answers and the
-/// service after them.
 fn runs_all<S: Alter + Drop>(
     alloc: Global,
     mut service: Service<S>,
@@ -282,7 +267,6 @@ fn runs_all<S: Alter + Drop>(
     }
 }
 
-/// Asks for the text of the books with memory short, and judges the text and the service after it.
 fn asks_for_books<S: Alter + Drop>(
     alloc: Global,
     service: Service<S>,
@@ -300,7 +284,6 @@ fn asks_for_books<S: Alter + Drop>(
     }
 }
 
-/// Asks a campaign for its rows with memory short, and judges the rows and the campaign after it.
 fn asks_for_rows(
     alloc: Global,
     campaign: &Campaign,
@@ -317,8 +300,6 @@ fn asks_for_rows(
     }
 }
 
-/// Checks a campaign's rows by `check` with memory short, and judges the result: the same campaign,
-/// or Memory.
 fn checks(
     alloc: Global,
     world: &World,
@@ -341,7 +322,6 @@ fn checks(
     }
 }
 
-/// Tries `parts` or `check`, as the case says, on the campaign of a service with memory short.
 fn reads<S: Alter + Drop>(
     alloc: Global,
     service: Service<S>,
@@ -357,7 +337,6 @@ fn reads<S: Alter + Drop>(
     }
 }
 
-/// Tries the call of a case on a service with memory short; the call is any but a founding.
 fn try_on_service<S: Alter + Drop>(
     alloc: Global,
     service: Service<S>,

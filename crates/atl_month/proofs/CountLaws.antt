@@ -9,31 +9,25 @@ use Rattle.atl_records.proofs.EveryLaws.{first, none_some}
 use Rattle.atl_records.proofs.RemovedLaws.{get-remove_other, still}
 
 module _ {V : Type 0} where
-  -- the first map has each number of the second
   abbrev HasAllNumbers : FinMap nat_cmp V → FinMap nat_cmp V → Type 0
   HasAllNumbers a b = (n : ℕ) → HasValue b n → HasValue a n
 
-  -- removing a number that a map has makes the map smaller by 1
   len_without : (m : FinMap nat_cmp V) (n : ℕ) (v : V) → get m n ≡ Some v → len (remove m n) ≡ len m - 1
   len_without m n v is = len-remove nat_cmp_total m n ∙ ap (λ o. cond (is_some o) (len m - 1) (len m)) is
 
-  -- a map that has a number isn't empty
   some_values : (m : FinMap nat_cmp V) (n : ℕ) (v : V) → get m n ≡ Some v → 1 ≤ len m
   some_values m n v is = by_count (len m) refl
     where
-      -- for `some_values`: the size `k` of a map that has number `n` is at least 1, since `k` can't be 0
       by_count : (k : ℕ) → len m ≡ k → 1 ≤ k
       by_count zero none = none_some v (sym (get-empty nat_cmp n) ∙ ap (λ e. get e n) (sym (empty_of_len m none)) ∙ is)
       by_count (suc k) some = omega arith
 
-  -- if map `a` has each number of map `b`, it still does once number `n` is removed from both maps
   has_all_without : (a b : FinMap nat_cmp V) (n : ℕ) → HasAllNumbers a b → HasAllNumbers (remove a n) (remove b n)
   has_all_without a b n all m (v, there) =
       let (apart, at) = still b n m v there in
       let (x, is) = all m (v, at) in
       (x, get-remove_other a n m apart ∙ is)
 
-  -- if map `a` has each number of map `b`, and `b` has size `k`, `a` has at least size `k`
   at_least : (k : ℕ) (a b : FinMap nat_cmp V) → len b ≡ k → HasAllNumbers a b → k ≤ len a
   at_least zero a b count all = omega arith
   at_least (suc k) a b count all = by_entries (λ c d less has. at_least k c d less has) (entries b) refl
@@ -48,11 +42,9 @@ module _ {V : Type 0} where
           let rest = step (remove a e.0) (remove b e.0) (omega (arith, count, len_without b e.0 e.1 here)) (has_all_without a b e.0 all) in
           omega (arith, rest, len_without a e.0 x there, some_values a e.0 x there)
 
-  -- if maps `a` and `b` have the same size, and `a` has each number of `b`, `b` has each number of `a`
   pub has_all_back : (a b : FinMap nat_cmp V) → len b ≡ len a → HasAllNumbers a b → HasAllNumbers b a
   has_all_back a b count all n (v, here) = by_value (get b n) refl
     where
-      -- for `has_all_back`: map `b` has number `n`, since a look-up of `n` in `b` can't find nothing
       by_value : (o : Option V) → get b n ≡ o → HasValue b n
       by_value (Some x) is = (x, is)
       by_value None none =

@@ -15,8 +15,6 @@ module _ {V : Type 0} (m : FinMap nat_cmp (FinMap nat_cmp V)) (r f : ℕ) (a : V
       ap (λ o. get (unwrap_or o empty) g) (get-insert nat_cmp_total m r (insert (group_of m r) f a) s ∙ ap (λ b. cond b (Some (insert (group_of m r) f a)) (get m s)) (key_equality_is_symmetric s r))
       ∙ by_group (r == s) refl
     where
-      -- For `get-grouped`: under number `g` of group `s` is value `a` if `s` is `r` (`b`) and `g` is `f`, and otherwise
-      -- what was there before.
       by_group : (b : Bool) → (r == s) ≡ b
           → get (unwrap_or (cond b (Some (insert (group_of m r) f a)) (get m s)) empty) g ≡ cond (b && (f == g)) (Some a) (get (group_of m s) g)
       by_group true is =

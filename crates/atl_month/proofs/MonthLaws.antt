@@ -38,18 +38,14 @@ use Rattle.atl_month.proofs.PhaseLaws.{KeepsPhaseLaws, early_are, last_leave, la
 use Rattle.atl_month.specs.Unmailed.{SentNone, UnmailedAreLeft}
 
 module _ (w : WorldValue) (d : CampaignValue) where
-  -- a steady campaign before the last month stays steady when its month is counted and its mail is removed
   finished_steady : d.month < last_month → IsSteady w d → IsSteady w (after_month d)
   finished_steady early old = posted-steady w d (d.month + 1) empty d.reports (omega (arith, early)) (posted-unsent old.known.posts) old
 
-  -- books that balance still balance when the month is counted and the mail is removed
   finished_balances : Balances d → Balances (after_month d)
   unfolding total
   finished_balances old t = old t
 
 module _ (w : WorldValue) (c d : CampaignValue) (book_bound : BookBound) (little : IsBoundWithin book_bound moves_in_month) (early : c.month < last_month) (well : LeavesWell IsSwept book_bound w c d) where
-  -- The phases of a month leave the number of the month last closed, the reports and the set of factions
-  -- (`IsSameMonth`).
   abbrev same : IsSameMonth c d
   same = well.same_month
 
@@ -63,14 +59,11 @@ module _ (w : WorldValue) (c d : CampaignValue) (book_bound : BookBound) (little
   bound_grows : (a b f g : ℕ) → b ≡ a → g ≡ f → (200000000000000 * (a + 1) + 1000000000 * f) + 200000000000000 ≤ 200000000000000 * ((b + 1) + 1) + 1000000000 * g
   bound_grows a b f g month count = omega (arith, month, count)
 
-  -- if each amount of the books is within the bound of its campaign (`AreAmountsWithin`), each is within the bound of
-  -- the campaign after the month
   amounts_within : AreAmountsWithin c → AreAmountsWithin (after_month d)
   amounts_within old e t =
       near_within (amount_in c.books e t) (amount_in d.books e t) (book_bound e t) (amount_bound c) (amount_bound (after_month d)) (little e t)
       (bound_grows c.month d.month (len c.factions) (len d.factions) same.month same.count) (well.near e t) (old e t)
 
-  -- once the phases ran, the month is counted and the mail is removed, a sound campaign is sound again
   finished_sound : IsSound w c → IsSound w (after_month d)
   finished_sound old = record {
     steady = finished_steady w d (omega (arith, same.month, early)) well.leaves_it.steady;
@@ -96,11 +89,9 @@ module _ {leaves : Condition} (w : WorldValue) (c d : CampaignValue) (well : Lea
   pub books_near : BooksAreNear month_moves c d
   books_near e t = near_more (phases_bound e t) (month_moves e t) (amount_in c.books e t) (amount_in d.books e t) (month_within e t) (well.near e t)
 
-  -- each faction of a campaign is still there after the phases of a month
   pub factions_stay : (n : ℕ) → HasValue c.factions n → HasValue d.factions n
   factions_stay = has_all_back c.factions d.factions well.same_month.count well.same_month.factions
 
--- the books of a sound campaign have room for the phases of a month
 pub phases_room : (w : WorldValue) (c : CampaignValue) → IsSound w c → HaveRoom phases_bound c
 phases_room w c sound = room_when_sound w c phases_bound (λ e t. omega (arith, phases_little e t)) sound
 
@@ -110,31 +101,24 @@ phases_result : (phases : Meaning) (w : WorldValue) (c d : CampaignValue) (m n :
     → ◌≡◌ {A = CampaignValue × List Event} (d, events) ((phases w c begin).0, (phases w c begin).1.events)
 phases_result phases w c d m n begin events meaning begins events_are = ap (λ (es : List Event). (d, es)) events_are ∙ ap (λ (p : CampaignValue × MonthValue). (p.0, p.1.events)) (meaning ∙ ap (phases w c) begins)
 
--- If the phases of a month, run on a new month, made campaign `d` and some events, these are the two that `month_of`
--- gives.
 pub month_is : (w : WorldValue) (c d : CampaignValue) (m n : MonthValue) (readings : FinMap nat_cmp Reading) (words : List ℕ) (events : List Event)
     → (d, n) ≡ month_meaning w c m → m ≡ new_month readings words → events ≡ n.events → (d, events) ≡ month_of w c readings words
 unfolding month_of
 month_is w c d m n readings words events meaning begins events_are = phases_result month_meaning w c d m n (new_month readings words) events meaning begins events_are
 
--- the mailings of a month, given in another order, make the same campaign and the same events
 pub mail_order_does_not_count : MailOrderDoesNotCount
 mail_order_does_not_count w c words mailings others own same = ap (λ readings. month_of w c readings words) (mailings_have_no_order mailings others own same)
 
 -- ---- the month
 
--- all phases of a month together leave units of factions without a mailing their items, and their men less the starved
--- (`ClosesUnmailed`)
 month_leaves : ClosesUnmailed month_meaning month_keeps
 month_leaves =
     then_closes (both_leave (leave_together early_phases (each_also (λ phase (is : KeepsPhaseLaws phase). is.leaves) early_phases early_are)) (leave_together later_phases (each_also (λ phase (is : KeepsPhaseLaws phase). is.leaves) later_phases later_are)))
     (closed_together last_phases last_leave)
 
--- if none of the mailings is of a faction, the month has no mailing of that faction
 none_read : (f : ℕ) (ms : List Mailing) → SentNone ms f → get (by_faction (map reading_of ms)) f ≡ None
 none_read f ms none = get-from_entries nat_cmp_total (map (λ r. (r.faction, r)) (map reading_of ms)) f ∙ not_found ms (recursion_from_All (λ m. m.faction ≢ f) ms none)
   where
-    -- if none of the mailings is of faction `f`, the search for the faction finds nothing among their readings
     not_found : (ms : List Mailing) → AllByRecursion (λ m. m.faction ≢ f) ms → find nat_cmp f (map (λ r. (r.faction, r)) (map reading_of ms)) ≡ None
     not_found [] none = refl
     not_found (m ∷ ms) none =
@@ -157,8 +141,6 @@ phases_leave_unmailed phases keeps closes w c d m events begins is kept n u ther
     subst (λ k. IsStillThere (IsLessBy k) d n u) so_many (subst (λ s. IsStillThere (IsLessBy (starved_in (phases w c m).1.events n - starved_in m.events n)) s n u) (sym state)
     (closes.left w c m (subst (keeps w m c) state kept) n u there none (subst (λ k. k < u.holding.men) (sym so_many) some)))
 
--- after a month each unit of a faction without a mailing, unless all its men starved, has its name, no less of any
--- item, and all men who didn't starve (`UnmailedAreLeft`)
 pub unmailed_left : (w : WorldValue) (c d : CampaignValue) (ms : List Mailing) (words : List ℕ) (events : List Event) → (d, events) ≡ month_of w c (by_faction (map reading_of ms)) words
     → month_keeps w (new_month (by_faction (map reading_of ms)) words) c d → UnmailedAreLeft ms events c d
 unfolding month_of

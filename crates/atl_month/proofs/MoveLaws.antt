@@ -16,11 +16,9 @@ use Rattle.atl_month.proofs.PhaseLaws.{KeepsPhaseLaws, early_are, last_move, lat
 abbrev pub moves_in_month : BookBound
 moves_in_month e t = most_in_month
 
--- each phase from FORM to RECRUIT moves the amounts of its own entries alone, each by less than 10^14
 early_move : EachPhase MovesItsOwn early_phases
 early_move = each_also (λ phase (is : KeepsPhaseLaws phase). is.moves) early_phases early_are
 
--- each phase from GUARD 1 to PRODUCE moves the amounts of its own entries alone, each by less than 10^14
 later_move : EachPhase MovesItsOwn later_phases
 later_move = each_also (λ phase (is : KeepsPhaseLaws phase). is.moves) later_phases later_are
 
@@ -28,18 +26,13 @@ later_move = each_also (λ phase (is : KeepsPhaseLaws phase). is.moves) later_ph
 pub each_little : PhasesMoveLittle
 each_little = (early_move, later_move, last_move)
 
--- the phases of a month together move each amount by at most 10^14 - 1 for each phase that may move it (`month_moves`)
 pub month_within : IsBoundWithin phases_bound month_moves
 month_within e t =
     omega (arith, moved_within early_phases early_move e t, moved_within later_phases later_move e t, moved_within last_phases last_move e t)
 
--- ---- two phases at most move an amount
-
--- for `two_at_most`: a number that tests as at most 2 is at most 2
 is_two_at_most : (n : ℕ) → nat_le n 2 ≡ true → n ≤ 2
 is_two_at_most n is = grind (arith, nat_tests, is)
 
--- at most two phases of a month may move an amount
 pub two_at_most : TwoMoveAtMost
 two_at_most e Money = is_two_at_most (moving_phase_count e Money) (each_entry (λ k. nat_le (moving_phase_count k Money) 2) refl e)
 two_at_most e People = is_two_at_most (moving_phase_count e People) (each_entry (λ k. nat_le (moving_phase_count k People) 2) refl e)

@@ -46,15 +46,12 @@ Owes c s more = pos (total c s) ≡ booked c.books s +ℤ pos more
 
 -- ---- a unit from which nothing is taken (`IsKept`)
 
--- a unit that stays as it is is kept (`IsKept`): nothing is taken from it
 pub kept-refl : (u : Unit) → IsKept u u
 kept-refl u = record { no_worse = no_worse u; men = refl; days = refl }
 
--- a unit that is kept (`IsKept`) by one change and by the next is kept by both
 pub kept-trans : (u v x : Unit) → IsKept u v → IsKept v x → IsKept u x
 kept-trans u v x one two = record { no_worse = no_worse_twice u v x one.no_worse two.no_worse; men = two.men ∙ one.men; days = two.days ∙ one.days }
 
--- a unit that gets other money and items, and no less of any, is kept (`IsKept`)
 kept-with : (u : Unit) (money : ℕ) (items : FinMap nat_cmp ℕ) → u.holding.money ≤ money → ((i : ℕ) → amount_of u.holding.items i ≤ amount_of items i)
     → IsKept u (record u { holding = record u.holding { money = money; items = items } })
 kept-with u money items more all = record {
@@ -69,22 +66,14 @@ kept-with u money items more all = record {
 -- nothing from any unit. The total of each thing is above the books by `owing` more than before, and the books moved by
 -- at most `book_bound`.
 pub record PassesOn (w : WorldValue) (n : ℕ) (owing : Thing → ℕ) (book_bound : BookBound) (c d : CampaignValue) : Type 0 where
-  -- the campaign is steady after something was passed on
   pub steady : IsSteady w d
-  -- of each thing the total is above the books by `owing` more than before
   pub owes : (s : Thing) (x : ℕ) → Owes c s x → Owes d s (x + owing s)
-  -- each amount of the books moves by at most its bound in `book_bound`
   pub near : (e : BooksEntry) (s : Thing) → IsNear (book_bound e s) (amount_in c.books e s) (amount_in d.books e s)
-  -- the number of the month last closed, the reports and the set of factions stay
   pub same : IsSameMonth c d
-  -- unit `n`, whose money or items are passed on, is itself unchanged
   pub unit : get d.units n ≡ get c.units n
-  -- each unit of campaign `c` is in campaign `d`, and nothing is taken from it
   pub forth : Every (λ m u. (v : Unit) × (get d.units m ≡ Some v) × IsKept u v) c.units
-  -- each unit of campaign `d` was in campaign `c`, and nothing was taken from it
   pub back : Every (λ m v. (u : Unit) × (get c.units m ≡ Some u) × IsKept u v) d.units
 
--- a steady campaign that stays as it is has passed on nothing (`PassesOn` with 0 of each thing)
 pub passes-refl : (w : WorldValue) (n : ℕ) (c : CampaignValue) → IsSteady w c → PassesOn w n (λ s. 0) (λ e s. 0) c c
 passes-refl w n c steady = record {
   steady = steady;
@@ -96,7 +85,6 @@ passes-refl w n c steady = record {
   back = λ m v is. (v, is, kept-refl v);
 }
 
--- passing on something of unit `n` and then something else is passing on both together (`PassesOn`)
 pub passes-trans : {o p : Thing → ℕ} {i j : BookBound} (w : WorldValue) (n : ℕ) (a b c : CampaignValue) → PassesOn w n o i a b → PassesOn w n p j b c
     → PassesOn w n (λ s. o s + p s) (both_move i j) a c
 passes-trans {o} {p} {i} {j} w n a b c one two = record {
@@ -123,7 +111,6 @@ owed_all : (b : Bool) (lost x all : ℕ) (books : ℤ) → pos all ≡ books +�
 owed_all b lost x all books h = grind (arith, ints, h)
 
 module _ (w : WorldValue) (c : CampaignValue) (n : ℕ) (t : Thing) (inside : thing_index t < thing_count w) (steady : IsSteady w c) where
-  -- booking an amount of a thing as lost is passing it on (`PassesOn`), in a steady campaign
   pub all_lost : (amount : ℕ) → PassesOn w n (λ s. amount_as_thing s t amount) (moves_only amount Lost t) c (with_lost c t amount)
   all_lost amount = record {
     steady = steady-amount w c Lost t (neg_ℤ (pos amount)) inside steady;
@@ -147,7 +134,6 @@ module _ (w : WorldValue) (c : CampaignValue) (n : ℕ) (t : Thing) (inside : th
     abbrev given : CampaignValue
     given = with_holding_at c k h (Some v)
 
-    -- giving the part raises the total of the thing by that part, and no other total
     grown : (s : Thing) → total given s ≡ total c s + amount_as_thing s t taken
     grown s = omega (arith, total-new_holding w c k v h is s, more s)
 
@@ -171,7 +157,6 @@ module _ (w : WorldValue) (c : CampaignValue) (n : ℕ) (t : Thing) (inside : th
           (λ m x there. (x, there, kept-refl x));
     }
       where
-        -- each unit that was there is there after unit `k` got holding `h`, and nothing is taken from it
         new_unit : (m : ℕ) (u : Unit) → get c.units m ≡ Some u → (x : Unit) × (get (insert c.units k (record v { holding = h })) m ≡ Some x) × IsKept u x
         new_unit m u there = elim (cases_eq m k) [
           | inl same ↦
@@ -185,7 +170,6 @@ module _ (w : WorldValue) (c : CampaignValue) (n : ℕ) (t : Thing) (inside : th
 
 -- ---- a holding with more of an item
 
--- if `n` of item `i` are added to some items, there are `n` more of it, and as many as before of each other item `j`
 more_amount : (items : FinMap nat_cmp ℕ) (i n j : ℕ)
     → amount_of (with_amount_of items i (amount_of items i + n)) j ≡ amount_of items j + cond (2 + j == 2 + i) n 0
 more_amount items i n j = elim (cases_eq j i) [
@@ -195,12 +179,9 @@ more_amount items i n j = elim (cases_eq j i) [
 
 -- ---- the part that a unit takes, and the rest
 
--- what a unit accepts of an amount and what it doesn't accept together are the amount
 accepted_and_rest : (amount have : ℕ) → accepted_of amount have + (amount - accepted_of amount have) ≡ amount
 accepted_and_rest amount have = omega arith
 
--- a unit that has `have` of a thing, within the limit of a holding, is within the limit also with what it accepts
--- besides
 accepted_fits : (amount have : ℕ) → have ≤ holding_limit → have + accepted_of amount have ≤ holding_limit
 accepted_fits amount have l = omega arith
 
@@ -209,7 +190,6 @@ module _ (w : WorldValue) (c : CampaignValue) (n k : ℕ) (apart : n ≢ k) (ste
   abbrev Passed : Thing → ℕ → CampaignValue → Type 0
   Passed t amount d = PassesOn w n (λ s. amount_as_thing s t amount) (moves_only amount Lost t) c d
 
-  -- a holding with more money has that much more money, and as much as before of each item
   more_money : (h : HoldingValue) (n : ℕ) (s : Thing) → unit_amount s (record h { money = h.money + n }) ≡ unit_amount s h + amount_as_thing s Money n
   more_money h n Money = refl
   more_money h n People = grind (arith, nat_tests)
@@ -226,13 +206,10 @@ module _ (w : WorldValue) (c : CampaignValue) (n k : ℕ) (apart : n ≢ k) (ste
       let taken = option_map_or (λ v. accepted_of amount v.holding.money) o 0 in
       with_lost (option_map_or (λ v. with_money c k (v.holding.money + taken)) o c) Money (amount - taken)
 
-  -- giving money to unit `k`, if there, up to its room, and booking the rest as lost is passing it on (`PassesOn`)
   pub pass_money : (amount : ℕ) → Passed Money amount (after_passing_money c k amount)
   unfolding after_passing_money
   pass_money amount = by_unit (get c.units k) refl
     where
-      -- giving the money is passing it on (`Passed`), whether unit `k` is there, and takes a part, or isn't, and all is
-      -- lost
       by_unit : (o : Option Unit) → get c.units k ≡ o → Passed Money amount (money_to amount o)
       by_unit None is = all_left Money amount (all_lost w c n Money (omega arith) steady amount)
       by_unit (Some v) is =
@@ -248,7 +225,6 @@ module _ (w : WorldValue) (c : CampaignValue) (n k : ℕ) (apart : n ≢ k) (ste
           (kept-with v money v.holding.items (omega arith) (λ i. omega arith))
           taken (amount - taken) (more_money v.holding taken)))
 
-  -- a holding with more of an item has that much more of the item, and as much as before of any other thing
   more_item : (h : HoldingValue) (i n : ℕ) (s : Thing)
       → unit_amount s (record h { items = with_amount_of h.items i (amount_of h.items i + n) }) ≡ unit_amount s h + amount_as_thing s (Item i) n
   more_item h i n Money = grind (arith, nat_tests)
@@ -261,17 +237,13 @@ module _ (w : WorldValue) (c : CampaignValue) (n k : ℕ) (apart : n ≢ k) (ste
       let taken = option_map_or (λ v. accepted_of amount (amount_of v.holding.items i)) o 0 in
       with_lost (option_map_or (λ v. with_item c k i (amount_of v.holding.items i + taken)) o c) (Item i) (amount - taken)
 
-  -- giving an item to unit `k`, if there, up to its room, and booking the rest as lost is passing it on (`PassesOn`)
   pub pass_item : (i amount : ℕ) → i < length w.items → Passed (Item i) amount (after_passing_item k c (i, amount))
   unfolding after_passing_item
   pass_item i amount known = by_unit (get c.units k) refl
     where
-      -- the item is one of the things of the world's books
       inside : thing_index (Item i) < thing_count w
       inside = omega (arith, known)
 
-      -- giving the item is passing it on (`Passed`), whether unit `k` is there, and takes a part, or isn't, and all is
-      -- lost
       by_unit : (o : Option Unit) → get c.units k ≡ o → Passed (Item i) amount (item_to i amount o)
       by_unit None is = all_left (Item i) amount (all_lost w c n (Item i) inside steady amount)
       by_unit (Some v) is =

@@ -45,19 +45,14 @@ use Rattle.atl_month.proofs.UnmailedEndLaws.{season_leaves, sweep_leaves, upkeep
 abbrev MovesAlone : BookBound → MovedEntries → Type 0
 MovesAlone book_bound moved = (e : BooksEntry) (t : Thing) → book_bound e t ≤ (if may_move moved e t then most_moved else 0)
 
--- a phase that moves nothing moves only the entries that it lists (`MovesAlone`), whichever these are
 moves_nothing_alone : (moved : MovedEntries) → MovesAlone moves_nothing moved
 moves_nothing_alone moved e t = omega arith
 
--- A phase that moves money under entry `k` alone moves only the entries that it lists (`MovesAlone`), if these are `k`
--- for money.
 money_alone : (k : BooksEntry) → MovesAlone (moves_only most_moved k Money) (record { money = k ∷ []; people = []; items = [] })
 money_alone k e Money = grind (arith, nat_tests)
 money_alone k e People = grind (arith, nat_tests, entry_small k)
 money_alone k e (Item i) = grind (arith, nat_tests, entry_small k)
 
--- A phase that moves people under entry `k` alone moves only the entries that it lists (`MovesAlone`), if these are `k`
--- for people.
 people_alone : (k : BooksEntry) → MovesAlone (moves_only most_moved k People) (record { money = []; people = k ∷ []; items = [] })
 people_alone k e Money = grind (arith, nat_tests, entry_small e)
 people_alone k e People = grind (arith, nat_tests)
@@ -70,39 +65,32 @@ money_and_people k j e Money = omega (arith, money_alone k e Money, people_alone
 money_and_people k j e People = omega (arith, money_alone k e People, people_alone j e People)
 money_and_people k j e (Item i) = omega (arith, money_alone k e (Item i), people_alone j e (Item i))
 
--- QUIT moves its own entries of the books alone, each by less than 10^14
 quit_alone : MovesItsOwn quit_spec
 quit_alone e Money = omega arith
 quit_alone e People = omega arith
 quit_alone e (Item i) = omega arith
 
--- BUILD moves its own entries of the books alone, each by less than 10^14
 build_alone : MovesItsOwn build_spec
 build_alone e Money = omega arith
 build_alone e People = omega arith
 build_alone e (Item i) = omega arith
 
--- PRODUCE moves its own entries of the books alone, each by less than 10^14
 produce_alone : MovesItsOwn produce_spec
 produce_alone entries.Made (Item i) = omega arith
 produce_alone entries.Used (Item i) = omega arith
 produce_alone e t = omega arith
 
--- WORK moves its own entries of the books alone, each by less than 10^14
 pub work_alone : MovesItsOwn work_spec
 work_alone = money_alone entries.Wages
 
--- upkeep moves its own entries of the books alone, each by less than 10^14
 pub upkeep_alone : MovesItsOwn upkeep_spec
 upkeep_alone = money_and_people entries.Upkeep entries.Starved
 
--- the season moves its own entries of the books alone, each by less than 10^14
 pub season_alone : MovesItsOwn season_spec
 season_alone e Money = grind (arith, money_and_people entries.Income entries.Births e Money)
 season_alone e People = grind (arith, money_and_people entries.Income entries.Births e People)
 season_alone e (Item i) = grind (arith, money_and_people entries.Income entries.Births e (Item i))
 
--- the sweep moves its own entries of the books alone, each by less than 10^14
 pub sweep_alone : MovesItsOwn sweep_spec
 sweep_alone e Money = grind arith
 sweep_alone e People = grind arith
@@ -113,12 +101,9 @@ sweep_alone e (Item i) = grind (arith, nat_tests)
 -- a phase moves its own entries of the books alone, and leaves units of factions without a mailing their items, and
 -- their men less the starved
 pub record KeepsPhaseLaws (phase : PhaseSpec) : Type 0 where
-  -- the phase moves its own entries of the books alone, each by less than 10^14
   pub moves : MovesItsOwn phase
-  -- the phase leaves units of factions without a mailing their items, and their men less the starved
   pub leaves : PhaseLeavesUnmailed phase
 
--- a phase that keeps the law of the books and the law of units without a mailing keeps both together (`KeepsPhaseLaws`)
 keeps_phase_laws : (phase : PhaseSpec) → MovesItsOwn phase → PhaseLeavesUnmailed phase → KeepsPhaseLaws phase
 keeps_phase_laws phase moves leaves = record { moves = moves; leaves = leaves }
 
@@ -127,8 +112,6 @@ infixr 5 ◌▹◌
 ◌▹◌ : {A B : Type 0} → A → B → A × B
 one ▹ others = (one, others)
 
--- each phase from FORM to RECRUIT moves its own entries alone, and leaves units of factions without a mailing their
--- items, and their men less the starved (`KeepsPhaseLaws`)
 pub early_are : EachPhase KeepsPhaseLaws early_phases
 early_are =
     keeps_phase_laws form_spec (moves_nothing_alone no_moved_entries) form_leaves
@@ -142,8 +125,6 @@ early_are =
     ▹ keeps_phase_laws recruit_spec (money_alone entries.Recruiting) recruit_leaves
     ▹ tt
 
--- each phase from GUARD 1 to PRODUCE moves its own entries alone, and leaves units of factions without a mailing their
--- items, and their men less the starved (`KeepsPhaseLaws`)
 pub later_are : EachPhase KeepsPhaseLaws later_phases
 later_are =
     keeps_phase_laws guard_spec (moves_nothing_alone no_moved_entries) guard_leaves
@@ -155,11 +136,8 @@ later_are =
     ▹ keeps_phase_laws produce_spec produce_alone produce_leaves
     ▹ tt
 
--- each of WORK, upkeep, season and sweep moves its own entries of the books alone, each by less than 10^14
 pub last_move : EachPhase MovesItsOwn last_phases
 last_move = work_alone ▹ upkeep_alone ▹ season_alone ▹ sweep_alone ▹ tt
 
--- WORK, upkeep, season and sweep together leave units of factions without a mailing their items, and their men less the
--- starved (`CloseTogether`)
 pub last_leave : CloseTogether last_phases
 last_leave = work_leaves ▹ upkeep_leaves ▹ season_leaves ▹ sweep_leaves

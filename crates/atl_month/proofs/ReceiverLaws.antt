@@ -37,29 +37,24 @@ module _ {V : Type 0} (p : V → Bool) where
   either_listed true n k ns here rest (inr h) = rest h
   either_listed false n k ns here rest h = rest h
 
-  -- a number below those of all entries is below each of the numbers among them whose values pass the test
   below_listed : (x k : ℕ) (es : List (ℕ × V)) → below_all nat_cmp x es ≡ true → IsListed k (numbers_among p es) → x < k
   below_listed x k [] low h = absurd h
   below_listed x k (e ∷ es) low h =
       either_listed (p e.1) e.0 k (numbers_among p es) (λ same. let l = less_by_cmp x e.0 (and_parts _ _ low).0 in omega (arith, same, l)) (below_listed x k es (and_parts _ _ low).1)
       (subst (IsListed k) (chosen-cons p e es) h)
 
-  -- of the numbers in sorted entries whose values pass the test, the first is the least
   first_least : (k : ℕ) (es : List (ℕ × V)) → is_sorted nat_cmp es ≡ true → IsListed k (numbers_among p es) → first_or_zero (numbers_among p es) ≤ k
   first_least k [] s h = absurd h
   first_least k (e ∷ es) s h =
       subst (λ ns. first_or_zero ns ≤ k) (sym (chosen-cons p e es))
       (by_test (p e.1) (first_least k es (and_parts _ _ s).1) (below_listed e.0 k es (and_parts _ _ s).0) (subst (IsListed k) (chosen-cons p e es) h))
     where
-      -- Among entries with one more in front, the first number that passes is at most each one that passes, whether the
-      -- front one passes (`b`) or not.
       by_test : (b : Bool) → (IsListed k (numbers_among p es) → first_or_zero (numbers_among p es) ≤ k) → (IsListed k (numbers_among p es) → e.0 < k)
           → IsListed k (cond b (e.0 ∷ numbers_among p es) (numbers_among p es)) → first_or_zero (cond b (e.0 ∷ numbers_among p es) (numbers_among p es)) ≤ k
       by_test true least above (inl same) = omega (arith, same)
       by_test true least above (inr rest) = let l = above rest in omega arith
       by_test false least above rest = least rest
 
-  -- a map has the number `k`, and its value there passes the test `p`
   abbrev PassesIn : FinMap nat_cmp V → ℕ → Type 0
   PassesIn m k = (v : V) × (get m k ≡ Some v) × (p v ≡ true)
 
@@ -73,12 +68,10 @@ module _ {V : Type 0} (p : V → Bool) where
       let listed = passing_listed p m first v is t in
       (there (numbers_where p m) (λ k h. let (x, at, u) = listed_passing p m k h in low k x at) first listed, first_least first (entries m) (sorted m) listed)
     where
-      -- for `first_below`: a list that has a number, and only numbers of at least 1, doesn't have 0 as its first
       there : (ns : List ℕ) → ((k : ℕ) → IsListed k ns → 1 ≤ k) → (k : ℕ) → IsListed k ns → first_or_zero ns ≢ 0
       there [] least k h = absurd h
       there (n ∷ ns) least k h = let l = least n (inl refl) in λ zero. absurd (omega (arith, zero, l))
 
-  -- maps whose numbers begin at 1, in which the same numbers pass the test, have the same first number that passes
   pub same_first : (m o : FinMap nat_cmp V) → Every (λ k v. 1 ≤ k) m → Every (λ k v. 1 ≤ k) o → ((k : ℕ) → PassesIn o k → PassesIn m k) → ((k : ℕ) → PassesIn m k → PassesIn o k)
       → first_or_zero (numbers_where p m) ≡ first_or_zero (numbers_where p o)
   same_first m o low deep there back =
@@ -94,11 +87,9 @@ module _ {V : Type 0} (p : V → Bool) where
 -- ---- while units are swept
 
 module _ (w : WorldValue) (c : CampaignValue) (n : ℕ) (steady : IsSteady w c) where
-  -- a unit that is kept, with its men (`IsKept`), receives for a faction in a region exactly if it did before
   passes_still : (region faction : ℕ) (u v : Unit) → IsKept u v → receives region faction u ≡ receives region faction v
   passes_still region faction u v kept = cc (kept.no_worse.region, kept.no_worse.faction, kept.men)
 
-  -- a unit that receives has men
   has_men : (region faction : ℕ) (u : Unit) → receives region faction u ≡ true → 1 ≤ u.holding.men
   has_men region faction u t = grind (arith, nat_tests, t)
 
@@ -118,11 +109,9 @@ module _ (m : ReceiverMap) (n : ℕ) (u : Unit) (es : List (ℕ × Unit)) (low :
   abbrev after : (region faction : ℕ) → ℕ
   after r f = first_or_zero (numbers_among (receives r f) es)
 
-  -- the first receiver among unit `n` and those after it is unit `n` if it receives, else the first of those after it
   opened : (r f : ℕ) → first_or_zero (numbers_among (receives r f) ((n, u) ∷ es)) ≡ cond (receives r f u) n (after r f)
   opened r f = ap first_or_zero (chosen-cons (receives r f) (n, u) es) ∙ first_of_cond (receives r f u) (numbers_among (receives r f) es)
     where
-      -- for `opened`: the first number of a list with `n` in front (if `b`) is `n`, and without it that of the list
       first_of_cond : (b : Bool) (ns : List ℕ) → first_or_zero (cond b (n ∷ ns) ns) ≡ cond b n (first_or_zero ns)
       first_of_cond b ns = grind arith
 
@@ -150,16 +139,11 @@ module _ (m : ReceiverMap) (n : ℕ) (u : Unit) (es : List (ℕ × Unit)) (low :
           → or_if_zero (unwrap_or (cond ((k && (x == 0)) && (p && q)) (Some n) o) 0) next ≡ or_if_zero (unwrap_or o 0) (cond (p && (q && k)) n next)
       goes_on p q k o x next same = grind (arith, nat_tests, low)
 
--- Before any unit is noted, the first of all units that receives for a faction in a region is the campaign's receiver
--- there.
 pub nothing_noted : (c : CampaignValue) (m : ReceiverMap) → m ≡ empty → (r f : ℕ) → or_if_zero (receiver_in m r f) (first_or_zero (numbers_among (receives r f) (entries c.units))) ≡ receiver c r f
 nothing_noted c m none r f = rw (none, get-empty nat_cmp r, get-empty nat_cmp f) refl
 
--- The map has the campaign's receivers (`AreReceivers`), if the map and the units still to come give these receivers,
--- and no unit is still to come.
 pub all_noted : (c : CampaignValue) (m : ReceiverMap) → ((r f : ℕ) → or_if_zero (receiver_in m r f) (first_or_zero (numbers_among (receives r f) [])) ≡ receiver c r f) → AreReceivers c m
 all_noted c m h r f = plain (receiver_in m r f) ∙ h r f
   where
-    -- for `all_noted`: `or_if_zero` with 0 as the second number gives the first
     plain : (x : ℕ) → x ≡ or_if_zero x 0
     plain x = grind (arith, nat_tests)

@@ -51,17 +51,14 @@ abbrev pub stocking_bound : List (ℕ × Market) → BookBound
 stocking_bound [] e t = 0
 stocking_bound (x ∷ xs) e t = moves_only most_amount Stocked (Item x.0) e t + stocking_bound xs e t
 
--- the bound on the new goods of one item is within the bound of restocking (`stocks_by`)
 one_stocked : (k : ℕ) (e : BooksEntry) (t : Thing) → moves_only most_amount Stocked (Item k) e t ≤ stocks_by most_amount e t
 one_stocked k e Money = grind (arith, nat_tests, entry_small e)
 one_stocked k e People = grind (arith, nat_tests, entry_small e)
 one_stocked k e (Item i) = grind (arith, nat_tests, entry_small e)
 
--- new goods of an item move no amount of another thing
 other_item : (k : ℕ) (e : BooksEntry) (t : Thing) → thing_index t ≢ 2 + k → moves_only most_amount Stocked (Item k) e t ≡ 0
 other_item k e t apart = grind (arith, nat_tests, entry_small e)
 
--- the new goods of markets whose items are all above `k` move nothing of item `k`
 none_above : (k : ℕ) (xs : List (ℕ × Market)) (e : BooksEntry) (t : Thing) → thing_index t ≡ 2 + k → below_all nat_cmp k xs ≡ true → stocking_bound xs e t ≡ 0
 none_above k [] e t at above = refl
 none_above k (x ∷ xs) e t at above =
@@ -69,7 +66,6 @@ none_above k (x ∷ xs) e t at above =
     let less = less_by_cmp k x.0 both.0 in
     omega (arith, other_item x.0 e t (λ same. omega (arith, at, same, less)), none_above k xs e t at both.1)
 
--- the new goods of markets with different items move Stocked of each item by at most 999,999,999, and nothing else
 pub stocks_little : (xs : List (ℕ × Market)) → is_sorted nat_cmp xs ≡ true → (e : BooksEntry) (t : Thing) → stocking_bound xs e t ≤ stocks_by most_amount e t
 stocks_little [] rising e t = omega arith
 stocks_little (x ∷ xs) rising e t =
@@ -83,36 +79,28 @@ stocks_little (x ∷ xs) rising e t =
 -- ---- a market that gets new goods
 
 module _ (w : WorldValue) (c : CampaignValue) (n i : ℕ) (m : Market) (r : Region) (here : get c.regions n ≡ Some r) (market : market_of w n i ≡ Some m) (known : IsMarket (length w.items) i m) (steady : IsSteady w c) where
-  -- the stock of the market before it gets its new goods
   abbrev stock : ℕ
   stock = amount_of r.stocks i
 
-  -- how many new goods the market gets
   abbrev more : ℕ
   more = restock m stock
 
-  -- the campaign's stock of item `i` in region `n` (`stock_of`) is what the region has in stock of it
   stock_is : stock_of c n i ≡ stock
   stock_is = ap (λ o. option_map_or (λ (q : Region). amount_of q.stocks i) o 0) here
 
-  -- the most that region `n` may have in stock of item `i` (`stock_limit`) is the market's limit
   limit_is : stock_limit w n i ≡ m.limit
   limit_is = ap (λ o. option_map_or (λ (k : Market). k.limit) o most_amount) market
 
-  -- before restocking, region `n` has in stock of the market's item `i` at most the market's limit
   pub stock_small : stock ≤ m.limit
   stock_small = by_option (get r.stocks i) refl
     where
-      -- the stock that a look-up finds for the item, or 0 where it finds none, is at most the market's limit
       by_option : (o : Option ℕ) → get r.stocks i ≡ o → unwrap_or o 0 ≤ m.limit
       by_option None is = omega arith
       by_option (Some amount) is = omega (arith, ((steady.numbers.regions n r here).stocks i amount is).1, limit_is)
 
-  -- the stock of the market with its new goods is at most its limit
   pub stock_fits : stock + more ≤ m.limit
   stock_fits = omega (arith, stock_small)
 
-  -- the item is one of the things of the world's books
   inside : thing_index (Item i) < thing_count w
   inside = omega (arith, known.item, known.number_is)
 
@@ -120,11 +108,9 @@ module _ (w : WorldValue) (c : CampaignValue) (n i : ℕ) (m : Market) (r : Regi
   abbrev filled : CampaignValue
   filled = with_stock c n i (stock + more)
 
-  -- the campaign with the new goods in stock is steady
   filled_steady : IsSteady w filled
   filled_steady = steady-stock c n i (stock + more) r here w (ap is_some market) (omega (arith, stock_fits, limit_is)) steady
 
-  -- the total of the market's item grows by the new goods, and each other total stays
   filled_total : (t : Thing) → total filled t ≡ total c t + cond (thing_index t == 2 + i) more 0
   filled_total t = elim (cases_eq (thing_index t) (2 + i)) [
     | inl location ↦
@@ -134,14 +120,11 @@ module _ (w : WorldValue) (c : CampaignValue) (n i : ℕ) (m : Market) (r : Regi
     | inr apart ↦ let kept = total-stock_other c n i (stock + more) r here t (λ same. apart (ap thing_index same)) in grind (arith, nat_tests, kept)
   ]
 
-  -- if the books balance before, they balance with the new goods in stock and booked
   balanced : Balances c → Balances (with_booking filled Stocked (Item i) (pos more))
   balanced old t =
       ap pos (total-booking filled Stocked (Item i) t (pos more)) ∙ ap pos (filled_total t) ∙ added (thing_index t == 2 + i) (total c t) (booked c.books t) (old t)
       ∙ sym (booked-after_booking c.books Stocked (Item i) (pos more) t)
     where
-      -- For `balanced`: if the total of a thing is what the books account for, it still is with the new goods added to
-      -- both. The goods are added only where the thing is the item (`b`).
       added : (b : Bool) (x : ℕ) (z : ℤ) → pos x ≡ z → pos (x + cond b more 0) ≡ z +ℤ cond b (pos more) (pos 0)
       added b x z e = grind (arith, ints, e)
 
@@ -165,13 +148,9 @@ abbrev pub IsMarketOf : WorldValue → (n i : ℕ) → Market → Type 0
 IsMarketOf w n i m = (market_of w n i ≡ Some m) × IsMarket (length w.items) i m
 
 module _ (w : WorldValue) (n : ℕ) (there : HasValue w.regions n) where
-  -- New goods of a market of the region keep a steady campaign steady and its books balanced, and book at most
-  -- 999,999,999 of its item.
   pub one_leaves_well : (c : CampaignValue) (x : ℕ × Market) → IsMarketOf w n x.0 x.1 → IsSteady w c → LeavesWell IsSteady (moves_only most_amount Stocked (Item x.0)) w c (after_market_restock n c x)
   one_leaves_well c x of steady = let (r, here) = (steady.known.regions n).1 there in market_leaves_well w c n x.0 x.1 r here of.0 of.1 steady
 
-  -- New goods of a region's markets, in turn, keep a steady campaign steady and its books balanced, and book at most
-  -- 999,999,999 of each market's item (`stocking_bound`).
   all_leave_well : (xs : List (ℕ × Market)) → EachEntry (IsMarketOf w n) xs → (c : CampaignValue) → IsSteady w c → LeavesWell IsSteady (stocking_bound xs) w c (after_restock n c xs)
   all_leave_well [] each c steady = well_unchanged (stocking_bound []) w c steady
   all_leave_well (x ∷ xs) each c steady =
@@ -179,20 +158,16 @@ module _ (w : WorldValue) (n : ℕ) (there : HasValue w.regions n) where
       both_leave_well (moves_only most_amount Stocked (Item x.0)) (stocking_bound xs) w c (after_market_restock n c x) (after_restock n c (x ∷ xs)) one
       (all_leave_well xs each.1 (after_market_restock n c x) one.leaves_it)
 
--- an empty map of markets has no entries
 pub none_there : entries (empty {X = Market} {R = nat_cmp}) ≡ []
 none_there = entries-empty
 
 module _ (w : WorldValue) (world : IsWorld w) (n : ℕ) where
-  -- the markets of a region of the world are those of its plan
   pub markets_there : (p : RegionPlan) → get w.regions n ≡ Some p → markets_of w n ≡ p.markets
   markets_there p is = ap (λ o. option_map_or (λ (q : RegionPlan). q.markets) o empty) is
 
-  -- restocking a region that the world doesn't have changes nothing
   pub none_of : (c : CampaignValue) → get w.regions n ≡ None → after_restock n c (entries (markets_of w n)) ≡ c
   none_of c is = ap (λ o. after_restock n c (entries (option_map_or (λ (q : RegionPlan). q.markets) o empty))) is ∙ ap (after_restock n c) none_there
 
-  -- each market of a region's plan is the world's market for its item there
   pub markets_are : (p : RegionPlan) → get w.regions n ≡ Some p → EachEntry (IsMarketOf w n) (entries p.markets)
   markets_are p is = each-from_every (IsMarketOf w n) p.markets (λ i m at. (ap (λ o. option_and_then (λ (q : RegionPlan). get q.markets i) o) is ∙ at, (world.regions n p is).markets i m at))
 
@@ -201,45 +176,35 @@ module _ (w : WorldValue) (world : IsWorld w) (n : ℕ) where
   pub restocked_leaves_well : (c : CampaignValue) → IsSteady w c → LeavesWell IsSteady (stocks_by most_amount) w c (after_restock n c (entries (markets_of w n)))
   restocked_leaves_well c steady = by_plan (get w.regions n) refl
     where
-      -- restocking keeps the campaign steady and its books balanced, whether the world has a plan of the region or not
       by_plan : (o : Option RegionPlan) → get w.regions n ≡ o → LeavesWell IsSteady (stocks_by most_amount) w c (after_restock n c (entries (option_map_or (λ (p : RegionPlan). p.markets) o empty)))
       by_plan None is = subst (λ es. LeavesWell IsSteady (stocks_by most_amount) w c (after_restock n c es)) (sym none_there) (well_unchanged (stocks_by most_amount) w c steady)
       by_plan (Some p) is =
           well_within (stocking_bound (entries p.markets)) (stocks_by most_amount) w c (after_restock n c (entries p.markets)) (stocks_little (entries p.markets) (sorted p.markets))
           (all_leave_well w n (p, is) (entries p.markets) (markets_are p is) c steady)
 
--- new goods of a market change no unit
 market_restock_keeps_units : (n : ℕ) (c : CampaignValue) (x : ℕ × Market) → (after_market_restock n c x).units ≡ c.units
 unfolding after_market_restock
 market_restock_keeps_units n c x = refl
 
--- new goods of several markets change no unit
 pub restocked_keeps : (n : ℕ) (c : CampaignValue) (xs : List (ℕ × Market)) → (after_restock n c xs).units ≡ c.units
 restocked_keeps n c [] = refl
 restocked_keeps n c (x ∷ xs) = restocked_keeps n (after_market_restock n c x) xs ∙ market_restock_keeps_units n c x
 
 -- ---- what the code books and marks
 
--- a market whose limit is at most 999,999,999 gets at most that many new goods
 pub restock_small : (m : Market) (stock : ℕ) → m.limit ≤ most_amount → restock m stock ≤ most_amount
 restock_small m stock l = omega (arith, l)
 
--- the amount of item `i` under Stocked has room for 999,999,999 more, if the books have room for the new goods of this
--- item
 pub room_alone : (c : CampaignValue) (i : ℕ) → HaveRoom (moves_only most_amount Stocked (Item i)) c → HasRoom most_amount (amount_in c.books Stocked (Item i))
 room_alone c i room =
     subst (λ b. HasRoom (if b then most_amount else 0) (amount_in c.books Stocked (Item i))) (same_number (amount_number Stocked (Item i))) (room Stocked (Item i))
 
--- books with room for the new goods of all markets have room for those of the first
 pub room_for_market : (x : ℕ × Market) (xs : List (ℕ × Market)) (c : CampaignValue) → HaveRoom (stocking_bound (x ∷ xs)) c → HaveRoom (moves_only most_amount Stocked (Item x.0)) c
 room_for_market x xs c room = room_less (moves_only most_amount Stocked (Item x.0)) (stocking_bound (x ∷ xs)) c (λ e t. omega arith) room
 
--- If the books have room for the new goods of all markets, they have room for those of the other markets after the
--- first market got its own.
 pub room_for_later_markets : (w : WorldValue) (n : ℕ) → HasValue w.regions n → (x : ℕ × Market) (xs : List (ℕ × Market)) (c : CampaignValue) → IsMarketOf w n x.0 x.1 → IsSteady w c → HaveRoom (stocking_bound (x ∷ xs)) c → HaveRoom (stocking_bound xs) (after_market_restock n c x)
 room_for_later_markets w n there x xs c of steady room = room_for_second (moves_only most_amount Stocked (Item x.0)) (stocking_bound xs) w c (after_market_restock n c x) (one_leaves_well w n there c x of steady) room
 
--- setting a stock and booking the new goods marks all that these two steps change
 pub market_marks : (stock more n i : ℕ) (c d e : MarkedCampaign) → d.value ≡ with_stock c.value n i (stock + more) → MarksStock c n i (stock + more) d.marks
     → e.value ≡ with_booking d.value Stocked (Item i) (pos more) → e.marks ≡ mark_amount d Stocked (Item i) → MarksChanges c e
 market_marks stock more n i c d e d_is d_marks e_is e_marks =

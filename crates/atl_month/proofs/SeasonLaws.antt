@@ -21,12 +21,12 @@ use Rattle.atl_records.specs.declared.records.Region.{Region}
 use Rattle.atl_records.specs.Books.{BooksValue, amount_in, after_booking}
 use Rattle.atl_campaign.specs.Good.{IsSteady}
 use Rattle.atl_campaign.specs.Covers.{MarksChanges}
-use Rattle.atl_campaign.specs.Marking.{mark_amount, mark_region}
+use Rattle.atl_campaign.specs.Marking.{mark_amount, mark_peasants, mark_region_money}
 use Rattle.atl_campaign.specs.Campaign.{MarkedCampaign, CampaignValue, with_booking, with_peasants, with_region_money}
 use Rattle.atl_records.specs.Amounts.{region_amount}
 use Rattle.atl_campaign.specs.Totals.{Balances, total}
 use Rattle.atl_records.proofs.BookLaws.{booked-after_booking, booked_for}
-use Rattle.atl_campaign.proofs.CoverLaws.{marks-region, marks-trans}
+use Rattle.atl_campaign.proofs.CoverLaws.{marks-peasants, marks-region-money, marks-trans}
 use Rattle.atl_campaign.proofs.RegionLaws.{IsRegion-money, IsRegion-peasants, region-changed, steady-amount, steady-region, total-booking, total-region}
 use Rattle.atl_records.proofs.EveryLaws.{none_some}
 use Rattle.atl_phase.specs.Meaning.{IsNear, LeavesWell, both_move, most_moved, moves_only}
@@ -42,11 +42,9 @@ use Rattle.std.proofs.lemmas.Slice.Zip.{length-zip}
 
 -- ---- births and income
 
--- peasants with those born are at most 999,999,999, if the limit and the peasants are
 pub births_fit : (growth limit word peasants : ℕ) → limit ≤ most_amount → peasants ≤ most_amount → peasants + births growth limit word peasants ≤ most_amount
 births_fit growth limit word peasants l p = omega (arith, l, p)
 
--- money with the income is at most 999,999,999, if the limit and the money are
 pub income_fits : (per_peasant limit peasants money : ℕ) → limit ≤ most_amount → money ≤ most_amount → money + income per_peasant limit peasants money ≤ most_amount
 income_fits per_peasant limit peasants money l m = omega (arith, l, m)
 
@@ -65,19 +63,15 @@ module _ (w : WorldValue) (c : CampaignValue) (n : ℕ) (r : Region) (born earne
   abbrev counted : CampaignValue
   counted = with_booking paid Births People (pos born)
 
-  -- a region with the peasants of `r` and those born
   abbrev more_people : Region → Region
   more_people q = record q { peasants = r.peasants + born }
 
-  -- a region with the money of `r` and the income
   abbrev more_money : Region → Region
   more_money q = record q { money = r.money + earned }
 
-  -- after the births region `n` is there, with more peasants
   peopled_there : get peopled.regions n ≡ Some (more_people r)
   peopled_there = region-changed more_people c n r is
 
-  -- births and income that leave a region at most 999,999,999 peasants and as much money keep a steady campaign steady
   growth_steady : r.peasants + born ≤ most_amount → r.money + earned ≤ most_amount → IsSteady w c → IsSteady w (with_growth c n r.peasants r.money born earned)
   growth_steady p m old =
       let grown = IsRegion-peasants r (r.peasants + born) p (old.numbers.regions n r is) in
@@ -85,14 +79,11 @@ module _ (w : WorldValue) (c : CampaignValue) (n : ℕ) (r : Region) (born earne
       steady-amount w counted Income Money (pos earned) (omega arith) (steady-amount w paid Births People (pos born) (omega arith)
       (steady-region more_money peopled n (more_people r) peopled_there w (IsRegion-money (more_people r) (r.money + earned) m grown) stocks (steady-region more_people c n r is w grown stocks old)))
 
-  -- births and income raise the total of people by those born and that of money by the income, and no other total
   total_grown : (t : Thing) → pos (total (with_growth c n r.peasants r.money born earned) t) ≡ (pos (total c t) +ℤ booked_for t People (pos born)) +ℤ booked_for t Money (pos earned)
   total_grown t =
       total_of t (total-booking counted Income Money t (pos earned)) (total-booking paid Births People t (pos born))
       (total-region more_people c n r is t) (total-region more_money peopled n (more_people r) peopled_there t)
     where
-      -- For `total_grown`: the total of thing `t` grows by its part of the births and the income, given how each step
-      -- (births, income, their booking) changes the total.
       total_of : (t : Thing) → total (with_growth c n r.peasants r.money born earned) t ≡ total counted t → total counted t ≡ total paid t
           → total peopled t + region_amount t r ≡ total c t + region_amount t (more_people r) → total paid t + region_amount t (more_people r) ≡ total peopled t + region_amount t (more_money (more_people r))
           → pos (total (with_growth c n r.peasants r.money born earned) t) ≡ (pos (total c t) +ℤ booked_for t People (pos born)) +ℤ booked_for t Money (pos earned)
@@ -104,7 +95,6 @@ module _ (w : WorldValue) (c : CampaignValue) (n : ℕ) (r : Region) (born earne
   abbrev one_booked : BooksValue
   one_booked = after_booking c.books Births People (pos born)
 
-  -- if the books balance before, they balance after births and income are booked
   growth_balances : Balances c → Balances (with_growth c n r.peasants r.money born earned)
   growth_balances old t =
       total_grown t
@@ -112,8 +102,6 @@ module _ (w : WorldValue) (c : CampaignValue) (n : ℕ) (r : Region) (born earne
       ∙ ap (λ z. z +ℤ booked_for t Money (pos earned)) (sym (booked-after_booking c.books Births People (pos born) t))
       ∙ sym (booked-after_booking one_booked Income Money (pos earned) t)
 
-  -- Births and income of at most 999,999,999 each move Births of people and Income of money by at most that, and
-  -- nothing else.
   growth_near : born ≤ most_amount → earned ≤ most_amount → (e : BooksEntry) (t : Thing) → IsNear (grows_by most_amount e t) (amount_in c.books e t) (amount_in (with_growth c n r.peasants r.money born earned).books e t)
   growth_near b m e t =
       let people = moves_only most_amount Births People e t in
@@ -140,20 +128,18 @@ births_first c room = room_less (both_move (moves_only most_amount Births People
 
 -- ---- marks
 
--- setting a region's peasants and money, and booking births and income, marks all that these steps change
 pub growth_marks : (c d e f g : MarkedCampaign) (n peasants money born earned : ℕ)
-    → d.value ≡ with_peasants c.value n peasants → d.marks ≡ mark_region c n
-    → e.value ≡ with_region_money d.value n money → e.marks ≡ mark_region d n
+    → d.value ≡ with_peasants c.value n peasants → d.marks ≡ mark_peasants c n peasants
+    → e.value ≡ with_region_money d.value n money → e.marks ≡ mark_region_money d n money
     → f.value ≡ with_booking e.value Births People (pos born) → f.marks ≡ mark_amount e Births People
     → g.value ≡ with_booking f.value Income Money (pos earned) → g.marks ≡ mark_amount f Income Money → MarksChanges c g
 growth_marks c d e f g n peasants money born earned d_is d_marks e_is e_marks f_is f_marks g_is g_marks =
-    let people = marks_by c d _ d_is d_marks (marks-region (λ r. record r { peasants = peasants }) (λ r. refl) c n) in
-    let treasure = marks_by d e _ e_is e_marks (marks-region (λ r. record r { money = money }) (λ r. refl) d n) in
+    let people = marks_by c d _ d_is d_marks (marks-peasants c n peasants) in
+    let treasure = marks_by d e _ e_is e_marks (marks-region-money d n money) in
     booked_marks c f g Income Money (pos earned) (booked_marks c e f Births People (pos born) (marks-trans c d e people treasure) f_is f_marks) g_is g_marks
 
 -- ---- the terrains of a world
 
--- the limits of peasants and of money of a terrain that is found by a region's plan (`o`) are at most 999,999,999
 terrain_in : (w : WorldValue) (o : Option RegionPlan) (t : Terrain) → IsWorld w → option_and_then (λ (p : RegionPlan). slice_get w.terrains p.terrain) o ≡ Some t → (t.peasant_limit ≤ most_amount) × (t.money_limit ≤ most_amount)
 terrain_in w None t world is = none_some t is
 terrain_in w (Some p) t world is = let terrain = world.terrains p.terrain t is in (terrain.peasant_limit, terrain.money_limit)
@@ -164,8 +150,6 @@ limits_fit w n t world is = terrain_in w (get w.regions n) t world is
 
 -- ---- the season of a region, and of all
 
--- Births and income of a region that is there keep a steady campaign steady and its books balanced. Births of people
--- and Income of money move by at most 999,999,999 each (`grows_by`), and no other amount does.
 pub region_grows_well : (w : WorldValue) → IsWorld w → (c : CampaignValue) (n word : ℕ) (t : Terrain) (r : Region) → terrain_of w n ≡ Some t → get c.regions n ≡ Some r → IsSteady w c
     → LeavesWell IsSteady (grows_by most_amount) w c (with_growth c n r.peasants r.money (births w.rules.growth t.peasant_limit word r.peasants) (income w.rules.income t.money_limit (r.peasants + births w.rules.growth t.peasant_limit word r.peasants) r.money))
 region_grows_well w world c n word t r here is steady =
@@ -176,19 +160,13 @@ region_grows_well w world c n word t r here is steady =
     (births_fit w.rules.growth t.peasant_limit word r.peasants peasant_limit within.peasants)
     (income_fits w.rules.income t.money_limit (r.peasants + born) r.money money_limit within.money) steady
 
--- The season of one region keeps a steady campaign steady and its books balanced. The season moves Births, Income, and
--- Stocked of each item by at most 999,999,999 each (`season_moves`).
 pub season_at_leaves_well : (w : WorldValue) → IsWorld w → (c : CampaignValue) (x : ℕ × ℕ) → IsSteady w c → LeavesWell IsSteady (season_moves most_amount) w c (season_at w c x)
 unfolding season_at
 season_at_leaves_well w world c (n, word) steady = by_terrain (terrain_of w n) refl
   where
-    -- A campaign that is left unchanged, as by the season of a region that isn't there, stays steady and its books
-    -- balanced.
     same : LeavesWell IsSteady (season_moves most_amount) w c c
     same = well_unchanged (season_moves most_amount) w c steady
 
-    -- the season of a region with terrain `t` keeps the campaign steady and its books balanced, whether the region is
-    -- there or not
     by_region : (t : Terrain) → terrain_of w n ≡ Some t → (o : Option Region) → get c.regions n ≡ o → LeavesWell IsSteady (season_moves most_amount) w c (option_map_or (season_of w c n word t) o c)
     by_region t here None is = same
     by_region t here (Some r) is =
@@ -199,8 +177,6 @@ season_at_leaves_well w world c (n, word) steady = by_terrain (terrain_of w n) r
         both_leave_well (grows_by most_amount) (stocks_by most_amount) w c grown (after_restock n grown (entries (markets_of w n))) growth
         (restocked_leaves_well w world n grown growth.leaves_it)
 
-    -- the season of a region keeps the campaign steady and its books balanced, whether the world has a terrain for it
-    -- or not
     by_terrain : (o : Option Terrain) → terrain_of w n ≡ o → LeavesWell IsSteady (season_moves most_amount) w c (option_map_or (λ t. at_region c n (season_of w c n word t)) o c)
     by_terrain None is = same
     by_terrain (Some t) is = by_region t is (get c.regions n) refl
@@ -219,12 +195,10 @@ season_leaves_well w world c words steady =
     well_within (moved_times (length pairs) (season_moves most_amount)) (season_moves most_moved) w c (season w c words) (season_little (length pairs) few)
     (fold_leaves_well (season_moves most_amount) w (season_at w) (season_at_leaves_well w world) c pairs steady)
 
--- the season of a region changes no unit
 season_at_keeps : (w : WorldValue) (c : CampaignValue) (x : ℕ × ℕ) → (season_at w c x).units ≡ c.units
 unfolding season_at
 season_at_keeps w c (n, word) = by_terrain (terrain_of w n)
   where
-    -- the season of a region with terrain `t` changes no unit, whether the campaign has the region or not
     by_region : (t : Terrain) (o : Option Region) → (option_map_or (season_of w c n word t) o c).units ≡ c.units
     by_region t None = refl
     by_region t (Some r) =
@@ -232,36 +206,29 @@ season_at_keeps w c (n, word) = by_terrain (terrain_of w n)
         let earned = income w.rules.income t.money_limit (r.peasants + born) r.money in
         restocked_keeps n (with_growth c n r.peasants r.money born earned) (entries (markets_of w n))
 
-    -- the season of a region changes no unit, whether the world has a terrain for it or not
     by_terrain : (o : Option Terrain) → (option_map_or (λ t. at_region c n (season_of w c n word t)) o c).units ≡ c.units
     by_terrain None = refl
     by_terrain (Some t) = by_region t (get c.regions n)
 
--- the season of several regions in turn changes no unit
 seasons_keep_units : (w : WorldValue) (c : CampaignValue) (xs : List (ℕ × ℕ)) → (fold (season_at w) c xs).units ≡ c.units
 seasons_keep_units w c [] = refl
 seasons_keep_units w c (x ∷ xs) = seasons_keep_units w (season_at w c x) xs ∙ season_at_keeps w c x
 
--- the season of all regions changes no unit
 pub season_keeps_units : (w : WorldValue) (c : CampaignValue) (words : List ℕ) → (season w c words).units ≡ c.units
 season_keeps_units w c words = seasons_keep_units w c (zip (map (λ (e : ℕ × RegionPlan). e.0) (entries w.regions)) words)
 
 -- ---- the season region by region
 
--- after the season of the first region, the season of the other regions gives the campaign that the season of all gives
 pub season_goes_on : (w : WorldValue) (c d all : CampaignValue) (regions rest : List (ℕ × RegionPlan)) (words tail : List ℕ) (n word : ℕ) (plan : RegionPlan)
     → regions ≡ (n, plan) ∷ rest → words ≡ word ∷ tail → d ≡ season_at w c (n, word)
     → fold (season_at w) c (zip (map (λ e. e.0) regions) words) ≡ all → fold (season_at w) d (zip (map (λ e. e.0) rest) tail) ≡ all
 season_goes_on w c d all regions rest words tail n word plan listed given is whole = rw is (rw (listed, given) at whole)
 
--- If the books have room for the season of all regions, they have room for the season of the other regions after that
--- of the first.
 pub room_for_later_seasons : (w : WorldValue) → IsWorld w → (c d : CampaignValue) (regions rest : List (ℕ × RegionPlan)) (n word : ℕ) (plan : RegionPlan)
     → regions ≡ (n, plan) ∷ rest → d ≡ season_at w c (n, word) → IsSteady w c → HaveRoom (moved_times (length regions) (season_moves most_amount)) c → HaveRoom (moved_times (length rest) (season_moves most_amount)) d
 room_for_later_seasons w world c d regions rest n word plan listed is steady room =
     rw is (room_after_one (season_moves most_amount) w (season_at w) (season_at_leaves_well w world) c (n, word) (n, plan) rest steady (subst (λ (l : List (ℕ × RegionPlan)). HaveRoom (moved_times (length l) (season_moves most_amount)) c) listed room))
 
--- books with room for the season of all regions have room for that of the first
 pub room_for_first_season : (w : WorldValue) → IsWorld w → (c : CampaignValue) (regions rest : List (ℕ × RegionPlan)) (n : ℕ) (plan : RegionPlan)
     → regions ≡ (n, plan) ∷ rest → HaveRoom (moved_times (length regions) (season_moves most_amount)) c → HaveRoom (season_moves most_amount) c
 room_for_first_season w world c regions rest n plan listed room =

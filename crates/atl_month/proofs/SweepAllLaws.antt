@@ -45,22 +45,17 @@ module _ (c : CampaignValue) (n : ℕ) where
   unfolding after_sweeping_unit
   by_sweeping P stays swept = by_unit (get c.units n) refl
     where
-      -- for `by_sweeping`: the property P holds after unit `n`, which is there, was swept, whether the unit has no men
-      -- (`b`) or some
       by_men : (u : Unit) → get c.units n ≡ Some u → (b : Bool) → (u.holding.men == 0) ≡ b
           → P (if b then without_unit (after_passing_all c (receiver c u.region u.faction) u) n else c)
       by_men u is true t = swept u is (is_equal u.holding.men 0 t)
       by_men u is false t = stays (λ v there none. is_unequal u.holding.men 0 t (ap (λ (x : Unit). x.holding.men) (same_Some u v (sym is ∙ there)) ∙ none))
 
-      -- for `by_sweeping`: the property P holds after unit `n` was swept, whether the unit is there or not
       by_unit : (o : Option Unit) → get c.units n ≡ o
           → P (option_map_or (λ u. if u.holding.men == 0 then without_unit (after_passing_all c (receiver c u.region u.faction) u) n else c) o c)
       by_unit None is = stays (λ v there. none_some v (sym is ∙ there))
       by_unit (Some u) is = by_men u is (u.holding.men == 0) refl
 
 module _ (w : WorldValue) (c : CampaignValue) (n : ℕ) (steady : IsSteady w c) where
-  -- Sweeping a unit keeps a steady campaign steady and its books balanced, and books as lost at most 999,999,999 of
-  -- money and of each item (`loses_by`).
   pub swept_at_leaves_well : LeavesWell IsSteady (loses_by most_amount) w c (after_sweeping_unit c n)
   swept_at_leaves_well =
       by_sweeping c n (LeavesWell IsSteady (loses_by most_amount) w c) (λ some. well_unchanged (loses_by most_amount) w c steady)
@@ -70,7 +65,6 @@ module _ (w : WorldValue) (c : CampaignValue) (n : ℕ) (steady : IsSteady w c) 
   abbrev UnitsWithMenAreKept : CampaignValue → Type 0
   UnitsWithMenAreKept d = Every (λ m x. 1 ≤ x.holding.men → (v : Unit) × (get d.units m ≡ Some v) × IsKept x v) c.units
 
-  -- sweeping a unit takes nothing from any unit with men
   pub swept_at_keeps : UnitsWithMenAreKept (after_sweeping_unit c n)
   swept_at_keeps =
       by_sweeping c n UnitsWithMenAreKept (λ stays m x there some. (x, there, kept-refl x))
@@ -83,7 +77,6 @@ module _ (w : WorldValue) (c : CampaignValue) (n : ℕ) (steady : IsSteady w c) 
   abbrev WereThere : CampaignValue → Type 0
   WereThere d = Every (λ m v. (v.holding.men ≡ 0 → m ≢ n) × ((x : Unit) × (get c.units m ≡ Some x) × IsKept x v)) d.units
 
-  -- after sweeping unit `n` each unit that is left was there before; one without men isn't unit `n`
   pub units_left_were_there : WereThere (after_sweeping_unit c n)
   units_left_were_there =
       by_sweeping c n WereThere (λ some m v there. (λ none own. some v (ap (get c.units) (sym own) ∙ there) none, (v, there, kept-refl v)))
@@ -91,17 +84,14 @@ module _ (w : WorldValue) (c : CampaignValue) (n : ℕ) (steady : IsSteady w c) 
 
 -- ---- all units
 
--- the list has each unit of the campaign that has no men
 abbrev AreMenlessListed : List ℕ → CampaignValue → Type 0
 AreMenlessListed ns c = Every (λ m v. v.holding.men ≡ 0 → IsListed m ns) c.units
 
--- for `all_have_men` and `all_are_gone`: a number that is listed in `n ∷ ns`, and isn't `n`, is listed in `ns`
 listed_later : (m n : ℕ) (ns : List ℕ) → m ≢ n → IsListed m (n ∷ ns) → IsListed m ns
 listed_later m n ns apart (inl same) = absurd (apart same)
 listed_later m n ns apart (inr rest) = rest
 
 module _ (w : WorldValue) where
-  -- after sweeping units that include all without men, each unit has men
   pub all_have_men : (ns : List ℕ) (c : CampaignValue) → IsSteady w c → AreMenlessListed ns c → HaveMen (fold after_sweeping_unit c ns)
   all_have_men [] c steady listed = λ m v there. let some : v.holding.men ≢ 0 = listed m v there in omega arith
   all_have_men (n ∷ ns) c steady listed =
@@ -109,8 +99,6 @@ module _ (w : WorldValue) where
       let (apart, (x, was, kept)) = units_left_were_there w c n steady m v there in
       listed_later m n ns (apart none) (listed m x was (sym kept.men ∙ none)))
 
-  -- in a steady campaign, after several units were swept each unit that had men is there, and nothing was taken from it
-  -- (`IsKept`)
   pub all_keep : (ns : List ℕ) (c : CampaignValue) → IsSteady w c → Every (λ m x. 1 ≤ x.holding.men → (v : Unit) × (get (fold after_sweeping_unit c ns).units m ≡ Some v) × IsKept x v) c.units
   all_keep [] c steady m x there some = (x, there, kept-refl x)
   all_keep (n ∷ ns) c steady m x there some =
@@ -127,21 +115,17 @@ module _ (c : CampaignValue) (n : ℕ) where
       → ((f : Faction) → get c.factions n ≡ Some f → numbers_of_faction n c.units ≡ [] → P (with_gone c n)) → P (after_sweeping_faction c n)
   by_gone P stays gone = by_units (numbers_of_faction n c.units) refl
     where
-      -- for `by_gone`: the property P holds after faction `n`, without units, was set to gone, be it there (`o`) or not
       by_faction : numbers_of_faction n c.units ≡ [] → (o : Option Faction) → get c.factions n ≡ o → P (with_gone c n)
       by_faction none None is = subst P (sym (none-gone c n is)) (stays (λ f there. none_some f (sym is ∙ there)))
       by_faction none (Some f) is = gone f is none
 
-      -- for `by_gone`: the property P holds after faction `n` was swept, whether it has no units or some (`ns`)
       by_units : (ns : List ℕ) → numbers_of_faction n c.units ≡ ns → P (if is_empty ns then with_gone c n else c)
       by_units [] is = by_faction is (get c.factions n) refl
       by_units (k ∷ ns) is = stays (λ f there none. let one : k ∷ ns ≡ [] = sym is ∙ none in cc)
 
-  -- sweeping a faction leaves the units as they are
   pub gone_at_units : (after_sweeping_faction c n).units ≡ c.units
   gone_at_units = by_gone (λ d. d.units ≡ c.units) (λ some. refl) (λ f is none. refl)
 
-  -- sweeping a faction keeps a steady campaign steady and its books as they are
   pub gone_at_leaves_well : (w : WorldValue) → IsSteady w c → LeavesWell IsSteady moves_nothing w c (after_sweeping_faction c n)
   gone_at_leaves_well w steady = by_gone (LeavesWell IsSteady moves_nothing w c) (λ some. well_unchanged moves_nothing w c steady) (λ f is none. record {
     leaves_it = steady-gone c n f is w none steady;
@@ -154,7 +138,6 @@ module _ (c : CampaignValue) (n : ℕ) where
   abbrev OthersRemain : CampaignValue → Type 0
   OthersRemain d = Every (λ m f. numbers_of_faction m c.units ≡ [] → f.gone ≡ false → (m ≢ n) × (get c.factions m ≡ Some f)) d.factions
 
-  -- after sweeping faction `n`, each faction that has no unit and isn't gone is as before, and isn't faction `n`
   pub gone_at_remains : OthersRemain (after_sweeping_faction c n)
   gone_at_remains =
       by_gone OthersRemain
@@ -167,11 +150,9 @@ module _ (c : CampaignValue) (n : ℕ) where
         | inr apart ↦ (apart, sym (get-gone_other c n x is m apart) ∙ there)
       ])
 
--- the list has each faction of the campaign that has no unit and isn't gone
 abbrev AreUnitlessListed : List ℕ → CampaignValue → Type 0
 AreUnitlessListed ns c = Every (λ m f. numbers_of_faction m c.units ≡ [] → f.gone ≡ false → IsListed m ns) c.factions
 
--- after sweeping factions that include all which have no unit and aren't gone, each faction without units is gone
 all_are_gone : (ns : List ℕ) (c : CampaignValue) → AreUnitlessListed ns c → UnitlessAreGone (fold after_sweeping_faction c ns)
 all_are_gone [] c listed = λ m f there none. true_from_ne_false f.gone (listed m f there none)
 all_are_gone (n ∷ ns) c listed =
@@ -180,18 +161,15 @@ all_are_gone (n ∷ ns) c listed =
     let (apart, was) = gone_at_remains c n m f there here stays in
     listed_later m n ns apart (listed m f was here stays))
 
--- sweeping factions leaves the units as they are
 units_stay : (ns : List ℕ) (c : CampaignValue) → (fold after_sweeping_faction c ns).units ≡ c.units
 units_stay [] c = refl
 units_stay (n ∷ ns) c = units_stay ns (after_sweeping_faction c n) ∙ gone_at_units c n
 
 -- ---- the phase
 
--- what at most `most_units` units lose, each at most `most_amount` of a thing, is within the bound of the sweep
 pub loses_little : (k : ℕ) → k ≤ most_units → (e : BooksEntry) (t : Thing) → moved_times k (loses_by most_amount) e t ≤ loses_by most_moved e t
 loses_little k few e t = grind arith
 
--- a steady campaign has at most `most_units` units without men
 pub few_menless : (w : WorldValue) (c : CampaignValue) → IsSteady w c → length (menless_units c) ≤ most_units
 few_menless w c steady =
     let menless = λ (e : ℕ × Unit). e.1.holding.men == 0 in
@@ -199,36 +177,29 @@ few_menless w c steady =
     omega (arith, length-map (filter menless es) (λ (e : ℕ × Unit). e.0), length-filter menless es, count_by-le-length menless es, len-entries c.units, steady.numbers.few_units)
 
 module _ (w : WorldValue) (c : CampaignValue) (steady : IsSteady w c) where
-  -- the campaign after the units without men were swept
   abbrev units_swept : CampaignValue
   units_swept = fold after_sweeping_unit c (menless_units c)
 
-  -- Sweeping the units without men keeps the campaign steady and its books balanced, and moves each amount by less than
-  -- 10^14.
   units_well : LeavesWell IsSteady (loses_by most_moved) w c units_swept
   units_well =
       well_within (moved_times (length (menless_units c)) (loses_by most_amount)) (loses_by most_moved) w c units_swept (loses_little (length (menless_units c)) (few_menless w c steady))
       (fold_leaves_well (loses_by most_amount) w after_sweeping_unit (λ d n. swept_at_leaves_well w d n) c (menless_units c) steady)
 
-  -- sweeping the factions after the units keeps the campaign steady and leaves the books as they are
   factions_well : LeavesWell IsSteady moves_nothing w units_swept (sweep c)
   factions_well =
       well_within (moved_times (length (active units_swept)) moves_nothing) moves_nothing w units_swept (sweep c) (λ e t. omega arith)
       (fold_leaves_well moves_nothing w after_sweeping_faction (λ d n. gone_at_leaves_well d n w) units_swept (active units_swept) units_well.leaves_it)
 
-  -- the sweep keeps the campaign steady and its books balanced, and moves each amount by less than 10^14
   both_well : LeavesWell IsSteady (loses_by most_moved) w c (sweep c)
   both_well =
       well_within (both_move (loses_by most_moved) moves_nothing) (loses_by most_moved) w c (sweep c) (λ e t. omega arith)
       (both_leave_well (loses_by most_moved) moves_nothing w c units_swept (sweep c) units_well factions_well)
 
-  -- after the sweep each unit has men
   have_men : HaveMen (sweep c)
   have_men =
       subst (λ (units : FinMap nat_cmp Unit). Every (λ n u. 1 ≤ u.holding.men) units) (sym (units_stay (active units_swept) units_swept))
       (all_have_men w (menless_units c) c steady (λ m v there none. passing_listed (λ (u : Unit). u.holding.men == 0) c.units m v there (let t : (v.holding.men == 0) ≡ true = grind (arith, nat_tests) in t)))
 
-  -- after the sweep each faction without units is gone
   are_gone : UnitlessAreGone (sweep c)
   are_gone = all_are_gone (active units_swept) units_swept (λ m f there none stays. passing_listed (λ (x : Faction). not x.gone) units_swept.factions m f there (ap not stays))
 
@@ -242,7 +213,6 @@ module _ (w : WorldValue) (c : CampaignValue) (steady : IsSteady w c) where
     near = both_well.near;
   }
 
-  -- after the sweep each unit that had men is there, and nothing is taken from it
   pub sweep_keeps_all : Every (λ n u. 1 ≤ u.holding.men → (v : Unit) × (get (sweep c).units n ≡ Some v) × IsKept u v) c.units
   sweep_keeps_all n u is some =
       let (v, there, kept) = all_keep w (menless_units c) c steady n u is some in

@@ -40,7 +40,6 @@ use Rattle.atl_instant.specs.Quit.{loss_under}
 
 -- ---- how much of each thing a unit passes on
 
--- how much of each thing a unit with this holding passes on
 abbrev owing_all : HoldingValue → Thing → ℕ
 owing_all h s = amount_as_thing s Money h.money + held_in_items (entries h.items) s
 
@@ -49,7 +48,6 @@ owing_all h s = amount_as_thing s Money h.money + held_in_items (entries h.items
 abbrev pub moving_all : HoldingValue → BookBound
 moving_all h = both_move (moves_only h.money Lost Money) (items_bound (entries h.items))
 
--- what a unit without men passes on of each thing is all that it has of it
 all_owed : (h : HoldingValue) → h.men ≡ 0 → (s : Thing) → owing_all h s ≡ unit_amount s h
 all_owed h none Money = omega (arith, no_money (entries h.items))
 all_owed h none People = omega (arith, none, no_people (entries h.items))
@@ -69,19 +67,16 @@ little_lost h none money items e (Item j) = let most = items j in grind (arith, 
 
 -- ---- the unit that receives
 
--- the first number of a list, if it isn't 0, is one of the list
 pub first_listed : (ns : List ℕ) → first_or_zero ns ≢ 0 → IsListed (first_or_zero ns) ns
 first_listed [] some = absurd (some refl)
 first_listed (n ∷ ns) some = inl refl
 
 module _ (w : WorldValue) (c : CampaignValue) (n : ℕ) (u : Unit) (is : get c.units n ≡ Some u) (none : u.holding.men ≡ 0) (steady : IsSteady w c) where
-  -- a unit without men receives nothing
   not_received : (region faction : ℕ) (v : Unit) → get c.units n ≡ Some v → receives region faction v ≡ true → ⊥
   not_received region faction v there t =
       let men = ap (λ (x : Unit). x.holding.men) (same_Some v u (sym there ∙ is)) in
       grind (arith, nat_tests, men, none, t)
 
-  -- a unit without men isn't its own receiver
   receiver_apart : (region faction : ℕ) → n ≢ receiver c region faction
   receiver_apart region faction same =
       let least = (steady.numbers.units n u is).0 in
@@ -94,11 +89,9 @@ module _ (w : WorldValue) (c : CampaignValue) (n : ℕ) (u : Unit) (is : get c.u
   abbrev receiver_of_n : ℕ
   receiver_of_n = receiver c u.region u.faction
 
-  -- each item that the unit holds is one of the world
   known : EachEntry (λ i a. i < length w.items) (entries u.holding.items)
   known = each-from_every (λ i a. i < length w.items) u.holding.items (steady.known.units n u is).items
 
-  -- the campaign after unit `n` passed on what it has
   abbrev passed : CampaignValue
   passed = after_passing_all c receiver_of_n u
 
@@ -110,15 +103,12 @@ module _ (w : WorldValue) (c : CampaignValue) (n : ℕ) (u : Unit) (is : get c.u
       passes-trans w n c (after_passing_money c receiver_of_n u.holding.money) passed money
       (pass_items w (after_passing_money c receiver_of_n u.holding.money) n receiver_of_n apart (entries u.holding.items) known money.steady)
 
-  -- unit `n` is still there, as it was, after it passed on what it has
   there_still : get passed.units n ≡ Some u
   there_still = passing.unit ∙ is
 
-  -- the campaign after unit `n` passed on what it has, without unit `n`
   abbrev swept : CampaignValue
   swept = without_unit passed n
 
-  -- if the books balance before, they balance after the unit passed on what it has and was removed
   balanced : Balances c → Balances swept
   balanced old s =
       let before : Owes passed s (0 + owing_all u.holding s) = passing.owes s 0 (old s ∙ plain _) in
@@ -128,23 +118,17 @@ module _ (w : WorldValue) (c : CampaignValue) (n : ℕ) (u : Unit) (is : get c.u
       (all_owed u.holding none s) before
       ∙ ap (λ (books : BooksValue). booked books s) (sym only.books)
     where
-      -- for `balanced`: an integer is itself plus 0
       plain : (z : ℤ) → z ≡ z +ℤ pos 0
       plain z = omega (arith, ints)
 
-      -- for `balanced`: if the total `b` was above what the books account for (`z`) by what unit `n` had (`h`), the
-      -- total without the unit (`a`) is `z`
       total_without_n : (a h b o : ℕ) (z : ℤ) → a + h ≡ b → o ≡ h → pos b ≡ z +ℤ pos (0 + o) → pos a ≡ z
       total_without_n a h b o z e f g = omega (arith, ints, e, f, g)
 
-  -- passing on what the unit has moves Lost of money and of each item by at most 999,999,999, and nothing else
-  -- (`loses_by`)
   pub moves_little : (e : BooksEntry) (s : Thing) → moving_all u.holding e s ≤ loses_by most_amount e s
   moves_little e s =
       within (moves_only u.holding.men Left People e s) (moving_all u.holding e s) (loss_under e s u.holding) (loses_by most_amount e s) (moves_what_leaves u.holding e s)
       (little_lost u.holding none (steady.numbers.units n u is).1.money (λ i. amount_within u.holding i (steady.numbers.units n u is).1) e s)
     where
-      -- for `moves_little`: of a sum that is at most `b`, the second part is at most each number that is at least `b`
       within : (m a b d : ℕ) → m + a ≤ b → b ≤ d → a ≤ d
       within m a b d k l = omega arith
 
@@ -169,14 +153,12 @@ module _ (w : WorldValue) (c : CampaignValue) (n : ℕ) (u : Unit) (is : get c.u
             (passing.near e s));
       }
 
-  -- each unit other than `n` is still there after unit `n` was swept, and nothing is taken from it
   pub others_keep : Every (λ m x. m ≢ n → (v : Unit) × (get swept.units m ≡ Some v) × IsKept x v) c.units
   others_keep m x there apart =
       let only = only_reduced w passed n u there_still in
       let (v, here, kept) = passing.forth m x there in
       (v, ap (λ (units : FinMap nat_cmp Unit). get units m) only.units ∙ get-remove_other passed.units n m apart ∙ here, kept)
 
-  -- each unit that is left after unit `n` was swept was there before, and isn't `n`
   pub others_were : Every (λ m v. (m ≢ n) × ((x : Unit) × (get c.units m ≡ Some x) × IsKept x v)) swept.units
   others_were m v there =
       let only = only_reduced w passed n u there_still in
@@ -212,18 +194,14 @@ module _ (w : WorldValue) (c : CampaignValue) (steady : IsSteady w c) where
       → PassesOn w (suc to) (λ s. amount_as_thing s (Item i) amount) (moves_only amount Lost (Item i)) c (after_passing_item to c (i, amount))
   item_passes to i amount known = pass_item w c (suc to) to (successor_differs to) steady i amount known
 
-  -- after the first item was passed on, the books have room for the others, if they had room for all
   pub rest_room : (to : ℕ) (x : ℕ × ℕ) (xs : List (ℕ × ℕ)) → x.0 < length w.items → HaveRoom (items_bound (x ∷ xs)) c
       → HaveRoom (items_bound xs) (after_passing_item to c x)
   rest_room to x xs known room =
       near_leaves_room (moves_only x.1 Lost (Item x.0)) (items_bound xs) c (after_passing_item to c x) (item_passes to x.0 x.1 known).near room
 
-  -- a steady campaign stays steady when money goes to unit `to`, up to its room, and the rest is booked as lost
   pub money_steady : (to amount : ℕ) → IsSteady w (after_passing_money c to amount)
   money_steady to amount = (pass_money w c (suc to) to (successor_differs to) steady amount).steady
 
-  -- After the money of a unit without men was passed on, the books have room for its items, if they had room for all
-  -- that it may lose.
   pub items_room : (n to : ℕ) (u : Unit) → get c.units n ≡ Some u → u.holding.men ≡ 0 → HaveRoom (loses_by most_amount) c
       → HaveRoom (items_bound (entries u.holding.items)) (after_passing_money c to u.holding.money)
   items_room n to u is none room =

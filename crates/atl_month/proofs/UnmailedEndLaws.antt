@@ -25,7 +25,6 @@ use Rattle.std.proofs.lemmas.Bool.Decides.{nat_tests}
 
 -- ---- upkeep
 
--- if a unit has `a` men less than before, and then `b` less, it has `a + b` less
 less_plus : (a b : ℕ) (u v x : Unit) → IsLessBy a u v → IsLessBy b v x → IsLessBy (a + b) u x
 less_plus a b u v x one two = record {
   faction = two.faction ∙ one.faction;
@@ -34,11 +33,9 @@ less_plus a b u v x one two = record {
   items = λ i. omega (arith, one.items i, two.items i);
 }
 
--- a unit that stays as it is has 0 men less (`IsLessBy`)
 nobody_less : (u : Unit) → IsLessBy 0 u u
 nobody_less u = record { faction = refl; name = refl; men = omega arith; items = λ i. omega arith }
 
--- after its upkeep a unit has its men less exactly those who starved (`IsLessBy`)
 fewer_by : (s : UpkeepResult) (u : Unit) → IsLessBy s.starved u (unit_after_upkeep s u)
 fewer_by s u = record { faction = refl; name = grind arith; men = grind (arith, nat_tests); items = λ i. grind arith }
 
@@ -46,8 +43,6 @@ fewer_by s u = record { faction = refl; name = grind arith; men = grind (arith, 
 abbrev starved_of_n : ℕ → UpkeepResult → ℕ
 starved_of_n n s = if s.unit == n then s.starved else 0
 
--- after the upkeep of one unit each unit has its men less exactly those who starved (`IsLessBy`); of the other units
--- nobody did
 fewer_after_one : (c : CampaignValue) (s : UpkeepResult) (n : ℕ) (u : Unit) → get c.units n ≡ Some u → IsStillThere (IsLessBy (starved_of_n n s)) (upkeep_at c s) n u
 fewer_after_one c s n u there = elim (cases_eq n s.unit) [
   | inl own ↦
@@ -65,7 +60,6 @@ fewer_after_one c s n u there = elim (cases_eq n s.unit) [
       }
 ]
 
--- after the upkeep of several units each unit has its men less exactly all those of them who starved (`IsLessBy`)
 fewer_after_upkeep : (c : CampaignValue) (ss : List UpkeepResult) (n : ℕ) (u : Unit) → get c.units n ≡ Some u → IsStillThere (IsLessBy (sum_by (starved_of_n n) ss)) (fold upkeep_at c ss) n u
 fewer_after_upkeep c [] n u there = record { unit = u; there = there; is_unaffected = nobody_less u }
 fewer_after_upkeep c (s ∷ ss) n u there =
@@ -73,21 +67,16 @@ fewer_after_upkeep c (s ∷ ss) n u there =
     let two = fewer_after_upkeep (upkeep_at c s) ss n one.unit one.there in
     record { unit = two.unit; there = two.there; is_unaffected = subst (λ k. IsLessBy k u two.unit) (sym (sum_by-cons (starved_of_n n) s ss)) (less_plus (starved_of_n n s) (sum_by (starved_of_n n) ss) u one.unit two.unit one.is_unaffected two.is_unaffected) }
 
--- how many men of unit `n` starved by one event
 abbrev by_event : ℕ → Event → ℕ
 by_event n e = if e.unit == n then men_starved_by e.verb e.outcome else 0
 
--- how many men of unit `n` starved by the events of some results of upkeep
 abbrev starved_reported : ℕ → List UpkeepResult → ℕ
 starved_reported n ss = starved_in (map starved_event ss) n
 
--- for each unit, the Starved events report all its men who starve
 starved_are_reported : (ss : List UpkeepResult) (n : ℕ) → starved_reported n (filter starves ss) ≡ sum_by (starved_of_n n) ss
 starved_are_reported [] n = refl
 starved_are_reported (s ∷ ss) n = by_test (starved_are_reported ss n) (s.starved == 0) refl ∙ sym (sum_by-cons (starved_of_n n) s ss)
   where
-    -- For `starved_are_reported`: with one result more, the events report all men of unit `n` who starve, whether
-    -- nobody starves by this result (`b`) or some do.
     by_test : starved_reported n (filter starves ss) ≡ sum_by (starved_of_n n) ss → (b : Bool) → (s.starved == 0) ≡ b → starved_reported n (cond (not b) (s ∷ filter starves ss) (filter starves ss)) ≡ starved_of_n n s + sum_by (starved_of_n n) ss
     by_test rest true is = let none = is_equal s.starved 0 is in grind (arith, rest, none)
     by_test rest false is = sum_by-cons (by_event n) (starved_event s) (map starved_event (filter starves ss)) ∙ ap (λ x. starved_of_n n s + x) rest
@@ -102,29 +91,23 @@ upkeep_leaves = record {
       record { unit = one.unit; there = one.there; is_unaffected = subst (λ k. IsLessBy k u one.unit) (less (starved_in m.events n) (men_starved w c n) _ (starved_add_up w c m n)) one.is_unaffected };
 }
   where
-    -- how many men of unit `n` starve by the upkeep of the campaign
     men_starved : (w : WorldValue) (c : CampaignValue) (n : ℕ) → ℕ
     men_starved w c n = sum_by (starved_of_n n) (upkeep_results w c)
 
-    -- after upkeep the events report for unit `n` the men starved before and those who starve by upkeep
     starved_add_up : (w : WorldValue) (c : CampaignValue) (m : MonthValue) (n : ℕ) → starved_in (upkeep_meaning w c m).1.events n ≡ starved_in m.events n + men_starved w c n
     starved_add_up w c m n = sum_by-append (by_event n) m.events (map starved_event (filter starves (upkeep_results w c))) ∙ ap (λ x. starved_in m.events n + x) (starved_are_reported (upkeep_results w c) n)
 
-    -- for `upkeep_leaves`: the men who starve by upkeep (`y`) are all who starved (`z`) less those before (`x`)
     less : (x y z : ℕ) → z ≡ x + y → y ≡ z - x
     less x y z is = omega (arith, is)
 
 -- ---- season and sweep
 
--- the season leaves units of factions without a mailing their items, and their men less the starved (`LeavesUnmailed`)
 pub season_leaves : LeavesUnmailed season_meaning season_keeps
 season_leaves =
     whole_leaves {meaning = season_meaning} {keeps = season_keeps} (λ w c m. refl) (λ w c m n. refl)
     (λ w c m same n u there none. men_same c (season_meaning w c m).0 same n u there)
     (λ w c m same n u there none. record { unit = u; there = ap (λ (units : FinMap nat_cmp Unit). get units n) same ∙ there; is_unaffected = record { name = refl; items = λ i. omega arith } })
 
--- the sweep, as the last phase, leaves units of factions without a mailing their items, and their men less the starved
--- (`ClosesUnmailed`)
 pub sweep_leaves : ClosesUnmailed sweep_meaning sweep_keeps
 sweep_leaves = record {
   starved_reported = λ w c m n. omega arith;

@@ -56,16 +56,13 @@ use Rattle.atl_month.proofs.UpkeepSharingLaws.{can_spare}
 
 -- ---- what a unit may hold after its upkeep
 
--- a skill is of the world, and `days` of it are at least 1 and at most what `men` men may have
 abbrev AreSkillDays : WorldValue → (men skill days : ℕ) → Type 0
 AreSkillDays w men skill days = (skill < length w.skills) × (1 ≤ days) × (days ≤ most_days * men)
 
 module _ (w : WorldValue) (left men : ℕ) (fewer : left ≤ men) where
-  -- the days that stay with fewer men are at most as many as those men may have
   days_fit_men_left : (days : ℕ) → days ≤ most_days * men → days * left / men ≤ most_days * left
   days_fit_men_left days most = div-le_of_le-mul men (subst (λ n. days * left ≤ n) factors_swap (mul-le-mul_right left most))
     where
-      -- for `days_fit_men_left`: the factors of a product can be taken in another order
       factors_swap : (most_days * men) * left ≡ men * (most_days * left)
       factors_swap = grind arith
 
@@ -75,34 +72,26 @@ days_left left h = amounts_for (going_of left h) (keys h.days)
 
 -- a holding with fewer men has their part of the days, and all else as it was
 module _ (w : WorldValue) (h : HoldingValue) (left : ℕ) (fewer : left ≤ h.men) (days : Every (AreSkillDays w h.men) h.days) where
-  -- the days that stay with fewer men are of skills of the world, and no more than those men may have
   studied_left : Every (AreSkillDays w left) (days_left left h)
   studied_left k d is =
       let (some, said) = each_said (going_of left h) (keys h.days) k d is in
       by_option (get h.days k) refl some said
     where
-      -- for `studied_left`: a unit with 0 days of a skill keeps 0 days, however many men are left
       nothing : 0 * left / h.men ≡ 0
       nothing = ap (λ n. n / h.men) (zero-mul left) ∙ zero-div h.men
 
-      -- the days that stay of skill `k` are no more than the men left may have, whether the holding has days of the
-      -- skill or not
       by_option : (o : Option ℕ) → get h.days k ≡ o → 1 ≤ d → d ≡ unwrap_or o 0 * left / h.men → AreSkillDays w left k d
       by_option None there some said = let none : d ≡ 0 = said ∙ nothing in absurd (omega (arith, some, none))
       by_option (Some had) there some said =
           let (known, _, most) = days k had there in
           (known, some, subst (λ n. n ≤ most_days * left) (sym said) (days_fit_men_left w left h.men fewer had most))
 
-  -- a holding has `left` men, days that these may have, and the name, guard flag and items of holding `h`
   abbrev IsWithMen : HoldingValue → Type 0
   IsWithMen k = (k.men ≡ left) × Every (AreSkillDays w left) k.days × (k.name ≡ h.name) × (k.guard ≡ h.guard) × (k.items ≡ h.items)
 
-  -- the holding with `left` of its men has days that these may have, and its name, guard flag and items as they were
   less_men : IsWithMen (with_men_left left h)
   less_men = by_men (left == h.men) refl
     where
-      -- the holding with `left` men has days that they may have (`IsWithMen`), whether these are all its men (`b`) or
-      -- fewer
       by_men : (b : Bool) → (left == h.men) ≡ b → IsWithMen (if b then h else record h { men = left; days = days_left left h })
       by_men true is =
           let same : h.men ≡ left = grind (arith, nat_tests) in
@@ -120,36 +109,27 @@ upkeep_in c s o = option_map_or (λ u.
 
 module _ (w : WorldValue) (c : CampaignValue) (s : UpkeepResult) (u : Unit) (is : get c.units s.unit ≡ Some u) (spare : CanSpare s u.holding.men u.holding.money)
     (steady : IsSteady w c) where
-  -- what the unit held before its upkeep
   abbrev old : HoldingValue
   old = u.holding
 
-  -- what the unit holds after its upkeep
   abbrev now : HoldingValue
   now = after_upkeep s old
 
-  -- how many men the unit has left after its upkeep
   abbrev left : ℕ
   left = old.men - s.starved
 
-  -- the days of the unit before its upkeep are days that its men may have
   studied : Every (AreSkillDays w old.men) old.days
   studied k days there =
       let skills = (steady.known.units s.unit u is).skills in
       let range = steady.days s.unit u is k days there in
       (skills k days there, range.0, range.1)
 
-  -- The unit's holding with the men left has days that these may have, and its name, guard flag and items as they were
-  -- (`IsWithMen`).
   with_less : IsWithMen w old left (omega arith) studied (with_men_left left old)
   with_less = less_men w old left (omega arith) studied
 
-  -- a unit that guards after its upkeep guarded before
   guard_kept : guards (record u { holding = now }) ≡ true → guards u ≡ true
   guard_kept is = let (men, _, _, guard, _) = with_less in grind (arith, nat_tests, men, guard, is)
 
-  -- what upkeep leaves the unit is within the limits and of the world's items and skills, and guards only if the unit
-  -- did (`MayHaveWithoutNewGuard`)
   may_hold : MayHaveWithoutNewGuard w u now
   may_hold =
       let location = steady.known.units s.unit u is in
@@ -176,11 +156,9 @@ module _ (w : WorldValue) (c : CampaignValue) (s : UpkeepResult) (u : Unit) (is 
   abbrev paid_off : CampaignValue
   paid_off = with_booking held_back Upkeep Money (neg_ℤ (pos s.paid))
 
-  -- the campaign after the unit's upkeep
   abbrev after : CampaignValue
   after = upkeep_in c s (Some u)
 
-  -- after the unit's upkeep the campaign is steady
   after_steady : IsSteady w after
   after_steady =
       steady-amount w paid_off Starved People (neg_ℤ (pos s.starved)) (omega arith)
@@ -193,8 +171,6 @@ module _ (w : WorldValue) (c : CampaignValue) (s : UpkeepResult) (u : Unit) (is 
       total_of t (total-booking paid_off Starved People t (neg_ℤ (pos s.starved))) (total-booking held_back Upkeep Money t (neg_ℤ (pos s.paid)))
       (total-new_holding w c s.unit u now is t)
     where
-      -- For `total_after`: the total of thing `t` falls by what the unit paid or by those who starved, or stays, given
-      -- how each step (holding, booking of money, of people) changes it.
       total_of : (t : Thing) → total after t ≡ total paid_off t → total paid_off t ≡ total held_back t
           → total held_back t + unit_amount t old ≡ total c t + unit_amount t now
           → pos (total after t) ≡ (pos (total c t) +ℤ booked_for t Money (neg_ℤ (pos s.paid))) +ℤ booked_for t People (neg_ℤ (pos s.starved))
@@ -206,7 +182,6 @@ module _ (w : WorldValue) (c : CampaignValue) (s : UpkeepResult) (u : Unit) (is 
   abbrev one_booked : BooksValue
   one_booked = after_booking c.books Upkeep Money (neg_ℤ (pos s.paid))
 
-  -- if the books balance before, they balance after the unit's upkeep
   upkeep_balances : Balances c → Balances after
   upkeep_balances before t =
       total_after t
@@ -215,16 +190,12 @@ module _ (w : WorldValue) (c : CampaignValue) (s : UpkeepResult) (u : Unit) (is 
       (sym (booked-after_booking c.books Upkeep Money (neg_ℤ (pos s.paid)) t))
       ∙ sym (booked-after_booking one_booked Starved People (neg_ℤ (pos s.starved)) t)
 
-  -- the unit pays at most 999,999,999
   pub few_paid : s.paid ≤ most_amount
   few_paid = omega (arith, spare.paid, (steady.numbers.units s.unit u is).1.money)
 
-  -- at most 999,999,999 men of the unit starve
   pub few_starved : s.starved ≤ most_amount
   few_starved = omega (arith, spare.starved, (steady.numbers.units s.unit u is).1.men)
 
-  -- the unit's upkeep moves Upkeep of money and Starved of people by at most 999,999,999 each, and nothing else
-  -- (`takes_up_to`)
   upkeep_near : (e : BooksEntry) (t : Thing) → IsNear (takes_up_to most_amount e t) (amount_in c.books e t) (amount_in after.books e t)
   upkeep_near e t =
       near_twice (moves_only most_amount Upkeep Money e t) (moves_only most_amount Starved People e t) _ _ _
@@ -245,29 +216,22 @@ module _ (w : WorldValue) (c : CampaignValue) (s : UpkeepResult) (u : Unit) (is 
 
 -- ---- the upkeep of all
 
--- the upkeep of a unit that is there is `upkeep_in` with that unit
 pub upkeep_at_is : (c : CampaignValue) (s : UpkeepResult) (u : Unit) → get c.units s.unit ≡ Some u → upkeep_at c s ≡ upkeep_in c s (Some u)
 unfolding upkeep_at
 upkeep_at_is c s u is = ap (upkeep_in c s) is
 
--- Upkeep by a result that can be paid keeps the campaign steady and its books balanced. The upkeep moves Upkeep of
--- money and Starved of people by at most 999,999,999 each (`takes_up_to`).
 pub upkeep_at_leaves_well : (w : WorldValue) (c : CampaignValue) (s : UpkeepResult) → CanPayUpkeep w c s
     → LeavesWell IsSteady (takes_up_to most_amount) w c (upkeep_at c s)
 upkeep_at_leaves_well w c s can = rw (upkeep_at_is c s can.unit can.there) (unit_leaves_well w c s can.unit can.there can.spare can.steady)
 
--- the upkeep of a unit leaves other units as they are
 pub other_unit : (c : CampaignValue) (s : UpkeepResult) (n : ℕ) → n ≢ s.unit → get (upkeep_at c s).units n ≡ get c.units n
 unfolding upkeep_at
 other_unit c s n apart = by_unit (get c.units s.unit)
   where
-    -- for `other_unit`: unit `n`, which isn't the one that pays, stays as it is, whether that one is there (`o`) or not
     by_unit : (o : Option Unit) → get (upkeep_in c s o).units n ≡ get c.units n
     by_unit None = refl
     by_unit (Some u) = get-insert_other c.units s.unit n (record u { holding = after_upkeep s u.holding }) apart
 
--- the campaign has the listed units as listed also after a unit paid, if it had them so before, and all have higher
--- numbers than that unit
 pub each_still : (c : CampaignValue) (s : UpkeepResult) (es : List (ℕ × Unit)) → AllByRecursion (λ e. s.unit < e.0) es
     → EachEntry (λ n u. get c.units n ≡ Some u) es → EachEntry (λ n u. get (upkeep_at c s).units n ≡ Some u) es
 each_still c s [] above there = tt
@@ -282,11 +246,9 @@ abbrev pub upkeep_result_each : ℕ → (all : List UpkeepInput) → List (ℕ �
 upkeep_result_each m all es = map (upkeep_result_one m all) (map upkeep_input_of es)
 
 module _ (w : WorldValue) (some : 1 ≤ w.rules.maintenance) (all : List UpkeepInput) where
-  -- the bound on what the upkeep of one unit books: Upkeep of money and Starved of people, each by at most 999,999,999
   abbrev step_moves : BookBound
   step_moves = takes_up_to most_amount
 
-  -- what upkeep takes from each of some units, where `all` are the units of the campaign
   abbrev each_of : List (ℕ × Unit) → List UpkeepResult
   each_of es = upkeep_result_each w.rules.maintenance all es
 
@@ -314,31 +276,25 @@ module _ (w : WorldValue) (some : 1 ≤ w.rules.maintenance) (all : List UpkeepI
 
 -- what upkeep reads of units is sorted by their numbers, if they are
 module _ (c : CampaignValue) where
-  -- what upkeep reads of units sorted by their numbers is sorted by their numbers
   in_order : (es : List (ℕ × Unit)) → Rise es → AreInOrder (map upkeep_input_of es)
   in_order [] rise = λ i j d h l. absurd (omega (arith, l))
   in_order (e ∷ es) rise =
       AllPairs-cons (λ (p q : UpkeepInput). p.unit < q.unit) (upkeep_input_of e) (map upkeep_input_of es)
       (All-map (λ (q : UpkeepInput). e.0 < q.unit) upkeep_input_of es (All-from_recursion (λ (f : ℕ × Unit). e.0 < f.0) es rise.0)) (in_order es rise.1)
 
-  -- what upkeep reads of all units is sorted by their numbers
   pub inputs_in_order : AreInOrder (upkeep_inputs_of c)
   inputs_in_order = in_order (entries c.units) (entries_rise c.units)
 
 module _ (w : WorldValue) (c : CampaignValue) (some : 1 ≤ w.rules.maintenance) (steady : IsSteady w c) (room : HaveRoom (takes_up_to most_moved) c) where
-  -- what upkeep takes from each unit of the campaign
   abbrev list : List UpkeepResult
   list = upkeep_results w c
 
-  -- upkeep takes from at most 100,000 units, as many as there may be
   few : length list ≤ most_units
   few = omega (arith, length-map (upkeep_inputs_of c) (upkeep_result_one w.rules.maintenance (upkeep_inputs_of c)), length-map (entries c.units) upkeep_input_of, len-entries c.units, steady.numbers.few_units)
 
-  -- the upkeep of all units together moves each amount of the books by less than 10^14
   little : IsBoundWithin (moved_times (length list) (takes_up_to most_amount)) (takes_up_to most_moved)
   little e t = grind (arith, few)
 
-  -- each unit can pay what upkeep takes from it when its turn comes
   pub all_can_pay : CanInTurn (CanPayUpkeep w) upkeep_at c list
   all_can_pay =
       upkeep_result_in_turn w some (upkeep_inputs_of c) (entries c.units) c (entries_rise c.units)
@@ -354,15 +310,12 @@ module _ (w : WorldValue) (c : CampaignValue) (some : 1 ≤ w.rules.maintenance)
 
 -- ---- where nobody starves
 
--- a holding of which all men are left is as it was
 men_stay : (h : HoldingValue) (left : ℕ) → left ≡ h.men → with_men_left left h ≡ h
 men_stay h left is = grind (arith, nat_tests, is)
 
--- the upkeep of a unit of which nobody starves changes only the money of its holding
 pub paid_alone : (s : UpkeepResult) (h : HoldingValue) → s.starved ≡ 0 → after_upkeep s h ≡ record h { money = h.money - s.paid }
 paid_alone s h fed = ap (λ (k : HoldingValue). record k { money = h.money - s.paid }) (men_stay h (h.men - s.starved) (omega (arith, fed)))
 
--- giving a unit the holding that upkeep leaves it changes nothing, if the unit pays nothing and nobody starves
 pub pays_nothing : (c : CampaignValue) (s : UpkeepResult) (u : Unit) → get c.units s.unit ≡ Some u → s.starved ≡ 0 → s.paid ≡ 0
     → c ≡ with_holding_at c s.unit (after_upkeep s u.holding) (Some u)
 pays_nothing c s u is fed none =
@@ -371,7 +324,6 @@ pays_nothing c s u is fed none =
 
 -- ---- where somebody starves
 
--- if each amount of a map is at least 1, it is still so after some amounts are set, of which those set to 0 are removed
 each_stays_positive : (f : ℕ → ℕ → ℕ) (es : List (ℕ × ℕ)) (had : FinMap nat_cmp ℕ) → Every (λ k d. 1 ≤ d) had
     → Every (λ k d. 1 ≤ d) (fold (λ (m : FinMap nat_cmp ℕ) (e : ℕ × ℕ). with_amount_of m e.0 (f e.0 e.1)) had es)
 each_stays_positive f [] had old = old
@@ -393,19 +345,15 @@ days_set left h listed =
     stays : ℕ → ℕ → ℕ
     stays k d = d * left / h.men
 
-    -- for `days_set`: a unit with 0 days of a skill keeps 0 days
     none : (k : ℕ) → stays k 0 ≡ 0
     none k = ap (λ d. d / h.men) (zero-mul left) ∙ zero-div h.men
 
-    -- the map of the days that stay, set one by one in an empty map
     anew : FinMap nat_cmp ℕ
     anew = fold (λ (m : FinMap nat_cmp ℕ) (e : ℕ × ℕ). with_amount_of m e.0 (stays e.0 e.1)) empty (entries h.days)
 
-    -- a skill that isn't among the holding's skills has 0 days
     not_listed : (k : ℕ) → list_any (eq_by_cmp nat_cmp k) (keys h.days) ≡ false → amount_of h.days k ≡ 0
     not_listed k other = by_option (get h.days k) (contains_key-keys h.days k ∙ other)
       where
-        -- for `not_listed`: a look-up that finds no value counts as 0
         by_option : (o : Option ℕ) → is_some o ≡ false → unwrap_or o 0 ≡ 0
         by_option None is = refl
         by_option (Some d) is = cc
@@ -425,12 +373,10 @@ starving_sets_holding s h some fewer listed =
 abbrev pub unit_after_upkeep : UpkeepResult → Unit → Unit
 unit_after_upkeep s u = record u { holding = after_upkeep s u.holding }
 
--- upkeep leaves a unit that is there what its result says (`unit_after_upkeep`)
 pub own_unit : (c : CampaignValue) (s : UpkeepResult) (u : Unit) → get c.units s.unit ≡ Some u → get (upkeep_at c s).units s.unit ≡ Some (unit_after_upkeep s u)
 own_unit c s u is = ap (λ (d : CampaignValue). get d.units s.unit) (upkeep_at_is c s u is) ∙ get-insert_same c.units s.unit (unit_after_upkeep s u)
 
 module _ (m : ℕ) (all : List UpkeepInput) where
-  -- a unit with a lower number than all whose turn is still to come stays as it is
   others_stay : (es : List (ℕ × Unit)) (c : CampaignValue) (n : ℕ) → AllByRecursion (λ e. n < e.0) es
       → get (fold upkeep_at c (upkeep_result_each m all es)).units n ≡ get c.units n
   others_stay [] c n h = refl
@@ -438,7 +384,6 @@ module _ (m : ℕ) (all : List UpkeepInput) where
       let s = upkeep_result_one m all (upkeep_input_of e) in
       others_stay es (upkeep_at c s) n h.1 ∙ other_unit c s n (λ same. omega (arith, h.0, same))
 
-  -- unit `n`, which was `u`, is in campaign `after` with what its upkeep among all units leaves it
   abbrev HasUpkeepResult : CampaignValue → ℕ → Unit → Type 0
   HasUpkeepResult after n u = get after.units n ≡ Some (unit_after_upkeep (upkeep_result_one m all (upkeep_input_of (n, u))) u)
 

@@ -23,54 +23,42 @@ use Rattle.atl_month.proofs.GroupedLaws.{get-grouped}
 
 -- ---- a unit more
 
--- a unit is of its own faction and in its own region
 is_own_input : (p : UpkeepInput) → is_input_of p.region p.faction p ≡ true
 is_own_input p = rw (same_number p.region, same_number p.faction) refl
 
 module _ (amount : UpkeepInput → ℕ) (xs : List UpkeepInput) (p : UpkeepInput) where
-  -- a sum over the units of a faction in a region grows by a further unit's amount, if that is one of them
   more_among : (s g : ℕ) → sum_by amount (peers_of s g (xs ++ p ∷ [])) ≡ sum_by amount (peers_of s g xs) + cond (is_input_of s g p) (amount p) 0
   more_among s g =
       ap (sum_by amount) (filter-append (is_input_of s g) xs (p ∷ [])) ∙ sum_by-append amount (peers_of s g xs) (peers_of s g (p ∷ []))
       ∙ ap (λ n. sum_by amount (peers_of s g xs) + n) (sum_of_one (is_input_of s g p))
     where
-      -- For `more_among`: the sum over one more unit alone is its amount if it is of the faction in the region (`b`),
-      -- else 0.
       sum_of_one : (b : Bool) → sum_by amount (cond b (p ∷ []) []) ≡ cond b (amount p) 0
       sum_of_one true = omega arith
       sum_of_one false = refl
 
-  -- a sum over the units of a further unit's faction in its region grows by that unit's amount
   more_own : sum_by amount (peers_of p.region p.faction (xs ++ p ∷ [])) ≡ sum_by amount (peers_of p.region p.faction xs) + amount p
   more_own = more_among p.region p.faction ∙ ap (λ b. sum_by amount (peers_of p.region p.faction xs) + cond b (amount p) 0) (is_own_input p)
 
-  -- a sum over the units of a faction in a region stays with a further unit that isn't one of them
   more_other : (s g : ℕ) → is_input_of s g p ≡ false → sum_by amount (peers_of s g (xs ++ p ∷ [])) ≡ sum_by amount (peers_of s g xs)
   more_other s g is = more_among s g ∙ ap (λ b. sum_by amount (peers_of s g xs) + cond b (amount p) 0) is ∙ add-zero (sum_by amount (peers_of s g xs))
 
 -- ---- an account is set in the map
 
--- the account with these amounts of money: left, short, given and covered
 abbrev account : (left short given covered : ℕ) → Account
 account left short given covered = record { left = left; short = short; given = given; covered = covered }
 
--- two accounts are equal if each of the four amounts of the one is equal to that of the other
 account_is : (a b c d e f g h : ℕ) → a ≡ e → b ≡ f → c ≡ g → d ≡ h → account a b c d ≡ account e f g h
 account_is a b c d e f g h x y z u = rw (x, y, z, u) refl
 
--- what holds of the account that is set, and of each account of another faction or region, holds of all accounts
 pub each_account : (P : ℕ → ℕ → Account → Type 0) (m : FactionAccounts) (p : UpkeepInput) (a : Account)
     → P p.region p.faction a → ((s g : ℕ) → is_input_of s g p ≡ false → P s g (account_at m s g))
     → (s g : ℕ) → P s g (account_at (with_account m p.region p.faction a) s g)
 each_account P m p a here others s g = by_test (is_input_of s g p) refl
   where
-    -- For `each_account`: a look-up of faction `g` in region `s` finds account `a` if unit `p` is of both (`test`),
-    -- else the account that was there.
     account_found : (test : Bool) → is_input_of s g p ≡ test
         → account_at (with_account m p.region p.faction a) s g ≡ unwrap_or (cond test (Some a) (get (group_of m s) g)) no_account
     account_found test is = ap (λ o. unwrap_or o no_account) (get-grouped m p.region p.faction a s g ∙ ap (λ b. cond b (Some a) (get (group_of m s) g)) is)
 
-    -- for `each_account`: P holds of the account of faction `g` in region `s`, be the unit of both (`test`) or not
     by_test : (test : Bool) → is_input_of s g p ≡ test → P s g (account_at (with_account m p.region p.faction a) s g)
     by_test true is =
         let region : p.region ≡ s = grind (arith, nat_tests) in
@@ -80,28 +68,21 @@ each_account P m p a here others s g = by_test (is_input_of s g p) refl
 
 -- ---- the units are counted
 
--- with no unit counted yet, each account of the empty map is that of no units (`account_of`)
 pub no_accounts : (m s g : ℕ) → account_at empty s g ≡ account_of m [] [] s g
 no_accounts m s g = rw (get-empty nat_cmp s, get-empty nat_cmp g) refl
 
 -- the sums of an account are at most what `n` units may have left and be short of
 pub record IsAccountWithin (n : ℕ) (a : Account) : Type 0 where
-  -- the money that the account's units have left is within what `n` units may have
   pub left : a.left ≤ holding_limit * n
-  -- the money that the account's units are short of is within what `n` units may be short of
   pub short : a.short ≤ most_per_head * men_limit * n
 
--- the accounts of the empty map are within what 0 units may have left and be short of (`IsAccountWithin`): they are all
--- 0
 pub none_few : (s g : ℕ) → IsAccountWithin 0 (account_at empty s g)
 none_few s g = rw (no_accounts 0 s g) (record { left = omega arith; short = omega arith })
 
 module _ (m : ℕ) (before : List UpkeepInput) (p : UpkeepInput) where
-  -- for `opened_more`: the lesser of 0 and `x` is the lesser of 0 and `y`, since both are 0
   none_given : (x y : ℕ) → min 0 x ≡ min 0 y
   none_given x y = omega arith
 
-  -- with the next unit counted, each account is that of the units counted so far and this one
   pub opened_more : (accounts : FactionAccounts) (a : Account) → ((s g : ℕ) → account_at accounts s g ≡ account_of m before [] s g)
       → a ≡ with_counted m p (account_at accounts p.region p.faction)
       → (s g : ℕ) → account_at (with_account accounts p.region p.faction a) s g ≡ account_of m (before ++ p ∷ []) [] s g
@@ -126,25 +107,20 @@ few_more m n accounts p a left short each is =
 -- ---- the units of lower numbers
 
 module _ {A : Type 0} where
-  -- for `before_among`: filtering a list by two tests gives the same in either order
   filters_swap : (t q : A → Bool) (xs : List A) → filter q (filter t xs) ≡ filter t (filter q xs)
   filters_swap t q [] = refl
   filters_swap t q (x ∷ xs) = grind (arith, filters_swap t q xs)
 
-  -- for `lower_first`: if no element passes a test, filtering by the test gives the empty list
   none_pass : (t : A → Bool) (xs : List A) → All (λ x. t x ≡ false) xs → filter t xs ≡ []
   none_pass t [] h = refl
   none_pass t (x ∷ xs) h = rw (h 0 x (omega arith)) (none_pass t xs (λ k d l. h (suc k) d (omega (arith, l))))
 
--- whether a unit's number is below the given number
 abbrev is_lower : ℕ → UpkeepInput → Bool
 is_lower n p = nat_lt p.unit n
 
--- for `lower_first`: a number below another tests as lower
 lower : (a b : ℕ) → a < b → nat_lt a b ≡ true
 lower a b l = grind (arith, nat_tests, l)
 
--- for `lower_first`: a number that isn't below another doesn't test as lower
 no_lower : (a b : ℕ) → b < a + 1 → nat_lt a b ≡ false
 no_lower a b l = grind (arith, nat_tests, l)
 
@@ -177,7 +153,6 @@ module _ (m : ℕ) (all before : List UpkeepInput) (p : UpkeepInput) (accounts :
   abbrev now : Account
   now = account_of m all before p.region p.faction
 
-  -- the units of the unit's faction in its region
   abbrev peers : List UpkeepInput
   peers = peers_of p.region p.faction all
 
@@ -199,8 +174,6 @@ module _ (m : ℕ) (all before : List UpkeepInput) (p : UpkeepInput) (accounts :
       (sym (ap (λ n. min n (given_among m (peers_of s g all))) (more_other (left_of m) before p s g apart)))
       (sym (ap (λ n. min n (given_among m (peers_of s g all))) (more_other (short_of m) before p s g apart))))
 
-  -- if the units that had their turn before a unit are those with lower numbers, its peers with lower numbers are its
-  -- peers among them
   before_among : filter (is_lower p.unit) all ≡ before → filter (is_lower p.unit) peers ≡ peers_of p.region p.faction before
   before_among first =
       filters_swap (is_input_of p.region p.faction) (is_lower p.unit) all ∙ ap (peers_of p.region p.faction) first
@@ -218,11 +191,9 @@ module _ (m : ℕ) (all before : List UpkeepInput) (p : UpkeepInput) (accounts :
           is_dealt (sum_by f (peers_of p.region p.faction before)) (f p) amount
           ∙ ap (λ xs. amount_in_turn amount (sum_by f xs) (f p)) (sym (before_among first))
 
-      -- a result of upkeep for the unit, with these numbers of money paid and men starved
       upkeep_result : (paid starved : ℕ) → UpkeepResult
       upkeep_result paid starved = record { unit = p.unit; faction = p.faction; paid = paid; starved = starved }
 
-      -- two results of upkeep for the unit are equal if as much is paid and as many men starve by both
       same_upkeep_result : (a b c d : ℕ) → a ≡ c → b ≡ d → upkeep_result a b ≡ upkeep_result c d
       same_upkeep_result a b c d x y = rw (x, y) refl
 
@@ -233,14 +204,12 @@ module _ (m : ℕ) (all before : List UpkeepInput) (p : UpkeepInput) (accounts :
 
 -- ---- a unit pays no more than it has
 
--- if the money missing (`short`) is at most what `men` men cost, at `m` each, at most `men` men starve
 few_starve : (m men short : ℕ) → 1 ≤ m → short ≤ m * men → starved_of m short ≤ men
 few_starve m men short some most =
     let rounded : short + (m - 1) < (men + 1) * m = omega (arith, mul_comm m men) in
     let fewer : starved_of m short < men + 1 = (div-lt_iff_lt-mul some).1 rounded in
     omega arith
 
--- upkeep takes no more from a unit than its money and its men
 pub can_spare : EachCanSpare
 can_spare m some peers p =
     let given = given_among m peers in
@@ -251,6 +220,5 @@ can_spare m some peers p =
       starved = few_starve m p.men short some (omega arith);
     }
   where
-    -- for `can_spare`: what a unit pays for itself and what it gives in turn are together at most its money
     within : (given before money due : ℕ) → min money due + amount_in_turn given before (money - min money due) ≤ money
     within given before money due = omega arith

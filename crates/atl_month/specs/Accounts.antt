@@ -63,9 +63,7 @@ account_after maintenance a input = record a {
 
 -- the amounts given and covered so far by an account are both at most its amount to give (`to_give`)
 pub record IsOpen (a : Account) : Type 0 where
-  -- at most the amount to give was given so far
   pub given : a.given ≤ to_give a
-  -- at most the amount to give was covered so far
   pub covered : a.covered ≤ to_give a
 
 -- the account of a faction in a region, where `all` are the units of upkeep, and those `before` had their turn

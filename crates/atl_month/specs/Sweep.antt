@@ -105,20 +105,15 @@ loses_by most e t = if (entry_index e == entry_index Lost) && not (thing_index t
 
 -- what holds of a campaign after the sweep: it is steady, each unit has men, and each faction without units is gone
 pub record IsSwept (w : WorldValue) (c : CampaignValue) : Type 0 where
-  -- the campaign is steady
   pub steady : IsSteady w c
-  -- each unit has men
   pub men : HaveMen c
-  -- each faction without units is gone
   pub gone : UnitlessAreGone c
 
 -- a unit is no worse off, and its men and their days are as they were
 pub record IsKept (before after : Unit) : Type 0 where
   -- the unit keeps faction, region, structure, name and guard flag, and has no less of anything (`IsNoWorse`)
   pub no_worse : IsNoWorse before after
-  -- the number of the unit's men stays
   pub men : after.holding.men ≡ before.holding.men
-  -- the days of study of the unit's men stay
   pub days : after.holding.days ≡ before.holding.days
 
 -- What the sweep leaves alone: each unit with men is still there, no worse off, with its men and their days as they

@@ -9,9 +9,7 @@ use Rattle.atl_phase.specs.InTurn.{amount_in_turn}
 
 -- the men and the money of a unit are within the limits of a holding
 pub record IsUpkeepInput (input : UpkeepInput) : Type 0 where
-  -- the unit has at most as many men as a unit may have
   pub men : input.men ≤ men_limit
-  -- the unit has at most as much money as a unit may have
   pub money : input.money ≤ holding_limit
 
 -- the units are sorted by their numbers, each once
@@ -78,9 +76,7 @@ upkeep_results_of maintenance inputs =
 
 -- what upkeep takes from a unit is no more than its money, and no more than its men
 pub record CanSpare (upkeep_result : UpkeepResult) (men money : ℕ) : Type 0 where
-  -- the unit pays at most its money
   pub paid : upkeep_result.paid ≤ money
-  -- at most the unit's men starve
   pub starved : upkeep_result.starved ≤ men
 
 -- the law that upkeep takes no more from any unit than its money and its men, where `maintenance` is at least 1

@@ -15,15 +15,10 @@ use Rattle.atl_month.specs.Upkeep.{after_upkeep, takes_up_to}
 
 -- the unit is there and can spare what upkeep takes, the campaign is steady, and the books have room for it
 pub record CanPayUpkeep (w : WorldValue) (c : CampaignValue) (s : UpkeepResult) : Type 0 where
-  -- the unit whose upkeep is taken
   pub unit : Unit
-  -- the unit is in the campaign, under the number that the result names
   pub there : get c.units s.unit ≡ Some unit
-  -- the unit has the money and the men that upkeep takes
   pub spare : CanSpare s unit.holding.men unit.holding.money
-  -- the campaign is steady
   pub steady : IsSteady w c
-  -- the books have room for the upkeep of one unit
   pub room : HaveRoom (takes_up_to most_amount) c
 
 -- after upkeep of a unit, if it is there, its holding is `after_upkeep`; nothing else is changed, and nothing is booked

@@ -11,9 +11,7 @@ use std::alloc::{AllocError, Global};
 /// added up, and how much of it was given and covered so far.
 #[derive(Drop, Clone, Copy, Debug, PartialEq, Eq)]
 pub(crate) struct Account {
-    /// The money that the units have left after their own upkeep.
     pub(crate) left: u128,
-    /// The money that the units are short of for their own upkeep.
     pub(crate) short: u128,
     /// How much units with money left gave so far to others.
     pub(crate) given: u128,

@@ -17,7 +17,6 @@ use std::alloc::Global;
 #[derive(Drop, Clone, Copy)]
 pub struct OrderPhases;
 
-/// Runs the phases from FORM to PRODUCE, each on what the one before left.
 impl Phase for OrderPhases {
     ghost meaning = { orders_meaning };
 
@@ -27,7 +26,6 @@ impl Phase for OrderPhases {
 
     ghost keeps = { orders_keep };
 
-    /// Returns the campaign and the month after PRODUCE, or AllocError without memory.
     fn run(&self, alloc: Global, world: &World, campaign: Campaign, month: Month) -> PhaseResult {
         let pots = (SellPhase {}, (BuyPhase {}, (TaxPhase, RecruitPhase)));
         let goods = (GivePhase, (TransferPhase, pots));

@@ -19,7 +19,6 @@ pub(crate) fn receiver_in(receivers: &Receivers, region: u32, faction: u32) -> u
     receivers.get_under(region, faction).copied().unwrap_or(0)
 }
 
-/// Makes a unit its faction's receiver in its region, if it has men and there is none yet.
 fn note_receiver(
     alloc: Global,
     receivers: &mut Receivers,

@@ -17,15 +17,12 @@ use atl_campaign::{BooksEntry, Campaign, Thing};
 use atl_world::{Market, World};
 use std::alloc::AllocError;
 
-/// How many new goods a market with this stock gets: its `restock`, at most what is missing to its
-/// limit.
 fn restock(market: &Market, stock: u32) -> u32
     ensures { result ≡ restock market.now stock }
 {
     market.restock.min(market.limit.saturating_sub(stock))
 }
 
-/// Gives a market of a region its new goods, which are booked as stocked.
 #[tactic(auto, unfolding(crate::specs::Restock::after_market_restock))]
 fn restock_market(
     world: &World,

@@ -21,8 +21,6 @@ use std::alloc::{AllocError, Global};
 #[derive(Drop, Clone, Copy)]
 pub struct SeasonPhase;
 
-/// How many peasants are born: a percentage of them from 0 to `growth`, by the word of the dice, at
-/// most as many as are missing to the limit.
 fn births(growth: u32, limit: u32, word: u32, peasants: u32) -> u32
     requires growth { growth ≤ most_growth }
     requires peasants { peasants ≤ most_amount }
@@ -32,8 +30,6 @@ fn births(growth: u32, limit: u32, word: u32, peasants: u32) -> u32
     born.min(u64::from(limit.saturating_sub(peasants))) as u32
 }
 
-/// How much money a region gets: `per_peasant` for each of its peasants, at most what is missing to
-/// the limit.
 fn income(per_peasant: u32, limit: u32, peasants: u32, money: u32) -> u32
     ensures { result ≡ income per_peasant limit peasants money }
 {
@@ -41,7 +37,6 @@ fn income(per_peasant: u32, limit: u32, peasants: u32, money: u32) -> u32
     earned.min(u64::from(limit.saturating_sub(money))) as u32
 }
 
-/// Adds births and income to a region that has these peasants and this money, and books both.
 fn add_births_and_income(
     campaign: &mut Campaign,
     number: u32,
@@ -127,8 +122,6 @@ impl Phase for SeasonPhase {
 
     ghost keeps = { season_keeps };
 
-    /// Returns the campaign after the season of its regions, and the month as it was; AllocError
-    /// without memory.
     fn run(&self, _: Global, world: &World, mut campaign: Campaign, month: Month) -> PhaseResult {
         carry_out_seasons(world, &mut campaign, month.words())?;
         Ok((campaign, month))

@@ -26,8 +26,6 @@ use std::alloc::{AllocError, Global};
 #[derive(Drop, Clone, Copy)]
 pub struct SweepPhase;
 
-/// How much of an amount a unit that holds `have` accepts: as much as leaves it at most
-/// 999,999,999.
 fn accepted_of(amount: u32, have: u32) -> u32
     ensures { result ≡ accepted_of amount have }
 {
@@ -53,7 +51,6 @@ fn pass_money(campaign: &mut Campaign, to: u32, amount: u32)
     }
 }
 
-/// Gives an item to a unit, up to its room; the rest is lost, all of it where the unit isn't there.
 #[tactic(auto, unfolding(crate::specs::Sweep::after_passing_item))]
 fn pass_item(
     world: &World,
@@ -87,8 +84,6 @@ fn pass_item(
     Ok(())
 }
 
-/// Gives each of some items to a unit, up to its room; the rest is lost, all of it where the unit
-/// isn't there.
 fn pass_items(
     world: &World,
     campaign: &mut Campaign,
@@ -108,8 +103,6 @@ fn pass_items(
     Ok(())
 }
 
-/// Removes a unit, if it has no men, after it passed its money and items to its receiver. What the
-/// receiver has no room for is lost, or all where there is no receiver.
 #[tactic(auto, unfolding(crate::specs::Sweep::after_sweeping_unit))]
 fn sweep_unit(
     alloc: Global,
@@ -140,7 +133,6 @@ fn sweep_unit(
     Ok(())
 }
 
-/// The numbers of the units without men.
 fn menless_units(alloc: Global, campaign: &Campaign) -> Result<Vec<u32>, AllocError>
     ensures { IfOk result (λ list. list.items ≡ menless_units campaign.now.value) }
 {
@@ -153,7 +145,6 @@ fn menless_units(alloc: Global, campaign: &Campaign) -> Result<Vec<u32>, AllocEr
     Ok(list)
 }
 
-/// Removes the listed units that have no men, after they passed on what they have.
 fn sweep_units(
     alloc: Global,
     world: &World,
@@ -175,7 +166,6 @@ fn sweep_units(
     Ok(())
 }
 
-/// Sets a faction to gone, if it has no unit.
 fn sweep_faction(campaign: &mut Campaign, number: u32)
     ensures what { campaign.new.value ≡ after_sweeping_faction campaign.old.value number }
     ensures marks { MarksChanges campaign.old campaign.new }
@@ -185,7 +175,6 @@ fn sweep_faction(campaign: &mut Campaign, number: u32)
     }
 }
 
-/// Sets the listed factions that have no unit to gone.
 fn sweep_factions(campaign: &mut Campaign, numbers: &[u32])
     ensures what { campaign.new.value ≡ fold after_sweeping_faction campaign.old.value numbers.now }
     ensures marks { MarksChanges campaign.old campaign.new }
@@ -206,7 +195,6 @@ impl Phase for SweepPhase {
 
     ghost keeps = { sweep_keeps };
 
-    /// Returns the campaign after the sweep, and the month as it was; AllocError without memory.
     fn run(&self, alloc: Global, world: &World, campaign: Campaign, month: Month) -> PhaseResult {
         let mut campaign = campaign;
         let receivers = receivers_of(alloc, &campaign)?;

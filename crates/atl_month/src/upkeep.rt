@@ -20,7 +20,6 @@ use std::alloc::{AllocError, Global};
 #[derive(Drop, Clone, Copy)]
 pub struct UpkeepPhase;
 
-/// What upkeep reads of all units, in the order of their numbers.
 fn upkeep_inputs_of(alloc: Global, campaign: &Campaign) -> Result<Vec<UpkeepInput>, AllocError>
     ensures list { IfOk result (λ list. list.items ≡ upkeep_inputs_of campaign.now.value) }
     ensures each { IfOk result (λ list. All IsUpkeepInput list.items) }
@@ -137,7 +136,6 @@ fn charge_upkeep(
     Ok(())
 }
 
-/// Takes from each unit of `list` the money that it pays and the men who starve, and books both.
 fn charge_all(
     alloc: Global,
     campaign: &mut Campaign,
@@ -153,7 +151,6 @@ fn charge_all(
     Ok(())
 }
 
-/// Adds the event Starved to the month for each unit of which men starve.
 fn report_starved(month: &mut Month, list: &[UpkeepResult]) -> Result<(), AllocError>
     ensures { OnOk result (month.new
         ≡ record month.old {
@@ -183,8 +180,6 @@ impl Phase for UpkeepPhase {
 
     ghost keeps = { upkeep_keeps };
 
-    /// Returns the campaign after upkeep, and the month with the Starved events; AllocError without
-    /// memory.
     fn run(&self, alloc: Global, world: &World, campaign: Campaign, month: Month) -> PhaseResult {
         let (mut campaign, mut month) = (campaign, month);
         let inputs = upkeep_inputs_of(alloc, &campaign)?;

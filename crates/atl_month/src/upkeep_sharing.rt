@@ -12,15 +12,10 @@ use std::alloc::{AllocError, Global};
 /// What upkeep reads of a unit: its number, its region, its faction, its men and its money.
 #[derive(Drop, Clone, Copy, Debug, PartialEq, Eq)]
 pub struct UpkeepInput {
-    /// The number of the unit.
     pub unit: u32,
-    /// The number of the region that the unit is in.
     pub region: u32,
-    /// The number of the unit's faction.
     pub faction: u32,
-    /// How many men the unit has.
     pub men: u32,
-    /// How much money the unit has.
     pub money: u32,
 }
 
@@ -28,17 +23,12 @@ pub struct UpkeepInput {
 /// and how many of its men starve.
 #[derive(Drop, Clone, Copy, Debug, PartialEq, Eq)]
 pub struct UpkeepResult {
-    /// The number of the unit.
     pub unit: u32,
-    /// The number of the unit's faction.
     pub faction: u32,
-    /// The money that the unit pays, for itself and for others.
     pub paid: u32,
-    /// How many of the unit's men starve.
     pub starved: u32,
 }
 
-/// The money that a unit has left after it paid for its own men, and the money that it is short of.
 fn left_and_short(maintenance: u32, input: &UpkeepInput) -> (u64, u64)
     requires most { maintenance ≤ most_per_head }
     requires input { IsUpkeepInput input.now }

@@ -23,35 +23,26 @@ moved_amount_is_bounded : (b : Bool) (moved : ℕ) → moved ≤ (if b then most
 moved_amount_is_bounded true moved l = omega (arith, l)
 moved_amount_is_bounded false moved l = omega (arith, l)
 
--- The books of a good campaign have room for all that a phase may book, if the phase moves only its own entries, each
--- by at most `most_moved`.
 room_for_phase : (phase : PhaseSpec) → MovesItsOwn phase → (w : WorldValue) (c : CampaignValue) → IsGood w c → HaveRoom phase.book_bound c
 room_for_phase phase own w c good = room_when_sound w c phase.book_bound (λ e t. moved_amount_is_bounded (may_move phase.moved e t) (phase.book_bound e t) (own e t)) good.sound
 
--- The books of a good campaign have room for all that the phase SELL may book.
 pub room_for_selling : (w : WorldValue) (c : CampaignValue) → IsGood w c → HaveRoom sell_spec.book_bound c
 room_for_selling = room_for_phase sell_spec early_are.1.1.1.1.1.0.moves
 
--- The books of a good campaign have room for all that the phase BUY may book.
 pub room_for_buying : (w : WorldValue) (c : CampaignValue) → IsGood w c → HaveRoom buy_spec.book_bound c
 room_for_buying = room_for_phase buy_spec early_are.1.1.1.1.1.1.0.moves
 
--- The books of a good campaign have room for all that the phase TAX may book.
 pub room_for_tax : (w : WorldValue) (c : CampaignValue) → IsGood w c → HaveRoom tax_spec.book_bound c
 room_for_tax = room_for_phase tax_spec early_are.1.1.1.1.1.1.1.0.moves
 
--- The books of a good campaign have room for all that the phase RECRUIT may book.
 pub room_for_recruiting : (w : WorldValue) (c : CampaignValue) → IsGood w c → HaveRoom recruit_spec.book_bound c
 room_for_recruiting = room_for_phase recruit_spec early_are.1.1.1.1.1.1.1.1.0.moves
 
--- The books of a good campaign have room for all that the phase PRODUCE may book.
 pub room_for_producing : (w : WorldValue) (c : CampaignValue) → IsGood w c → HaveRoom produce_spec.book_bound c
 room_for_producing = room_for_phase produce_spec later_are.1.1.1.1.1.1.0.moves
 
--- The books of a good campaign have room for all that the phase WORK may book.
 pub room_for_work : (w : WorldValue) (c : CampaignValue) → IsGood w c → HaveRoom work_spec.book_bound c
 room_for_work = room_for_phase work_spec work_alone
 
--- The books of a good campaign have room for all that upkeep may book.
 pub room_for_upkeep : (w : WorldValue) (c : CampaignValue) → IsGood w c → HaveRoom upkeep_spec.book_bound c
 room_for_upkeep = room_for_phase upkeep_spec upkeep_alone

@@ -24,28 +24,23 @@ unfolding pieces
 pieces-feed [] h = absurd (omega arith)
 pieces-feed (b ∷ bs) h = feed_step (is_feed b) b bs (position_or_len is_feed bs) h (pieces-feed bs)
 
--- a text b ∷ bs without a line feed is one piece, if bs is one
 last_step : (t : Bool) (b : ℕ) (bs : List ℕ) (m : ℕ) → suc (length bs) ≤ cond (not t) (1 + m) 0 → (length bs ≤ m → pieces bs ≡ bs ∷ []) → cond t ([] ∷ pieces bs) (with_front b (pieces bs)) ≡ (b ∷ bs) ∷ []
 last_step true b bs m h rest = absurd (omega arith)
 last_step false b bs m h rest = ap (with_front b) (rest (omega arith))
 
--- a text without a line feed is one piece
 pub pieces-last : (text : List ℕ) → length text ≤ position_or_len is_feed text → pieces text ≡ text ∷ []
 unfolding pieces
 pieces-last [] h = refl
 pieces-last (b ∷ bs) h = last_step (is_feed b) b bs (position_or_len is_feed bs) h (pieces-last bs)
 
--- the lines of a text with its first line feed at an index are the line before the feed and the lines after it
 pub lines_feed : (text : List ℕ) (end : ℕ) → position is_feed text ≡ Some end → lines text ≡ without_return (take end text) ∷ lines (drop (end + 1) text)
 lines_feed text end h =
     let found : position_or_len is_feed text ≡ end = grind (arith, nat_tests) in
     rw (← found) (ap (map without_return) (pieces-feed text (grind (arith, nat_tests))))
 
--- a text without a line feed is one line
 pub lines_last : (text : List ℕ) → position is_feed text ≡ None → lines text ≡ without_return text ∷ []
 lines_last text h = ap (map without_return) (pieces-last text (grind (arith, nat_tests)))
 
--- without_return cuts a carriage return off the end of a line
 pub return_cut : (line : List ℕ) (n : ℕ) → length line ≡ n + 1 → get_or line n 0 ≡ carriage_return → without_return line ≡ take n line
 return_cut [] n e h = absurd (omega arith)
 return_cut (b ∷ []) zero e h = ap (λ t. cond t [] (b ∷ [])) (eq-eqb b carriage_return h)
@@ -53,27 +48,20 @@ return_cut (b ∷ []) (suc n) e h = absurd (omega arith)
 return_cut (b ∷ c ∷ bs) zero e h = absurd (omega arith)
 return_cut (b ∷ c ∷ bs) (suc n) e h = ap (λ l. b ∷ l) (return_cut (c ∷ bs) n (omega arith) h)
 
--- without_return keeps a line without a carriage return at its last index, which is n for a line of n + 1 bytes
 line_kept_by_length : (line : List ℕ) → ((n : ℕ) → length line ≡ n + 1 → get_or line n 0 ≢ carriage_return) → without_return line ≡ line
 line_kept_by_length [] h = refl
 line_kept_by_length (b ∷ []) h = ap (λ t. cond t [] (b ∷ [])) (ne_eqb b carriage_return (h 0 (omega arith)))
 line_kept_by_length (b ∷ c ∷ bs) h = ap (λ l. b ∷ l) (line_kept_by_length (c ∷ bs) (λ n e. h (suc n) (omega arith)))
 
--- without_return keeps a line whose last byte is no carriage return
 pub line_without_return_kept : (line : List ℕ) → (0 < length line → get_or line (length line - 1) 0 ≢ carriage_return) → without_return line ≡ line
 line_without_return_kept line h = line_kept_by_length line (λ n e g. h (omega arith) (ap (λ k. get_or line k 0) (omega arith) ∙ g))
 
--- ---- where lines are in a text
-
--- a text starts with itself
 pub all_front : (text : List ℕ) → StartsWith text text
 all_front text = record { back = []; whole = sym (append-nil text) }
 
--- a text starts with its first n bytes
 pub take_front : (text : List ℕ) (n : ℕ) → StartsWith text (take n text)
 take_front text n = record { back = drop n text; whole = sym (take-append-drop n text) }
 
--- if a text starts with `mid`, and `mid` with `front`, the text starts with `front`
 pub front_further : (text mid front : List ℕ) → StartsWith text mid → StartsWith mid front → StartsWith text front
 front_further text mid front a b = record { back = b.back ++ a.back; whole = a.whole ∙ ap (λ l. l ++ a.back) b.whole ∙ append_assoc front b.back a.back }
 
@@ -85,11 +73,9 @@ line_ends_at text left line e s =
     let b : length (e.front ++ line) ≡ length e.front + length line = length-append e.front line in
     record { front = e.front; back = s.back; whole = e.whole ∙ ap (λ l. e.front ++ l) s.whole; end_is = omega arith }
 
--- a start of a text is no longer than the text
 pub starts_shorter : (text front : List ℕ) → StartsWith text front → length front ≤ length text
 starts_shorter text front s = omega (arith, ap length s.whole, length-append front s.back)
 
--- a text that ends with `left` also ends with `rest`, where there is a `rest`, if `left` ends with it
 pub rest_further : (text left : List ℕ) (rest : Option (List ℕ)) → EndsWith text left → IfSome rest (EndsWith left) → IfSome rest (EndsWith text)
 rest_further text left None e r = tt
 rest_further text left (Some rest) e r = ends_further text left rest e r

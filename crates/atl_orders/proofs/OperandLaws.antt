@@ -35,7 +35,6 @@ two_steps_hold : {A B : Type 0} (P : A → Type 0) (Q : B → Type 0) (r : Resul
 two_steps_hold P Q (Ok x) f h g = g x h
 two_steps_hold P Q (Err e) f h g = tt
 
--- if P holds of an option's value, P holds of the result that has this value, or a fault if there is no value
 value_or_fault : {X : Type 0} (P : X → Type 0) (fault : LineFault) (o : Option X) → ((x : X) → o ≡ Some x → P x) → Holds P (or_fault fault o)
 value_or_fault P fault None g = tt
 value_or_fault P fault (Some x) g = g x refl
@@ -47,16 +46,13 @@ always_true_holds (Err e) = tt
 
 -- ---- numbers
 
--- a number that `number_of` gives with the limit `most` is at most `most`
 pub number_within : (most : ℕ) (bytes : List ℕ) (n : ℕ) → number_of most bytes ≡ Some n → n ≤ most
 number_within most bytes n h = grind (arith, nat_tests)
 
--- a number that is at most `most` and not 0 is from 1 to `most`
 pub nonzero_is_from_one : (most : ℕ) (o : Option ℕ) (n : ℕ) → ((k : ℕ) → o ≡ Some k → k ≤ most) → not_zero o ≡ Some n → IsWithin most n
 nonzero_is_from_one most None n f h = cc
 nonzero_is_from_one most (Some k) n f h = let m : k ≤ most = f k refl in (grind (arith, nat_tests), grind (arith, nat_tests))
 
--- the number that a word is read as, with `most` as the limit and 0 as a fault, is from 1 to `most`
 word_number : (most : ℕ) (fault : LineFault) (w : WordText) → Holds (IsWithin most) (or_fault fault (not_zero (number_of most w.bytes)))
 word_number most fault w = value_or_fault (IsWithin most) fault (not_zero (number_of most w.bytes)) (λ n h. nonzero_is_from_one most (number_of most w.bytes) n (number_within most w.bytes) h)
 
@@ -64,7 +60,6 @@ word_number most fault w = value_or_fault (IsWithin most) fault (not_zero (numbe
 abbrev pub NumberRead : Type 0
 NumberRead = ℕ × List WordText
 
--- a number that `count_at` reads is from 1 to `most`
 pub count_holds : (most : ℕ) (fault : LineFault) (ws : List WordText) → Holds (λ (x : NumberRead). IsWithin most x.0) (count_at most fault ws)
 unfolding count_at
 count_holds most fault [] = tt
@@ -72,11 +67,9 @@ count_holds most fault (w ∷ ws) = two_steps_hold (IsWithin most) _ (or_fault f
 
 -- ---- units
 
--- a unit that was read, and the words after it
 abbrev UnitRead : Type 0
 UnitRead = UnitRef × List WordText
 
--- a unit that is read has its number or alias in range
 unit_holds : (ws : List WordText) → Holds (λ (x : UnitRead). IsUnitRef x.0) (unit_at ws)
 unfolding unit_at
 unit_holds [] = tt
@@ -85,20 +78,15 @@ unit_holds (w ∷ ws) =
     (λ _. two_steps_hold (λ (x : NumberRead). IsAlias x.0) _ (alias_at ws) _ (count_holds last_alias BadAlias ws) (λ n h. h))
     (λ _. two_steps_hold (λ (x : NumberRead). IsNumber x.0) _ (number_at (w ∷ ws)) _ (count_holds most_number BadNumber (w ∷ ws)) (λ n h. h))
 
--- if a unit that was read, and further units that were read, are in range, so are all that `and_then_units` makes of
--- both
 and_then_units_hold : (unit : Result UnitRef LineFault) (units : Result (List UnitRef) LineFault) → Holds IsUnitRef unit → Holds (All IsUnitRef) units → Holds (All IsUnitRef) (and_then_units unit units)
 and_then_units_hold unit units h k = two_steps_hold IsUnitRef _ unit _ h (λ u p. two_steps_hold (All IsUnitRef) _ units _ k (λ us q. All-cons IsUnitRef u us p q))
 
--- a unit that a word names by its number has a number from 1 to 999,999,999
 numbered_holds : (w : WordText) → Holds IsUnitRef (unit_by_number w)
 numbered_holds w = two_steps_hold IsNumber _ (or_fault BadNumber (not_zero (number_of most_number w.bytes))) _ (word_number most_number BadNumber w) (λ n h. h)
 
--- a unit that a word after NEW names by its alias has an alias from 1 to 9,999
 named_holds : (w : WordText) → Holds IsUnitRef (new_unit_ref w)
 named_holds w = two_steps_hold IsAlias _ (or_fault BadAlias (not_zero (number_of last_alias w.bytes))) _ (word_number last_alias BadAlias w) (λ n h. h)
 
--- all units that the words up to the line's end name have numbers and aliases in range
 units_hold : (ws : List WordText) → Holds (All IsUnitRef) (units_of ws)
 unfolding units_of
 units_hold [] = All-nil IsUnitRef
@@ -110,39 +98,32 @@ units_hold (w ∷ v ∷ ws) =
 
 -- ---- things of the world
 
--- the index of the thing that a word names is less than how many there are
 index_within : {A : Type 0} (title : A → List ℕ) (things : List A) (word : List ℕ) (quoted : Bool) (i : ℕ) → index_named title things word quoted ≡ Some i → i < length things
 index_within title [] word quoted i h = cc
 index_within title (x ∷ xs) word quoted i h = (position-Some (λ thing. str_eq_ignore_ascii_case (title thing) (name_of word quoted)) (x ∷ xs) i x h).0
 
--- an item that is read is one of the world's items
 item_holds : (world : WorldValue) (ws : List WordText) → Holds (λ i. i < length world.items) (item_at world ws)
 item_holds world [] = tt
 item_holds world (w ∷ ws) = value_or_fault _ UnknownThing _ (λ i h. index_within _ world.items w.bytes w.quoted i h)
 
--- what is read as goods: an amount, and the number of an item
 abbrev Goods : Type 0
 Goods = ℕ × ℕ
 
--- an amount that is read is from 1 to 999,999,999, and its item one of the world's items
 goods_hold : (world : WorldValue) (ws : List WordText) → Holds (λ (x : Goods). IsNumber x.0 × (x.1 < length world.items)) (amount_of_item_at world ws)
 goods_hold world ws =
     two_steps_hold (λ (x : NumberRead). IsNumber x.0) _ (number_at ws) _ (count_holds most_number BadNumber ws) (λ amount h.
     two_steps_hold (λ i. i < length world.items) _ (item_at world amount.1) _ (item_holds world amount.1) (λ item k. (h, k)))
 
--- a skill that is read is one of the world's skills
 skill_holds : (world : WorldValue) (ws : List WordText) → Holds (λ i. i < length world.skills) (skill_at world ws)
 skill_holds world [] = tt
 skill_holds world (w ∷ ws) = value_or_fault _ UnknownThing _ (λ i h. index_within _ world.skills w.bytes w.quoted i h)
 
--- a kind of structure that is read is one of the world's kinds
 kind_holds : (world : WorldValue) (ws : List WordText) → Holds (λ i. i < length world.kinds) (kind_at world ws)
 kind_holds world [] = tt
 kind_holds world (w ∷ ws) = value_or_fault _ UnknownThing _ (λ i h. index_within _ world.kinds w.bytes w.quoted i h)
 
 -- ---- what the words after a verb name
 
--- the operands of a result, if it is no fault, have numbers in range, names by the rule, and things that a world has
 abbrev AreOperandsInBounds : WorldValue → Result OperandsValue LineFault → Type 0
 AreOperandsInBounds world r = Holds (AreOperandsOf world) r
 
@@ -157,15 +138,12 @@ module _ (world : WorldValue) where
       two_steps_hold _ (AreOperandsOf world) (word_at ws) _ (always_true_holds (word_at ws)) (λ w _.
       two_steps_hold _ (AreOperandsOf world) (or_fault BadNumber (number_of 1 w.0.bytes)) _ (always_true_holds (or_fault BadNumber (number_of 1 w.0.bytes))) (λ n _. tt))
 
-  -- a list has one unit or more, and all have their number or alias in range
   abbrev AreSomeUnits : List UnitRef → Type 0
   AreSomeUnits units = (0 < length units) × All IsUnitRef units
 
-  -- a unit in range in front of units in range makes a list of one unit or more, all in range
   more_units : (unit : Result UnitRef LineFault) (units : Result (List UnitRef) LineFault) → Holds IsUnitRef unit → Holds (All IsUnitRef) units → Holds AreSomeUnits (and_then_units unit units)
   more_units unit units h k = two_steps_hold IsUnitRef AreSomeUnits unit _ h (λ u p. two_steps_hold (All IsUnitRef) AreSomeUnits units _ k (λ us q. (omega arith, All-cons IsUnitRef u us p q)))
 
-  -- if the words up to the line's end are read as a list of units, it has one or more, all in range (`AreSomeUnits`)
   some_hold : (ws : List WordText) → Holds AreSomeUnits (some_units_at ws)
   unfolding units_of
   some_hold [] = tt
@@ -175,24 +153,19 @@ module _ (world : WorldValue) where
       (λ _. more_units (new_unit_ref v) (units_of ws) (named_holds v) (units_hold ws))
       (λ _. more_units (unit_by_number w) (units_of (v ∷ ws)) (numbered_holds w) (units_hold (v ∷ ws)))
 
-  -- if words are read as a list of units, it has one unit or more, all in range (`AreOperandsInBounds`)
   units_sound : (ws : List WordText) → AreOperandsInBounds world (read_units ws)
   units_sound ws = two_steps_hold AreSomeUnits (AreOperandsOf world) (some_units_at ws) _ (some_hold ws) (λ us h. h)
 
-  -- if words are read as a unit and a number, both are in range (`AreOperandsInBounds`)
   unit_and_number_sound : (ws : List WordText) → AreOperandsInBounds world (read_unit_and_number ws)
   unit_and_number_sound ws =
       two_steps_hold _ (AreOperandsOf world) (unit_at ws) _ (unit_holds ws) (λ to h.
       two_steps_hold _ (AreOperandsOf world) (number_at to.1) _ (count_holds most_number BadNumber to.1) (λ n k. (h, k)))
 
-  -- if words are read as a unit, an amount and an item, these are in range, and the world has the item
-  -- (`AreOperandsInBounds`)
   unit_and_goods_sound : (ws : List WordText) → AreOperandsInBounds world (read_unit_and_goods world ws)
   unit_and_goods_sound ws =
       two_steps_hold _ (AreOperandsOf world) (unit_at ws) _ (unit_holds ws) (λ to h.
       two_steps_hold _ (AreOperandsOf world) (amount_of_item_at world to.1) _ (goods_hold world to.1) (λ goods k. (h, k.0, k.1)))
 
-  -- if words are read as what gets a new name, and the name, the name keeps the rule of names (`AreOperandsInBounds`)
   name_sound : (ws : List WordText) → AreOperandsInBounds world (read_name ws)
   name_sound ws =
       two_steps_hold _ (AreOperandsOf world) (word_at ws) _ (always_true_holds (word_at ws)) (λ w _.
@@ -200,13 +173,10 @@ module _ (world : WorldValue) where
       two_steps_hold _ (AreOperandsOf world) (word_at w.1) _ (always_true_holds (word_at w.1)) (λ v _.
       cond_both (name_ok (name_of v.0.bytes v.0.quoted)) _ _ (AreOperandsInBounds world) (λ h. h) (λ _. tt))))
 
-  -- if words are read as a kind of structure or none, the world has the kind (`AreOperandsInBounds`)
   kind_sound : (ws : List WordText) → AreOperandsInBounds world (read_kind world ws)
   kind_sound [] = tt
   kind_sound (w ∷ ws) = two_steps_hold _ (AreOperandsOf world) (kind_at world (w ∷ ws)) _ (kind_holds world (w ∷ ws)) (λ kind h. h)
 
-  -- the operands that the words after a verb give are in bounds (`AreOperandsInBounds`), whatever the shape in the
-  -- order table
   operands_sound : (shape : Shape) (ws : List WordText) → AreOperandsInBounds world (read_operands world shape ws)
   operands_sound shapes.Nothing ws = tt
   operands_sound shapes.Alias ws = two_steps_hold _ (AreOperandsOf world) (alias_at ws) _ (count_holds last_alias BadAlias ws) (λ n h. h)

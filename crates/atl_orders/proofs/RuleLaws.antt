@@ -20,44 +20,37 @@ use Rattle.atl_orders.specs.Reading.{is_plain, state_naming_unit, Effect, nothin
 use Rattle.atl_orders.specs.Mailing.{EntryValue, entry_of, fault_of, effects}
 use Rattle.atl_orders.specs.Rules.{state_after_block, WordsSay, unit_named, unit_faulty, block_closed, end_alone, form_nested, form_nowhere, form_faulty, form_again, form_new, order_nowhere, order_faulty, order_said, unknown, LineSays, bad_byte, no_word, some_words, BodySays, text_ended, orders_ended, one_line, entries_from, faults_from}
 
--- a result of reading a number: the number and the words after it, or a fault
 abbrev NumberResult : Type 0
 NumberResult = Result (ℕ × List WordText) LineFault
 
 -- ---- the rules allow what the function gives
 
 module _ (world : WorldValue) (given : ℕ → Bool) (w : WordText) (ws : List WordText) where
-  -- the rules (`WordsSay`) allow the step that `unit_step` gives a UNIT line
   unit_fits : (state : ReaderState) (r : NumberResult) → keyword_of w ≡ Some keywords.Unit → number_at ws ≡ r → WordsSay world state given w ws (unit_step given r)
   unit_fits state (Ok n) k h = unit_named k n.0 n.1 h refl
   unit_fits state (Err fault) k h = unit_faulty k fault h refl
 
-  -- the rules (`WordsSay`) allow the step that `end_step` gives an END line
   end_fits : (state : ReaderState) → keyword_of w ≡ Some keywords.End → WordsSay world state given w ws (end_step state given)
   end_fits Nowhere k = end_alone k refl refl
   end_fits (At n) k = end_alone k refl refl
   end_fits (Forming parent alias) k = block_closed k (At parent) refl refl
   end_fits (Skipping parent) k = block_closed k _ refl refl
 
-  -- the rules (`WordsSay`) allow the step that `block_step` gives a FORM line outside of blocks, if a unit is named
   block_fits : (n : ℕ) (r : NumberResult) → keyword_of w ≡ Some keywords.Form → alias_at ws ≡ r → WordsSay world (At n) given w ws (block_step n given r)
   block_fits n (Ok a) k h = cond_both (given a.0) _ _ (WordsSay world (At n) given w ws) (λ g. form_again k n refl a.0 a.1 h g refl) (λ g. form_new k n refl a.0 a.1 h g refl)
   block_fits n (Err fault) k h = form_faulty k n refl fault h refl
 
-  -- the rules (`WordsSay`) allow the step that `form_step` gives a FORM line
   form_fits : (state : ReaderState) → keyword_of w ≡ Some keywords.Form → WordsSay world state given w ws (form_step state given ws)
   form_fits Nowhere k = form_nowhere k refl refl
   form_fits (At n) k = block_fits n (alias_at ws) k refl
   form_fits (Forming parent alias) k = form_nested k (At parent) refl refl
   form_fits (Skipping parent) k = form_nested k _ refl refl
 
-  -- the rules (`WordsSay`) allow the step with the effect that `order_effect` gives an order's line
   order_fits : (state : ReaderState) (verb : Verb) (t : Option UnitRef) (r : Result OrderValue LineFault) → keyword_of w ≡ Some (keywords.Order verb) → target state ≡ t → read_order world verb ws ≡ r → WordsSay world state given w ws (step (order_effect t r) state given)
   order_fits state verb None r k h e = order_nowhere verb k h refl
   order_fits state verb (Some unit) (Ok order_value) k h e = order_said verb k unit h order_value e refl
   order_fits state verb (Some unit) (Err fault) k h e = order_faulty verb k unit h fault e refl
 
-  -- the rules (`WordsSay`) allow the step that `keyword_step` gives a line by its first word
   words_fit : (state : ReaderState) (k : Option Keyword) → keyword_of w ≡ k → WordsSay world state given w ws (keyword_step world state given k ws)
   words_fit state None h = unknown h refl
   words_fit state (Some keywords.Unit) h = unit_fits state (number_at ws) h refl
@@ -65,7 +58,6 @@ module _ (world : WorldValue) (given : ℕ → Bool) (w : WordText) (ws : List W
   words_fit state (Some keywords.Form) h = form_fits state h
   words_fit state (Some (keywords.Order verb)) h = order_fits state verb (target state) (read_order world verb ws) h refl refl
 
--- the rules (`LineSays`) allow the step that `words_step` gives a line whose bytes are allowed
 plain_fits : (l : List WordText) (world : WorldValue) (state : ReaderState) (given : ℕ → Bool) (line : List ℕ) → list_all is_plain line ≡ true → words line ≡ l → LineSays world state given line (words_step world state given l)
 plain_fits [] world state given line a b = no_word a b refl
 plain_fits (w ∷ ws) world state given line a b = some_words a w ws b (words_fit world given w ws state (keyword_of w) refl)
@@ -78,28 +70,24 @@ line_fits world state given line = cond_both (list_all is_plain line) _ _ (LineS
 -- ---- the rules allow nothing else
 
 module _ (given : ℕ → Bool) where
-  -- for END in a block, the rule's step (the block is closed) is the one that `end_step` gives
   closed : (state out : ReaderState) → state_after_block state ≡ Some out → step nothing out given ≡ end_step state given
   closed Nowhere out h = cc
   closed (At n) out h = cc
   closed (Forming parent alias) out h = let e : out ≡ At parent = cc in ap (λ p. step nothing p given) e
   closed (Skipping parent) out h = let e : out ≡ state_naming_unit parent = cc in ap (λ p. step nothing p given) e
 
-  -- for END outside of blocks, the rule's step (EndAlone) is the one that `end_step` gives
   alone : (state : ReaderState) → state_after_block state ≡ None → step (faulty EndAlone) state given ≡ end_step state given
   alone Nowhere h = refl
   alone (At n) h = refl
   alone (Forming parent alias) h = cc
   alone (Skipping parent) h = cc
 
-  -- for FORM in a block, the rule's step (NestedForm) is the one that `form_step` gives
   nested : (state out : ReaderState) (ws : List WordText) → state_after_block state ≡ Some out → step (faulty NestedForm) state given ≡ form_step state given ws
   nested Nowhere out ws h = cc
   nested (At n) out ws h = cc
   nested (Forming parent alias) out ws h = refl
   nested (Skipping parent) out ws h = refl
 
--- a step that the rules for a line with words (`WordsSay`) allow is the one that `keyword_step` gives
 words_only : (world : WorldValue) (state : ReaderState) (given : ℕ → Bool) (w : WordText) (ws : List WordText) (s : LineStep) → WordsSay world state given w ws s → s ≡ keyword_step world state given (keyword_of w) ws
 words_only world state given w ws s (unit_named k n rest h e) = rw (k, h) e
 words_only world state given w ws s (unit_faulty k fault h e) = rw (k, h) e

@@ -8,17 +8,14 @@ use Rattle.atl_orders.specs.declared.fault.MailFault.{MailFault}
 use Rattle.atl_orders.specs.TextLines.{lines}
 use Rattle.atl_orders.specs.Mailing.{HeaderValue, header_from, Reading, after_header, reading, IsMailingOf}
 
--- for `sent`: two readings a and b are equal, if the results Ok a and Ok b are
 one_reading : (a b : Reading) → ◌≡◌ {A = Result Reading MailFault} (Ok a) (Ok b) → a ≡ b
 one_reading a b e = cc
 
 module _ (world : WorldValue) (text : List ℕ) (r : Reading) where
-  -- a text that isn't too long, and of which reading from its header on gives r, is a mailing of r's faction
   sent : (header_value : Result HeaderValue MailFault) → header_from 1 (lines text) ≡ header_value → length text ≤ most_bytes → after_header world header_value ≡ Ok r → IsMailingOf r.faction text
   sent (Ok h) is short e = record { short = short; header = (h.next, h.rest, is ∙ ap (λ n. Ok (record { faction = n; next = h.next; rest = h.rest })) (ap (λ (x : Reading). x.faction) (one_reading _ r e))) }
   sent (Err fault) is short e = cc
 
-  -- a text that is read as r is a mailing of r's faction
   pub read_is_mailing : reading world text ≡ Ok r → IsMailingOf r.faction text
   unfolding reading
   read_is_mailing e = cond_both (nat_lt most_bytes (length text)) _ _ (λ (x : Result Reading MailFault). x ≡ Ok r → IsMailingOf r.faction text) (λ _ long. cc) (λ is fits. sent (header_from 1 (lines text)) refl (grind (arith, nat_tests)) fits) e

@@ -12,15 +12,12 @@ use Rattle.atl_orders.specs.Views.{with_units}
 use Rattle.std.proofs.lemmas.Bool.{cond_both}
 use Rattle.std.proofs.lemmas.List.{append_assoc, append-nil}
 
--- the result Ok of reading a number: the number, and the words after it
 abbrev number_read : List WordText → ℕ → Result (ℕ × List WordText) LineFault
 number_read ws n = Ok (n, ws)
 
--- the result Ok of reading a unit: the unit that a function makes of a number that was read, and the words after that
 abbrev as_unit : (ℕ → UnitRef) → ℕ × List WordText → Result (UnitRef × List WordText) LineFault
 as_unit c n = Ok (c n.0, n.1)
 
--- the result Ok of reading a unit: the unit, and the words after it
 abbrev unit_read : UnitRef → List WordText → Result (UnitRef × List WordText) LineFault
 unit_read u rest = Ok (u, rest)
 
@@ -46,7 +43,6 @@ unfolding units_of unit_at count_at
 units_step w [] = then_units_of_choice (is_word (codes "NEW") w) _ _ _ _ refl (ref_step (not_zero (number_of most_number w.bytes)) BadNumber Number [])
 units_step w (v ∷ ws) = then_units_of_choice (is_word (codes "NEW") w) _ _ _ _ (ref_step (not_zero (number_of last_alias v.bytes)) BadAlias Alias ws) (ref_step (not_zero (number_of most_number w.bytes)) BadNumber Number (v ∷ ws))
 
--- u at the end of the units read so far, or in front of the further units, gives the same list of units
 unit_at_end_or_front : (units : Result (List UnitRef) LineFault) (front : List UnitRef) (u : UnitRef) → with_units (front ++ u ∷ []) units ≡ with_units front (units >>= λ us. Ok (u ∷ us))
 unit_at_end_or_front (Ok us) front u = ap (λ l. Ok l) (append_assoc front (u ∷ []) us)
 unit_at_end_or_front (Err f) front u = refl
@@ -58,23 +54,19 @@ unfolding unit_at
 one_more front [] u rest h = cc
 one_more front (w ∷ ws) u rest h = unit_at_end_or_front (units_of rest) front u ∙ ap (with_units front) (sym (units_step w ws ∙ ap (λ r. r >>= then_units) h))
 
--- if reading the next unit gives a fault, the words left give this fault, whatever units were read before
 pub fault_stays : (front : List UnitRef) (ws : List WordText) (f : LineFault) → 0 < length ws → unit_at ws ≡ Err f → with_units front (units_of ws) ≡ Err f
 fault_stays front [] f p h = absurd (omega arith)
 fault_stays front (w ∷ ws) f p h = ap (with_units front) (units_step w ws ∙ ap (λ r. r >>= then_units) h)
 
--- if no word is left, the units are those that were read so far
 pub no_more : (front : List UnitRef) (ws : List WordText) → ws ≡ [] → with_units front (units_of ws) ≡ Ok front
 unfolding units_of
 no_more front [] h = ap (λ l. Ok l) (append-nil front)
 no_more front (w ∷ ws) h = cc
 
--- a unit that is read from one word leaves at most the words after this word, `left`, to be read
 read_rest : (o : Option ℕ) (f : LineFault) (c : ℕ → UnitRef) (left : List WordText) (u : UnitRef) (rest : List WordText) → (or_fault f o >>= number_read left >>= as_unit c) ≡ unit_read u rest → length rest ≤ length left
 read_rest None f c left u rest h = cc
 read_rest (Some k) f c left u rest h = let here : UnitRef × List WordText = (c k, left) in let there : UnitRef × List WordText = (u, rest) in let e : here ≡ there = cc in omega (arith, ap (λ (p : UnitRef × List WordText). length p.1) e)
 
--- the words after a unit that was read are fewer than the words before it was read
 pub rest_shorter : (ws : List WordText) (u : UnitRef) (rest : List WordText) → unit_at ws ≡ unit_read u rest → length rest < length ws
 unfolding unit_at count_at
 rest_shorter [] u rest h = cc

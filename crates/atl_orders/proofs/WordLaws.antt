@@ -23,34 +23,28 @@ index_or_length : (t : Bool) (n m : ℕ) → nat_lt n m ≡ t → n ≤ m → un
 index_or_length true n m h l = refl
 index_or_length false n m h l = grind (arith, nat_tests)
 
--- the index of the first element that passes a test, or the list's length without one, is at most the length
 pub found_within : {X : Type 0} (p : X → Bool) (xs : List X) → position_or_len p xs ≤ length xs
 found_within p xs = prefix_len-le-length (λ x. not (p x)) xs
 
--- the index of the first element that passes a test, or the list's length without one, is `position_or_len`
 pub found_or_len : {X : Type 0} (p : X → Bool) (xs : List X) → unwrap_or (position p xs) (length xs) ≡ position_or_len p xs
 found_or_len p xs = index_or_length (nat_lt (position_or_len p xs) (length xs)) (position_or_len p xs) (length xs) refl (found_within p xs)
 
 -- ---- words
 
--- words_after gives the words of what is left of a line after its first `skip` bytes
 pub words_after-drop : (skip : ℕ) (line : List ℕ) → words_after skip line ≡ words (drop skip line)
 unfolding words_after
 words_after-drop zero line = refl
 words_after-drop (suc skip) [] = refl
 words_after-drop (suc skip) (b ∷ bs) = words_after-drop skip bs
 
--- an empty line has no words
 pub words-nil : words [] ≡ []
 unfolding words_after
 words-nil = refl
 
--- a blank at the start of a line changes none of its words
 pub words-blank : (b : ℕ) (bs : List ℕ) → is_blank b ≡ true → words (b ∷ bs) ≡ words bs
 unfolding words_after
 words-blank b bs h = cond-true (is_blank b) _ _ h
 
--- a line that begins with a semicolon has no words
 pub words-comment : (bs : List ℕ) → words (semicolon ∷ bs) ≡ []
 unfolding words_after
 words-comment bs = refl
@@ -79,66 +73,52 @@ words-bare b bs h =
     cond-false (is_blank b) _ _ two.0 ∙ cond-false (eqb b semicolon) _ _ one.1 ∙ cond-false (is_quote b) _ _ two.1
     ∙ ap (λ ws. record { bytes = before_first ends_word (b ∷ bs); quoted = false } ∷ ws) (words_after-drop (position_or_len ends_word (b ∷ bs) - 1) bs ∙ ap words (drop-bare (ends_word b) _ b bs h))
 
--- a line that begins with a word without quotes has that word first, and then the words of the rest
 pub words-bare_line : (line : List ℕ) → 0 < length line → ends_word (get_or line 0 0) ≡ false → words line ≡ record { bytes = before_first ends_word line; quoted = false } ∷ words (drop (position_or_len ends_word line) line)
 words-bare_line [] p h = absurd (omega arith)
 words-bare_line (b ∷ bs) p h = words-bare b bs h
 
--- the rest of a line after a closing quote, if it is there, is the rest from the quote on without its first byte
 pub after_closing : (bs : List ℕ) (closing : ℕ) → closing ≡ min (length bs) 1 → take (length bs - closing) (drop closing bs) ≡ drop 1 bs
 after_closing bs closing e = take_rest bs closing ∙ ap (λ n. drop n bs) (e ∙ min_comm (length bs) 1) ∙ drop_min 1 bs
 
--- the value of an ASCII digit is its byte less 48
 digit_value_of : (b : ℕ) → is_ascii_digit b ≡ true → digit_value b ≡ b - 48
 digit_value_of b h = grind (arith, nat_tests)
 
--- the value of the first i + 1 digits is ten times that of the first i, and the next digit
 pub one_digit_more : (bytes : List ℕ) (i : ℕ) → i < length bytes → is_ascii_digit (get_or bytes i 0) ≡ true → digits_value 10 (take (i + 1) bytes) ≡ digits_value 10 (take i bytes) * 10 + (get_or bytes i 0 - 48)
 one_digit_more bytes i h digit = digits_value_more 10 bytes i h ∙ ap (λ n. digits_value 10 (take i bytes) * 10 + n) (digit_value_of (get_or bytes i 0) digit)
 
--- the rest of a line from a semicolon on has no words
 pub comment_at : (line : List ℕ) (i : ℕ) → i < length line → get_or line i 0 ≡ semicolon → words (drop i line) ≡ []
 comment_at line i h e = at_drop_more words line i 0 h ∙ ap (λ b. words (b ∷ drop (i + 1) line)) e ∙ words-comment (drop (i + 1) line)
 
--- the rest of a line from a blank on has the words of the rest after the blank
 pub blank_at : (line : List ℕ) (i : ℕ) → i < length line → is_blank (get_or line i 0) ≡ true → words (drop (i + 1) line) ≡ words (drop i line)
 blank_at line i h e = sym (at_drop_more words line i 0 h ∙ words-blank (get_or line i 0) (drop (i + 1) line) e)
 
--- the rest of a line from its end on has no words
 pub end_of_words : (line : List ℕ) (i : ℕ) → length line ≤ i → words (drop i line) ≡ []
 end_of_words line i h = at_drop_all words line i h ∙ words-nil
 
 -- ---- where words are in a line and a text
 
--- a line ends with what is left after its first n bytes
 pub ends_after : (line : List ℕ) (n : ℕ) → EndsWith line (drop n line)
 ends_after line n = record { front = take n line; whole = sym (take-append-drop n line) }
 
--- if a line ends with `mid`, and `mid` with `rest`, the line ends with `rest`
 pub ends_further : (line mid rest : List ℕ) → EndsWith line mid → EndsWith mid rest → EndsWith line rest
 ends_further line mid rest a b = record { front = a.front ++ b.front; whole = a.whole ∙ ap (λ l. a.front ++ l) b.whole ∙ sym (append_assoc a.front b.front rest) }
 
--- if a line ends with `mid`, a part of `mid` is a part of the line
 pub part_further : (line mid bytes : List ℕ) (to_end : ℕ) → EndsWith line mid → IsPartOf mid bytes to_end → IsPartOf line bytes to_end
 part_further line mid bytes to_end a b =
     record { front = a.front ++ b.front; back = b.back; whole = a.whole ∙ ap (λ l. a.front ++ l) b.whole ∙ sym (append_assoc a.front b.front (bytes ++ b.back)); to_end_is = b.to_end_is }
 
--- a line ends with its part `&line[n..]`
 pub ends_at : (line : List ℕ) (n : ℕ) → EndsWith line (take (length line - n) (drop n line))
 ends_at line n = rw (take_rest line n) (ends_after line n)
 
--- a line is at least as long as anything that it ends with
 pub ends_shorter : (line rest : List ℕ) → EndsWith line rest → length rest ≤ length line
 ends_shorter line rest e = omega (arith, ap length e.whole, length-append e.front rest)
 
--- a part of a line is no longer than the line from the part's first byte on, and that is no longer than the line
 pub part_shorter : (line bytes : List ℕ) (to_end : ℕ) → IsPartOf line bytes to_end → (length bytes ≤ to_end) × (to_end ≤ length line)
 part_shorter line bytes to_end s =
     let a : length line ≡ length s.front + length (bytes ++ s.back) = ap length s.whole ∙ length-append s.front (bytes ++ s.back) in
     let b : length (bytes ++ s.back) ≡ length bytes + length s.back = length-append bytes s.back in
     (omega (arith, s.to_end_is), omega (arith, s.to_end_is))
 
--- if a line ends at an index of a text, anything that the line ends with ends at this index
 pub ends_at_further : (text : List ℕ) (end : ℕ) (line rest : List ℕ) → EndsAt text end line → EndsWith line rest → EndsAt text end rest
 ends_at_further text end line rest a e = record {
   front = a.front ++ e.front;
@@ -147,7 +127,6 @@ ends_at_further text end line rest a e = record {
   end_is = ap length (append_assoc a.front e.front rest ∙ ap (λ l. a.front ++ l) (sym e.whole)) ∙ a.end_is;
 }
 
--- the bytes of a word are those of its span in the text
 pub bytes_in_span : (text : List ℕ) (end : ℕ) (line bytes : List ℕ) (to_end : ℕ) → EndsAt text end line → IsPartOf line bytes to_end → slice_range text (end - to_end) (end - to_end + length bytes) ≡ bytes
 bytes_in_span text end line bytes to_end a s =
     let whole : text ≡ (a.front ++ s.front) ++ (bytes ++ (s.back ++ a.back)) =
@@ -163,10 +142,8 @@ bytes_in_span text end line bytes to_end a s =
     let here : drop (end - to_end) text ≡ bytes ++ (s.back ++ a.back) = ap (drop (end - to_end)) whole ∙ drop_at (a.front ++ s.front) (bytes ++ (s.back ++ a.back)) (end - to_end) start in
     ap (λ n. take n (drop (end - to_end) text)) count ∙ ap (take (length bytes)) here ∙ take_at bytes (s.back ++ a.back) (length bytes) refl
 
--- a text ends with itself
 pub ends_with_all : (text : List ℕ) → EndsWith text text
 ends_with_all text = record { front = []; whole = refl }
 
--- a line that ends at an index of a text is no longer than that index
 pub ends_at_fits : (text : List ℕ) (end : ℕ) (line : List ℕ) → EndsAt text end line → length line ≤ end
 ends_at_fits text end line e = omega (arith, e.end_is, length-append e.front line)

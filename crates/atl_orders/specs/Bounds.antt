@@ -75,7 +75,6 @@ pub record IsOrderOf (world : WorldValue) (order_value : OrderValue) : Type 0 wh
 
 -- an order of a mailing says what it is, and is in bounds, as is the reference to the unit that it is for
 pub record IsEntry (world : WorldValue) (e : EntryValue) : Type 0 where
-  -- the number or alias of the unit that the order is for is in its range
   pub target : IsUnitRef e.target
   -- the operands of the order have the shape of its verb, and are in bounds (`IsOrderOf`)
   pub order : IsOrderOf world e.order_value
@@ -87,11 +86,8 @@ LinesRise n (e ∷ es) = (n < e.line) × LinesRise e.line es
 
 -- a mailing as read is in bounds: its faction in range, its orders in bounds, and their line numbers strictly ascending
 pub record IsReading (world : WorldValue) (r : Reading) : Type 0 where
-  -- the number of the mailing's faction is from 1 to last_faction
   pub faction : IsWithin last_faction r.faction
-  -- each order of the mailing is in bounds (`IsEntry`)
   pub entries : All (IsEntry world) r.entries
-  -- the line numbers of the orders are above 0, and strictly ascending
   pub lines : LinesRise 0 r.entries
 
 -- Every text that is read as a mailing gives a faction, orders and line numbers that are in bounds, and orders whose

@@ -22,9 +22,7 @@ use Rattle.atl_orders.specs.Reading.{Effect, nothing, faulty, says, line_step}
 pub record EntryValue : Type 0 where
   -- the number of the order's line, from 1 on over the whole text
   pub line : ℕ
-  -- the unit that the order is for
   pub target : UnitRef
-  -- the order's verb and operands
   pub order_value : OrderValue
 
 -- the effect of each line above the first `#END`, with the line's number; the first line has the number n
@@ -55,11 +53,8 @@ faction_of (w ∷ v ∷ ws) = not_zero (number_of last_faction v.bytes)
 
 -- what a header gives: its faction's number, and the lines after it, of which the first has the number `next`
 pub record HeaderValue : Type 0 where
-  -- the number of the faction that the header names
   pub faction : ℕ
-  -- the number of the line after the header
   pub next : ℕ
-  -- the lines after the header
   pub rest : List (List ℕ)
 
 -- what the header at line n gives: its faction and the lines after it; BadHeader if it names no faction
@@ -76,11 +71,8 @@ header_from n (line ∷ rest) =
 
 -- what reading a mailing gives: its faction, its orders, and its faulty lines
 pub record Reading : Type 0 where
-  -- the number of the faction that the mailing's header names
   pub faction : ℕ
-  -- the orders of the mailing, in the order of their lines
   pub entries : List EntryValue
-  -- the faulty lines of the mailing, each with its number and its fault
   pub faults : List FaultyLine
 
 -- the faction, orders and faulty lines of a mailing, given its header; or the fault of the header
@@ -100,9 +92,7 @@ reading world text =
 
 -- a text is a mailing of a faction: it isn't too long, and its header names the faction
 pub record IsMailingOf (faction : ℕ) (text : List ℕ) : Type 0 where
-  -- the text has at most most_bytes (65,536) bytes
   pub short : length text ≤ most_bytes
-  -- the first header of the text names the faction
   pub header :
       (next : ℕ) × (rest : List (List ℕ))
       × (header_from 1 (lines text) ≡ Ok (record { faction = faction; next = next; rest = rest }))

@@ -90,8 +90,6 @@ direction_at ws = do
   w ← word_at ws
   or_fault BadDirection (direction_of w.0)
 
--- ---- units up to the line's end
-
 -- the unit whose number, from 1 to 999,999,999, a word writes; else BadNumber
 abbrev pub unit_by_number : WordText → Result UnitRef LineFault
 unit_by_number w = or_fault BadNumber (not_zero (number_of most_number w.bytes)) >>= λ n. Ok (Number n)

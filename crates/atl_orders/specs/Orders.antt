@@ -28,8 +28,6 @@ OrderValue = Order (List ℕ)
 abbrev pub OperandsValue : Type 0
 OperandsValue = Operands (List ℕ)
 
--- ---- the words after a verb, one definition for each shape of the order table
-
 -- the operands of a verb that takes a flag, 0 or 1, read from the words after it; or their first fault
 abbrev pub read_flag : List WordText → Result OperandsValue LineFault
 read_flag ws = do

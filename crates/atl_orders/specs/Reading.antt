@@ -35,21 +35,15 @@ keyword_of w =
 
 -- the effect of a line: nothing, a fault, or an order for a unit
 pub data Effect : Type 0 where
-  -- the line gives no order and no fault
   nothing : Effect
-  -- the line gives this fault
   faulty : LineFault → Effect
-  -- the line gives this order, for this unit
   says : UnitRef → OrderValue → Effect
 
 -- the step of a line: what reading it gives, which is its effect, the reader's state after it (`state`), and the
 -- aliases given so far
 pub record LineStep : Type 0 where
-  -- what the line gives: nothing, a fault, or an order for a unit
   pub effect : Effect
-  -- the reader's state after the line
   pub state : ReaderState
-  -- the aliases that FORM lines have given so far, this line included
   pub given : ℕ → Bool
 
 -- the step of a line (`LineStep`) made of its effect, the reader's state after it, and the aliases given so far

@@ -124,11 +124,8 @@ HaveNoHeader lines = All (λ line. is_header line ≡ false) lines
 
 -- `header` is the first header in a list of lines: `above` are the lines above it, and `below` those below it
 pub record HaveHeader (lines above : List (List ℕ)) (header : List ℕ) (below : List (List ℕ)) : Type 0 where
-  -- the lines are those above the header, the header, and those below it
   pub whole : lines ≡ above ++ header ∷ below
-  -- the line `header` is a header: its first word is `#ATLANTIS`
   pub leads : is_header header ≡ true
-  -- no line above `header` is a header
   pub first : HaveNoHeader above
 
 -- the rules for a whole text: it is read as `read`, a mailing or a fault

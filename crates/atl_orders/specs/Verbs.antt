@@ -11,11 +11,8 @@ use Rattle.atl_orders.specs.Words.{WordText, is_word}
 
 -- a row of the order table: the keyword, the shape of the words after it, and the slot of the order, if it takes one
 pub record Row : Type 0 where
-  -- the keyword of the verb, as bytes
   pub keyword : List ℕ
-  -- the shape of the words after the keyword: what these words name
   pub shape : Shape
-  -- the slot that an order of the verb takes, None if the order takes no slot
   pub slot : Option Slot
 
 -- the row of the order table with a keyword, a shape and a slot

@@ -11,7 +11,6 @@ use Rattle.atl_orders.specs.Letters.{tab, semicolon}
 pub record WordText : Type 0 where
   -- the bytes of the word, without quotation marks
   pub bytes : List ℕ
-  -- whether the word is in quotes
   pub quoted : Bool
 
 -- whether a byte separates words: space or tab

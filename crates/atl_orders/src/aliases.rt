@@ -6,7 +6,6 @@ ghost use Rattle.atl_orders.specs.Limits.{last_alias};
 use crate::limits::LAST_ALIAS;
 use std::alloc::{AllocError, Global};
 
-/// A vector of `count` flags, one for each number from 0 on, all false: no alias is given.
 fn no_aliases(alloc: Global, count: usize) -> Result<Vec<bool>, AllocError>
     ensures len { IfOk result (λ flags. vec_len flags ≡ count) }
     ensures clear { IfOk result (λ flags. (k : ℕ) → slice_index_or flags.items k false ≡ false) }
@@ -23,7 +22,6 @@ pub struct Aliases {
     ghost each: { vec_len given ≡ last_alias + 1 },
 }
 
-/// Makes the empty set, tells whether an alias is in a set, and adds one.
 impl Aliases {
     ghost use Rattle.atl_orders.specs.Aliasing.{no_alias, with_alias};
     ghost use Rattle.atl_orders.specs.Views.{alias_set};

@@ -37,7 +37,6 @@ pub enum LineFault {
     BadName = 11,
 }
 
-/// The number and the name of a line fault.
 impl LineFault {
     ghost use Rattle.atl_orders.specs.Faulting.{fault_number, fault_name};
 
@@ -66,7 +65,6 @@ impl fmt::Display for LineFault {
     }
 }
 
-/// Lets a caller handle a line fault as any `Error`; its text is what `Display` writes.
 impl Error for LineFault {}
 
 /// A faulty line of a mailing: its number, and its fault.
@@ -93,7 +91,6 @@ pub enum MailFault {
     Memory,
 }
 
-/// The number of a mail fault.
 impl MailFault {
     ghost use Rattle.atl_orders.specs.Faulting.{mail_fault_number};
 
@@ -120,10 +117,8 @@ impl fmt::Display for MailFault {
     }
 }
 
-/// Lets a caller handle a mail fault as any `Error`; its text is what `Display` writes.
 impl Error for MailFault {}
 
-/// A failed allocation becomes the fault `Memory`.
 impl From<AllocError> for MailFault {
     ghost from_gives = { λ _ e. e ≡ Memory };
 

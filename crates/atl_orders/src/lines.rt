@@ -9,7 +9,6 @@ ghost use Rattle.atl_orders.specs.Positions.{StartsWith, EndsWith};
 
 use crate::letters::{CARRIAGE_RETURN, LINE_FEED};
 
-/// The index of the first line feed in a text, `None` if it has none.
 fn first_feed(bytes: &[u8]) -> Option<usize>
     ensures value { result ≡ position is_feed bytes.now }
     ensures within { IfSome result (λ i. i < length bytes.now) }
@@ -17,7 +16,6 @@ fn first_feed(bytes: &[u8]) -> Option<usize>
     bytes.iter().position(|byte| *byte == LINE_FEED)
 }
 
-/// A line without the carriage return at its end, if there is one.
 #[tactic(auto, using(crate::proofs::LineLaws::return_cut, crate::proofs::LineLaws::line_without_return_kept, crate::proofs::LineLaws::all_front, crate::proofs::LineLaws::take_front))]
 fn without_return(line: &[u8]) -> &[u8]
     ensures value { result.now ≡ without_return line.now }

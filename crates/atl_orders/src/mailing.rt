@@ -28,7 +28,6 @@ pub struct Entry {
     pub line: u32,
     /// The unit that is to carry out the order; for FORM the parent of the new unit.
     pub target: UnitRef,
-    /// What the unit is to do.
     pub order: Order,
 }
 
@@ -46,14 +45,12 @@ pub struct Mailing {
     pub faults: Sequence<FaultyLine>,
 }
 
-/// Drops the mailing's text, its orders and its faulty lines.
 impl Drop for Mailing {
     fn drop(self) {
         let_go!(self: Mailing { faction, text, entries, faults });
     }
 }
 
-/// Takes a mailing apart, copies the names in its orders, and adds what its lines give.
 impl Mailing {
     ghost use Rattle.atl_orders.specs.Orders.{name_in};
 

@@ -108,7 +108,6 @@ pub fn kind_at(world: &World, line: &[u8]) -> Result<u16, LineFault>
     kind.ok_or(LineFault::UnknownThing)
 }
 
-/// The direction that a word names, `None` if it names none.
 fn direction_of(word: Word) -> Option<Direction>
     ensures { result ≡ direction_of (word_text word.entry) }
 {

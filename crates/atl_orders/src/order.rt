@@ -16,9 +16,7 @@ pub enum UnitRef {
 /// What a NAME order gives a new name to.
 #[derive(Drop, Clone, Copy, Debug, PartialEq, Eq)]
 pub enum NameKind {
-    /// The unit itself.
     Unit,
-    /// The unit's faction.
     Faction,
     /// The building that the unit is inside.
     Building,
@@ -50,29 +48,22 @@ pub enum Operands<N = Span> {
     Flag(bool),
     /// A number: of a structure, a faction or men.
     Number(u32),
-    /// A unit.
     Unit(UnitRef),
     /// Units, in order; one or more.
     Units(Sequence<UnitRef>),
     /// A unit, and a number: of money or men.
     UnitAndNumber { to: UnitRef, number: u32 },
-    /// A unit, and an amount of an item.
     UnitAndGoods { to: UnitRef, amount: u32, item: u16 },
-    /// An amount of an item.
     Goods { amount: u32, item: u16 },
     /// What gets a new name, and that name, which keeps the rule of names.
     Name { what: NameKind, name: N },
-    /// One of the four directions.
     Direction(Direction),
     /// A kind of structure, if one is named.
     Kind(Option<u16>),
-    /// A skill.
     Skill(u16),
-    /// An item.
     Item(u16),
 }
 
-/// Drops the list of units or the name, if the operands have one.
 impl<N: Drop> Drop for Operands<N> {
     fn drop(self) {
         match self {
@@ -102,8 +93,6 @@ impl<N: Drop> Drop for Operands<N> {
 /// gives the verb. See docs/RULES.md, "Orders".
 #[derive(Drop, Debug)]
 pub struct Order<N: Drop = Span> {
-    /// The word that the order begins with.
     pub verb: Verb,
-    /// What the words after the verb name.
     pub operands: Operands<N>,
 }

@@ -17,7 +17,6 @@ use crate::words::{Cursor, Word, next_word, number};
 use atl_world::{World, word_ok};
 use std::alloc::{AllocError, Global};
 
-/// Reads the operands of a verb that takes a flag, 0 or 1, else MissingWord or BadNumber.
 fn read_flag(cursor: Cursor) -> Result<Operands, LineFault>
     ensures { Agrees (named cursor.entry.text.now) result
         (read_flag (words cursor.entry.rest.now)) }
@@ -27,8 +26,6 @@ fn read_flag(cursor: Cursor) -> Result<Operands, LineFault>
     Ok(Operands::Flag(flag == 1))
 }
 
-/// Reads the operands of a verb that takes one unit or more, from all words up to the line's end;
-/// else MissingWord, BadNumber or BadAlias.
 fn read_units(alloc: Global, cursor: Cursor) -> Result<Result<Operands, LineFault>, AllocError>
     ensures { IfOk result (λ read.
         Agrees (named cursor.entry.text.now) read (read_units (words cursor.entry.rest.now))) }
@@ -39,8 +36,6 @@ fn read_units(alloc: Global, cursor: Cursor) -> Result<Result<Operands, LineFaul
     Ok(units_of(alloc, cursor.rest)?.map(Operands::Units))
 }
 
-/// Reads the operands of a verb that takes a unit and a number; else MissingWord, BadNumber or
-/// BadAlias.
 fn read_unit_and_number(cursor: Cursor) -> Result<Operands, LineFault>
     ensures { Agrees (named cursor.entry.text.now) result
         (read_unit_and_number (words cursor.entry.rest.now)) }
@@ -50,8 +45,6 @@ fn read_unit_and_number(cursor: Cursor) -> Result<Operands, LineFault>
     Ok(Operands::UnitAndNumber { to, number })
 }
 
-/// Reads the operands of a verb that takes a unit, an amount and an item; else MissingWord,
-/// BadNumber, BadAlias or UnknownThing.
 fn read_unit_and_goods(world: &World, cursor: Cursor) -> Result<Operands, LineFault>
     ensures { Agrees (named cursor.entry.text.now) result
         (read_unit_and_goods world.now (words cursor.entry.rest.now)) }
@@ -61,8 +54,6 @@ fn read_unit_and_goods(world: &World, cursor: Cursor) -> Result<Operands, LineFa
     Ok(Operands::UnitAndGoods { to, amount, item })
 }
 
-/// What gets a new name by the word after NAME: unit, faction, building or ship; `None` for another
-/// word.
 fn kind_of_name(word: Word) -> Option<NameKind>
     ensures { result ≡ kind_of_name (word_text word.entry) }
 {
@@ -79,8 +70,6 @@ fn kind_of_name(word: Word) -> Option<NameKind>
     }
 }
 
-/// Reads the operands of NAME: what gets a new name, and the name; else MissingWord, UnknownThing
-/// or BadName.
 #[tactic(auto, using(crate::proofs::WordLaws::ends_at_fits, crate::proofs::WordLaws::ends_at_further, crate::proofs::WordLaws::part_shorter, crate::proofs::WordLaws::ends_shorter))]
 fn read_name(cursor: Cursor) -> Result<Operands, LineFault>
     requires { IsCursor cursor }
@@ -102,7 +91,6 @@ fn read_name(cursor: Cursor) -> Result<Operands, LineFault>
     Ok(Operands::Name { what, name })
 }
 
-/// Reads the operands of a verb that takes a kind of structure or nothing, else UnknownThing.
 fn read_kind(world: &World, cursor: Cursor) -> Result<Operands, LineFault>
     ensures { Agrees (named cursor.entry.text.now) result
         (read_kind world.now (words cursor.entry.rest.now)) }

@@ -53,7 +53,6 @@ pub enum LineResult {
     Says(UnitRef, Order),
 }
 
-/// Whether a line has no bytes but those that a line may have: tab, and from 32 to 126.
 fn is_plain(line: &[u8]) -> bool
     ensures { result ≡ list_all is_plain line.now }
 {
@@ -61,7 +60,6 @@ fn is_plain(line: &[u8]) -> bool
         .all(|byte| *byte == TAB || (SPACE <= *byte && *byte <= TILDE))
 }
 
-/// The keyword that a word is, in any case: UNIT, END, FORM, or that of an order; else `None`.
 fn keyword_of(word: Word) -> Option<Keyword>
     ensures { result ≡ keyword_of (word_text word.entry) }
 {
@@ -89,7 +87,6 @@ fn unit_line(line: &[u8]) -> (LineResult, ReaderState)
     }
 }
 
-/// What an END line gives, and the reader's next state: the open block ends, else EndAlone.
 fn end_line(state: ReaderState) -> (LineResult, ReaderState)
     ensures { (given : _) (text : List ℕ) → end_step state given ≡ step_of text result given }
 {
@@ -129,8 +126,6 @@ fn form_line(state: ReaderState, aliases: &mut Aliases, line: &[u8]) -> (LineRes
     }
 }
 
-/// The unit that an order is for, in a state of the reader; `None` if no unit is named, or in a
-/// skipped block.
 fn target(state: ReaderState) -> Option<UnitRef>
     ensures { result ≡ target state }
 {

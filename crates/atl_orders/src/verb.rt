@@ -39,31 +39,22 @@ pub enum Verb {
 pub enum Shape {
     /// No word.
     Nothing,
-    /// An alias.
     Alias,
     /// 0 or 1.
     Flag,
-    /// A number.
     Number,
-    /// A unit.
     Unit,
     /// One unit or more, up to the line's end.
     Units,
-    /// A unit and a number.
     UnitAndNumber,
-    /// A unit, an amount and an item.
     UnitAndGoods,
-    /// An amount and an item.
     Goods,
     /// What gets a new name, and the name.
     Name,
-    /// A direction.
     Direction,
     /// A kind of structure, or no word.
     Kind,
-    /// A skill.
     Skill,
-    /// An item.
     Item,
 }
 
@@ -72,13 +63,9 @@ pub enum Shape {
 pub enum Slot {
     /// The verbs that take the whole month.
     MonthLong,
-    /// SELL.
     Selling,
-    /// BUY.
     Buying,
-    /// TAX.
     Taxing,
-    /// RECRUIT.
     Recruiting,
 }
 
@@ -88,13 +75,10 @@ pub enum Slot {
 pub struct Row {
     /// The keyword of the verb in capitals, as reports print it.
     pub keyword: &'static str,
-    /// What the words after the keyword name.
     pub shape: Shape,
-    /// The slot that an order of the verb takes, if it takes one.
     pub slot: Option<Slot>,
 }
 
-/// Makes the row of the order table that has a keyword, a shape and a slot.
 fn table_row(keyword: &'static str, shape: Shape, slot: Option<Slot>) -> Row
     ensures { row_value result ≡ row keyword.now shape slot }
 {
@@ -111,11 +95,9 @@ const LISTED: [Verb; 20] = variants!(
     Study Produce Work
 );
 
-/// A verb's row of the order table and its keyword, and the verb that a word is.
 impl Verb {
     ghost use Rattle.atl_orders.specs.Verbs.{keyword, listed_verbs, row_of, row_value, verb_of};
 
-    /// The verb's row of the order table.
     pub fn row(self) -> Row
         ensures { row_value result ≡ row_of self }
     {

@@ -16,7 +16,6 @@ use atl_world::letters::{QUOTE, SPACE};
 pub struct Word<'a> {
     /// The word's bytes, without the quotes around them.
     pub bytes: &'a [u8],
-    /// Whether the word is in quotes.
     pub quoted: bool,
     /// How many bytes the line has from the word's first byte to the line's end.
     pub to_end: usize,
@@ -25,15 +24,12 @@ pub struct Word<'a> {
 /// The rest of a line that is left to read, and where it is in its text.
 #[derive(Drop, Clone, Copy, Debug)]
 pub struct Cursor<'a> {
-    /// The whole text.
     pub text: &'a [u8],
-    /// The part of the line that is left to read.
     pub rest: &'a [u8],
     /// The index in the text at which the line ends.
     pub end: usize,
 }
 
-/// The index of the first quotation mark in a line, `None` if it has none.
 fn first_quote(bytes: &[u8]) -> Option<usize>
     ensures { result ≡ position is_quote bytes.now }
 {
@@ -47,14 +43,12 @@ pub fn is_blank(byte: u8) -> bool
     byte == SPACE || byte == TAB
 }
 
-/// Whether a byte ends a word without quotes: a blank, a quotation mark or a semicolon.
 fn ends_word(byte: u8) -> bool
     ensures { result ≡ ends_word byte }
 {
     is_blank(byte) || byte == QUOTE || byte == SEMICOLON
 }
 
-/// The index of the first byte that ends a word without quotes, `None` if there is none.
 fn first_end(bytes: &[u8]) -> Option<usize>
     ensures { result ≡ position ends_word bytes.now }
 {
@@ -79,7 +73,6 @@ fn quoted_word(after: &[u8]) -> (Word<'_>, &[u8])
     (word, &rest[closing..])
 }
 
-/// The word without quotes that a line begins with, and what follows it.
 #[tactic(auto, using(crate::proofs::WordLaws::found_or_len, crate::proofs::WordLaws::found_within))]
 fn bare_word(line: &[u8]) -> (Word<'_>, &[u8])
     requires some { 0 < length line.now }

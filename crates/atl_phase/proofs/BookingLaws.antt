@@ -14,14 +14,12 @@ use Rattle.atl_phase.specs.Meaning.{BookBound, IsNear, moves_only}
 use Rattle.atl_phase.specs.Bounds.{HasRoom, amount_limit}
 use Rattle.atl_phase.proofs.MeaningLaws.{near_room}
 
--- if y is x + z, or is x, and z is at most n in size, x and y differ by at most n (`IsNear`)
 near_by : (x y z : ℤ) (n : ℕ) → IsWithin n z → (y ≡ x +ℤ z) ⊎ (y ≡ x) → IsNear n x y
 near_by x y z n small h = elim h [
   | inl is ↦ record { above = omega (arith, ints, small.most, is); below = omega (arith, ints, small.least, is) }
   | inr is ↦ record { above = omega (arith, ints, is); below = omega (arith, ints, is) }
 ]
 
--- for `booked-near`: an amount of the books that a booking leaves as it is moves by at most 0 (`IsNear`)
 near_if_equal : (x y : ℤ) → y ≡ x → IsNear 0 x y
 near_if_equal x y is = record { above = omega (arith, ints, is); below = omega (arith, ints, is) }
 
@@ -30,8 +28,6 @@ module _ (books : BooksValue) (e : BooksEntry) (t : Thing) (z : ℤ) (n : ℕ) (
   pub booked-near : (f : BooksEntry) (u : Thing) → IsNear (moves_only n e t f u) (amount_in books f u) (amount_in (after_booking books e t z) f u)
   booked-near f u = by_number (amount_number f u == amount_number e t) refl
     where
-      -- the amount of entry f and thing u moves by at most n if test `b` finds that it is the booked amount, and else
-      -- by 0
       by_number : (b : Bool) → (amount_number f u == amount_number e t) ≡ b → IsNear (if b then n else 0) (amount_in books f u) (amount_in (after_booking books e t z) f u)
       by_number true is = near_by _ _ z n small (amount-after_booking books e t z f u)
       by_number false is = near_if_equal _ _ (booking-other_amount books f e u t z (is_unequal _ _ is))
@@ -41,19 +37,15 @@ module _ (books : BooksValue) (e : BooksEntry) (t : Thing) (z : ℤ) (n : ℕ) (
   pub booked-room : (next : BookBound) → ((f : BooksEntry) (u : Thing) → HasRoom (moves_only n e t f u + next f u) (amount_in books f u)) → (f : BooksEntry) (u : Thing) → HasRoom (next f u) (amount_in (after_booking books e t z) f u)
   booked-room next room f u = near_room (moves_only n e t f u) (next f u) _ _ (booked-near f u) (room f u)
 
--- for `booking_fits`: a number z within `amount_limit` in size, be it negative or not, can be stored in 64 signed bits
 by_sign : (z : ℤ) → z ≤ℤ pos amount_limit → pos 0 ≤ℤ (z +ℤ pos amount_limit) → FitsSigned w64 z
 by_sign (pos n) most less = record { sfits = omega (arith, ints, most) }
 by_sign (negsuc n) most less = record { sfits = omega (arith, ints, less) }
 
--- an amount with room for n stays within 64 signed bits if at most n is booked
 pub booking_fits : (x z : ℤ) (n : ℕ) → IsWithin n z → HasRoom n x → FitsSigned w64 (x +ℤ z)
 booking_fits x z n small room = by_sign (x +ℤ z) (omega (arith, ints, room.above, small.most)) (omega (arith, ints, room.below, small.least))
 
--- a natural number k of at most n is, as an integer, at most n in size (`IsWithin`)
 pub within-pos : (k n : ℕ) → k ≤ n → IsWithin n (pos k)
 within-pos k n l = record { most = omega (arith, ints); least = omega (arith, ints) }
 
--- the negative of a natural number k of at most n is at most n in size (`IsWithin`)
 pub within-neg : (k n : ℕ) → k ≤ n → IsWithin n (neg_ℤ (pos k))
 within-neg k n l = record { most = omega (arith, ints); least = omega (arith, ints) }

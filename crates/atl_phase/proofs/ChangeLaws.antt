@@ -19,21 +19,17 @@ use Rattle.atl_campaign.proofs.RegionLaws.{get-insert_same}
 use Rattle.atl_phase.specs.Holdings.{ChangesHolding}
 use Rattle.atl_phase.proofs.MarkLaws.{marks_by}
 
--- to change a unit by f and then by g is to change it once, by g after f
 pub changed_twice : (f g : Unit → Unit) (c : CampaignValue) (n : ℕ) → unit_changed g (unit_changed f c n) n ≡ unit_changed (λ u. g (f u)) c n
 changed_twice f g c n = by_unit (get c.units n) refl
   where
-    -- to change unit n by f and then by g is to change it once, by g after f, whether the unit is there or not
     by_unit : (o : Option Unit) → get c.units n ≡ o → unit_changed g (record c { units = with_changed_option f c.units n o }) n ≡ record c { units = with_changed_option (λ u. g (f u)) c.units n o }
     by_unit None is = ap (λ o. record c { units = with_changed_option g c.units n o }) is
     by_unit (Some u) is =
         ap (λ o. record c { units = with_changed_option g (insert c.units n (f u)) n o }) (get-insert_same c.units n (f u)) ∙ ap (λ m. record c { units = m }) (insert_over c.units n (f u) (g (f u)))
 
--- a change that leaves the unit as it is leaves the campaign as it is
 pub identity_changes_nothing : (c : CampaignValue) (n : ℕ) → unit_changed (λ u. u) c n ≡ c
 identity_changes_nothing c n = by_unit (get c.units n) refl
   where
-    -- a change that leaves unit n as it is leaves the campaign as it is, whether the unit is there or not
     by_unit : (o : Option Unit) → get c.units n ≡ o → record c { units = with_changed_option (λ u. u) c.units n o } ≡ c
     by_unit None is = refl
     by_unit (Some u) is = ap (λ m. record c { units = m }) (put_same c.units n u u is refl)
@@ -42,16 +38,12 @@ identity_changes_nothing c n = by_unit (get c.units n) refl
 pub changed_held : (f : HoldingValue → HoldingValue) (c d : CampaignValue) (n : ℕ) → d ≡ unit_changed (λ u. record u { holding = f u.holding }) c n → (u : Unit) → get c.units n ≡ Some u → d ≡ with_holding_at c n (f u.holding) (Some u)
 changed_held f c d n what u is = what ∙ ap (λ o. record c { units = with_changed_option (λ (v : Unit). record v { holding = f v.holding }) c.units n o }) is
 
--- a change of unit n leaves every other unit as it is
 pub change_keeps_others : (f : Unit → Unit) (c : CampaignValue) (n k : ℕ) → k ≢ n → get (unit_changed f c n).units k ≡ get c.units k
 change_keeps_others f c n k apart = by_unit (get c.units n)
   where
-    -- a change of unit n leaves the other unit k as it is, whether unit n is there (`o`) or not
     by_unit : (o : Option Unit) → get (with_changed_option f c.units n o) k ≡ get c.units k
     by_unit None = refl
     by_unit (Some u) = get-insert_other c.units n k (f u) apart
-
--- ---- what calls leave
 
 -- an unchanged campaign counts as one in which the holding of unit n was changed by f (`ChangesHolding`), if it has no
 -- unit n
@@ -62,7 +54,6 @@ nobody_changes c n f none = record {
   goods = refl;
 }
 
--- a change of a unit's holding by f (`ChangesHolding`) is also one by g, if f and g make the same of what the unit held
 pub changes_as : (c d : MarkedCampaign) (n : ℕ) (f g : HoldingValue → HoldingValue) (u : Unit) → get c.value.units n ≡ Some u → f u.holding ≡ g u.holding → ChangesHolding c d n f → ChangesHolding c d n g
 changes_as c d n f g u is same old = record {
   value =
@@ -72,7 +63,6 @@ changes_as c d n f g u is same old = record {
   goods = old.goods;
 }
 
--- a change of a unit's holding by f and then one by g are together a change by f and g in turn (`ChangesHolding`)
 pub then_changes : (a b d : MarkedCampaign) (n : ℕ) (f g : HoldingValue → HoldingValue) → ChangesHolding a b n f → ChangesHolding b d n g → ChangesHolding a d n (λ h. g (f h))
 then_changes a b d n f g one two = record {
   value =
@@ -82,7 +72,6 @@ then_changes a b d n f g one two = record {
   goods = two.goods ∙ one.goods;
 }
 
--- the items and the days of a holding, which changes of its other fields leave as they are
 abbrev items_and_days_of : HoldingValue → FinMap nat_cmp ℕ × FinMap nat_cmp ℕ
 items_and_days_of h = (h.items, h.days)
 
@@ -97,15 +86,12 @@ row_changes f same c d n what marks =
       goods = ap (λ (m : Marks). m.goods) marks;
     }
 
--- setting a unit's men changes nothing else of its holding, and marks the change (`ChangesHolding`)
 pub men_changes : (c d : MarkedCampaign) (n men : ℕ) → d.value ≡ with_men c.value n men → d.marks ≡ mark_unit_row c n → ChangesHolding c d n (λ h. record h { men = men })
 men_changes c d n men = row_changes (λ h. record h { men = men }) (λ h. refl) c d n
 
--- setting a unit's money changes nothing else of its holding, and marks the change (`ChangesHolding`)
 pub money_changes : (c d : MarkedCampaign) (n money : ℕ) → d.value ≡ with_money c.value n money → d.marks ≡ mark_unit_row c n → ChangesHolding c d n (λ h. record h { money = money })
 money_changes c d n money = row_changes (λ h. record h { money = money }) (λ h. refl) c d n
 
--- setting a unit's amount of one item changes nothing else of its holding, and marks the change (`ChangesHolding`)
 pub item_changes : (c d : MarkedCampaign) (n item amount : ℕ) → d.value ≡ with_item c.value n item amount → d.marks ≡ mark_item c n item amount → ChangesHolding c d n (λ h. record h { items = with_amount_of h.items item amount })
 item_changes c d n item amount what marks = record {
   value = what;
@@ -113,7 +99,6 @@ item_changes c d n item amount what marks = record {
   goods = ap (λ (m : Marks). m.goods) marks;
 }
 
--- setting a unit's days of one skill changes nothing else of its holding, and marks the change (`ChangesHolding`)
 pub skill_changes : (c d : MarkedCampaign) (n skill days : ℕ) → d.value ≡ with_skill c.value n skill days → d.marks ≡ mark_skill c n skill → ChangesHolding c d n (λ h. record h { days = with_amount_of h.days skill days })
 skill_changes c d n skill days what marks = record {
   value = what;

@@ -79,10 +79,10 @@ one_reported t false = refl
 
 -- of the reports of a phase's orders just one is of an order's faction and on its line, if the order is one of the phase's
 pub report_in_phase : (w : WorldValue) (m : MonthValue) (aliases : Aliases) (readings : FinMap nat_cmp Reading) → m.aliases ≡ aliases → m.readings ≡ readings → AreFit w readings → (t : Task) (there : IsInMailing aliases readings t) (is_of : Verb → Bool) (a : Arrangement)
-    → filter (is_from t.faction t.line) (map report_for (values (orders_of is_of a m.aliases m.readings))) ≡ report_if (is_of t.order_value.verb && order_counts (tasks_of aliases t.faction there.reading) t) t
+    → filter (is_from t.faction t.line) (map report_for (orders_of is_of a m.aliases m.readings)) ≡ report_if (is_of t.order_value.verb && order_counts (tasks_of aliases t.faction there.reading) t) t
 report_in_phase w m aliases readings ea er fit t there is_of a =
-    reports_of_orders aliases t.faction t.line (values (orders_of is_of a m.aliases m.readings))
-    ∙ ap₂ (λ x y. map report_for (filter (is_at aliases t.faction t.line) (values (orders_of is_of a x y)))) ea er
+    reports_of_orders aliases t.faction t.line (orders_of is_of a m.aliases m.readings)
+    ∙ ap₂ (λ x y. map report_for (filter (is_at aliases t.faction t.line) (orders_of is_of a x y))) ea er
     ∙ ap (map report_for) (one_in_phase w aliases readings fit t there is_of a) ∙ one_reported t (is_of t.order_value.verb && order_counts (tasks_of aliases t.faction there.reading) t)
 
 -- the reports of the events that are made for some orders, whatever came of them, are those of the orders
@@ -167,7 +167,7 @@ module _ (step : OrderMeaning) (is_of : Verb → Bool) (takes : Task → Bool) (
         ap (filter (is_from t.faction t.line)) (all_events w m.aliases ts c m refl (all_taken w m (subst (AreFit w) (sym er) fit)))
         ∙ filter-append (is_from t.faction t.line) (map report_of m.events) (map report_for (filter takes ts))
         ∙ ap (λ rs. reports_at t.faction t.line m ++ rs) (reports_of_orders aliases t.faction t.line (filter takes ts) ∙ ap (map report_for) (in_turn takes (is_at aliases t.faction t.line) ts)
-        ∙ ap₂ (λ x y. map report_for (filter takes (filter (is_at aliases t.faction t.line) (values (orders_of is_of ByUnit x y))))) ea er
+        ∙ ap₂ (λ x y. map report_for (filter takes (filter (is_at aliases t.faction t.line) (orders_of is_of ByUnit x y)))) ea er
         ∙ ap (λ us. map report_for (filter takes us)) (one_in_phase w aliases readings fit t there is_of ByUnit) ∙ taken_one t (is_of t.order_value.verb && counts));
     readings = λ w c m. fold_keeps (λ x. x.readings) (one_order step w) (λ p t. (kept p.1 t (order_result (step w p.1.aliases t) p.0 t.faction t.unit).1).0) (orders_by_unit is_of m) (c, m);
     aliases = λ w c m. fold_keeps (λ x. x.aliases) (one_order step w) (λ p t. (kept p.1 t (order_result (step w p.1.aliases t) p.0 t.faction t.unit).1).1) (orders_by_unit is_of m) (c, m);

@@ -9,16 +9,13 @@ pub fold_after_step : {S A : Type 0} (f : S → A → S) (xs : List A) (i : ℕ)
     → after ≡ f before (get_or xs i none) → fold f before (drop i xs) ≡ whole → fold f after (drop (i + 1) xs) ≡ whole
 fold_after_step f xs i none before inside step all = ap (λ s. fold f s (drop (i + 1) xs)) step ∙ sym (ap (fold f before) (drop_more xs i none inside)) ∙ all
 
--- if the fold over the elements from i on gives `whole`, and i is past the end, the result so far is `whole`
 pub fold_ended : {S A : Type 0} (f : S → A → S) (xs : List A) (i : ℕ) (later : S) {whole : S} → length xs ≤ i → fold f later (drop i xs) ≡ whole → later ≡ whole
 fold_ended f xs i later ended all = sym (ap (fold f later) (drop_all i xs ended)) ∙ all
 
--- a fold over a list that maps each element by g first is the fold over the list mapped by g
 pub fold_mapped : {S A B : Type 0} (f : S → B → S) (g : A → B) (s : S) (xs : List A) → fold (λ r x. f r (g x)) s xs ≡ fold f s (map g xs)
 fold_mapped f g s [] = refl
 fold_mapped f g s (x ∷ xs) = fold_mapped f g (f s (g x)) xs
 
--- P holds of g of the element at index i of a list, if it holds of all elements of the list mapped by g (`ys`)
 pub each_mapped : {A B : Type 0} (P : B → Type 0) (g : A → B) (xs : List A) (ys : List B) → map g xs ≡ ys → All P ys → (i : ℕ) (d : A) → i < length xs → P (g (get_or xs i d))
 each_mapped P g xs ys is all i d inside =
     let long : length (map g xs) ≡ length xs = length-map xs g in

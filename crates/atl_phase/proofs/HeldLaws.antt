@@ -18,17 +18,14 @@ use Rattle.atl_campaign.specs.Campaign.{CampaignValue}
 use Rattle.atl_campaign.specs.Good.{IsSteady}
 use Rattle.atl_phase.specs.Meaning.{most_moved}
 
--- a sum of numbers of at most `most` is at most their count times `most`
 pub sum_within : {V : Type 0} (f : V → ℕ) (most : ℕ) (es : List (ℕ × V)) → EachEntry (λ n v. f v ≤ most) es → sum_by (λ e. f e.1) es ≤ length es * most
 sum_within f most [] each = omega arith
 sum_within {V} f most (e ∷ es) each =
     sum_step (sum_by (λ (d : ℕ × V). f d.1) (e ∷ es)) (f e.1) (sum_by (λ (d : ℕ × V). f d.1) es) (length (e ∷ es) * most) (length es * most) most (sum_by-cons (λ (d : ℕ × V). f d.1) e es) (suc-mul (length es) most) each.0 (sum_within f most es each.1)
   where
-    -- for `sum_within`: if x is at most m, and the sum y of the others at most b, all together (s) are at most a: b + m
     sum_step : (s x y a b m : ℕ) → s ≡ x + y → a ≡ b + m → x ≤ m → y ≤ b → s ≤ a
     sum_step s x y a b m e f k l = omega (arith, e, f, k, l)
 
--- a holding within its limits (`IsHolding`) has at most `holding_limit` (999,999,999) of each thing
 within_limit : (t : Thing) (h : HoldingValue) → IsHolding h → unit_amount t h ≤ holding_limit
 within_limit Money h is = is.money
 within_limit People h is = omega (arith, is.men)
@@ -41,7 +38,5 @@ all_held_within w c steady t =
     (sum_within (λ (u : Unit). unit_amount t u.holding) holding_limit (entries c.units) (each-from_every (λ n u. unit_amount t u.holding ≤ holding_limit) c.units (λ n u is. within_limit t u.holding (steady.numbers.units n u is).1)))
     (omega (arith, len-entries c.units, steady.numbers.few_units))
   where
-    -- for `all_held_within`: a sum s of at most `holding_limit` for each of n units, at most `most_units`, is at most
-    -- `most_moved`
     sum_of_few_units : (s n : ℕ) → s ≤ n * holding_limit → n ≤ most_units → s ≤ most_moved
     sum_of_few_units s n l m = omega (arith, l, m)

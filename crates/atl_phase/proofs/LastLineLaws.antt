@@ -28,8 +28,6 @@ module _ (lines : LastLineMap) (k u line : ℕ) where
         | false ↦ refl
       ]
 
-  -- Once a line of slot k and unit u is noted, the greatest line of slot k for u is the greater of this line and the
-  -- old one. For other units it is the old one.
   in_group : (unit n : ℕ) → max (unwrap_or (get (insert (group_of lines k) u (max (line_in lines k u) line)) unit) 0) n ≡ max (line_in lines k unit) (max (if (u == unit) && true then line else 0) n)
   in_group unit n =
       ap (λ o. max (unwrap_or o 0) n) (get-insert nat_cmp_total (group_of lines k) u (max (line_in lines k u) line) unit)
@@ -39,11 +37,9 @@ module _ (lines : LastLineMap) (k u line : ℕ) where
         | false ↦ λ _. max_with_zero (line_in lines k unit) n
       ] refl
     where
-      -- for `in_group`: of the noted line a (which is b), the line, and n, the greatest is the same in either grouping
       max_regrouped : (a b line n : ℕ) → a ≡ b → max (max a line) n ≡ max b (max line n)
       max_regrouped a b line n h = omega arith
 
-      -- for `in_group`: for another unit the new line counts as 0, which leaves the greater of a and n
       max_with_zero : (a n : ℕ) → max a n ≡ max a (max 0 n)
       max_with_zero a n = omega arith
 
@@ -57,13 +53,11 @@ module _ (lines : LastLineMap) (k u line : ℕ) where
         | false ↦ λ _. other (u == unit) (line_in lines j unit)
       ] refl
     where
-      -- for `noted_at`: a line of another slot counts as 0, which leaves the greater of two lines a and n
       other : (b : Bool) (a : ℕ) → max a n ≡ max a (max (if b && false then line else 0) n)
       other true a = omega arith
       other false a = omega arith
 
 module _ (slot : Slot) (aliases : Aliases) (faction : ℕ) (text : List ℕ) where
-  -- the greatest line in the slot for a unit, of the orders from index i on
   abbrev rest_from : ℕ → List Entry → ℕ → ℕ
   rest_from i es unit = last_line slot unit (tasks_from aliases faction i (map (entry_value text) (drop i es)))
 
@@ -83,21 +77,17 @@ module _ (slot : Slot) (aliases : Aliases) (faction : ℕ) (text : List ℕ) whe
       noted_at lines (slot_number other) (unit_of aliases faction e.target) e.line (slot_number slot) unit (rest_from (i + 1) es unit)
       ∙ ap (max (line_in lines (slot_number slot) unit)) (sym (opened es i e (Some other) unit h is b))
 
-  -- for `passed`: the line of an order without a slot counts as 0, so the greater of it and n is n
   neither : (c : Bool) (line n : ℕ) → max (if c && false then line else 0) n ≡ n
   neither true line n = omega arith
   neither false line n = omega arith
 
-  -- an order without a slot changes no greatest line
   pub passed : (es : List Entry) (i : ℕ) (e : Entry) (unit : ℕ) → i < length es → e ≡ get_or es i e → (row_of e.order.verb).slot ≡ None → rest_from (i + 1) es unit ≡ rest_from i es unit
   passed es i e unit h is b = sym (opened es i e None unit h is b ∙ neither (unit_of aliases faction e.target == unit) e.line (rest_from (i + 1) es unit))
 
--- if no line is noted yet, the greater of the noted line and n, the greatest line still to come, is n
 pub none_noted : (lines : LastLineMap) (slot unit n : ℕ) → lines ≡ empty → max (line_in lines slot unit) n ≡ n
 none_noted lines slot unit n h =
     ap (λ g. max (unwrap_or (get g unit) 0) n) (ap (λ m. group_of m slot) h ∙ ap (λ o. unwrap_or o empty) (get-empty nat_cmp slot))
     ∙ ap (λ o. max (unwrap_or o 0) n) (get-empty nat_cmp unit) ∙ bare n
   where
-    -- for `none_noted`: the greater of 0 and n is n
     bare : (n : ℕ) → max 0 n ≡ n
     bare n = omega arith

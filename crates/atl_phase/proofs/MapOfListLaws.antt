@@ -20,20 +20,17 @@ use Rattle.atl_world.proofs.MappedLaws.{is_less}
 use Rattle.atl_campaign.proofs.KeyLaws.{IsDistinct-map}
 use Rattle.atl_phase.proofs.MappedLaws.{no_entries}
 
--- for `from_entries-permutation`: two look-ups are equal, if each finds every value that the other finds
 alike : {X : Type 0} (a b : Option X) → ((v : X) → a ≡ Some v → b ≡ Some v) → ((v : X) → b ≡ Some v → a ≡ Some v) → a ≡ b
 alike None None f g = refl
 alike None (Some w) f g = g w refl
 alike (Some v) b f g = sym (f v refl)
 
--- for `strictly`: a comparison r is Less, if it isn't Equal, and the comparison the other way round isn't Less
 left_less : (r : Ordering) → is_lt (ordering_reverse r) ≡ false → is_eq r ≡ false → r ≡ Less
 left_less Less up apart = refl
 left_less Equal up apart = cc
 left_less Greater up apart = cc
 
 module _ {X : Type 0} {R : X → X → Ordering} (o : IsTotalOrder R) where
-  -- a sorted list in which no two elements compare as equal is strictly sorted
   strictly : (xs : List X) → IsDistinct (eq_by_cmp R) xs → IsSortedBy (λ x y. is_lt (R x y)) xs → IsStrictlySortedBy R xs
   unfolding IsStrictlySortedBy
   strictly [] apart up = tt
@@ -43,12 +40,10 @@ module _ {X : Type 0} {R : X → X → Ordering} (o : IsTotalOrder R) where
       left_less (R (at k) (at (k + 1))) (ap is_lt (sym (o.antisymm (at (k + 1)) (at k))) ∙ up k x (omega arith) h)
       (apart_from_distinct (eq_by_cmp R) (x ∷ xs) k (k + 1) x apart (omega arith) h))
 
-  -- a list in which no two elements compare as equal is strictly sorted once it is sorted
   pub sorted_strictly : (xs ys : List X) → IsPermutation xs ys → IsDistinct (eq_by_cmp R) xs → IsSortedBy (λ x y. is_lt (R x y)) ys → IsStrictlySortedBy R ys
   sorted_strictly xs ys p apart = strictly ys (IsDistinct-IsPermutation (eq_by_cmp R) (eq_by_cmp_equiv o).symm xs ys p apart)
 
 module _ {K X : Type 0} {R : K → K → Ordering} (o : IsTotalOrder R) where
-  -- whether two entries have the same key
   abbrev same_entry_key : K × X → K × X → Bool
   same_entry_key e f = eq_by_cmp R e.0 f.0
 
@@ -56,44 +51,36 @@ module _ {K X : Type 0} {R : K → K → Ordering} (o : IsTotalOrder R) where
   abbrev pub by_key : K × X → K × X → Ordering
   by_key e f = R e.0 f.0
 
-  -- no two keys of some entries are equal, if no two of the entries have the same key
   keys_apart : (es : List (K × X)) → IsDistinct same_entry_key es → IsDistinct (eq_by_cmp R) (keys_of es)
   keys_apart es = IsDistinct-map (λ (e : K × X). e.0) (eq_by_cmp R) es
 
   module _ {A : Type 0} (entry : A → K × X) where
-    -- an entry whose key is less than those of all elements is put in front of the elements' entries
     put_first : (e : K × X) (xs : List A) → AllByRecursion (λ x. R e.0 (entry x).0 ≡ Less) xs → put R e.0 e.1 (map entry xs) ≡ e ∷ map entry xs
     put_first e [] h = refl
     put_first e (x ∷ xs) h = rw h.0
 
-    -- the map made of the entries of elements that are strictly sorted by key lists these entries in this order
     pub entries_of : (xs : List A) → IsStrictlySortedBy (λ x y. R (entry x).0 (entry y).0) xs → entries (from_entries {R = R} (map entry xs)) ≡ map entry xs
     unfolding IsStrictlySortedBy
     entries_of [] h = no_entries R
     entries_of (x ∷ xs) h = entries-insert o (from_entries (map entry xs)) (entry x).0 (entry x).1 ∙ ap (put R (entry x).0 (entry x).1) (entries_of xs h.1) ∙ put_first (entry x) xs h.0
 
-  -- a key that passes the test `below_all` of a list of entries is less than each key of the list
   all_less : (x : K) (es : List (K × X)) → below_all R x es ≡ true → AllByRecursion (λ f. R x f.0 ≡ Less) es
   all_less x [] h = tt
   all_less x (e ∷ es) h = let parts = and_parts _ _ h in (is_less _ parts.0, all_less x es parts.1)
 
-  -- entries that pass the test for sorted entries (`is_sorted`) are strictly sorted by their keys
   rising : (es : List (K × X)) → is_sorted R es ≡ true → IsStrictlySortedBy by_key es
   unfolding IsStrictlySortedBy
   rising [] h = tt
   rising (e ∷ es) h = let parts = and_parts _ _ h in (all_less e.0 es parts.0, rising es parts.1)
 
-  -- the entries of a map are strictly sorted by their keys
   pub entries_rise : (m : FinMap R X) → IsStrictlySortedBy by_key (entries m)
   entries_rise m = rising (entries m) (is_true _ (entries_sorted m))
 
   module _ (exact : IsAntisymmetric R) where
-    -- `find` finds the value of the first entry with an equal key
     pub find_is : (q : K) (es : List (K × X)) → find R q es ≡ lookup (eq_by_cmp R q) es
     find_is q [] = refl
     find_is q (e ∷ es) = ap (cond (eq_by_cmp R q e.0) (Some e.1)) (find_is q es)
 
-    -- a value found by its key in a list of entries is found in the list in another order too, if no two keys are equal
     found : (es fs : List (K × X)) → IsPermutation es fs → IsDistinct same_entry_key fs → (q : K) (v : X) → find R q es ≡ Some v → find R q fs ≡ Some v
     found es fs p apart q v h =
         find_is q fs ∙ lookup-from_Contains (eq_by_cmp_equiv o) q v fs (keys_apart fs apart) (Contains-permutation es fs (q, v) p (Contains-from_lookup (tells_apart exact) q v es (sym (find_is q es) ∙ h)))
@@ -104,7 +91,6 @@ module _ {K X : Type 0} {R : K → K → Ordering} (o : IsTotalOrder R) where
         let other = IsDistinct-IsPermutation same_entry_key (λ e f. (eq_by_cmp_equiv o).symm e.0 f.0) es fs p apart in
         same_map o exact _ _ (λ q. get-from_entries o es q ∙ alike (find R q es) (find R q fs) (found es fs p other q) (found fs es (IsPermutation-sym es fs p) apart q) ∙ sym (get-from_entries o fs q))
 
-    -- the entries whose values pass a test
     abbrev passing : (X → Bool) → List (K × X) → List (K × X)
     passing p es = filter (λ e. p e.1) es
 
@@ -114,8 +100,6 @@ module _ {K X : Type 0} {R : K → K → Ordering} (o : IsTotalOrder R) where
     find-passing p es apart q =
         find_is q (passing p es) ∙ lookup-filter-values (eq_by_cmp_equiv o) p q es (keys_apart es apart) ∙ ap (option_filter p) (sym (find_is q es))
 
-    -- the map of the entries whose values pass a test lists the passing entries of the whole map,
-    -- if no two entries have the same key
     pub entries-passing : (p : X → Bool) (es : List (K × X)) → IsDistinct same_entry_key es → entries (from_entries {R = R} (passing p es)) ≡ passing p (entries (from_entries {R = R} es))
     entries-passing p es apart =
         let m : FinMap R X = from_entries es in

@@ -14,38 +14,30 @@ use Rattle.atl_campaign.proofs.HoldingLaws.{marks-unit_row}
 use Rattle.atl_campaign.proofs.LeavingLaws.{marks-after_handover}
 use Rattle.atl_campaign.proofs.OwnerLaws.{place-what}
 
--- a change marks all that it changes, if it makes the same campaign and the same marks as another change that does
 pub marks_by : (a b m : MarkedCampaign) → b.value ≡ m.value → b.marks ≡ m.marks → MarksChanges a m → MarksChanges a b
 marks_by a b m what marks h = rw (what, marks) (record { stay = h.stay; covers = h.covers })
 
--- a change that marks all that it changes, and then a booking that marks its amount, mark together all that they change
 pub booked_marks : (a b d : MarkedCampaign) (e : BooksEntry) (t : Thing) (z : ℤ) → MarksChanges a b → d.value ≡ with_booking b.value e t z → d.marks ≡ mark_amount b e t → MarksChanges a d
 booked_marks a b d e t z before what marks =
     marks-trans a b d before (marks_by b d (record { value = with_booking b.value e t z; marks = mark_amount b e t }) what marks (marks-amount b e t z))
 
--- putting a unit in a region and a structure (`place_marked_at`) marks all that changes, also if the unit isn't there
 marks_place_at : (c : MarkedCampaign) (n r s : ℕ) (o : Option Unit) → MarksChanges c (place_marked_at c n r s o)
 marks_place_at c n r s None = marks-refl c
 marks_place_at c n r s (Some u) = by_test (u.structure == s)
   where
-    -- putting unit n in region r and structure s marks all that changes, while no structure changes its owner
     one_put : MarksChanges c (put_marked c n r s)
     one_put = marks-unit_row (λ x. record x { region = r; structure = s }) (λ x. refl) c n
 
-    -- putting unit u in a region and a structure marks all that changes, whether structures keep their owners (`b`) or
-    -- not
     by_test : (b : Bool) → MarksChanges c (if b then put_marked c n r s else handed_marked (handed_marked (put_marked c n r s) u.structure n (heir c.value u.structure n)) s 0 n)
     by_test true = one_put
     by_test false =
         let next = handed_marked (put_marked c n r s) u.structure n (heir c.value u.structure n) in
         marks-trans c next (handed_marked next s 0 n) (marks-trans c (put_marked c n r s) next one_put (marks-after_handover (put_marked c n r s) u.structure n (heir c.value u.structure n))) (marks-after_handover next s 0 n)
 
--- putting a unit in another region and structure, with the marks of `place_marked`, marks all that changes
 pub marks-place : (c d : MarkedCampaign) (n r s : ℕ) → d.value ≡ with_place c.value n r s → d.marks ≡ (place_marked c n r s).marks → MarksChanges c d
 unfolding place_marked
 marks-place c d n r s what marks = marks_by c d (place_marked c n r s) (what ∙ sym (place-what c n r s)) marks (marks_place_at c n r s (get c.value.units n))
 
--- if two clauses together imply a third, and both hold where a call answers Ok, the third holds there too
 pub on_ok_both : {A E : Type 0} {P Q R : Type 0} (r : Result A E) → (P → Q → R) → OnOk r P → OnOk r Q → OnOk r R
 on_ok_both (Ok a) f p q = f p q
 on_ok_both (Err e) f p q = tt

@@ -20,23 +20,18 @@ use Rattle.atl_phase.specs.Month.{MonthValue}
 use Rattle.atl_phase.specs.Meaning.{BookBound, Condition, Frame, IsNear, IsSameMonth, LeavesWell, Meaning, both_keep, both_move}
 use Rattle.atl_phase.specs.Bounds.{HasRoom, HaveRoom, moved_times}
 
--- two moves of an amount in turn, by at most j and at most k, are together one by at most j + k
 pub near_twice : (j k : ℕ) (a b c : ℤ) → IsNear j a b → IsNear k b c → IsNear (j + k) a c
 near_twice j k a b c g h = record { above = omega (arith, ints, g.above, h.above); below = omega (arith, ints, g.below, h.below) }
 
--- amounts that differ by at most j differ by at most k, if j is at most k
 pub near_more : (j k : ℕ) (a b : ℤ) → j ≤ k → IsNear j a b → IsNear k a b
 near_more j k a b l h = record { above = omega (arith, ints, h.above); below = omega (arith, ints, h.below) }
 
--- an amount differs from itself by at most any number
 pub near_same : (k : ℕ) (a : ℤ) → IsNear k a a
 near_same k a = record { above = omega (arith, ints); below = omega (arith, ints) }
 
--- an amount of the books with room for j + k has room for k after a move of at most j
 pub near_room : (j k : ℕ) (a b : ℤ) → IsNear j a b → HasRoom (j + k) a → HasRoom k b
 near_room j k a b near room = record { above = omega (arith, ints, near.above, room.above); below = omega (arith, ints, near.below, room.below) }
 
--- an amount of the books with room for k has room for each j that is at most k
 pub amount_room_for_less : (j k : ℕ) (a : ℤ) → j ≤ k → HasRoom k a → HasRoom j a
 amount_room_for_less j k a l room = record { above = omega (arith, ints, room.above); below = omega (arith, ints, room.below) }
 
@@ -44,7 +39,6 @@ amount_room_for_less j k a l room = record { above = omega (arith, ints, room.ab
 abbrev pub IsBoundWithin : BookBound → BookBound → Type 0
 IsBoundWithin less more = (e : BooksEntry) (t : Thing) → less e t ≤ more e t
 
--- books with room for a bound have room for another, if that is at most as great for each amount
 pub room_less : (j k : BookBound) (c : CampaignValue) → IsBoundWithin j k → HaveRoom k c → HaveRoom j c
 room_less j k c l room e t = amount_room_for_less (j e t) (k e t) (amount_in c.books e t) (l e t) (room e t)
 
@@ -62,14 +56,10 @@ room_when_sound w c book_bound l sound e t =
 pub room_for_second : {leaves : Condition} (j k : BookBound) (w : WorldValue) (c d : CampaignValue) → LeavesWell leaves j w c d → HaveRoom (both_move j k) c → HaveRoom k d
 room_for_second j k w c d well room e t = near_room (j e t) (k e t) (amount_in c.books e t) (amount_in d.books e t) (well.near e t) (room e t)
 
--- ---- the same month
-
 -- the number of the month last closed and the reports of a campaign
 abbrev pub counted_month : CampaignValue → ℕ × FinMap nat_cmp (List ℕ)
 counted_month c = (c.month, c.reports)
 
--- campaign d is of the same month as c (`IsSameMonth`) if its month, its reports and its number of factions are those
--- of c, and no faction is added
 pub same_month_among : {c d : CampaignValue} → counted_month d ≡ counted_month c → len d.factions ≡ len c.factions → ((n : ℕ) → HasValue d.factions n → HasValue c.factions n) → IsSameMonth c d
 same_month_among {c} {d} same count factions = record {
   month = ap (λ (p : ℕ × FinMap nat_cmp (List ℕ)). p.0) same;
@@ -82,17 +72,14 @@ same_month_among {c} {d} same count factions = record {
 abbrev pub kept_in_month : CampaignValue → (ℕ × FinMap nat_cmp (List ℕ)) × FinMap nat_cmp Faction
 kept_in_month c = (counted_month c, c.factions)
 
--- campaign d is of the same month as c (`IsSameMonth`) if the month last closed, the reports and the factions stay
 pub same_month_by : {c d : CampaignValue} → kept_in_month d ≡ kept_in_month c → IsSameMonth c d
 same_month_by {c} {d} same =
     let factions : d.factions ≡ c.factions = ap (λ (p : (ℕ × FinMap nat_cmp (List ℕ)) × FinMap nat_cmp Faction). p.1) same in
     same_month_among (ap (λ (p : (ℕ × FinMap nat_cmp (List ℕ)) × FinMap nat_cmp Faction). p.0) same) (ap len factions) (λ n there. subst (λ (m : FinMap nat_cmp Faction). HasValue m n) factions there)
 
--- an unchanged campaign is of the same month as before (`IsSameMonth`)
 pub same_month : (c : CampaignValue) → IsSameMonth c c
 same_month c = same_month_by refl
 
--- if each of two changes keeps the month (`IsSameMonth`), both together do
 pub same_month_twice : (a b c : CampaignValue) → IsSameMonth a b → IsSameMonth b c → IsSameMonth a c
 same_month_twice a b c one two = record {
   month = two.month ∙ one.month;
@@ -115,18 +102,14 @@ pub both_keep_well : (first : Meaning) (early late : Frame) (w : WorldValue) (m 
     → (b, n) ≡ first w a m → early w m a b → late w n b c → both_keep first early late w m a c
 both_keep_well first early late w m n a b c is one two = rw (sym is) (one, two)
 
--- a phase that keeps the books balanced and within a bound (`LeavesWell`) keeps them within a greater bound, too
 pub well_within : {leaves : Condition} (j k : BookBound) (w : WorldValue) (a b : CampaignValue) → IsBoundWithin j k → LeavesWell leaves j w a b → LeavesWell leaves k w a b
 well_within j k w a b l h = record { leaves_it = h.leaves_it; same_month = h.same_month; balances = h.balances; near = λ e t. near_more (j e t) (k e t) (amount_in a.books e t) (amount_in b.books e t) (l e t) (h.near e t) }
 
--- a phase that changes nothing keeps the books in balance and within any bound (`LeavesWell`), if `leaves` holds of the
--- campaign
 pub well_unchanged : {leaves : Condition} (book_bound : BookBound) (w : WorldValue) (c : CampaignValue) → leaves w c → LeavesWell leaves book_bound w c c
 well_unchanged book_bound w c h = record { leaves_it = h; same_month = same_month c; balances = λ b. b; near = λ e t. near_same (book_bound e t) (amount_in c.books e t) }
 
 -- steps of one kind in turn, each of which keeps the books in balance and within one bound (`LeavesWell`)
 module _ {A : Type 0} {leaves : Condition} (book_bound : BookBound) (w : WorldValue) (step : CampaignValue → A → CampaignValue) (each : (c : CampaignValue) (x : A) → leaves w c → LeavesWell leaves book_bound w c (step c x)) where
-  -- the bound of one step, added to that of the steps `xs`, is at most the bound of x and these steps together
   more : {B : Type 0} (x : B) (xs : List B) → IsBoundWithin (both_move book_bound (moved_times (length xs) book_bound)) (moved_times (length (x ∷ xs)) book_bound)
   more x xs e t = let one : length (x ∷ xs) * book_bound e t ≡ length xs * book_bound e t + book_bound e t = suc-mul (length xs) (book_bound e t) in omega arith
 
@@ -138,11 +121,9 @@ module _ {A : Type 0} {leaves : Condition} (book_bound : BookBound) (w : WorldVa
       well_within (both_move book_bound (moved_times (length xs) book_bound)) (moved_times (length (x ∷ xs)) book_bound) w c (fold step (step c x) xs) (more x xs)
       (both_leave_well book_bound (moved_times (length xs) book_bound) w c (step c x) (fold step (step c x) xs) one (fold_leaves_well (step c x) xs one.leaves_it))
 
-  -- books with room for one or more steps together have room for the first of them
   pub room_for_one : {B : Type 0} (c : CampaignValue) (y : B) (ys : List B) → HaveRoom (moved_times (length (y ∷ ys)) book_bound) c → HaveRoom book_bound c
   room_for_one c y ys room = room_less book_bound (moved_times (length (y ∷ ys)) book_bound) c (λ e t. omega (arith, more y ys e t)) room
 
-  -- after the first of some steps, the books have room for the other steps, if they had room for all before
   pub room_after_one : {B : Type 0} (c : CampaignValue) (x : A) (y : B) (ys : List B) → leaves w c → HaveRoom (moved_times (length (y ∷ ys)) book_bound) c → HaveRoom (moved_times (length ys) book_bound) (step c x)
   room_after_one c x y ys h room =
       room_for_second book_bound (moved_times (length ys) book_bound) w c (step c x) (each c x h)

@@ -5,11 +5,9 @@ use Rattle.atl_records.specs.declared.records.Unit.{Unit}
 use Rattle.atl_campaign.specs.Campaign.{CampaignValue}
 use Rattle.atl_phase.specs.NoWorse.{AreNoWorse, IsNoWorse}
 
--- an unchanged unit is no worse off
 pub no_worse : (u : Unit) → IsNoWorse u u
 no_worse u = record { faction = refl; region = refl; structure = refl; name = refl; guard = refl; men = omega arith; money = omega arith; items = λ i. omega arith; days = λ s. omega arith }
 
--- a unit that is no worse off after each of two changes is no worse off after both
 pub no_worse_twice : (u v x : Unit) → IsNoWorse u v → IsNoWorse v x → IsNoWorse u x
 no_worse_twice u v x one two = record {
   faction = two.faction ∙ one.faction;
@@ -23,11 +21,9 @@ no_worse_twice u v x one two = record {
   days = λ s. omega (arith, one.days s, two.days s);
 }
 
--- in an unchanged campaign no unit is worse off
 pub are_no_worse : (c : CampaignValue) → AreNoWorse c c
 are_no_worse c n u there = (u, there, no_worse u)
 
--- if no unit is worse off after each of two changes, none is after both
 pub are_no_worse_twice : (a b c : CampaignValue) → AreNoWorse a b → AreNoWorse b c → AreNoWorse a c
 are_no_worse_twice a b c one two n u there =
     let (v, between, first) = one n u there in

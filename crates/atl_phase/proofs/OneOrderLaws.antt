@@ -22,14 +22,13 @@ use Rattle.atl_campaign.proofs.KeyLaws.{IsDistinct-map}
 use Rattle.atl_phase.specs.declared.phase_order.Arrangement.{Arrangement}
 use Rattle.atl_phase.specs.Month.{Aliases}
 use Rattle.atl_phase.specs.Fit.{AreFit}
-use Rattle.atl_phase.specs.PhaseOrders.{Task, key_of, last_line, orders_of, slot_number, order_counts, counts_in_slot, tasks_of}
+use Rattle.atl_phase.specs.PhaseOrders.{Task, counts_in_slot, key_of, last_line, order_counts, slot_number, tasks_of, tasks_of_phase, under_keys}
 use Rattle.atl_phase.specs.OneOrder.{OneOrderCounts, are_same_slot, share_slot}
 use Rattle.atl_phase.proofs.MapOfListLaws.{by_key, entries_rise}
 use Rattle.atl_phase.proofs.PhaseOrderLaws.{IsPhaseOrder, orders_count}
 
 -- ---- lines
 
--- an entry is on a line above n, if the lines of the entries are strictly ascending from above n (`LinesRise`)
 pub entry_line_above : (n i : ℕ) (es : List EntryValue) (e : EntryValue) → LinesRise n es → slice_get es i ≡ Some e → n < e.line
 entry_line_above n i [] e rise is = cc
 entry_line_above n zero (x ∷ es) e rise is = let same = ap (λ (y : EntryValue). y.line) (same_Some x e is) in omega (arith, same, rise.0)
@@ -51,7 +50,6 @@ same_place n (x ∷ es) (suc i) (suc j) d e rise one two line = ap suc (same_pla
 
 -- ---- slots
 
--- two slots with the same number are the same slot
 slots_are : (s o : Slot) → (slot_number s == slot_number o) ≡ true → s ≡ o
 slots_are MonthLong MonthLong same = refl
 slots_are Selling Selling same = refl
@@ -60,16 +58,13 @@ slots_are Taxing Taxing same = refl
 slots_are Recruiting Recruiting same = refl
 slots_are s o same = cc
 
--- an order t that counts among the orders ts of its mailing has the last line of its slot and unit among them
 line_of : (ts : List Task) (t : Task) (s : Slot) (o : Option Slot) → o ≡ Some s → counts_in_slot ts t o ≡ true → t.line ≡ last_line s t.unit ts
 line_of ts t s None is there = cc
 line_of ts t s (Some x) is there = is_equal t.line (last_line x t.unit ts) there ∙ ap (λ y. last_line y t.unit ts) (same_Some x s is)
 
--- two orders that count, for one unit and in one slot of one mailing, are on one line
 one_line : (ts us : List Task) (t o : Task) → ts ≡ us → t.unit ≡ o.unit → are_same_slot (row_of t.order_value.verb).slot (row_of o.order_value.verb).slot ≡ true → order_counts ts t ≡ true → order_counts us o ≡ true → t.line ≡ o.line
 one_line ts us t o same unit share one two = by_slots (row_of t.order_value.verb).slot (row_of o.order_value.verb).slot refl refl share
   where
-    -- the orders t and o are on one line, if the slots of their verbs, `a` and `b`, are both there and the same
     by_slots : (a b : Option Slot) → (row_of t.order_value.verb).slot ≡ a → (row_of o.order_value.verb).slot ≡ b → are_same_slot a b ≡ true → t.line ≡ o.line
     by_slots None b first second never = cc
     by_slots (Some s) None first second never = cc
@@ -89,8 +84,6 @@ distinct_also P e f also (x ∷ xs) all apart = (
 )
 
 module _ (w : WorldValue) (is_of : Verb → Bool) (a : Arrangement) (aliases : Aliases) (readings : FinMap nat_cmp Reading) (fit : AreFit w readings) where
-  -- two orders that count in their mailings (`IsPhaseOrder`) are the same order, if they are of one faction, for one unit and
-  -- of one slot (`share_slot`)
   are_one : (t o : Task) → IsPhaseOrder is_of aliases readings t → IsPhaseOrder is_of aliases readings o → share_slot t o ≡ true → t ≡ o
   are_one t o one two share =
       let first = and_parts _ _ share in
@@ -107,25 +100,21 @@ module _ (w : WorldValue) (is_of : Verb → Bool) (a : Arrangement) (aliases : A
       let said = sym one.there.says ∙ ap (λ (e : EntryValue). e.order_value) entry ∙ two.there.says in
       λ i. record { faction = faction i; unit = unit i; line = line i; index = index i; order_value = said i }
 
-  -- the order is under its key (`key_of`), is in its faction's mailing and counts there
   abbrev UnderKey : List ℕ × Task → Type 0
   UnderKey e = (e.0 ≡ key_of a e.1) × IsPhaseOrder is_of aliases readings e.1
 
-  -- whether two orders are under one key
   abbrev one_key : List ℕ × Task → List ℕ × Task → Bool
   one_key e f = eq_by_cmp (slice_cmp nat_cmp) e.0 f.0
 
-  -- two orders under different keys are not of one faction, for one unit and of one slot (`share_slot`)
   slots_apart : (e f : List ℕ × Task) → UnderKey e → UnderKey f → one_key e f ≡ false → share_slot e.1 f.1 ≡ false
   slots_apart e f one two apart = false_from_ne_true (share_slot e.1 f.1) (λ share.
       let same : f.0 ≡ e.0 = two.0 ∙ ap (key_of a) (sym (are_one e.1 f.1 one.1 two.1 share)) ∙ sym one.0 in
       false≢true (sym apart ∙ ap (eq_by_cmp (slice_cmp nat_cmp) e.0) same ∙ (eq_by_cmp_equiv nat_list_cmp_total).refl e.0))
 
--- no two orders that a phase carries out are of one faction, for one unit and of one slot, if the mailings can be read
--- with the world
 pub one_order_counts : OneOrderCounts
 one_order_counts w is_of a aliases readings fit =
-    let es = entries (orders_of is_of a aliases readings) in
+    let keyed = under_keys (key_of a) (tasks_of_phase is_of aliases (entries readings)) in
+    let es = entries keyed in
     IsDistinct-map (λ (e : List ℕ × Task). e.1) share_slot es
     (distinct_also (UnderKey w is_of a aliases readings fit) (one_key w is_of a aliases readings fit) (λ e f. share_slot e.1 f.1) (slots_apart w is_of a aliases readings fit) es (orders_count is_of aliases readings a)
-    (IsDistinct-from_sorted (by_key nat_list_cmp_total) es (entries_rise nat_list_cmp_total (orders_of is_of a aliases readings))))
+    (IsDistinct-from_sorted (by_key nat_list_cmp_total) es (entries_rise nat_list_cmp_total keyed)))

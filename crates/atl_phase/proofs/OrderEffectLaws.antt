@@ -7,7 +7,7 @@ use Rattle.std.proofs.lemmas.Option.{same_Some}
 use Rattle.std.specs.Prelude.{ℤ, fold, IfSome, if◌then◌else◌}
 use Rattle.std.specs.List.{All, AllByRecursion, slice_get}
 use Rattle.std.proofs.lemmas.List.Elements.{recursion_from_All}
-use Rattle.std.specs.FinMap.{FinMap, get, values}
+use Rattle.std.specs.FinMap.{FinMap, get}
 use Rattle.std.specs.Ordering.{nat_cmp}
 use Rattle.std.proofs.lemmas.Int.{ints}
 use Rattle.atl_world.specs.Worlds.{WorldValue}
@@ -36,34 +36,26 @@ use Rattle.atl_phase.proofs.PhaseOrderLaws.{orders_are_in_mailings}
 
 -- ---- amounts
 
--- an unchanged amount of the books uses nothing of its remaining bound (`UsesBound`)
 pub bound_unused : (r : ℕ) (a : ℤ) → UsesBound r r a a
 bound_unused r a = record { above = omega (arith, ints); below = omega (arith, ints) }
 
--- an amount that stays uses nothing of its remaining bound (`UsesBound`), if the bound stays the same
 pub bound_unused_by : (r s : ℕ) (a b : ℤ) → s ≡ r → b ≡ a → UsesBound r s a b
 bound_unused_by r s a b e f = record { above = omega (arith, ints, e, f); below = omega (arith, ints, e, f) }
 
--- two moves of an amount in turn, each by at most what its remaining bound falls, are one such move (`UsesBound`)
 pub bound_used_twice : (r s t : ℕ) (a b c : ℤ) → UsesBound r s a b → UsesBound s t b c → UsesBound r t a c
 bound_used_twice r s t a b c one two = record { above = omega (arith, ints, one.above, two.above); below = omega (arith, ints, one.below, two.below) }
 
--- an amount that moves by at most x moves by no more than its remaining bound falls (`UsesBound`), if that falls by x
 pub bound_used_near : (x remaining left : ℕ) (a b : ℤ) → left + x ≡ remaining → IsNear x a b → UsesBound remaining left a b
 bound_used_near x remaining left a b e near = record { above = omega (arith, ints, e, near.above); below = omega (arith, ints, e, near.below) }
 
--- an amount that moves by at most what its remaining bound r falls moves by at most `most`, if r is at most `most`
 near_by_bound : (r s most : ℕ) (a b : ℤ) → r ≤ most → UsesBound r s a b → IsNear most a b
 near_by_bound r s most a b l h = record { above = omega (arith, ints, h.above); below = omega (arith, ints, h.below) }
 
--- an amount with room for its remaining bound has room, after a move (`UsesBound`), for the bound that remains then
 room_after_use : (r s : ℕ) (a b : ℤ) → UsesBound r s a b → HasRoom r a → HasRoom s b
 room_after_use r s a b h room = record { above = omega (arith, ints, h.above, room.above); below = omega (arith, ints, h.below, room.below) }
 
 -- ---- steps
 
--- a step that changes nothing keeps `holds` true, the month and the books' balance, and uses nothing of the remaining
--- bound (`StepsWell`)
 pub well_same : {holds : Condition} {remaining : RemainingBound} (w : WorldValue) (c : CampaignValue) → holds w c → StepsWell holds remaining w c c
 well_same {holds} {remaining} w c h = record { holds_still = h; same_month = same_month c; balances = λ b. b; uses_bound = λ e t. bound_unused (remaining c e t) (amount_in c.books e t) }
 
@@ -77,7 +69,6 @@ well_twice {holds} {remaining} w a b c one two = record {
   uses_bound = λ e t. bound_used_twice (remaining a e t) (remaining b e t) (remaining c e t) (amount_in a.books e t) (amount_in b.books e t) (amount_in c.books e t) (one.uses_bound e t) (two.uses_bound e t);
 }
 
--- books with room for the remaining bound have room, after a step within it (`StepsWell`), for what remains of it
 pub room_left : {holds : Condition} {remaining : RemainingBound} (w : WorldValue) (a b : CampaignValue) → StepsWell holds remaining w a b → HaveRoom (remaining a) a → HaveRoom (remaining b) b
 room_left {holds} {remaining} w a b well room e t = room_after_use (remaining a e t) (remaining b e t) (amount_in a.books e t) (amount_in b.books e t) (well.uses_bound e t) (room e t)
 
@@ -93,7 +84,6 @@ leaves_well {holds} {remaining} {book_bound} w a b l h = record {
 
 -- ---- what stays
 
--- to be no worse off (`IsNoWorse`) is reflexive and transitive, and keeps the faction
 pub no_worse_is_relation : IsUnaffectedRelation IsNoWorse
 no_worse_is_relation = record { same = no_worse; transitive = no_worse_twice; faction = λ u v h. h.faction }
 
@@ -104,23 +94,18 @@ no_worse_is_relation = record { same = no_worse; transitive = no_worse_twice; fa
 pub carried_cases : (P : CampaignValue × Outcome → Type 0) (effect : OrderEffect) (c : CampaignValue) (faction n : ℕ) → P (c, Fault 1) → ((u : Unit) → get c.units n ≡ Some u → u.faction ≡ faction → P (effect c u)) → P (faction_effect effect c faction n)
 carried_cases P effect c faction n other own = by_unit (get c.units n) refl
   where
-    -- for `carried_cases`: P holds of the result of an order for unit u, whether u is of the faction (`b`) or not
     by_faction : (u : Unit) → get c.units n ≡ Some u → (b : Bool) → (u.faction == faction) ≡ b → P (effect_on effect c (if b then Some u else None))
     by_faction u there true is = own u there (is_equal u.faction faction is)
     by_faction u there false is = other
 
-    -- for `carried_cases`: P holds of the result of an order for unit n, whether unit n is there (`o`) or not
     by_unit : (o : Option Unit) → get c.units n ≡ o → P (effect_on effect c (of_faction faction o))
     by_unit None there = other
     by_unit (Some u) there = by_faction u there (u.faction == faction) refl
 
--- P holds of the campaign after an order, if P holds of the campaign before the order, and of the campaign that the
--- order's effect on a unit of its writer's faction makes
 pub ordered_cases : (P : CampaignValue → Type 0) (step : Option OrderEffect) (c : CampaignValue) (t : Task) → P c → ((x : Unit) → IsUnitOf c t x → IfSome step (λ effect. P (effect c x).0)) → P (order_result step c t.faction t.unit).0
 ordered_cases P None c t same done = same
 ordered_cases P (Some effect) c t same done = carried_cases (λ p. P p.0) effect c t.faction t.unit same (λ x there faction. done x (record { there = there; faction = faction }))
 
--- the result of an order that isn't passed over, given as a campaign and an outcome: the outcome is put in `Some`
 abbrev with_some : CampaignValue × Outcome → CampaignValue × Option Outcome
 with_some p = (p.0, Some p.1)
 
@@ -130,8 +115,6 @@ pub result_of_effect : (effect : OrderEffect) (c d : CampaignValue) (faction n :
 result_of_effect effect c d faction n o is = ap with_some is
 
 module _ (step : OrderMeaning) {holds : Condition} {remaining : RemainingBound} {book_bound : BookBound} {affects : Affects} {unaffected : Unaffected} (orderly : IsOrderly step holds remaining book_bound affects unaffected) (w : WorldValue) where
-  -- an order of a phase that is `IsOrderly` keeps `holds` true, the month and the books' balance, and moves no amount
-  -- further than its remaining bound falls (`StepsWell`)
   pub order_well : (a : Aliases) (c : CampaignValue) (t : Task) → holds w c → IsOrderOf w t.order_value → StepsWell holds remaining w c (order_result (step w a t) c t.faction t.unit).0
   order_well a c t h fit = ordered_cases (StepsWell holds remaining w c) (step w a t) c t (well_same w c h) (λ x own. orderly.well w a c t x h fit own)
 
@@ -141,8 +124,6 @@ module _ (step : OrderMeaning) {holds : Condition} {remaining : RemainingBound} 
   order_leaves_others a c t h n u there other =
       ordered_cases (λ d. IsStillThere unaffected d n u) (step w a t) c t (record { unit = u; there = there; is_unaffected = orderly.unaffected_is_relation.same u }) (λ x own. orderly.is_unaffected w a c t x h own n u there other)
 
-  -- A unit that none of some orders affects is there after them, and `unaffected` relates what it was to what it is
-  -- then. For this `holds` is true before, the orders can be read with the world, and their phase is `IsOrderly`.
   orders_leave_other : (c : CampaignValue) (m : MonthValue) (ts : List Task) → holds w c → AllByRecursion (λ t. IsOrderOf w t.order_value) ts → (n : ℕ) (u : Unit) → get c.units n ≡ Some u → AllByRecursion (λ t. affects t n u.faction → ⊥) ts
       → IsStillThere unaffected (fold (one_order step w) (c, m) ts).0 n u
   orders_leave_other c m [] h fit n u there others = record { unit = u; there = there; is_unaffected = orderly.unaffected_is_relation.same u }
@@ -162,32 +143,26 @@ module _ (step : OrderMeaning) {holds : Condition} {remaining : RemainingBound} 
 -- ---- the orders of a phase
 
 module _ (w : WorldValue) where
-  -- if all entries can be read with the world, the entry at an index can be
   fit_at : (es : List EntryValue) (k : ℕ) (e : EntryValue) → AllByRecursion (IsEntry w) es → slice_get es k ≡ Some e → IsEntry w e
   fit_at [] k e all is = cc
   fit_at (x ∷ es) zero e all is = subst (IsEntry w) (same_Some _ _ is) all.0
   fit_at (x ∷ es) (suc k) e all is = fit_at es k e all.1 is
 
-  -- if a reading can be read with the world, the order at an index of the reading can be
   entry_fit : (r : Reading) (k : ℕ) (e : EntryValue) → IsReading w r → slice_get r.entries k ≡ Some e → IsOrderOf w e.order_value
   entry_fit r k e fit is = (fit_at r.entries k e (recursion_from_All (IsEntry w) r.entries fit.entries) is).order
 
   module _ (aliases : Aliases) (readings : FinMap nat_cmp Reading) (fit : AreFit w readings) where
-    -- an order in a mailing is in bounds for the world (`IsOrderOf`), if each faction's reading is (`AreFit`)
     in_mailing_in_bounds : (t : Task) → IsInMailing aliases readings t → IsOrderOf w t.order_value
     in_mailing_in_bounds t h = subst (IsOrderOf w) h.says (entry_fit h.reading t.index h.entry (fit t.faction h.reading h.of_faction) h.at_index)
 
-    -- each order of a phase can be read with the world, if the mailings can
-    pub orders_fit : (is_of : Verb → Bool) → All (λ t. IsOrderOf w t.order_value) (values (orders_of is_of ByUnit aliases readings))
+    pub orders_fit : (is_of : Verb → Bool) → All (λ t. IsOrderOf w t.order_value) (orders_of is_of ByUnit aliases readings)
     orders_fit is_of k d l = in_mailing_in_bounds _ (orders_are_in_mailings is_of ByUnit aliases readings k d l)
 
 -- ---- the mailings stay
 
--- adding an event to a month leaves the readings of its mailings as they are
 event_keeps_readings : (m : MonthValue) (t : Task) (o : Option Outcome) → (with_event_of m t o).readings ≡ m.readings
 event_keeps_readings m t None = refl
 event_keeps_readings m t (Some outcome) = refl
 
--- an order leaves the readings of the month as they are
 pub order_readings : (step : OrderMeaning) (w : WorldValue) (p : CampaignValue × MonthValue) (t : Task) → (one_order step w p t).1.readings ≡ p.1.readings
 order_readings step w p t = event_keeps_readings p.1 t (order_result (step w p.1.aliases t) p.0 t.faction t.unit).1

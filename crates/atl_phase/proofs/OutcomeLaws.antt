@@ -6,19 +6,15 @@ use Rattle.std.proofs.lemmas.Bool.Decides.{nat_tests}
 use Rattle.atl_records.specs.declared.event.EventFault.{EventFault}
 use Rattle.atl_phase.specs.Outcomes.{first_fault}
 
--- if false were true, anything would follow
 pub false_true : {P : Type 0} → false ≡ true → P
 false_true e = cc
 
--- if no fault of a list applies, the first doesn't, and none of the others does
 pub none_fits : (fits : Bool) (fault : EventFault) (more : List (Bool × EventFault)) → first_fault ((fits, fault) ∷ more) ≡ None → (fits ≡ false) × (first_fault more ≡ None)
 none_fits true fault more is = cc
 none_fits false fault more is = (refl, is)
 
--- two numbers are equal if the test `not (a == b)` is false
 pub not_apart : (a b : ℕ) → not (a == b) ≡ false → a ≡ b
 not_apart a b is = let same : (a == b) ≡ true = not-false (a == b) is in grind (arith, nat_tests)
 
--- where the test `a < b` is false, b is at most a
 pub not_less : (a b : ℕ) → nat_lt a b ≡ false → b ≤ a
 not_less a b is = grind (arith, nat_tests)

@@ -24,8 +24,6 @@ module _ (c d : CampaignValue) (n : ℕ) (away : (k : ℕ) → k ≢ n → get d
     | inr apart ↦ others k v apart (sym (away k apart) ∙ there)
   ]
 
-  -- a structure rightly owned in campaign c is so in d, if unit n doesn't own it, and isn't inside it in d where nobody
-  -- owns it
   pub owner_stays : (q : ℕ) (y : Structure) → IsOwned c q y → y.owner ≢ n → (y.owner ≡ 0 → (v : Unit) → get d.units n ≡ Some v → v.structure ≢ q) → IsOwned d q y
   owner_stays q y old other outside = record {
     owned = λ some. let (v, there, inside) = old.owned some in (v, away y.owner other ∙ there, inside);
@@ -47,6 +45,5 @@ module _ (c d : CampaignValue) (n : ℕ) (away : (k : ℕ) → k ≢ n → get d
             (λ k v apart there inside. apart (is_equal k n (not-false (k == n) (first.1 none k (inside_is_listed location c.units some k v there inside)))));
       }
     where
-      -- for `heir_owns`: the numbers of the units inside structure `location` are at least 1
       listed_low : (k : ℕ) → IsListed k (numbers_inside location c.units) → 1 ≤ k
       listed_low k h = let (v, there, inside) = listed_is_inside location c.units k h in low k v there

@@ -8,7 +8,6 @@ use Rattle.atl_phase.specs.PhaseSpecs.{EachPhase, MovesItsOwn, PhaseSpec, keeps_
 use Rattle.atl_phase.specs.Unmailed.{starved_in}
 use Rattle.atl_phase.proofs.UnmailedLaws.{ClosesUnmailed, LeavesUnmailed, both_leave, then_closes}
 
--- if P implies Q for every phase, and P holds of each phase of a list, Q holds of each
 pub each_also : {P Q : PhaseSpec → Type 0} → ((phase : PhaseSpec) → P phase → Q phase) → (phases : List PhaseSpec) → EachPhase P phases → EachPhase Q phases
 each_also also [] each = tt
 each_also also (phase ∷ rest) each = (also phase each.0, each_also also rest each.1)
@@ -22,7 +21,6 @@ moves_add_up : (b : Bool) (rest moved most : ℕ) → moved ≤ (if b then most_
 moves_add_up true rest moved most one others = omega (arith, one, others)
 moves_add_up false rest moved most one others = omega (arith, one, others)
 
--- phases in turn move an amount by at most `most_moved` times the number of them that may move it
 pub moved_within : (phases : List PhaseSpec) → EachPhase MovesItsOwn phases → (e : BooksEntry) (t : Thing) → book_bound_of phases e t ≤ moving_phase_count_of phases e t * most_moved
 moved_within [] each e t = omega arith
 moved_within (phase ∷ []) each e t = alone (may_move phase.moved e t) (each.0 e t)
@@ -41,21 +39,19 @@ abbrev pub PhaseLeavesUnmailed : PhaseSpec → Type 0
 PhaseLeavesUnmailed phase = LeavesUnmailed phase.meaning phase.keeps
 
 -- all phases leave units of factions without a mailing their items, and their men less the starved; after the last
--- phase, a unit all of whose men starved may be gone
+-- phase, a unit all of whose men starved is removed
 abbrev pub CloseTogether : List PhaseSpec → Type 0
 CloseTogether [] = ⊥
 CloseTogether (phase ∷ []) = ClosesUnmailed phase.meaning phase.keeps
 CloseTogether (phase ∷ next ∷ rest) = PhaseLeavesUnmailed phase × CloseTogether (next ∷ rest)
 
 -- Phases in turn leave units of factions without a mailing their items, and their men less the starved, if each phase
--- does (`CloseTogether`). After the last phase, a unit all of whose men starved may be gone (`ClosesUnmailed`).
+-- does (`CloseTogether`). After the last phase, a unit all of whose men starved is removed (`ClosesUnmailed`).
 pub closed_together : (phases : List PhaseSpec) → CloseTogether phases → ClosesUnmailed (meaning_of phases) (keeps_of phases)
 closed_together [] none = absurd none
 closed_together (phase ∷ []) closes = closes
 closed_together (phase ∷ next ∷ rest) each = then_closes each.0 (closed_together (next ∷ rest) each.1)
 
--- phases in turn leave units of factions without a mailing their items, and their men less the starved, if each does
--- (`LeavesUnmailed`)
 pub leave_together : (phases : List PhaseSpec) → EachPhase PhaseLeavesUnmailed phases → LeavesUnmailed (meaning_of phases) (keeps_of phases)
 leave_together [] each = record {
   readings = λ w c m. refl;
@@ -63,8 +59,7 @@ leave_together [] each = record {
   left = λ w c m keeps n u there none. record { unit = u; there = there; is_unaffected = record { faction = refl; name = refl; men = nobody (starved_in m.events n) u.holding.men; items = λ i. omega arith } };
 }
   where
-    -- for `leave_together`: if nobody starved (x - x is 0), a unit has its men a less that number
-    nobody : (x a : ℕ) → a ≡ a - (x - x)
+    nobody : (x a : ℕ) → a + (x - x) ≡ a
     nobody x a = omega arith
 leave_together (phase ∷ []) each = each.0
 leave_together (phase ∷ next ∷ rest) each = both_leave each.0 (leave_together (next ∷ rest) each.1)

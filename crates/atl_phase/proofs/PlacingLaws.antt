@@ -29,17 +29,14 @@ use Rattle.atl_phase.proofs.RefitLaws.{IsRefit, IsRelabelled, early-refitted, re
 use Rattle.atl_phase.proofs.StructureLaws.{changed_else, equal_passes, get-after_handover, handed_is, handed_on, len-after_handover, placed_cases}
 use Rattle.atl_phase.proofs.UnbookedLaws.{unbooked_well}
 
--- to map what a look-up found by g and then by f is to map it by both at once
 pub mapped_twice : {A : Type 0} (f g : A → A) (o : Option A) → option_map f (option_map g o) ≡ option_map (λ y. f (g y)) o
 mapped_twice f g None = refl
 mapped_twice f g (Some y) = refl
 
--- a structure that gets another owner, or keeps its own, is the same but for the owner
 relabelled_if : (b : Bool) (to : ℕ) (y : Structure) → IsRelabelled y (if b then owned_by to y else y)
 relabelled_if true to y = record { kind = refl; region = refl; done = refl; name = λ old. old }
 relabelled_if false to y = record { kind = refl; region = refl; done = refl; name = λ old. old }
 
--- if two changes in turn each keep all of a structure but owner and name (`IsRelabelled`), so do both together
 relabelled_twice : (x y z : Structure) → IsRelabelled x y → IsRelabelled y z → IsRelabelled x z
 relabelled_twice x y z one two = record { kind = two.kind ∙ one.kind; region = two.region ∙ one.region; done = two.done ∙ one.done; name = λ old. two.name (one.name old) }
 
@@ -53,15 +50,12 @@ owns_no_other w c n u is steady q y there other own =
     other (sym inside ∙ ap (λ (x : Unit). x.structure) unit)
 
 module _ (w : WorldValue) (c : CampaignValue) (n : ℕ) (u : Unit) (s : ℕ) (is : get c.units n ≡ Some u) (steady : IsSteady w c) (apart : u.structure ≢ s) where
-  -- the structure that unit n leaves; 0 for none
   abbrev old_place : ℕ
   old_place = u.structure
 
-  -- the next owner of the structure that unit n leaves; 0 where no other unit is inside
   abbrev next_owner : ℕ
   next_owner = heir c old_place n
 
-  -- unit n as it is inside structure s
   abbrev moved : Unit
   moved = record u { structure = s }
 
@@ -78,8 +72,6 @@ module _ (w : WorldValue) (c : CampaignValue) (n : ℕ) (u : Unit) (s : ℕ) (is
   abbrev after_entering : CampaignValue
   after_entering = after_handover after_leaving s 0 n
 
-  -- structure q after unit n went, with its owner after both handovers: of the structure that it left, and of the one
-  -- that it entered
   abbrev owner_after : ℕ → Structure → Structure
   owner_after q y = handed_on s 0 n q (handed_on old_place n next_owner q y)
 
@@ -87,8 +79,6 @@ module _ (w : WorldValue) (c : CampaignValue) (n : ℕ) (u : Unit) (s : ℕ) (is
   abbrev pub placed_campaign : CampaignValue
   placed_campaign = refitted w c n u s is after_entering.structures owner_after
 
-  -- putting unit n inside structure s (`with_place`) makes the campaign in which both structures have their owners
-  -- (`after_entering`)
   placed_is : with_place c n u.region s ≡ after_entering
   unfolding with_place
   placed_is = ap (with_place_at c n u.region s) is ∙ ap (λ b. if b then begun else after_entering) (other_number old_place s apart)
@@ -100,17 +90,14 @@ module _ (w : WorldValue) (c : CampaignValue) (n : ℕ) (u : Unit) (s : ℕ) (is
       handed_is after_leaving s 0 n ∙ ap (λ (d : CampaignValue). record d { structures = after_entering.structures }) (handed_is begun old_place n next_owner)
       ∙ ap (λ m. record c { units = m; structures = after_entering.structures }) (changed-known (λ (x : Unit). record x { region = u.region; structure = s }) c.units n u is)
 
-  -- putting unit n inside structure s (`with_place`) makes the campaign `placed_campaign`, which is given as a refit
   pub place_is : with_place c n u.region s ≡ placed_campaign
   place_is = placed_is ∙ placed_campaign_is
 
-  -- a look-up of a structure after both handovers finds what was there before, with its owner after both
   at : (q : ℕ) → get after_entering.structures q ≡ option_map (λ y. handed_on s 0 n q (handed_on old_place n next_owner q y)) (get c.structures q)
   at q =
       get-after_handover after_leaving s 0 n q ∙ ap (option_map (handed_on s 0 n q)) (get-after_handover begun old_place n next_owner q)
       ∙ mapped_twice (handed_on s 0 n q) (handed_on old_place n next_owner q) (get c.structures q)
 
-  -- a structure is the same but for its owner after both handovers
   same_but_owner : (q : ℕ) (y : Structure) → IsRelabelled y (handed_on s 0 n q (handed_on old_place n next_owner q y))
   same_but_owner q y =
       let x = handed_on old_place n next_owner q y in
@@ -118,25 +105,18 @@ module _ (w : WorldValue) (c : CampaignValue) (n : ℕ) (u : Unit) (s : ℕ) (is
 
   -- ---- the owners of the structures after the move
 
-  -- each unit of campaign c has a number of at least 1
   numbered_from_one : Every (λ k v. 1 ≤ k) c.units
   numbered_from_one k v there = (steady.numbers.units k v there).0
 
-  -- after unit n went, every other unit is as it was before
   away : (k : ℕ) → k ≢ n → get placed_campaign.units k ≡ get c.units k
   away k other = get-insert_other c.units n k moved other
 
-  -- unit n, after it went, is inside structure s
   inside_it : (v : Unit) → get placed_campaign.units n ≡ Some v → v.structure ≡ s
   inside_it v there = sym (ap (λ (x : Unit). x.structure) (same_Some moved v (sym (get-insert_same c.units n moved) ∙ there)))
 
-  -- after unit n went, a structure q that it didn't own still has its right owner, unless nobody owned q and unit n
-  -- entered it
   still_owned : (q : ℕ) (y : Structure) → get c.structures q ≡ Some y → y.owner ≢ n → (y.owner ≡ 0 → s ≢ q) → IsOwned placed_campaign q y
   still_owned q y there other free = owner_stays c placed_campaign n away q y (steady.owners q y there) other (λ none v here inside. free none (sym (inside_it v here) ∙ inside))
 
-  -- after unit n went, structure q, which it entered and didn't leave, has its right owner: unit n if nobody owned q
-  -- (`z`), and else the old owner
   entered_owned : (q : ℕ) (y : Structure) → get c.structures q ≡ Some y → q ≢ old_place → q ≡ s → (z : Bool) → (y.owner == 0) ≡ z → IsOwned placed_campaign q (if z then owned_by n y else y)
   entered_owned q y there other here true t = record {
     owned = λ some. (moved, get-insert_same c.units n moved, sym here);
@@ -149,8 +129,6 @@ module _ (w : WorldValue) (c : CampaignValue) (n : ℕ) (u : Unit) (s : ℕ) (is
   abbrev after_handovers : (a e b : Bool) → Structure → Structure
   after_handovers a e b y = let x = if a && e then owned_by next_owner y else y in if b && x.owner == 0 then owned_by n x else x
 
-  -- each structure q has its right owner after both handovers, whether or not it is the one left (`a`), was unit n's
-  -- own (`e`), and is the one entered (`b`)
   by_tests : (q : ℕ) (y : Structure) → get c.structures q ≡ Some y → (a e b : Bool) → (q == old_place) ≡ a → (y.owner == n) ≡ e → (q == s) ≡ b → IsOwned placed_campaign q (after_handovers a e b y)
   by_tests q y there true e true p r t = absurd (apart (sym (is_equal q old_place p) ∙ is_equal q s t))
   by_tests q y there true true false p r t = subst (λ k. IsOwned placed_campaign k (owned_by next_owner y)) (sym (is_equal q old_place p)) (heir_owns c placed_campaign n away old_place (λ zero. is_no_zero c.structures c.next_structure steady.next.structures q y there (is_equal q old_place p ∙ zero)) numbered_from_one (λ v here inside. apart (sym inside ∙ inside_it v here)) y)
@@ -161,7 +139,6 @@ module _ (w : WorldValue) (c : CampaignValue) (n : ℕ) (u : Unit) (s : ℕ) (is
   -- ---- the campaign
 
   module _ (inside : s ≢ 0 → (x : Structure) × (get c.structures s ≡ Some x) × (x.region ≡ u.region)) (afloat : is_land_at w u.region ≡ false → (x : Structure) × (get c.structures s ≡ Some x) × (is_ship w x ≡ true)) where
-    -- the campaign `placed_campaign`, in which unit n went to structure s, is a refit (`IsRefit`) of c
     refit : IsRefit w c n u s is after_entering.structures owner_after
     refit = record {
       at = at;
@@ -177,12 +154,9 @@ module _ (w : WorldValue) (c : CampaignValue) (n : ℕ) (u : Unit) (s : ℕ) (is
     pub placed_steady : IsSteady w placed_campaign
     placed_steady = steady-refitted w c n u s is after_entering.structures owner_after refit steady
 
-    -- an early campaign is early after unit n went inside structure s, if s is none (0) or a structure of the unit's
-    -- region, and a ship where the region is water
     pub placed_early : IsEarly w c → IsEarly w placed_campaign
     placed_early early = early-refitted w c n u s is after_entering.structures owner_after refit early
 
-    -- the campaign's total of each thing stays the same when the unit goes to another structure
     pub placed_total : (t : Thing) → total placed_campaign t ≡ total c t
     placed_total = total-refitted w c n u s is after_entering.structures owner_after
 
@@ -198,7 +172,6 @@ module _ (w : WorldValue) (c : CampaignValue) (n : ℕ) (u : Unit) (s : ℕ) (is
 
 -- ---- other units stay
 
--- every unit but n stays as it was when unit n is put in region r and structure s
 pub place_stays : (c : CampaignValue) (n r s k : ℕ) → k ≢ n → get (with_place c n r s).units k ≡ get c.units k
 place_stays c n r s k apart =
     placed_cases (λ d. get d.units k ≡ get c.units k) c n r s refl (changed_else (λ (x : Unit). record x { region = r; structure = s }) c.units n k apart (get c.units n))

@@ -26,16 +26,11 @@ use Rattle.atl_campaign.proofs.RegionLaws.{same_len}
 
 -- The structure after is the structure before, but for owner and name; the name follows the name rule if it did before.
 pub record IsRelabelled (before after : Structure) : Type 0 where
-  -- a relabelled structure, which gets another owner or name, keeps its kind
   pub kind : after.kind ≡ before.kind
-  -- a relabelled structure stays in its region
   pub region : after.region ≡ before.region
-  -- a relabelled structure is built as far as before
   pub done : after.done ≡ before.done
-  -- the name of a relabelled structure follows the name rule if the old one did
   pub name : IsTrue (name_ok before.name) → IsTrue (name_ok after.name)
 
--- a look-up o found a value v of which f makes x, if what it found, mapped by f, is x
 pub mapped_from : {A B : Type 0} (f : A → B) (o : Option A) (x : B) → option_map f o ≡ Some x → (v : A) × (o ≡ Some v) × (f v ≡ x)
 mapped_from f None x is = none_some x is
 mapped_from f (Some v) x is = let same : f v ≡ x = cc in (v, refl, same)
@@ -46,8 +41,6 @@ module _ (c : CampaignValue) (units : FinMap nat_cmp Unit) (structures : FinMap 
   abbrev pub replaced : CampaignValue
   replaced = record c { units = units; structures = structures }
 
-  -- numbers and amounts stay in their ranges (`AreInRange`), if there are as many units and structures as before, and
-  -- each of them is in range
   pub in_range_replaced : (w : WorldValue) → len units ≡ len c.units → len structures ≡ len c.structures → Every (λ k x. (1 ≤ k) × IsHolding x.holding) units
       → Every (λ k x. (1 ≤ x.done) × (x.done ≤ size_of w x.kind)) structures → AreInRange w c → AreInRange w replaced
   in_range_replaced w unit_count structure_count new_units new_structures old = record {
@@ -65,13 +58,9 @@ module _ (c : CampaignValue) (units : FinMap nat_cmp Unit) (structures : FinMap 
     books = old.books;
   }
 
-  -- all names still follow their rules (`AreNamed`), if those of all new units and structures follow the name rule
   pub named_replaced : Every (λ k x. IsTrue (name_ok x.holding.name)) units → Every (λ k x. IsTrue (name_ok x.name)) structures → AreNamed c → AreNamed replaced
   named_replaced new_units new_structures old = record { pass = old.pass; factions = old.factions; joined = old.joined; units = new_units; structures = new_structures }
 
-  -- Factions and structures are still numbered from 1 without a gap, and no unit has the next unit number or a greater
-  -- one (`AreNumbered`). For this no number gets a unit or a structure that had none, and there are as many structures
-  -- as before.
   pub numbered_replaced : len structures ≡ len c.structures → ((k : ℕ) → get c.units k ≡ None → get units k ≡ None) → ((k : ℕ) → get c.structures k ≡ None → get structures k ≡ None)
       → AreNumbered c → AreNumbered replaced
   numbered_replaced count no_unit no_structure old = record {
@@ -85,7 +74,6 @@ module _ (w : WorldValue) (c : CampaignValue) (n : ℕ) (u : Unit) (s : ℕ) (is
   abbrev pub moved_unit : Unit
   moved_unit = record u { structure = s }
 
-  -- the units of campaign c, once unit n is inside structure s
   abbrev units : FinMap nat_cmp Unit
   units = insert c.units n moved_unit
 
@@ -96,46 +84,34 @@ module _ (w : WorldValue) (c : CampaignValue) (n : ℕ) (u : Unit) (s : ℕ) (is
   -- A refit: unit n is inside structure s of its region, which on water is a ship, or inside none (0). The function g
   -- gives the structures, each changed in owner and name at most, and with its right owner.
   pub record IsRefit : Type 0 where
-    -- each structure of the refitted campaign is what g makes of the one before, and no structure is added
     pub at : (k : ℕ) → get structures k ≡ option_map (g k) (get c.structures k)
-    -- the refitted campaign has as many structures as c
     pub count : len structures ≡ len c.structures
-    -- a structure, as g makes it, differs from the one before in owner and name at most
     pub same : Every (λ k y. IsRelabelled y (g k y)) c.structures
-    -- each structure has its right owner in the refitted campaign
     pub owned : Every (λ k y. IsOwned refitted k (g k y)) c.structures
-    -- structure s, if it isn't 0, is there, in the unit's region
     pub inside : s ≢ 0 → (x : Structure) × (get c.structures s ≡ Some x) × (x.region ≡ u.region)
-    -- if the unit's region is water, structure s is a ship
     pub afloat : is_land_at w u.region ≡ false → (x : Structure) × (get c.structures s ≡ Some x) × (is_ship w x ≡ true)
 
   module _ (refit : IsRefit) where
-    -- P holds of each structure after the refit, if it holds of g of each structure before
     every_structure : (P : ℕ → Structure → Type 0) → Every (λ k y. P k (g k y)) c.structures → Every P structures
     every_structure P h k x there =
         let (y, was, same) = mapped_from (g k) (get c.structures k) x (sym (refit.at k) ∙ there) in
         subst (P k) same (h k y was)
 
-    -- each structure that was there before is there after the refit, as g makes it
     forth : (k : ℕ) (y : Structure) → get c.structures k ≡ Some y → get structures k ≡ Some (g k y)
     forth k y there = refit.at k ∙ ap (option_map (g k)) there
 
-    -- a number that had no structure has none after the refit
     none_kept : (k : ℕ) → get c.structures k ≡ None → get structures k ≡ None
     none_kept k none = refit.at k ∙ ap (option_map (g k)) none
 
-    -- after the refit the campaign's numbers and amounts are still in their ranges (`AreInRange`)
     numbers_kept : AreInRange w c → AreInRange w refitted
     numbers_kept old =
         in_range_replaced c units structures w (same_len c.units n u moved_unit is) refit.count
         (every-insert (λ k x. (1 ≤ k) × IsHolding x.holding) c.units n moved_unit (old.units n u is) old.units)
         (every_structure (λ k x. (1 ≤ x.done) × (x.done ≤ size_of w x.kind)) (λ k y was. let r = refit.same k y was in rw (r.done, r.kind) (old.structures k y was))) old
 
-    -- a structure that was there in a region is there after the refit, in the same region
     still_inside : (j region : ℕ) → (x : Structure) × (get c.structures j ≡ Some x) × (x.region ≡ region) → (x : Structure) × (get structures j ≡ Some x) × (x.region ≡ region)
     still_inside j region (x, there, here) = (g j x, forth j x there, (refit.same j x there).region ∙ here)
 
-    -- all that the campaign refers to is still there after the refit (`AreKnown`)
     known_kept : AreKnown w c → AreKnown w refitted
     known_kept old = record {
       regions = old.regions;
@@ -154,22 +130,17 @@ module _ (w : WorldValue) (c : CampaignValue) (n : ℕ) (u : Unit) (s : ℕ) (is
       posts = old.posts;
     }
 
-    -- after the refit factions and structures are still numbered from 1 without a gap, and no unit has the next unit
-    -- number or a greater one (`AreNumbered`)
     next_kept : AreNumbered c → AreNumbered refitted
     next_kept =
         numbered_replaced c units structures refit.count
         (λ k none. get-insert_other c.units n k moved_unit (λ same. none_some u (sym none ∙ ap (get c.units) same ∙ is)) ∙ none) none_kept
 
-    -- factions that are gone still have no units after the refit
     gone_kept : GoneHaveNone c → GoneHaveNone refitted
     gone_kept old m f there gone = numbers_where-insert_known (λ x. x.faction == m) c.units n u moved_unit is refl ∙ old m f there gone
 
-    -- a structure that was there as a ship before the refit is there as a ship after it
     still_aboard : (j : ℕ) → (x : Structure) × (get c.structures j ≡ Some x) × (is_ship w x ≡ true) → (x : Structure) × (get structures j ≡ Some x) × (is_ship w x ≡ true)
     still_aboard j (x, there, ship) = (g j x, forth j x there, rw ((refit.same j x there).kind) ship)
 
-    -- after the refit each unit on water is still inside a ship, and structures there are complete ships (`AreAfloat`)
     water_kept : AreAfloat w c → AreAfloat w refitted
     water_kept old = record {
       units = every-insert (λ k x. is_land_at w x.region ≡ false → IsAboard w refitted x) c.units n moved_unit (λ sea. still_aboard s (refit.afloat sea))
@@ -180,18 +151,15 @@ module _ (w : WorldValue) (c : CampaignValue) (n : ℕ) (u : Unit) (s : ℕ) (is
     -- Units that pass a test are of one faction in each region after the refit, if they were before.
     -- The moved unit passes the test only if it did before.
     module _ (test : Unit → Bool) (only : test moved_unit ≡ true → test u ≡ true) where
-      -- two units are of one faction, if they are in one region and both pass `test`
       abbrev Agree : Unit → Unit → Type 0
       Agree x y = test x ≡ true → test y ≡ true → x.region ≡ y.region → x.faction ≡ y.faction
 
-      -- the units of each region that pass `test` are of one faction after the refit, if they were before
       pub of_one_faction_refitted : AreOfOneFaction test c → AreOfOneFaction test refitted
       of_one_faction_refitted old =
           every-insert (λ k x. Every (λ m y. Agree x y) units) c.units n moved_unit
           (every-insert (λ m y. Agree moved_unit y) c.units n moved_unit (λ g k same. refl) (λ m y there g k same. old n u is m y there (only g) k same))
           (λ k x here. every-insert (λ m y. Agree x y) c.units n moved_unit (λ g k2 same. old k x here n u is g (only k2) same) (old k x here))
 
-    -- a steady campaign stays steady after a refit (`IsRefit`)
     pub steady-refitted : IsSteady w c → IsSteady w refitted
     steady-refitted old = record {
       numbers = numbers_kept old.numbers;
@@ -207,16 +175,12 @@ module _ (w : WorldValue) (c : CampaignValue) (n : ℕ) (u : Unit) (s : ℕ) (is
       guarded = of_one_faction_refitted guards (λ g. g) old.guarded;
     }
 
-    -- an early campaign stays early after a refit (`IsRefit`)
     pub early-refitted : IsEarly w c → IsEarly w refitted
     early-refitted old = record { steady = steady-refitted old.steady; flags = of_one_faction_refitted (λ x. x.holding.guard) (λ g. g) old.flags }
 
-  -- for `total-refitted`: if the units' totals a and b are equal once h is added to each, they are equal once the
-  -- regions' total r is added to each
   cancelled : (a b h r : ℕ) → a + h ≡ b + h → a + r ≡ b + r
   cancelled a b h r e = omega arith
 
-  -- the campaign's total of each thing is the same after a refit
   pub total-refitted : (t : Thing) → total refitted t ≡ total c t
   unfolding total
   total-refitted t =
@@ -232,12 +196,9 @@ module _ (w : WorldValue) (c : CampaignValue) (n : ℕ) (u : Unit) (is : get c.u
   abbrev as_it_was : Unit
   as_it_was = record u { structure = u.structure }
 
-  -- putting unit n into the map as it was changes no unit
   units_stay : insert c.units n as_it_was ≡ c.units
   units_stay = put_same c.units n u as_it_was is refl
 
-  -- structures that are relabelled, each with its right owner, while no unit moves, are a refit (`IsRefit`) of an early
-  -- campaign
   relabelled_refit : IsEarly w c → IsRefit w c n u u.structure is structures g
   relabelled_refit old = record {
     at = at;
@@ -248,7 +209,6 @@ module _ (w : WorldValue) (c : CampaignValue) (n : ℕ) (u : Unit) (is : get c.u
     afloat = old.steady.water.units n u is;
   }
 
-  -- an early campaign stays early when only structures change, each relabelled and with its right owner
   pub early-relabelled : IsEarly w c → IsEarly w (record c { structures = structures })
   early-relabelled old =
       subst (λ (m : FinMap nat_cmp Unit). IsEarly w (record c { units = m; structures = structures })) units_stay

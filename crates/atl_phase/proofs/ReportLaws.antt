@@ -25,7 +25,7 @@ use Rattle.atl_phase.specs.PhaseOrders.{IsInMailing, Task, key_of, order_counts,
 use Rattle.atl_phase.proofs.MappedLaws.{no_entries}
 use Rattle.atl_phase.proofs.OneOrderLaws.{entry_line_above}
 use Rattle.atl_phase.proofs.OrderKeyLaws.{all_apart}
-use Rattle.atl_phase.proofs.PickedLaws.{values-passing}
+use Rattle.atl_phase.proofs.PickedLaws.{sorted-passing}
 
 -- ---- the orders on one line of one faction
 
@@ -177,9 +177,9 @@ module _ (w : WorldValue) (aliases : Aliases) (readings : FinMap nat_cmp Reading
 
   -- of the orders of the phase none but t is of t's faction and on its line, and t is among them just once, if it is one
   -- of the phase's
-  pub one_in_phase : (a : Arrangement) → filter is_there (values (orders_of is_of a aliases readings)) ≡ if_of_phase
+  pub one_in_phase : (a : Arrangement) → filter is_there (orders_of is_of a aliases readings) ≡ if_of_phase
   one_in_phase a =
       let us = flat_map of_mailing (entries readings) in
-      sym (values-passing a is_there us (all_apart a aliases is_of readings))
+      sym (sorted-passing a is_there us (all_apart a aliases is_of readings))
       ∙ ap (λ vs. values (from_entries {R = slice_cmp nat_cmp} (map (λ u. (key_of a u, u)) vs))) (mailings_left (entries readings) (entries_rise readings) (sym (get-entries readings t.faction) ∙ there.of_faction))
       ∙ alone t a is_of_phase

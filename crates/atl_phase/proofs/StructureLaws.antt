@@ -14,7 +14,6 @@ use Rattle.atl_records.proofs.EveryLaws.{get-insert_other, other_number}
 use Rattle.atl_campaign.proofs.LeavingLaws.{owned_by}
 use Rattle.atl_campaign.proofs.RegionLaws.{get-insert_same, same_len}
 
--- equal numbers pass the test for equality
 pub equal_passes : (a b : ℕ) → a ≡ b → (a == b) ≡ true
 equal_passes a b same = grind (arith, nat_tests)
 
@@ -25,27 +24,22 @@ module _ {V : Type 0} (f : V → V) (m : FinMap nat_cmp V) (k : ℕ) where
   abbrev pub at_number : ℕ → V → V
   at_number q v = if q == k then f v else v
 
-  -- for `get-changed`, where q is the changed number k: `at_number q` makes of the value found what the change f does
   mapped_here : (q : ℕ) → (q == k) ≡ true → (o : Option V) → option_map f o ≡ option_map (at_number q) o
   mapped_here q t None = refl
   mapped_here q t (Some v) = ap (λ b. Some (if b then f v else v)) (sym t)
 
-  -- for `get-changed`: if q isn't k, `at_number` leaves what a look-up of q found as it is
   mapped_else : (q : ℕ) → (q == k) ≡ false → (o : Option V) → o ≡ option_map (at_number q) o
   mapped_else q t None = refl
   mapped_else q t (Some v) = ap (λ b. Some (if b then f v else v)) (sym t)
 
-  -- a look-up of number k finds f of the old value, after the value under k was changed by f
   changed_here : (o : Option V) → get m k ≡ o → get (with_changed_option f m k o) k ≡ option_map f o
   changed_here None is = is
   changed_here (Some v) is = get-insert_same m k (f v)
 
-  -- a change of the value under k leaves the value under every other number
   pub changed_else : (q : ℕ) → q ≢ k → (o : Option V) → get (with_changed_option f m k o) q ≡ get m q
   changed_else q apart None = refl
   changed_else q apart (Some v) = get-insert_other m k q (f v) apart
 
-  -- after the value under k was changed by f, a look-up finds f of the old value under k, and the old value elsewhere
   pub get-changed : (q : ℕ) → get (with_changed_value f m k) q ≡ option_map (at_number q) (get m q)
   get-changed q = elim (cases_eq q k) [
     | inl same ↦
@@ -54,12 +48,10 @@ module _ {V : Type 0} (f : V → V) (m : FinMap nat_cmp V) (k : ℕ) where
     | inr apart ↦ changed_else q apart (get m k) ∙ mapped_else q (other_number q k apart) (get m q)
   ]
 
-  -- a change of the value under k leaves the number of values as it is, whether there is a value or not
   len_by : (o : Option V) → get m k ≡ o → len (with_changed_option f m k o) ≡ len m
   len_by None is = refl
   len_by (Some v) is = same_len m k v (f v) is
 
-  -- a change of the value under k leaves the size of the map as it is
   pub len-changed : len (with_changed_value f m k) ≡ len m
   len-changed = len_by (get m k) refl
 
@@ -75,23 +67,18 @@ module _ (c : CampaignValue) (k from to : ℕ) where
   abbrev after : Bool → CampaignValue
   after b = if b then with_owner c k to else c
 
-  -- structure k after its handover: with the owner `to` if `from` owned it (`b` is true), and as it was otherwise
   here_by : (y : Structure) → get c.structures k ≡ Some y → (b : Bool) → get (after b).structures k ≡ Some (if b then owned_by to y else y)
   here_by y is true = changed_here (owned_by to) c.structures k (get c.structures k) refl ∙ ap (option_map (owned_by to)) is
   here_by y is false = is
 
-  -- after a handover of structure k, a look-up of k finds it with the owner `to` if its owner was `from`, and as it was
-  -- otherwise (`handed_on`)
   here : (o : Option Structure) → get c.structures k ≡ o → get (after (is_owned_by o from)).structures k ≡ option_map (handed_on k from to k) o
   here None is = is
   here (Some y) is = here_by y is (y.owner == from) ∙ ap (λ b. Some (if b && y.owner == from then owned_by to y else y)) (sym (equal_passes k k refl))
 
-  -- every structure but k stays as it was, whether structure k got the owner `to` or not
   else_by : (q : ℕ) → q ≢ k → (b : Bool) → get (after b).structures q ≡ get c.structures q
   else_by q apart true = changed_else (owned_by to) c.structures k q apart (get c.structures k)
   else_by q apart false = refl
 
-  -- under a number other than k `handed_on` changes nothing
   unmoved : (q : ℕ) → q ≢ k → (o : Option Structure) → o ≡ option_map (handed_on k from to q) o
   unmoved q apart None = refl
   unmoved q apart (Some y) = ap (λ b. Some (if b && y.owner == from then owned_by to y else y)) (sym (other_number q k apart))
@@ -106,16 +93,12 @@ module _ (c : CampaignValue) (k from to : ℕ) where
     | inr apart ↦ else_by q apart (is_owned_by (get c.structures k) from) ∙ unmoved q apart (get c.structures q)
   ]
 
-  -- P holds of the campaign after a handover, if it holds of the campaign as it was, and of that in which structure k
-  -- has the owner `to`
   handed_cases : (P : CampaignValue → Type 0) → P c → P (with_owner c k to) → P (after_handover c k from to)
   handed_cases P same handed = elim (is_owned_by (get c.structures k) from) as (λ b. P (after b)) [ true ↦ handed | false ↦ same ]
 
-  -- a handover leaves the number of structures as it is
   pub len-after_handover : len (after_handover c k from to).structures ≡ len c.structures
   len-after_handover = handed_cases (λ d. len d.structures ≡ len c.structures) refl (len-changed (owned_by to) c.structures k)
 
-  -- a handover changes nothing but the structures
   pub handed_is : after_handover c k from to ≡ record c { structures = (after_handover c k from to).structures }
   handed_is = handed_cases (λ d. d ≡ record c { structures = d.structures }) refl refl
 
@@ -125,8 +108,6 @@ pub placed_cases : (P : CampaignValue → Type 0) (c : CampaignValue) (n r s : �
 unfolding with_place
 placed_cases P c n r s same put handed = by_unit (get c.units n)
   where
-    -- for `placed_cases`: P holds of the campaign after unit n was put in region r and structure s, whether c has a
-    -- unit n (`o`) or not
     by_unit : (o : Option Unit) → P (with_place_at c n r s o)
     by_unit None = same
     by_unit (Some u) =

@@ -31,20 +31,15 @@ stays_well holds w c d still same books totals = record {
   uses_bound = λ e t. bound_unused_by 0 0 (amount_in c.books e t) (amount_in d.books e t) refl (ap (λ b. amount_in b e t) books);
 }
 
--- a step that leaves month, books and totals as they are keeps the books in balance within a remaining bound of 0
--- (`StepsWell`), if the campaign is early after it
 pub unbooked_well : (w : WorldValue) (c d : CampaignValue) → IsEarly w d → IsSameMonth c d → d.books ≡ c.books → ((t : Thing) → total d t ≡ total c t) → StepsWell IsEarly nothing_remaining w c d
 unbooked_well = stays_well IsEarly
 
--- campaigns with the same units and regions have the same totals
 pub same_total_of : (c d : CampaignValue) → d.units ≡ c.units → d.regions ≡ c.regions → (t : Thing) → total d t ≡ total c t
 unfolding total
 same_total_of c d units regions t =
     let stock = λ (x : Unit). unit_amount t x.holding in
     let keep = λ (r : Region). region_amount t r in
     ap (λ m. sum_over stock m + sum_over keep d.regions) units ∙ ap (λ m. sum_over stock c.units + sum_over keep m) regions
-
--- ---- the unit of an order
 
 -- a unit isn't the one that an order is for, if its own faction didn't write the order for it (`IsOwnOrder`), and the
 -- order is for a unit of its writer's faction
@@ -59,9 +54,6 @@ other_unit c t x k v own there apart same =
 pub other_is_no_worse : (c d : CampaignValue) (t : Task) (x : Unit) → ((k : ℕ) → k ≢ t.unit → get d.units k ≡ get c.units k) → IsUnitOf c t x → (k : ℕ) (v : Unit) → get c.units k ≡ Some v → (IsOwnOrder t k v.faction → ⊥) → IsStillThere IsNoWorse d k v
 other_is_no_worse c d t x stay own k v there apart = record { unit = v; there = stay k (other_unit c t x k v own there apart) ∙ there; is_unaffected = no_worse v }
 
--- A unit for which its own faction didn't write an order is there after it, in its place with its name and guard flag,
--- and has lost nothing (`IsNoWorse`). For this the order is for a unit of its writer's faction, and the order's effect
--- changes no other unit.
 pub unchanged_is_no_worse : (step : Option OrderEffect) (c : CampaignValue) (t : Task) (x : Unit) → IsUnitOf c t x → (k : ℕ) (v : Unit) → get c.units k ≡ Some v → (IsOwnOrder t k v.faction → ⊥)
     → ((j : ℕ) → j ≢ t.unit → IfSome step (λ effect. get (effect c x).0.units j ≡ get c.units j)) → IfSome step (λ effect. IsStillThere IsNoWorse (effect c x).0 k v)
 unchanged_is_no_worse None c t x own k v there apart stay = tt

@@ -5,7 +5,7 @@ use Rattle.std.proofs.lemmas.Option.{same_Some}
 use Rattle.std.specs.Prelude.{IfSome, fold, option_map, if◌then◌else◌}
 use Rattle.std.specs.List.{All, AllByRecursion}
 use Rattle.std.specs.Ordering.{nat_cmp}
-use Rattle.std.specs.FinMap.{FinMap, get, insert, values}
+use Rattle.std.specs.FinMap.{FinMap, get, insert}
 use Rattle.std.proofs.lemmas.Bool.{cases_eq}
 use Rattle.std.proofs.lemmas.List.Elements.{recursion_from_All}
 use Rattle.std.proofs.lemmas.List.Sums.{sum_by_push}
@@ -42,23 +42,17 @@ use Rattle.atl_phase.proofs.PhaseOrderLaws.{orders_are_in_mailings}
 -- After the phase each unit of a faction without a mailing is there, with its faction and name, no less of any item,
 -- and its men less exactly those who starve. The phase keeps the mailings and takes back no Starved event.
 pub record LeavesUnmailed (meaning : Meaning) (keeps : Frame) : Type 0 where
-  -- the phase keeps the mailings
   pub readings : (w : WorldValue) (c : CampaignValue) (m : MonthValue) → (meaning w c m).1.readings ≡ m.readings
-  -- after the phase the events report no fewer men of a unit as starved than before it
   pub starved_reported : (w : WorldValue) (c : CampaignValue) (m : MonthValue) (n : ℕ) → starved_in m.events n ≤ starved_in (meaning w c m).1.events n
-  -- If the phase keeps what `keeps` says, each unit of a faction without a mailing keeps its faction, its name and no
-  -- less of any item. The unit loses just the men whom the new events report as starved.
   pub left : (w : WorldValue) (c : CampaignValue) (m : MonthValue) → keeps w m c (meaning w c m).0 →
       Every (λ n u. get m.readings u.faction ≡ None → IsStillThere (IsLessBy (starved_in (meaning w c m).1.events n - starved_in m.events n)) (meaning w c m).0 n u) c.units
 
--- After the phase each unit of a faction without a mailing is there, unless all its men starve. It has its faction and
--- name, no less of any item, and its men less exactly those who starve. The phase takes back no Starved event, and may
--- change the mailings.
+-- After the phase each unit of a faction without a mailing is there, or removed if all its men starve (`IsLeft`). The
+-- phase takes back no Starved event, and may change the mailings.
 pub record ClosesUnmailed (meaning : Meaning) (keeps : Frame) : Type 0 where
-  -- after the phase the events report no fewer men of a unit as starved than before it
   pub starved_reported : (w : WorldValue) (c : CampaignValue) (m : MonthValue) (n : ℕ) → starved_in m.events n ≤ starved_in (meaning w c m).1.events n
-  -- If the phase keeps what `keeps` says, each unit of a faction without a mailing, unless all its men starved, keeps
-  -- its faction, its name and no less of any item. The unit loses just the men whom the new events report as starved.
+  -- if the phase keeps what `keeps` says, each unit of a faction without a mailing is left with those men whom the new
+  -- events don't report as starved
   pub left : (w : WorldValue) (c : CampaignValue) (m : MonthValue) → keeps w m c (meaning w c m).0 →
       Every (λ n u. get m.readings u.faction ≡ None → IsLeft (starved_in (meaning w c m).1.events n - starved_in m.events n) (meaning w c m).0 n u) c.units
 
@@ -72,23 +66,23 @@ less_twice x y z u v t l k one two = record {
   items = λ i. omega (arith, one.items i, two.items i);
 }
   where
-    -- For `less_twice`: if b is a less y - x, and d is b less z - y, d is a less z - x. The numbers x, y and z count
-    -- the men who starved in turn.
-    less : (a b d : ℕ) → b ≡ a - (y - x) → d ≡ b - (z - y) → d ≡ a - (z - x)
+    less : (a b d : ℕ) → b + (y - x) ≡ a → d + (z - y) ≡ b → d + (z - x) ≡ a
     less a b d e f = omega (arith, l, k)
 
 -- if fewer men of a unit starved in two phases (z - x) than it had (a), fewer starved in the second (z - y) than were
 -- left after the first (b)
-some_left : (x y z a b : ℕ) → x ≤ y → y ≤ z → b ≡ a - (y - x) → z - x < a → z - y < b
+some_left : (x y z a b : ℕ) → x ≤ y → y ≤ z → b + (y - x) ≡ a → z - x < a → z - y < b
 some_left x y z a b l k e some = omega arith
 
--- a faction that sent no mailing still has none after a phase that keeps the mailings (`LeavesUnmailed`)
+-- if all men of a unit (a) starved in two phases (z - x), all who were left after the first (b) starved in the second
+-- (z - y)
+none_left : (x y z a b : ℕ) → x ≤ y → y ≤ z → b + (y - x) ≡ a → z - x ≡ a → z - y ≡ b
+none_left x y z a b l k e all = omega arith
+
 still_none : {first : Meaning} {early : Frame} → LeavesUnmailed first early → (w : WorldValue) (c : CampaignValue) (m : MonthValue) (f g : ℕ) → g ≡ f → get m.readings f ≡ None → get (first w c m).1.readings g ≡ None
 still_none one w c m f g same none = ap (λ (r : FinMap nat_cmp Reading). get r g) (one.readings w c m) ∙ ap (get m.readings) same ∙ none
 
 module _ {first second : Meaning} {early late : Frame} where
-  -- two phases in turn leave units of factions without a mailing their items, and their men less the starved
-  -- (`LeavesUnmailed`), if each does
   pub both_leave : LeavesUnmailed first early → LeavesUnmailed second late → LeavesUnmailed (then_also first second) (both_keep first early late)
   both_leave one two = record {
     readings = λ w c m. two.readings w (first w c m).0 (first w c m).1 ∙ one.readings w c m;
@@ -105,55 +99,52 @@ module _ {first second : Meaning} {early late : Frame} where
   pub then_closes : LeavesUnmailed first early → ClosesUnmailed second late → ClosesUnmailed (then_also first second) (both_keep first early late)
   then_closes one two = record {
     starved_reported = λ w c m n. omega (arith, one.starved_reported w c m n, two.starved_reported w (first w c m).0 (first w c m).1 n);
-    left = λ w c m keeps n u there none some.
+    left = λ w c m keeps n u there none.
         let between = first w c m in
         let a = one.left w c m keeps.0 n u there none in
         let early = one.starved_reported w c m n in
         let late = two.starved_reported w between.0 between.1 n in
-        let b = two.left w between.0 between.1 keeps.1 n a.unit a.there (still_none one w c m u.faction a.unit.faction a.is_unaffected.faction none)
-        (some_left _ _ _ u.holding.men a.unit.holding.men early late a.is_unaffected.men some) in
-        record { unit = b.unit; there = b.there; is_unaffected = less_twice _ _ _ u a.unit b.unit early late a.is_unaffected b.is_unaffected };
+        let left = two.left w between.0 between.1 keeps.1 n a.unit a.there (still_none one w c m u.faction a.unit.faction a.is_unaffected.faction none) in
+        record {
+          most = omega (arith, early, late, a.is_unaffected.men, left.most);
+          fewer = λ some.
+              let b = left.fewer (some_left _ _ _ u.holding.men a.unit.holding.men early late a.is_unaffected.men some) in
+              record { unit = b.unit; there = b.there; is_unaffected = less_twice _ _ _ u a.unit b.unit early late a.is_unaffected b.is_unaffected };
+          all = λ every. left.all (none_left _ _ _ u.holding.men a.unit.holding.men early late a.is_unaffected.men every);
+        };
   }
 
 -- ---- a phase in which nobody starves: men and items
 
 -- The unit has after a change the same faction and exactly as many men as before.
 pub record HasItsMen (before after : Unit) : Type 0 where
-  -- the unit is of the same faction after the change as before
   pub faction : after.faction ≡ before.faction
-  -- the unit has as many men after the change as before
   pub men : after.holding.men ≡ before.holding.men
 
 -- each unit of the campaign before is in the campaign after, with its faction and exactly as many men
 abbrev pub HaveTheirMen : CampaignValue → CampaignValue → Type 0
 HaveTheirMen before after = Every (λ n u. IsStillThere HasItsMen after n u) before.units
 
--- all units have their men (`HaveTheirMen`) in an unchanged campaign
 pub men_stay : (c : CampaignValue) → HaveTheirMen c c
 men_stay c n u there = record { unit = u; there = there; is_unaffected = record { faction = refl; men = refl } }
 
--- units that have their men after each of two changes have them after both
 pub men_twice : (a b c : CampaignValue) → HaveTheirMen a b → HaveTheirMen b c → HaveTheirMen a c
 men_twice a b c one two n u there =
     let x = one n u there in
     let y = two n x.unit x.there in
     record { unit = y.unit; there = y.there; is_unaffected = record { faction = y.is_unaffected.faction ∙ x.is_unaffected.faction; men = y.is_unaffected.men ∙ x.is_unaffected.men } }
 
--- all units have their men (`HaveTheirMen`) if no unit changes
 pub men_same : (c d : CampaignValue) → d.units ≡ c.units → HaveTheirMen c d
 men_same c d same n u there = record { unit = u; there = ap (λ (m : FinMap nat_cmp Unit). get m n) same ∙ there; is_unaffected = record { faction = refl; men = refl } }
 
--- all units have their men (`HaveTheirMen`) after a change of unit k by f, if f keeps the men of each unit
 pub men_changed : (f : Unit → Unit) → ((u : Unit) → HasItsMen u (f u)) → (c d : CampaignValue) (k : ℕ) → d.units ≡ with_changed_value f c.units k → HaveTheirMen c d
 men_changed f stay c d k same n u there =
     record { unit = at_number f c.units k n u; there = ap (λ (m : FinMap nat_cmp Unit). get m n) same ∙ get-changed f c.units k n ∙ ap (option_map (at_number f c.units k n)) there; is_unaffected = by_number (n == k) }
   where
-    -- for `men_changed`: unit u has its men after the change, whether it is unit k, which f changes (`b`), or another
     by_number : (b : Bool) → HasItsMen u (if b then f u else u)
     by_number true = stay u
     by_number false = record { faction = refl; men = refl }
 
--- all units have their men after one unit is replaced by a unit of its faction with as many men
 pub men_put : (c d : CampaignValue) (k : ℕ) (v x : Unit) → get c.units k ≡ Some v → HasItsMen v x → d.units ≡ insert c.units k x → HaveTheirMen c d
 men_put c d k v x here stay same n u there = elim (cases_eq n k) [
   | inl own ↦
@@ -163,26 +154,20 @@ men_put c d k v x here stay same n u there = elim (cases_eq n k) [
       record { unit = u; there = ap (λ (m : FinMap nat_cmp Unit). get m n) same ∙ get-insert_other c.units k n x apart ∙ there; is_unaffected = record { faction = refl; men = refl } }
 ]
 
--- all units have their men after steps each of which keeps them
 pub men_in_turn : {X : Type 0} (step : CampaignValue → X → CampaignValue) → ((c : CampaignValue) (x : X) → HaveTheirMen c (step c x)) → (c : CampaignValue) (xs : List X) → HaveTheirMen c (fold step c xs)
 men_in_turn step each c [] = men_stay c
 men_in_turn step each c (x ∷ xs) = men_twice c (step c x) (fold step (step c x) xs) (each c x) (men_in_turn step each (step c x) xs)
 
--- all units have their men (`HaveTheirMen`) after an order, with a fault or without, if what is done without a fault
--- leaves them their men
 pub men_unless : (c d : CampaignValue) (o : Outcome) (fault : Option EventFault) → HaveTheirMen c d → HaveTheirMen c (unless c fault (d, o)).0
 men_unless c d o (Some fault) h = men_stay c
 men_unless c d o None h = h
 
--- a unit keeps its men when its guard flag changes
 flag_men : (flag : Bool) (u : Unit) → HasItsMen u (record u { holding = record u.holding { guard = flag } })
 flag_men flag u = record { faction = refl; men = refl }
 
--- all units keep their men when the guard flag of one is set or cleared
 pub guard_men : (c : CampaignValue) (n : ℕ) (flag : Bool) → HaveTheirMen c (with_guard c n flag)
 guard_men c n flag = men_changed (λ u. record u { holding = record u.holding { guard = flag } }) (flag_men flag) c (with_guard c n flag) n refl
 
--- all units keep their men when unit n goes to another region or structure
 pub place_men : (c : CampaignValue) (n r s : ℕ) → HaveTheirMen c (with_place c n r s)
 place_men c n r s =
     let there : Unit → Unit = λ u. record u { region = r; structure = s } in
@@ -191,12 +176,9 @@ place_men c n r s =
 
 -- The unit has after a change the same name, and no less of any item than before.
 pub record HasItsItems (before after : Unit) : Type 0 where
-  -- the unit has the same name after the change as before
   pub name : after.holding.name ≡ before.holding.name
-  -- the unit has no less of any item after the change than before
   pub items : (i : ℕ) → amount_of before.holding.items i ≤ amount_of after.holding.items i
 
--- a unit that is no worse off (`IsNoWorse`) has its name, and no less of any item (`HasItsItems`)
 pub items_of_no_worse : (u v : Unit) → IsNoWorse u v → HasItsItems u v
 items_of_no_worse u v h = record { name = h.name; items = h.items }
 
@@ -205,13 +187,10 @@ items_of_no_worse u v h = record { name = h.name; items = h.items }
 abbrev pub UnmailedAre : Unaffected → MonthValue → CampaignValue → CampaignValue → Type 0
 UnmailedAre unaffected m before after = Every (λ n u. get m.readings u.faction ≡ None → IsStillThere unaffected after n u) before.units
 
--- a unit that keeps its faction, men and name, and no less of any item, has y - x men less (`IsLessBy`), which is 0, if
--- a phase leaves the number x of starved men as it is (y)
 none_less : (x y : ℕ) (u v : Unit) → y ≡ x → HasItsMen u v → HasItsItems u v → IsLessBy (y - x) u v
 none_less x y u v same men items = record { faction = men.faction; name = items.name; men = nobody u.holding.men v.holding.men men.men; items = items.items }
   where
-    -- for `none_less`: the men b of a unit that keeps its men a are a less y - x, which is 0
-    nobody : (a b : ℕ) → b ≡ a → b ≡ a - (y - x)
+    nobody : (a b : ℕ) → b ≡ a → b + (y - x) ≡ a
     nobody a b e = omega (arith, same)
 
 module _ {meaning : Meaning} {keeps : Frame} (readings : (w : WorldValue) (c : CampaignValue) (m : MonthValue) → (meaning w c m).1.readings ≡ m.readings)
@@ -233,19 +212,15 @@ module _ {meaning : Meaning} {keeps : Frame} (readings : (w : WorldValue) (c : C
 
 -- ---- a phase whose orders are carried out one by one
 
--- a faction that sent no mailing wrote none of the orders of a phase
-pub none_ordered : (is_of : Verb → Bool) (arrangement : Arrangement) (m : MonthValue) (f : ℕ) → get m.readings f ≡ None → All (λ t. t.faction ≢ f) (values (orders_of is_of arrangement m.aliases m.readings))
+pub none_ordered : (is_of : Verb → Bool) (arrangement : Arrangement) (m : MonthValue) (f : ℕ) → get m.readings f ≡ None → All (λ t. t.faction ≢ f) (orders_of is_of arrangement m.aliases m.readings)
 none_ordered is_of arrangement m f none k d l same =
     let h = orders_are_in_mailings is_of arrangement m.aliases m.readings k d l in
     none_some h.reading (sym none ∙ ap (get m.readings) (sym same) ∙ h.of_faction)
 
--- one more event of an order adds no men who starved to the events
 pub order_event_starves_none : (events : List Event) (t : Task) (outcome : Outcome) (n : ℕ) → starved_in (events ++ event_for t outcome ∷ []) n ≡ starved_in events n
 order_event_starves_none events t outcome n =
     sum_by_push (λ (e : Event). if e.unit == n then men_starved_by e.verb e.outcome else 0) events (event_for t outcome) ∙ by_unit (t.unit == n) (starved_in events n)
   where
-    -- for `order_event_starves_none`: an event that reports nobody as starved adds 0 to the count x, be it of unit n
-    -- (`b`) or not
     by_unit : (b : Bool) (x : ℕ) → x + (if b then 0 else 0) ≡ x
     by_unit true x = omega arith
     by_unit false x = omega arith
@@ -255,7 +230,6 @@ order_event_starves_none events t outcome n =
 abbrev pub OthersHaveMen : (faction : ℕ) → CampaignValue → CampaignValue → Type 0
 OthersHaveMen f c d = Every (λ n u. f ≢ u.faction → IsStillThere HasItsMen d n u) c.units
 
--- if all units have their men (`HaveTheirMen`), so have the units of other factions than f (`OthersHaveMen`)
 pub others_men : (f : ℕ) (c d : CampaignValue) → HaveTheirMen c d → OthersHaveMen f c d
 others_men f c d men n u there other = men n u there
 
@@ -264,13 +238,9 @@ abbrev pub LeavesOthersMen : OrderMeaning → Type 0
 LeavesOthersMen step = (w : WorldValue) (a : Aliases) (c : CampaignValue) (t : Task) (x : Unit) → IsUnitOf c t x → IfSome (step w a t) (λ effect. OthersHaveMen t.faction c (effect c x).0)
 
 module _ (step : OrderMeaning) where
-  -- an order leaves units of other factions than the one that wrote it their men, also if it is passed over or has a
-  -- fault, if its effect does (`LeavesOthersMen`)
   order_leaves_men : LeavesOthersMen step → (w : WorldValue) (a : Aliases) (c : CampaignValue) (t : Task) → OthersHaveMen t.faction c (order_result (step w a t) c t.faction t.unit).0
   order_leaves_men unaffected w a c t = ordered_cases (OthersHaveMen t.faction c) (step w a t) c t (others_men t.faction c c (men_stay c)) (λ x own. unaffected w a c t x own)
 
-  -- orders of other factions than a unit's, one after another, leave the unit its men, if each order's effect leaves
-  -- units of other factions theirs (`LeavesOthersMen`)
   orders_leave_men : LeavesOthersMen step → (w : WorldValue) (c : CampaignValue) (m : MonthValue) (ts : List Task) → (n : ℕ) (u : Unit) → get c.units n ≡ Some u → AllByRecursion (λ t. t.faction ≢ u.faction) ts → IsStillThere HasItsMen (fold (one_order step w) (c, m) ts).0 n u
   orders_leave_men unaffected w c m [] n u there others = men_stay c n u there
   orders_leave_men unaffected w c m (t ∷ ts) n u there others =
@@ -279,42 +249,34 @@ module _ (step : OrderMeaning) where
       let two = orders_leave_men unaffected w next.0 next.1 ts n one.unit one.there (subst (λ f. AllByRecursion (λ t. t.faction ≢ f) ts) (sym one.is_unaffected.faction) others.1) in
       record { unit = two.unit; there = two.there; is_unaffected = record { faction = two.is_unaffected.faction ∙ one.is_unaffected.faction; men = two.is_unaffected.men ∙ one.is_unaffected.men } }
 
-  -- orders carried out one by one leave the readings of the month as they are
   orders_readings : (w : WorldValue) (p : CampaignValue × MonthValue) (ts : List Task) → (fold (one_order step w) p ts).1.readings ≡ p.1.readings
   orders_readings w p [] = refl
   orders_readings w p (t ∷ ts) = orders_readings w (one_order step w p t) ts ∙ order_readings step w p t
 
-  -- one order adds no men who starved to the events
   order_starves_none : (w : WorldValue) (p : CampaignValue × MonthValue) (t : Task) (n : ℕ) → starved_in (one_order step w p t).1.events n ≡ starved_in p.1.events n
   order_starves_none w p t n = by_outcome (order_result (step w p.1.aliases t) p.0 t.faction t.unit).1
     where
-      -- an order adds no men who starved to the events, whether it has an outcome `o` or is passed over
       by_outcome : (o : Option Outcome) → starved_in (with_event_of p.1 t o).events n ≡ starved_in p.1.events n
       by_outcome None = refl
       by_outcome (Some outcome) = order_event_starves_none p.1.events t outcome n
 
-  -- orders carried out one by one add no men who starved to the events
   orders_starve_none : (w : WorldValue) (p : CampaignValue × MonthValue) (ts : List Task) (n : ℕ) → starved_in (fold (one_order step w) p ts).1.events n ≡ starved_in p.1.events n
   orders_starve_none w p [] n = refl
   orders_starve_none w p (t ∷ ts) n = orders_starve_none w (one_order step w p t) ts n ∙ order_starves_none w p t n
 
   module _ (is_of : Verb → Bool) where
-    -- a phase that carries out its orders one by one leaves the readings of the month as they are
     pub carried_readings : (w : WorldValue) (c : CampaignValue) (m : MonthValue) → (meaning_by_orders step is_of w c m).1.readings ≡ m.readings
     unfolding meaning_by_orders
-    carried_readings w c m = orders_readings w (c, m) (values (orders_of is_of ByUnit m.aliases m.readings))
+    carried_readings w c m = orders_readings w (c, m) (orders_of is_of ByUnit m.aliases m.readings)
 
-    -- a phase that carries out its orders one by one adds no men who starved to the events
     pub carried_starve_none : (w : WorldValue) (c : CampaignValue) (m : MonthValue) (n : ℕ) → starved_in (meaning_by_orders step is_of w c m).1.events n ≡ starved_in m.events n
     unfolding meaning_by_orders
-    carried_starve_none w c m n = orders_starve_none w (c, m) (values (orders_of is_of ByUnit m.aliases m.readings)) n
+    carried_starve_none w c m n = orders_starve_none w (c, m) (orders_of is_of ByUnit m.aliases m.readings) n
 
-    -- a phase that carries out its orders one by one leaves units of factions without a mailing their men, if each
-    -- order leaves the units of other factions theirs (`LeavesOthersMen`)
     pub carried_men : LeavesOthersMen step → (w : WorldValue) (c : CampaignValue) (m : MonthValue) → UnmailedAre HasItsMen m c (meaning_by_orders step is_of w c m).0
     unfolding meaning_by_orders
     carried_men unaffected w c m n u there none =
-        let ts = values (orders_of is_of ByUnit m.aliases m.readings) in
+        let ts = orders_of is_of ByUnit m.aliases m.readings in
         orders_leave_men unaffected w c m ts n u there (recursion_from_All (λ t. t.faction ≢ u.faction) ts (none_ordered is_of ByUnit m u.faction none))
 
     -- A phase that carries out its orders one by one leaves units of factions without a mailing their items, and their
@@ -325,7 +287,6 @@ module _ (step : OrderMeaning) where
         whole_leaves {meaning = meaning_by_orders step is_of} {keeps = keeps} carried_readings carried_starve_none
         (λ w c m h. carried_men unaffected w c m) (λ w c m h. items w c (meaning_by_orders step is_of w c m).0 m h)
 
--- an order that is a unit's own (`IsOwnOrder`) was written by the faction of that unit
 pub own_faction : (t : Task) (n f : ℕ) → IsOwnOrder t n f → t.faction ≡ f
 own_faction t n f h = h.faction
 

@@ -30,9 +30,7 @@ amount_limit = 9000000000000000000 + most_moved
 
 -- an amount that can move by `most`, up or down, without passing `amount_limit` in size
 pub record HasRoom (most : ℕ) (amount : ℤ) : Type 0 where
-  -- the amount, after a rise by `most`, is at most `amount_limit`
   pub above : (amount +ℤ pos most) ≤ℤ pos amount_limit
-  -- the amount, after a fall by `most`, is no further below 0 than `amount_limit`
   pub below : pos most ≤ℤ (amount +ℤ pos amount_limit)
 
 -- each amount of the books can move as far as its bound says without passing `amount_limit` in size
@@ -45,9 +43,7 @@ RemainingBound = CampaignValue → BookBound
 
 -- an amount moves, up or down, by at most what its remaining bound falls: from `remaining` to `left`
 pub record UsesBound (remaining left : ℕ) (before after : ℤ) : Type 0 where
-  -- the amount rises by at most what its remaining bound falls, from `remaining` to `left`
   pub above : (after +ℤ pos left) ≤ℤ (before +ℤ pos remaining)
-  -- the amount falls by at most what its remaining bound falls, from `remaining` to `left`
   pub below : (before +ℤ pos left) ≤ℤ (after +ℤ pos remaining)
 
 -- ---- the step of one order
@@ -55,13 +51,9 @@ pub record UsesBound (remaining left : ℕ) (before after : ℤ) : Type 0 where
 -- After a step `holds` is true of the campaign, which is of the same month, and whose books balance if they did before.
 -- No amount of the books moves further than its remaining bound falls.
 pub record StepsWell (holds : Condition) (remaining : RemainingBound) (w : WorldValue) (before after : CampaignValue) : Type 0 where
-  -- the condition `holds` is true of the campaign after the step
   pub holds_still : holds w after
-  -- the step keeps the number of the month last closed, the reports and the set of factions
   pub same_month : IsSameMonth before after
-  -- the books balance after the step if they did before
   pub balances : Balances before → Balances after
-  -- each amount of the books moves by at most what its remaining bound falls
   pub uses_bound : (e : BooksEntry) (t : Thing) →
       UsesBound (remaining before e t) (remaining after e t) (amount_in before.books e t) (amount_in after.books e t)
 
@@ -78,9 +70,7 @@ pub record IsUnaffectedRelation (unaffected : Unaffected) : Type 0 where
 
 -- unit u is there under the number that an order is for, and is of the faction that wrote the order
 pub record IsUnitOf (c : CampaignValue) (t : Task) (u : Unit) : Type 0 where
-  -- the campaign has the unit under the number that the order is for
   pub there : get c.units t.unit ≡ Some u
-  -- the unit is of the faction that wrote the order
   pub faction : u.faction ≡ t.faction
 
 -- The conditions on a phase that carries its orders out one by one. Each order keeps `holds`, month and balance, and

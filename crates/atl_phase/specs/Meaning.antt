@@ -66,9 +66,7 @@ most_moved = 99999999999999
 
 -- two amounts differ by `most` or less
 pub record IsNear (most : ℕ) (before after : ℤ) : Type 0 where
-  -- the amount after is greater than the one before by at most `most`
   pub above : after ≤ℤ (before +ℤ pos most)
-  -- the amount after is less than the one before by at most `most`
   pub below : before ≤ℤ (after +ℤ pos most)
 
 -- The number of the month last closed, the reports and the set of factions (gone ones too) stay the same.

@@ -3,7 +3,7 @@
 use Rattle.std.specs.Prelude.{Bool, false, ◌&&◌, ◌==◌, Option, Some, None}
 use Rattle.std.specs.List.{IsDistinct}
 use Rattle.std.specs.Ordering.{nat_cmp}
-use Rattle.std.specs.FinMap.{FinMap, values}
+use Rattle.std.specs.FinMap.{FinMap}
 use Rattle.atl_world.specs.Worlds.{WorldValue}
 use Rattle.atl_orders.specs.declared.verb.Slot.{Slot}
 use Rattle.atl_orders.specs.declared.verb.Verb.{Verb}
@@ -31,4 +31,4 @@ abbrev pub OneOrderCounts : Type 0
 OneOrderCounts =
     (w : WorldValue) (is_of : Verb → Bool) (arrangement : Arrangement) (aliases : Aliases) (readings : FinMap nat_cmp Reading) →
     AreFit w readings →
-    IsDistinct share_slot (values (orders_of is_of arrangement aliases readings))
+    IsDistinct share_slot (orders_of is_of arrangement aliases readings)

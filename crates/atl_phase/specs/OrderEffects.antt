@@ -85,9 +85,7 @@ Affects = Task → ℕ → ℕ → Type 0
 
 -- order t is for unit n, and faction f wrote it; f is meant as the faction of unit n
 pub record IsOwnOrder (t : Task) (n f : ℕ) : Type 0 where
-  -- the order is for unit n
   pub unit : t.unit ≡ n
-  -- faction f wrote the order
   pub faction : t.faction ≡ f
 
 -- how a unit that no order affects may change all the same: a relation of the unit before to the unit after

@@ -4,7 +4,7 @@ use Rattle.std.specs.declared.vec.Vec.{Vec}
 use Rattle.std.specs.List.{All, flat_map}
 use Rattle.std.specs.Ordering.{nat_cmp}
 use Rattle.std.specs.List.Sorted.{IsStrictlySortedBy}
-use Rattle.std.specs.FinMap.{FinMap, get, insert, values}
+use Rattle.std.specs.FinMap.{FinMap, get, insert}
 use Rattle.atl_world.specs.Groups.{group_of}
 use Rattle.atl_orders.specs.declared.mailing.Entry.{Entry}
 use Rattle.atl_orders.specs.declared.mailing.Mailing.{Mailing}
@@ -52,9 +52,9 @@ counts_by_lines lines unit line (Some slot) = line == line_in lines (slot_number
 abbrev pub every_verb : Verb → Bool
 every_verb verb = true
 
--- the orders that count of all mailings, mailing by mailing
-abbrev pub all_tasks : Aliases → List Mailing → List Task
-all_tasks aliases mailings = flat_map (λ m. tasks_for every_verb (tasks_of aliases m.faction (reading_of m))) mailings
+-- the orders of all mailings that count and have one of a phase's verbs, mailing by mailing
+abbrev pub all_tasks : (Verb → Bool) → Aliases → List Mailing → List Task
+all_tasks is_of aliases mailings = flat_map (λ m. tasks_for is_of (tasks_of aliases m.faction (reading_of m))) mailings
 
 -- whether an order has one of a phase's verbs, which are those that pass the test
 abbrev pub has_verb : (Verb → Bool) → Task → Bool
@@ -97,38 +97,32 @@ task_at mailings p = record {
 
 -- the mailing that an index names is there, and so is the order that it names in this mailing
 pub record IsThere (mailings : List Mailing) (p : OrderIndex) : Type 0 where
-  -- the index of the mailing is less than the number of mailings
   pub mailing : p.mailing < length mailings
-  -- the index of the order is less than the number of orders in this mailing
   pub entry : p.index < length (mailing_at mailings p.mailing).entries
 
 -- each index names an order that is there, and the orders that they name are ts, in this order
 pub record AreIndicesOf (mailings : List Mailing) (ts : List Task) (places : List OrderIndex) : Type 0 where
-  -- each index names an order that the mailings have (`IsThere`)
   pub there : All (IsThere mailings) places
-  -- the orders that the indices name are ts
   pub tasks : map (task_at mailings) places ≡ ts
 
 -- the new indices name the orders that the old ones name, and after them the orders ts
 pub record AddsIndicesOf (mailings : List Mailing) (ts : List Task) (old new : List OrderIndex) : Type 0 where
-  -- each new index names an order that the mailings have (`IsThere`), if each old index does
   pub there : All (IsThere mailings) old → All (IsThere mailings) new
-  -- the new indices name the orders of the old ones, and then ts
   pub tasks : map (task_at mailings) new ≡ map (task_at mailings) old ++ ts
 
--- the new indices name the orders that the old ones name, and after them the orders that count of the mailing at an
--- index of the list
-abbrev pub AddsMailing : Aliases → List Mailing → ℕ → List OrderIndex → List OrderIndex → Type 0
-AddsMailing aliases mailings index = AddsIndicesOf mailings (tasks_for every_verb (tasks_at aliases mailings index))
+-- the new indices name the orders that the old ones name, and after them those of the mailing at an index of the list
+-- that count and have one of a phase's verbs
+abbrev pub AddsMailing : (Verb → Bool) → Aliases → List Mailing → ℕ → List OrderIndex → List OrderIndex → Type 0
+AddsMailing is_of aliases mailings index = AddsIndicesOf mailings (tasks_for is_of (tasks_at aliases mailings index))
 
--- the indices name the orders that count of all mailings, mailing by mailing
-abbrev pub AreIndicesByMailing : Aliases → List Mailing → List OrderIndex → Type 0
-AreIndicesByMailing aliases mailings = AreIndicesOf mailings (all_tasks aliases mailings)
+-- the indices name the orders of all mailings that count and have one of a phase's verbs, mailing by mailing
+abbrev pub AreIndicesByMailing : (Verb → Bool) → Aliases → List Mailing → List OrderIndex → Type 0
+AreIndicesByMailing is_of aliases mailings = AreIndicesOf mailings (all_tasks is_of aliases mailings)
 
--- the indices name the orders that count of all mailings, sorted as the arrangement says
-abbrev pub AreOrderIndices : Arrangement → Aliases → List Mailing → List OrderIndex → Type 0
-AreOrderIndices arrangement aliases mailings =
-    AreIndicesOf mailings (values (orders_of every_verb arrangement aliases (by_faction (map reading_of mailings))))
+-- the indices name the orders of all mailings that count and have one of a phase's verbs, sorted as the arrangement says
+abbrev pub AreOrderIndices : (Verb → Bool) → Arrangement → Aliases → List Mailing → List OrderIndex → Type 0
+AreOrderIndices is_of arrangement aliases mailings =
+    AreIndicesOf mailings (orders_of is_of arrangement aliases (by_faction (map reading_of mailings)))
 
 -- the orders that some indices name and that have a verb of the phase, in the order of the indices
 abbrev pub tasks_picked : (Verb → Bool) → List Mailing → List OrderIndex → List Task
@@ -138,7 +132,5 @@ tasks_picked is_of mailings places = filter (has_verb is_of) (map (task_at maili
 -- unit. The gathered indices, if there are any, name all orders that count.
 pub record IsSortedMonth {Z : Type 0} (aliases : Aliases) (mailings : List Mailing)
     (gathered_indices : Option (Vec OrderIndex Z)) : Type 0 where
-  -- the month's mailings are sorted by faction, and no two are of one faction
   pub sorted : AreByFaction mailings
-  -- the gathered indices, if there are any, name all orders that count, sorted by unit
-  pub gathered : IfSome gathered_indices (λ places. AreOrderIndices ByUnit aliases mailings places.items)
+  pub gathered : IfSome gathered_indices (λ places. AreOrderIndices every_verb ByUnit aliases mailings places.items)

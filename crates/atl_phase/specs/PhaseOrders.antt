@@ -106,44 +106,46 @@ order_counts ts t = counts_in_slot ts t (row_of t.order_value.verb).slot
 abbrev pub tasks_for : (Verb → Bool) → List Task → List Task
 tasks_for is_of ts = filter (λ t. is_of t.order_value.verb && order_counts ts t) ts
 
+-- the orders of the factions' mailings that count and have the verbs of a phase, mailing by mailing
+abbrev pub tasks_of_phase : (Verb → Bool) → Aliases → List (ℕ × Reading) → List Task
+tasks_of_phase is_of aliases mailings = flat_map (λ e. tasks_for is_of (tasks_of aliases e.0 e.1)) mailings
+
 -- The numbers that an order is sorted by: unit, line and faction, or faction, line and unit.
 -- The last number is its index, which no mailing has twice.
 abbrev pub key_of : Arrangement → Task → List ℕ
 key_of ByUnit t = t.unit ∷ t.line ∷ t.faction ∷ t.index ∷ []
 key_of ByFaction t = t.faction ∷ t.line ∷ t.unit ∷ t.index ∷ []
 
--- The orders that count and have a verb of the phase, of all mailings. They are a map from the key (`key_of`) of each
--- order to the order.
-abbrev pub orders_of : (Verb → Bool) → Arrangement → Aliases → FinMap nat_cmp Reading → FinMap (slice_cmp nat_cmp) Task
-orders_of is_of arrangement aliases readings =
-    from_entries (map (λ t. (key_of arrangement t, t))
-    (flat_map (λ e. tasks_for is_of (tasks_of aliases e.0 e.1)) (entries readings)))
+-- a map of some orders, each under its key
+abbrev pub under_keys : (key : Task → List ℕ) → List Task → FinMap (slice_cmp nat_cmp) Task
+under_keys key ts = from_entries (map (λ t. (key t, t)) ts)
+
+-- some orders, no two of which have the same key, sorted by key
+abbrev pub sorted_by : (key : Task → List ℕ) → List Task → List Task
+sorted_by key ts = values (under_keys key ts)
+
+-- the orders that count and have a verb of the phase, of all mailings, sorted as the arrangement says
+abbrev pub orders_of : (Verb → Bool) → Arrangement → Aliases → FinMap nat_cmp Reading → List Task
+orders_of is_of arrangement aliases readings = sorted_by (key_of arrangement) (tasks_of_phase is_of aliases (entries readings))
 
 -- the orders of a month that count and have the verbs of a phase, by unit, line and faction
 abbrev pub orders_by_unit : (Verb → Bool) → MonthValue → List Task
-orders_by_unit is_of m = values (orders_of is_of ByUnit m.aliases m.readings)
+orders_by_unit is_of m = orders_of is_of ByUnit m.aliases m.readings
 
 -- ---- a law
 
 -- order t is an entry of its faction's mailing, at its index, with its unit, its line and what it says
 pub record IsInMailing (aliases : Aliases) (readings : FinMap nat_cmp Reading) (t : Task) : Type 0 where
-  -- what was read of the faction's mailing
   pub reading : Reading
-  -- the entry of the mailing that the order is
   pub entry : EntryValue
-  -- the reading is that of the faction that wrote the order
   pub of_faction : get readings t.faction ≡ Some reading
-  -- the entry has the order's index in the mailing
   pub at_index : slice_get reading.entries t.index ≡ Some entry
-  -- the entry is for the order's unit
   pub for_unit : unit_of aliases t.faction entry.target ≡ t.unit
-  -- the entry is on the order's line
   pub on_line : entry.line ≡ t.line
-  -- the entry says what the order says
   pub says : entry.order_value ≡ t.order_value
 
 -- A law: each order of a phase is an entry of the mailing of its faction.
 abbrev pub OrdersAreInMailings : Type 0
 OrdersAreInMailings =
     (is_of : Verb → Bool) (arrangement : Arrangement) (aliases : Aliases) (readings : FinMap nat_cmp Reading) →
-    All (IsInMailing aliases readings) (values (orders_of is_of arrangement aliases readings))
+    All (IsInMailing aliases readings) (orders_of is_of arrangement aliases readings)

@@ -1,5 +1,6 @@
 -- What is left of the units of a faction that sent no mailing. See docs/RULES.md, "Closing a month".
-use Rattle.std.specs.Prelude.{◌≡◌, ◌≤◌, ◌<◌, ◌-◌, ◌==◌, ℕ, List, sum_by, if◌then◌else◌}
+use Rattle.std.specs.Prelude.{◌≡◌, ◌≤◌, ◌<◌, ◌+◌, ◌==◌, ℕ, List, None, sum_by, if◌then◌else◌}
+use Rattle.std.specs.FinMap.{get}
 use Rattle.atl_records.specs.declared.event.Event.{Event}
 use Rattle.atl_records.specs.declared.event.EventVerb.{EventVerb}
 use Rattle.atl_records.specs.declared.event.EventVerb.TheVariants as verbs
@@ -19,18 +20,23 @@ men_starved_by verb outcome = 0
 abbrev pub starved_in : List Event → (number : ℕ) → ℕ
 starved_in events number = sum_by (λ e. if e.unit == number then men_starved_by e.verb e.outcome else 0) events
 
--- the unit has the same faction and name, `fewer` men less (none if it had no more than that), and no less of any item
+-- the unit has the same faction and name, `fewer` men less, and no less of any item
 pub record IsLessBy (fewer : ℕ) (before after : Unit) : Type 0 where
   -- the unit keeps its faction
   pub faction : after.faction ≡ before.faction
   -- the unit keeps its name
   pub name : after.holding.name ≡ before.holding.name
-  -- the unit has `fewer` men less than before, or none if it had no more than that
-  pub men : after.holding.men ≡ before.holding.men - fewer
+  -- the unit has `fewer` men less than before
+  pub men : after.holding.men + fewer ≡ before.holding.men
   -- the unit has no less of any item than before
   pub items : (i : ℕ) → amount_of before.holding.items i ≤ amount_of after.holding.items i
 
--- a unit of which fewer men starved than it had is still there, with its faction and name, no less of any item,
--- and exactly those men less
-abbrev pub IsLeft : (starved : ℕ) → (after : CampaignValue) → (number : ℕ) → Unit → Type 0
-IsLeft starved after number u = starved < u.holding.men → IsStillThere (IsLessBy starved) after number u
+-- what is left of a unit, given with its number, of which so many men starved
+pub record IsLeft (starved : ℕ) (after : CampaignValue) (number : ℕ) (u : Unit) : Type 0 where
+  -- no more men starved than the unit had
+  pub most : starved ≤ u.holding.men
+  -- where fewer men starved than the unit had, it is still there, with its faction and name, no less of any item, and
+  -- exactly those men less
+  pub fewer : starved < u.holding.men → IsStillThere (IsLessBy starved) after number u
+  -- where all its men starved, the unit is removed
+  pub all : starved ≡ u.holding.men → get after.units number ≡ None

@@ -10,7 +10,6 @@ use atl_orders::{Mailing, Slot, UnitRef};
 use atl_world::Numbered;
 use std::alloc::{AllocError, Global};
 
-/// The number of a slot, from 0 to 4.
 fn number_of(slot: Slot) -> u32
     ensures { result ≡ slot_number slot }
 {
@@ -23,7 +22,6 @@ fn number_of(slot: Slot) -> u32
     }
 }
 
-/// Whether the slot `other` is there (`Some`), and is the same as `slot`.
 pub(crate) fn is_same_slot(slot: Slot, other: Option<Slot>) -> bool
     ensures { result ≡ is_same_slot slot other }
 {
@@ -48,7 +46,6 @@ pub(crate) fn unit_of(aliases: &Numbered<Numbered<u32>>, faction: u32, target: U
 /// then by unit.
 pub(crate) type LastLines = Numbered<Numbered<u32>>;
 
-/// The greatest line noted for a unit in a slot; 0 where none is noted.
 fn line_in(lines: &LastLines, slot: Slot, unit: u32) -> u32
     ensures { result ≡ line_in lines.now (slot_number slot) unit }
 {
@@ -69,7 +66,6 @@ fn note(
     lines.insert_under(alloc, number_of(slot), unit, last)
 }
 
-/// The greatest line of a mailing's orders in each slot, for each unit.
 pub(crate) fn last_lines(
     alloc: Global,
     aliases: &Numbered<Numbered<u32>>,

@@ -1,13 +1,13 @@
 //! A month: its mailings, aliases, dice words and events, which phases hand on.
 ghost use Rattle.std.specs.Prelude.{◌≡◌, ◌++◌, ◌∷◌, [], IfOk, OnOk, OnErr, map, option_copied, option_map};
-ghost use Rattle.std.specs.FinMap.{empty, get, values};
+ghost use Rattle.std.specs.FinMap.{empty, get};
 ghost use Rattle.atl_orders.specs.Mailing.{reading_of};
 ghost use Rattle.atl_phase.specs.Month.{HaveOwnFactions, HaveNoOrder, alias_unit, by_faction, with_alias, with_events};
 ghost use Rattle.atl_phase.specs.PhaseOrders.{orders_of, task_of, unit_of};
 
 use crate::last_lines::unit_of;
 use crate::order_indices::{OrderIndex, order_indices};
-use crate::orders::{PhaseVerbs, phase_orders_at};
+use crate::orders::{EveryVerb, PhaseVerbs, phase_orders_at};
 use crate::phase_order::{Arrangement, PhaseOrder};
 use atl_campaign::Event;
 use atl_orders::{Mailing, UnitRef};
@@ -22,7 +22,6 @@ pub struct Month {
     mailings: Vec<Mailing>,
     // The unit that FORM made for each alias, by faction and then by alias.
     aliases: Numbered<Numbered<u32>>,
-    // The words of the dice.
     words: Vec<u32>,
     // The events so far, in the order in which they came.
     events: Vec<Event>,
@@ -59,8 +58,6 @@ impl Model for Month {
     ghost invariant = { λ a. IsSortedMonth a.aliases a.mailings.items a.gathered_indices };
 }
 
-/// Makes a month of its mailings, notes aliases and events in it, and gives its orders and its
-/// other parts.
 impl Month {
     /// A month before its first phase, with the given mailings, no two of one faction, and the
     /// given words of the dice. It takes no memory.
@@ -145,15 +142,23 @@ impl Month {
     pub fn gather(&mut self, alloc: Global) -> Result<(), AllocError>
         ensures { self.new ≡ self.old }
     {
-        let places = order_indices(alloc, Arrangement::ByUnit, &self.aliases, &self.mailings)?;
+        let arrangement = Arrangement::ByUnit;
+        let places = order_indices(
+            alloc,
+            &EveryVerb,
+            arrangement,
+            &self.aliases,
+            &self.mailings,
+        )?;
         self.gathered_indices = Some(places);
         Ok(())
     }
 
     /// The orders that count and have a verb of the phase, in the order of the arrangement. It
     /// takes memory for each of them. If the month's orders aren't gathered, or not in this
-    /// arrangement, it also takes memory for each order of all mailings, and n log n steps for n of
-    /// them. See docs/RULES.md, "Orders of a month".
+    /// arrangement, it also takes memory for each order of the mailings that have one with a verb
+    /// of the phase, and n log n steps for n orders of the phase. See docs/RULES.md, "Orders of a
+    /// month".
     pub fn orders<P: PhaseVerbs>(
         &self,
         alloc: Global,
@@ -161,14 +166,20 @@ impl Month {
         arrangement: Arrangement,
     ) -> Result<Vec<PhaseOrder<'_>>, AllocError>
         ensures { IfOk result (λ list. map task_of list.items
-            ≡ values (orders_of P.is_of arrangement self.now.aliases self.now.readings)) }
+            ≡ orders_of P.is_of arrangement self.now.aliases self.now.readings) }
     {
         match (arrangement, &self.gathered_indices) {
             (Arrangement::ByUnit, Some(places)) => {
                 phase_orders_at(alloc, phase, &self.mailings, places)
             }
             _ => {
-                let places = order_indices(alloc, arrangement, &self.aliases, &self.mailings)?;
+                let places = order_indices(
+                    alloc,
+                    phase,
+                    arrangement,
+                    &self.aliases,
+                    &self.mailings,
+                )?;
                 phase_orders_at(alloc, phase, &self.mailings, &places)
             }
         }
@@ -211,7 +222,6 @@ pub fn add_events(month: &mut Month, events: &[Event]) -> Result<(), AllocError>
     Ok(())
 }
 
-/// The number of the unit that a faction's FORM made under an alias; None where there is none.
 pub(crate) fn unit_under(aliases: &Numbered<Numbered<u32>>, faction: u32, alias: u32) -> Option<u32>
     ensures { result ≡ alias_unit aliases.now faction alias }
 {

@@ -171,7 +171,6 @@ pub trait PlainPhase: OrderPhase {
         ensures { Self.step self.now ≡ makes };
 }
 
-/// Carries out the orders of the phase (`carry_out_orders`), and does nothing else.
 impl<P: PlainPhase> Phase for P {
     ghost meaning = { meaning_by_orders P.makes P.is_of };
 
@@ -183,7 +182,6 @@ impl<P: PlainPhase> Phase for P {
 
     ghost keeps = { others_unaffected P.affects P.unaffected P.is_of };
 
-    /// Returns the campaign as the orders leave it, and the month with their events.
     fn run(
         &self,
         alloc: Global,

@@ -4,7 +4,7 @@ ghost use Rattle.std.specs.List.{All};
 ghost use Rattle.atl_orders.specs.declared.verb.Verb.{Verb};
 ghost use Rattle.atl_phase.specs.PhaseOrders.{OrdersAreInMailings, is_month_long, task_of};
 ghost use Rattle.atl_phase.specs.OneOrder.{OneOrderCounts};
-ghost use Rattle.atl_phase.specs.OrderIndices.{IsThere, task_at, tasks_picked};
+ghost use Rattle.atl_phase.specs.OrderIndices.{IsThere, every_verb, task_at, tasks_picked};
 
 use crate::last_lines::is_same_slot;
 use crate::order_indices::OrderIndex;
@@ -14,10 +14,8 @@ use std::alloc::{AllocError, Global};
 
 /// The verbs of the orders that a phase carries out.
 pub trait PhaseVerbs {
-    // Whether a verb is one of the phase's.
     ghost is_of: { Verb → Bool };
 
-    /// Whether a verb is one of the phase's.
     fn has(&self, verb: Verb) -> bool
         ensures { result ≡ is_of verb };
 }
@@ -26,17 +24,27 @@ pub trait PhaseVerbs {
 /// each unit from each mailing: the one that counts.
 pub struct MonthLongVerbs;
 
-/// Has the verbs whose slot is the month-long one.
 impl PhaseVerbs for MonthLongVerbs {
     ghost is_of = { is_month_long };
 
-    /// Whether a verb takes the whole month.
     fn has(&self, verb: Verb) -> bool {
         is_same_slot(Slot::MonthLong, verb.row().slot)
     }
 }
 
-/// The order that an `OrderIndex` names, borrowed from its mailing.
+/// All verbs, for the orders of every phase.
+pub(crate) struct EveryVerb;
+
+/// Has each verb.
+impl PhaseVerbs for EveryVerb {
+    ghost is_of = { every_verb };
+
+    /// True for each verb.
+    fn has(&self, _verb: Verb) -> bool {
+        true
+    }
+}
+
 fn order_at<'m>(mailings: &'m [Mailing], placed: &OrderIndex) -> PhaseOrder<'m>
     requires { IsThere mailings.now placed.now }
     ensures { task_of result ≡ task_at mailings.now placed.now }

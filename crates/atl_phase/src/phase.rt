@@ -61,7 +61,6 @@ impl<P: Phase, Q: Phase> Phase for (P, Q) {
 
     ghost keeps = { both_keep P.meaning P.keeps Q.keeps };
 
-    /// Returns the campaign and the month as the second phase leaves them.
     fn run(&self, alloc: Global, world: &World, campaign: Campaign, month: Month) -> PhaseResult {
         let (campaign, month) = self.0.run(alloc, world, campaign, month)?;
         let (campaign, month) = self.1.run(alloc, world, campaign, month)?;

@@ -20,20 +20,16 @@ pub enum Arrangement {
 pub struct PhaseOrder<'m> {
     /// The unit that the order is for, from 1 on; 0 for an alias under which no unit was made.
     pub unit: u32,
-    /// The line of the order in its mailing.
     pub line: u32,
-    /// The faction that sent the mailing.
     pub faction: u32,
     /// The index of the order among those of its mailing, from 0 on.
     pub index: usize,
     /// The mailing that has the order; its text has the name that the order gives, if the order
     /// gives one.
     pub mailing: &'m Mailing,
-    /// What the unit is to do.
     pub order: &'m Order,
 }
 
-/// Makes the event that reports an order.
 impl<'m> PhaseOrder<'m> {
     /// The event that reports the order with a given outcome.
     pub fn event(self, outcome: Outcome) -> Event

@@ -29,7 +29,6 @@ roomy_when_good w c d good books e t = subst (λ b. HasRoom asked_room (amount_i
 pub roomy_books_have_room : (c : CampaignValue) (book_bound : BookBound) → ((e : BooksEntry) (t : Thing) → book_bound e t ≤ asked_room) → IsRoomy c → HaveRoom book_bound c
 roomy_books_have_room c book_bound little room = room_less book_bound (λ e t. asked_room) c little room
 
--- Roomy books (`IsRoomy`) have room for all that the phases from FORM to PRODUCE may book together.
 pub room_for_orders : (c : CampaignValue) → IsRoomy c → HaveRoom orders_bound c
 room_for_orders c = roomy_books_have_room c orders_bound (λ e t. omega (arith, phases_little e t))
 
@@ -39,32 +38,23 @@ moved_amount_is_bounded : (b : Bool) (moved : ℕ) → moved ≤ (if b then most
 moved_amount_is_bounded true moved l = l
 moved_amount_is_bounded false moved l = omega (arith, l)
 
--- A phase that moves only its own entries (`MovesItsOwn`) moves each amount, that of thing `t` under entry `e`, by at
--- most `most_moved`.
 moves_little : (phase : PhaseSpec) → MovesItsOwn phase → (e : BooksEntry) (t : Thing) → phase.book_bound e t ≤ most_moved
 moves_little phase own e t = moved_amount_is_bounded (may_move phase.moved e t) (phase.book_bound e t) (own e t)
 
--- Roomy books (`IsRoomy`) have room for all that a phase may book, if the phase moves only its own entries
--- (`MovesItsOwn`).
 room_for_phase : (phase : PhaseSpec) → MovesItsOwn phase → (c : CampaignValue) → IsRoomy c → HaveRoom phase.book_bound c
 room_for_phase phase own c = roomy_books_have_room c phase.book_bound (λ e t. omega (arith, moves_little phase own e t))
 
--- Roomy books (`IsRoomy`) have room for all that the phase WORK may book.
 pub room_for_work : (c : CampaignValue) → IsRoomy c → HaveRoom work_spec.book_bound c
 room_for_work = room_for_phase work_spec work_alone
 
--- Roomy books (`IsRoomy`) have room for all that upkeep may book.
 pub room_for_upkeep : (c : CampaignValue) → IsRoomy c → HaveRoom upkeep_spec.book_bound c
 room_for_upkeep = room_for_phase upkeep_spec upkeep_alone
 
--- Roomy books (`IsRoomy`) have room for all that the season may book.
 pub room_for_season : (c : CampaignValue) → IsRoomy c → HaveRoom season_spec.book_bound c
 room_for_season = room_for_phase season_spec season_alone
 
--- Roomy books (`IsRoomy`) have room for all that two seasons, one after the other, may book.
 pub room_for_seasons : (c : CampaignValue) → IsRoomy c → HaveRoom (both_move season_spec.book_bound season_spec.book_bound) c
 room_for_seasons c = roomy_books_have_room c (both_move season_spec.book_bound season_spec.book_bound) (λ e t. omega (arith, moves_little season_spec season_alone e t))
 
--- Roomy books (`IsRoomy`) have room for all that the sweep may book.
 pub room_for_sweep : (c : CampaignValue) → IsRoomy c → HaveRoom sweep_spec.book_bound c
 room_for_sweep = room_for_phase sweep_spec sweep_alone

@@ -8,13 +8,10 @@ use atl_campaign::{BooksEntry, Campaign, ENTRY_COUNT, Thing};
 use atl_world::World;
 use std::alloc::{AllocError, Global};
 
-/// The index of money among the things of the books.
 const MONEY: usize = 0;
 
-/// The index of people among the things of the books.
 const PEOPLE: usize = 1;
 
-/// The index of the first item among the things of the books.
 const FIRST_ITEM: usize = 2;
 
 /// All entries of the books with their names in files of cases.
@@ -71,7 +68,6 @@ fn write_thing(
     Ok(())
 }
 
-/// Appends a line for each entry and thing whose booked amount changed.
 pub(crate) fn write_books(
     alloc: Global,
     world: &World,

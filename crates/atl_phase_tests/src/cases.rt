@@ -28,7 +28,6 @@ fn write_event(alloc: Global, event: &Event, report: &mut String) -> Result<(), 
     report.push_str(line.as_str())
 }
 
-/// The differences between two campaigns and the outcomes of the orders, as lines.
 fn result_between(
     alloc: Global,
     world: &World,
@@ -44,7 +43,6 @@ fn result_between(
     Ok(report)
 }
 
-/// The result of a case, as lines: the changes of the campaign, and the outcomes of its orders.
 fn result_of(
     alloc: Global,
     world: &World,
@@ -70,14 +68,12 @@ struct FilePlayer {
     report: String,
 }
 
-/// Drops the world, the setting, the current case and the report.
 impl Drop for FilePlayer {
     fn drop(self) {
         let_go!(self: FilePlayer { world, setting, run, case, played, report });
     }
 }
 
-/// Reads a file of cases line by line, and plays each case once it is read.
 impl FilePlayer {
     /// The state in which a file of cases begins: a campaign of two factions without units, the run
     /// `orders`, and no case yet.
@@ -104,7 +100,6 @@ impl FilePlayer {
         Ok(())
     }
 
-    /// Plays the case that was read last, if there is one.
     fn finish(&mut self, alloc: Global) -> Result<(), Failed> {
         match self.case.take() {
             Some(case) => self.play(alloc, &case),
@@ -112,7 +107,6 @@ impl FilePlayer {
         }
     }
 
-    /// Adds what a line says, such as a unit, to the campaign of the next cases, `count` times.
     fn add_to_campaign(&mut self, count: u32, line: &str) -> Option<()> {
         let (word, rest) = line.split_once(' ')?;
         for _ in 0..count {
@@ -121,7 +115,6 @@ impl FilePlayer {
         Some(())
     }
 
-    /// Adds what a `times` line says to the campaign of the next cases, as often as its count says.
     fn set_times(&mut self, text: &str) -> Option<()> {
         let (count, line) = text.split_once(' ')?;
         self.add_to_campaign(count.parse::<u32>().ok()?, line)
@@ -151,7 +144,6 @@ impl FilePlayer {
         Ok(())
     }
 
-    /// Plays the last case, and begins one with a title.
     fn begin_case(&mut self, alloc: Global, title: &str) -> Result<(), Failed> {
         self.finish(alloc)?;
         self.case = Some(Case::new(alloc, title)?);
@@ -186,7 +178,6 @@ impl FilePlayer {
         self.report.push_str(line.as_str())
     }
 
-    /// Carries out all lines of a file after the first, and plays the last case.
     fn read_lines(&mut self, alloc: Global, lines: Lines<'_>) -> Result<(), Failed> {
         for (index, line) in lines.enumerate() {
             if let Err(failed) = self.read(alloc, line) {
@@ -197,7 +188,6 @@ impl FilePlayer {
     }
 }
 
-/// The text of the file at a path.
 fn text_at(rt: &HostRuntime, path: &str) -> Result<String, Failed> {
     match fs::read_to_string(rt, path) {
         Ok(text) => Ok(text),
@@ -205,7 +195,6 @@ fn text_at(rt: &HostRuntime, path: &str) -> Result<String, Failed> {
     }
 }
 
-/// The world of the file at a path.
 fn world_at(rt: &HostRuntime, path: &str) -> Result<World, Failed> {
     let text = text_at(rt, path)?;
     match read_world(rt.alloc(), text.as_str()) {

@@ -6,8 +6,6 @@ use atl_campaign::{Campaign, Faction, Region, Structure, Unit};
 use atl_world::World;
 use std::alloc::{AllocError, Global};
 
-// ---- units
-
 /// A unit's faction, region, structure, men, money and guard flag; zeros if there is no unit.
 fn numbers_of(unit: Option<&Unit>) -> [i64; 6] {
     match unit {
@@ -26,7 +24,6 @@ fn numbers_of(unit: Option<&Unit>) -> [i64; 6] {
 /// The names of a unit's numbers in the result of a case, in the order of `numbers_of`.
 static NUMBERS: [&str; 6] = ["faction", "region", "inside", "men", "money", "guard"];
 
-/// The name of a unit, or an empty text if there is no unit.
 fn unit_name(unit: Option<&Unit>) -> &str {
     match unit {
         Some(found) => found.holding.name().as_str(),
@@ -34,7 +31,6 @@ fn unit_name(unit: Option<&Unit>) -> &str {
     }
 }
 
-/// How much a unit has of an item; 0 if there is no unit.
 fn amount_of(unit: Option<&Unit>, item: u32) -> i64 {
     match unit {
         Some(found) => i64::from(found.holding.amount(item)),
@@ -42,7 +38,6 @@ fn amount_of(unit: Option<&Unit>, item: u32) -> i64 {
     }
 }
 
-/// A unit's days of a skill; 0 if there is no unit.
 fn days_of(unit: Option<&Unit>, skill: u32) -> i64 {
     match unit {
         Some(found) => i64::from(found.holding.days_of(skill)),
@@ -50,7 +45,6 @@ fn days_of(unit: Option<&Unit>, skill: u32) -> i64 {
     }
 }
 
-/// Appends a line for each item of which a unit has more or less than before.
 fn write_goods(
     alloc: Global,
     world: &World,
@@ -68,7 +62,6 @@ fn write_goods(
     Ok(())
 }
 
-/// Appends a line for each skill of which a unit has more or fewer days than before.
 fn write_skills(
     alloc: Global,
     world: &World,
@@ -86,7 +79,6 @@ fn write_skills(
     Ok(())
 }
 
-/// Appends the changes of a unit: its name, its numbers, its items and its skills.
 fn write_unit(
     alloc: Global,
     world: &World,
@@ -151,8 +143,6 @@ fn write_new_units(
     Ok(())
 }
 
-// ---- structures
-
 /// A structure's region, how much is built, and its owner; zeros if there is no structure.
 fn structure_numbers(structure: Option<&Structure>) -> [i64; 3] {
     match structure {
@@ -168,7 +158,6 @@ fn structure_numbers(structure: Option<&Structure>) -> [i64; 3] {
 /// The names of a structure's numbers in the result of a case, in the order of `structure_numbers`.
 static STRUCTURE_NUMBERS: [&str; 3] = ["region", "done", "owner"];
 
-/// The name of a structure and that of its kind; empty texts if there is no structure.
 fn names_of<'a>(world: &'a World, structure: Option<&'a Structure>) -> (&'a str, &'a str) {
     let Some(found) = structure else {
         return ("", "");
@@ -179,7 +168,6 @@ fn names_of<'a>(world: &'a World, structure: Option<&'a Structure>) -> (&'a str,
     }
 }
 
-/// Appends the changes of a structure: its names and its numbers.
 fn write_structure(
     alloc: Global,
     world: &World,
@@ -198,7 +186,6 @@ fn write_structure(
     Ok(())
 }
 
-/// Appends the changes of all structures, new ones too.
 fn write_structures(
     alloc: Global,
     world: &World,
@@ -220,9 +207,6 @@ fn write_structures(
     Ok(())
 }
 
-// ---- regions and factions
-
-/// Appends a line for each item of which a region has more or less in stock than before.
 fn write_stocks(
     alloc: Global,
     world: &World,
@@ -241,7 +225,6 @@ fn write_stocks(
     Ok(())
 }
 
-/// Appends the changes of a region: peasants, money and stocks; `append_number` is its number.
 fn write_region(
     alloc: Global,
     world: &World,
@@ -258,7 +241,6 @@ fn write_region(
     write_stocks(alloc, world, of.as_str(), old, new, output)
 }
 
-/// Appends the changes of all regions.
 fn write_regions(
     alloc: Global,
     world: &World,
@@ -274,8 +256,6 @@ fn write_regions(
     Ok(())
 }
 
-/// Appends the changes of a faction: its name, and whether it is gone; `append_number` is its
-/// number.
 fn write_faction(
     alloc: Global,
     number: u32,
@@ -302,7 +282,6 @@ fn write_faction(
     )
 }
 
-/// Appends the changes of all factions.
 fn write_factions(
     alloc: Global,
     before: &Campaign,
@@ -317,9 +296,6 @@ fn write_factions(
     Ok(())
 }
 
-// ---- the numbers that come next
-
-/// Appends the numbers that the next unit and the next structure get, if they changed.
 fn write_nexts(
     alloc: Global,
     before: &Campaign,

@@ -5,14 +5,12 @@ use std::alloc::{AllocError, AllocFailed};
 #[derive(Clone, Copy)]
 pub(crate) struct Failed(pub &'static str);
 
-/// A failed allocation, as the words `no memory`.
 impl From<AllocError> for Failed {
     fn from(_error: AllocError) -> Failed {
         Failed("no memory")
     }
 }
 
-/// A failed allocation that gives back a value, as the words `no memory`; the value is dropped.
 impl<T: Drop> From<AllocFailed<T>> for Failed {
     fn from(_error: AllocFailed<T>) -> Failed {
         Failed("no memory")

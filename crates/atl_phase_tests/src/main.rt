@@ -16,7 +16,6 @@ mod settings;
 use crate::failed::Failed;
 use std::{env, io};
 
-/// Plays each file of the command line, and prints its count of cases and those that differ.
 fn run(rt: &HostRuntime) -> io::Result<()> {
     let words: Vec<String> = env::args(rt)?.collect(rt.alloc())?;
     for path in words.iter().skip(1) {
@@ -28,7 +27,6 @@ fn run(rt: &HostRuntime) -> io::Result<()> {
     Ok(())
 }
 
-/// Plays the files of the command line, and returns an error of reading it or of printing.
 fn main(rt: HostRuntime) -> io::Result<()> {
     run(&rt)
 }

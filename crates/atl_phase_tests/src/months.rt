@@ -11,7 +11,6 @@ use atl_state::are_distinct;
 use atl_world::World;
 use std::alloc::{AllocError, Global};
 
-/// The mailings that `texts` are read as, in the same order; a text that is refused is a failure.
 fn mailings_of(alloc: Global, world: &World, texts: &[String]) -> Result<Vec<Mailing>, Failed>
     ensures { IfOk result (λ mailings. All (IsReadWith world.now) mailings.items) }
 {
@@ -25,7 +24,6 @@ fn mailings_of(alloc: Global, world: &World, texts: &[String]) -> Result<Vec<Mai
     Ok(mailings)
 }
 
-/// The faction of each mailing, in the same order.
 fn factions_of(alloc: Global, mailings: &[Mailing]) -> Result<Vec<u32>, AllocError>
     ensures { IfOk result (λ factions. factions.items ≡ map (λ m. m.faction) mailings.now) }
 {

@@ -32,7 +32,6 @@ pub(crate) enum Run {
     Month,
 }
 
-/// The phases by the names that files of cases give them.
 static RUNS: [(&str, Run); 7] = [
     ("orders", Run::Orders),
     ("work", Run::Work),
@@ -43,9 +42,7 @@ static RUNS: [(&str, Run); 7] = [
     ("month", Run::Month),
 ];
 
-/// Looks phases up by the name that files of cases give them.
 impl Run {
-    /// The phases that files of cases call `name`; None if `RUNS` doesn't have the name.
     pub fn of_name(name: &str) -> Option<Run> {
         for (listed, run) in RUNS.iter() {
             if name == *listed {
@@ -70,7 +67,6 @@ fn carry_out(
     OrderPhases.run(alloc, world, campaign, month)
 }
 
-/// Plays the phase WORK.
 fn work(
     alloc: Global,
     world: &World,
@@ -84,7 +80,6 @@ fn work(
     WorkPhase.run(alloc, world, campaign, month)
 }
 
-/// Plays the phase of upkeep.
 fn pay_upkeep(
     alloc: Global,
     world: &World,
@@ -98,7 +93,6 @@ fn pay_upkeep(
     UpkeepPhase.run(alloc, world, campaign, month)
 }
 
-/// Plays the season.
 fn play_season(
     alloc: Global,
     world: &World,
@@ -112,7 +106,6 @@ fn play_season(
     SeasonPhase.run(alloc, world, campaign, month)
 }
 
-/// Plays the season twice, with the same words of the dice.
 fn play_seasons(
     alloc: Global,
     world: &World,
@@ -126,7 +119,6 @@ fn play_seasons(
     (SeasonPhase, SeasonPhase).run(alloc, world, campaign, month)
 }
 
-/// Plays the sweep.
 fn sweep(
     alloc: Global,
     world: &World,
@@ -164,7 +156,6 @@ fn run_phases(
     }
 }
 
-/// Closes a whole month of the campaign of a setting; the result is the campaign and the events.
 fn close(
     alloc: Global,
     world: &World,
@@ -182,8 +173,6 @@ fn close(
     Ok(close_month(alloc, world, campaign, mailings, words)?)
 }
 
-/// Plays the phases of `run` on the campaign of a setting; the result is the campaign and the
-/// events.
 pub(crate) fn played(
     alloc: Global,
     world: &World,

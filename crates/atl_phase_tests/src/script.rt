@@ -12,16 +12,13 @@ pub(crate) struct Case {
     pub wanted: String,
 }
 
-/// Drops the texts and the words of a case.
 impl Drop for Case {
     fn drop(self) {
         let_go!(self: Case { title, mailings, words, wanted });
     }
 }
 
-/// Makes a case, and adds to it what one line of its file says.
 impl Case {
-    /// A case with a title, without mailings, words and lines.
     pub fn new(alloc: Global, title: &str) -> Result<Case, AllocError> {
         Ok(Case {
             title: String::from_str(alloc, title)?,
@@ -40,7 +37,6 @@ impl Case {
         Ok(())
     }
 
-    /// Appends a line of the expected result.
     fn add_wanted(&mut self, line: &str) -> Result<(), AllocError> {
         self.wanted.push_str(line)?;
         self.wanted.push_str("\n")
@@ -118,22 +114,18 @@ fn read_stock(world: &World, text: &str) -> Option<StockSetting> {
     })
 }
 
-/// Adds the unit of a `unit` line to a setting.
 fn add_unit(setting: &mut Setting, text: &str) -> Option<()> {
     setting.units.push(unit(text)?).ok()
 }
 
-/// Adds the goods or days of a `has` line to a setting.
 fn add_goods(world: &World, setting: &mut Setting, text: &str) -> Option<()> {
     setting.has.push(good_setting(world, text)?).ok()
 }
 
-/// Adds the stock of a `stock` line to a setting.
 fn add_stock(world: &World, setting: &mut Setting, text: &str) -> Option<()> {
     setting.stocks.push(read_stock(world, text)?).ok()
 }
 
-/// Adds the structure of a `structure` line to a setting.
 fn add_structure(world: &World, setting: &mut Setting, text: &str) -> Option<()> {
     setting.structures.push(structure(world, text)?).ok()
 }

@@ -62,14 +62,12 @@ pub(crate) struct Setting {
     pub next_unit: i64,
 }
 
-/// Drops the lists of a setting.
 impl Drop for Setting {
     fn drop(self) {
         let_go!(self: Setting { units, has, stocks, structures, menless, next_unit });
     }
 }
 
-/// Makes a setting without units, and says which number its next unit gets.
 impl Setting {
     /// A setting of two factions without units.
     pub fn new(alloc: Global) -> Setting {
@@ -98,25 +96,18 @@ static FACTIONS: [&str; 2] = ["Avalon", "Bree"];
 /// The number of the faction that would join next, after those of `FACTIONS`.
 const NEXT_FACTION: i64 = 3;
 
-/// The id of the campaign's own row.
 const CAMPAIGN_ID: i64 = 1;
 
-/// The number of the tables' format in the campaign's own row: the second.
 const CAMPAIGN_FORMAT: i64 = 2;
 
-/// The number of the entry Joining in the books.
 const JOINING: i64 = 2;
 
-/// The number of the thing money in the books.
 const MONEY: i64 = 0;
 
-/// The number of the thing people in the books.
 const PEOPLE: i64 = 1;
 
-/// The number of the first item among the things of the books.
 const FIRST_ITEM: i64 = 2;
 
-/// The campaign row of a setting, in a sequence of its own.
 fn head(alloc: Global, setting: &Setting) -> Result<Sequence<StoredCampaignRow>, AllocError> {
     let mut all = Sequence::new(alloc);
     all.push(StoredCampaignRow {
@@ -148,7 +139,6 @@ fn faction(
     })
 }
 
-/// The rows of both factions.
 fn factions(alloc: Global, units: &[UnitSetting]) -> Result<Sequence<StoredFaction>, AllocError> {
     let mut all = Sequence::new(alloc);
     let mut number: i64 = 0;
@@ -159,7 +149,6 @@ fn factions(alloc: Global, units: &[UnitSetting]) -> Result<Sequence<StoredFacti
     Ok(all)
 }
 
-/// The rows of the reports, one for each faction.
 fn reports(alloc: Global) -> Result<Sequence<StoredReport>, AllocError> {
     let mut all = Sequence::new(alloc);
     for faction in 1..NEXT_FACTION {
@@ -171,7 +160,6 @@ fn reports(alloc: Global) -> Result<Sequence<StoredReport>, AllocError> {
     Ok(all)
 }
 
-/// The row of the unit `number`, with the values that its setting gives.
 fn unit(alloc: Global, number: i64, stood: &UnitSetting) -> Result<StoredUnit, AllocError> {
     Ok(StoredUnit {
         number,
@@ -185,7 +173,6 @@ fn unit(alloc: Global, number: i64, stood: &UnitSetting) -> Result<StoredUnit, A
     })
 }
 
-/// The rows of the units, numbered from 1.
 fn units_of(alloc: Global, units: &[UnitSetting]) -> Result<Sequence<StoredUnit>, AllocError> {
     let mut all = Sequence::new(alloc);
     let mut number: i64 = 0;
@@ -196,7 +183,6 @@ fn units_of(alloc: Global, units: &[UnitSetting]) -> Result<Sequence<StoredUnit>
     Ok(all)
 }
 
-/// The rows of the items and skills that the units have.
 fn has_of(alloc: Global, has: &[GoodSetting]) -> Result<Sequence<StoredHas>, AllocError> {
     let mut all = Sequence::new(alloc);
     for had in has {
@@ -210,7 +196,6 @@ fn has_of(alloc: Global, has: &[GoodSetting]) -> Result<Sequence<StoredHas>, All
     Ok(all)
 }
 
-/// The rows of the stocks of markets.
 fn markets_of(
     alloc: Global,
     stocks: &[StockSetting],
@@ -226,7 +211,6 @@ fn markets_of(
     Ok(all)
 }
 
-/// The row of the structure `number`, with the values that its setting gives.
 fn structure(
     alloc: Global,
     number: i64,
@@ -242,7 +226,6 @@ fn structure(
     })
 }
 
-/// The rows of the structures, numbered from 1.
 fn structures_of(
     alloc: Global,
     structures: &[StructureSetting],
@@ -268,7 +251,6 @@ fn book(books: &mut Sequence<StoredBooks>, thing: i64, amount: i64) -> Result<()
     Ok(())
 }
 
-/// How much of an item all units of a setting have together.
 fn all_of(has: &[GoodSetting], item: i64) -> i64 {
     let mut sum: i64 = 0;
     for had in has {
@@ -279,7 +261,6 @@ fn all_of(has: &[GoodSetting], item: i64) -> i64 {
     sum
 }
 
-/// How much of an item all regions of a setting have in stock together.
 fn all_in_stock(stocks: &[StockSetting], item: i64) -> i64 {
     let mut sum: i64 = 0;
     for stock in stocks {
@@ -290,7 +271,6 @@ fn all_in_stock(stocks: &[StockSetting], item: i64) -> i64 {
     sum
 }
 
-/// The money and the men that all units of a setting have together.
 fn money_and_men(units: &[UnitSetting]) -> (i64, i64) {
     let mut money: i64 = 0;
     let mut men: i64 = 0;
@@ -339,7 +319,6 @@ fn fill(
     Ok(())
 }
 
-/// All rows of the campaign of a setting.
 fn rows_of(alloc: Global, world: &World, setting: &Setting) -> Result<Parts, AllocError> {
     let mut parts = founded(alloc, world, b"gm")?.parts()?;
     fill(alloc, world, setting, &mut parts)?;
@@ -374,7 +353,6 @@ fn empty_unit(alloc: Global, world: &World, campaign: &mut Campaign, number: u32
     }
 }
 
-/// Takes all men and all days of study from each unit in `units`.
 fn empty_units(alloc: Global, world: &World, campaign: &mut Campaign, units: &[u32])
     requires early { IsEarly world.now campaign.old.value }
     ensures early { IsEarly world.now campaign.new.value }

@@ -11,13 +11,11 @@ use Rattle.atl_records.specs.declared.books.Thing.TheVariants.{Money, People, It
 use Rattle.atl_records.specs.Books.{Account, account_cmp, all_entries, entry_index, thing_at, thing_index}
 use Rattle.atl_records.proofs.EveryEntryLaws.{entry_there}
 
--- the thing that thing_at gives for the number i has the number i
 pub index_of_thing_at : (i : ℕ) → thing_index (thing_at i) ≡ i
 index_of_thing_at zero = refl
 index_of_thing_at (suc zero) = refl
 index_of_thing_at (suc (suc i)) = omega arith
 
--- thing_at gives for the number of thing t the thing t
 pub thing_at_index : (t : Thing) → thing_at (thing_index t) ≡ t
 thing_at_index Money = refl
 thing_at_index People = refl
@@ -29,37 +27,29 @@ thing_at_index (Item i) = item_at (2 + i) i (omega arith)
 
 -- ---- things and entries with equal numbers
 
--- things with the same number are equal
 pub same_thing : (t u : Thing) → thing_index t ≡ thing_index u → t ≡ u
 same_thing t u h = sym (thing_at_index t) ∙ ap thing_at h ∙ thing_at_index u
 
--- the entries d and e are equal, if Some d and Some e are
 same_some_entry : (d e : BooksEntry) → Some d ≡ Some e → d ≡ e
 same_some_entry d e h = cc
 
--- entries with the same index are equal
 pub same_entry : (d e : BooksEntry) → entry_index d ≡ entry_index e → d ≡ e
 same_entry d e h = same_some_entry d e (sym (entry_there d) ∙ ap (slice_get all_entries) h ∙ entry_there e)
 
--- accounts whose entries have the same index, and whose things the same number, are equal
 pub same_account : (e f : BooksEntry) (t u : Thing) → entry_index e ≡ entry_index f → thing_index t ≡ thing_index u → ◌≡◌ {A = Account} (e, t) (f, u)
 same_account e f t u entries things i = (same_entry e f entries i, same_thing t u things i)
 
 -- ---- the order of accounts
 
--- account_cmp, the order of accounts by entry and then by thing, is a total order
 pub account_total : IsTotalOrder account_cmp
 account_total = then_total (on_total (λ (a : Account). entry_index a.0) nat_cmp_total) (on_total (λ (a : Account). thing_index a.1) nat_cmp_total)
 
--- Less is not Equal: if they were equal, any statement P would hold
 less_is_not_equal : {P : Type 0} → Less ≡ Equal → P
 less_is_not_equal e = cc
 
--- Greater is not Equal: if they were equal, any statement P would hold
 greater_is_not_equal : {P : Type 0} → Greater ≡ Equal → P
 greater_is_not_equal e = cc
 
--- accounts (entries with things) that account_cmp calls equal are equal
 pub account_same : IsAntisymmetric account_cmp
 account_same a b is =
     elim (nat_cmp (entry_index a.0) (entry_index b.0)) as (λ o. nat_cmp (entry_index a.0) (entry_index b.0) ≡ o → ordering_then o (nat_cmp (thing_index a.1) (thing_index b.1)) ≡ Equal → a ≡ b) [
@@ -68,7 +58,6 @@ account_same a b is =
       | Greater ↦ λ _ e. greater_is_not_equal e
     ] refl is
 
--- two accounts (entries with things) are equal, or account_cmp doesn't call them equal
 pub cases_account : (a b : Account) → (a ≡ b) ⊎ (eq_by_cmp account_cmp a b ≡ false)
 cases_account a b =
     elim (account_cmp a b) as (λ o. account_cmp a b ≡ o → (a ≡ b) ⊎ (is_eq o ≡ false)) [
@@ -77,14 +66,11 @@ cases_account a b =
       | Greater ↦ λ _. inr refl
     ] refl
 
--- account_cmp calls an account (an entry with a thing) equal to itself
 pub account_itself : (a : Account) → eq_by_cmp account_cmp a a ≡ true
 account_itself a = ap is_eq (tied_itself account_total a)
 
--- account_cmp doesn't call accounts with different entries equal
 pub apart_entries : (a b : Account) → entry_index a.0 ≢ entry_index b.0 → eq_by_cmp account_cmp a b ≡ false
 apart_entries a b h = elim (cases_account a b) [ inl same ↦ absurd (h (ap (λ (c : Account). entry_index c.0) same)) | inr apart ↦ apart ]
 
--- account_cmp doesn't call accounts with different things equal
 pub apart_things : (a b : Account) → thing_index a.1 ≢ thing_index b.1 → eq_by_cmp account_cmp a b ≡ false
 apart_things a b h = elim (cases_account a b) [ inl same ↦ absurd (h (ap (λ (c : Account). thing_index c.1) same)) | inr apart ↦ apart ]

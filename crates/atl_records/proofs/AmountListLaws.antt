@@ -20,58 +20,45 @@ use Rattle.atl_records.proofs.GridLaws.{any_accounts}
 
 -- ---- sorted accounts
 
--- account a (an entry with a thing) is less than each account of a list, by account_cmp
 abbrev pub IsLessThanAll : Account → List Account → Type 0
 IsLessThanAll a chosen = AllByRecursion (λ c. account_cmp a c ≡ Less) chosen
 
--- a list of accounts (entries with things) is strictly sorted by account_cmp
 abbrev pub AreSortedAccounts : List Account → Type 0
 AreSortedAccounts [] = ⊤
 AreSortedAccounts (a ∷ others) = IsLessThanAll a others × AreSortedAccounts others
 
--- an account whose entry has a lower index is less by account_cmp
 less_entry : (a b : Account) → entry_index a.0 < entry_index b.0 → account_cmp a b ≡ Less
 less_entry a b h = ap (λ o. ordering_then o (nat_cmp (thing_index a.1) (thing_index b.1))) (sym (nat_cmp_is (entry_index a.0) (entry_index b.0) Less h))
 
--- of two accounts of one entry, the one whose thing has the lower number is less by account_cmp
 less_thing : (e : BooksEntry) (i k : ℕ) → i < k → account_cmp (e, thing_at i) (e, thing_at k) ≡ Less
 less_thing e i k h =
     ap (λ o. ordering_then o (nat_cmp (thing_index (thing_at i)) (thing_index (thing_at k)))) (tied_itself nat_cmp_total (entry_index e)) ∙ (λ j. nat_cmp (index_of_thing_at i j) (index_of_thing_at k j)) ∙ sym (nat_cmp_is i k Less h)
 
--- a condition P holds of all elements of two lists joined, if it holds of the elements of each
 all_append : {A : Type 0} (P : A → Type 0) (xs ys : List A) → AllByRecursion P xs → AllByRecursion P ys → AllByRecursion P (xs ++ ys)
 all_append P [] ys h k = k
 all_append P (x ∷ xs) ys h k = (h.0, all_append P xs ys h.1 k)
 
--- two sorted lists of accounts are one sorted list when joined, if each account of the first is less than all of the
--- second
 sorted_append : (xs ys : List Account) → AreSortedAccounts xs → AreSortedAccounts ys → AllByRecursion (λ x. IsLessThanAll x ys) xs → AreSortedAccounts (xs ++ ys)
 sorted_append [] ys h k all = k
 sorted_append (x ∷ xs) ys h k all = (all_append (λ c. account_cmp x c ≡ Less) xs ys h.0 all.0, sorted_append xs ys h.1 k all.1)
 
--- a condition P holds of all accounts of an entry with the things of a list, if it holds of the entry's account with
--- every thing
 all_under : (P : Account → Type 0) (e : BooksEntry) (numbers : List ℕ) → ((i : ℕ) → P (e, thing_at i)) → AllByRecursion P (map (λ i. (e, thing_at i)) numbers)
 all_under P e [] h = tt
 all_under P e (i ∷ numbers) h = (h i, all_under P e numbers h)
 
--- an entry's account with thing i is less than its accounts with the n things from number a on, if i is below a
 account_is_less_than_later : (e : BooksEntry) (i a n : ℕ) → i < a → IsLessThanAll (e, thing_at i) (map (λ k. (e, thing_at k)) (range_with_len a n))
 account_is_less_than_later e i a zero h = tt
 account_is_less_than_later e i a (suc n) h = (less_thing e i a h, account_is_less_than_later e i (a + 1) n (omega arith))
 
--- the accounts of an entry with the n things from number a on are sorted
 accounts_of_entry_are_sorted : (e : BooksEntry) (a n : ℕ) → AreSortedAccounts (map (λ i. (e, thing_at i)) (range_with_len a n))
 accounts_of_entry_are_sorted e a zero = tt
 accounts_of_entry_are_sorted e a (suc n) = (account_is_less_than_later e a (a + 1) n (omega arith), accounts_of_entry_are_sorted e (a + 1) n)
 
--- whether the entries of a list are strictly sorted by index
 are_ascending : List BooksEntry → Bool
 are_ascending [] = true
 are_ascending (e ∷ es) = list_all (λ d. nat_lt (entry_index e) (entry_index d)) es && are_ascending es
 
 module _ (things : ℕ) where
-  -- an account is less than all accounts of entries with higher indices than its own
   after_flat : (a : Account) (es : List BooksEntry) → list_all (λ d. nat_lt (entry_index a.0) (entry_index d)) es ≡ true → IsLessThanAll a (flat_map (accounts_under things) es)
   after_flat a [] h = tt
   after_flat a (d ∷ es) h =
@@ -80,7 +67,6 @@ module _ (things : ℕ) where
       all_append (λ c. account_cmp a c ≡ Less) (accounts_under things d) (flat_map (accounts_under things) es) (all_under (λ c. account_cmp a c ≡ Less) d (range_with_len 0 things) (λ i. less_entry a (d, thing_at i) before))
       (after_flat a es parts.1)
 
-  -- the accounts of entries in ascending order, one entry after the other, are sorted
   flat_rise : (es : List BooksEntry) → are_ascending es ≡ true → AreSortedAccounts (flat_map (accounts_under things) es)
   unfolding are_ascending
   flat_rise [] h = tt
@@ -89,12 +75,10 @@ module _ (things : ℕ) where
       sorted_append (accounts_under things e) (flat_map (accounts_under things) es) (accounts_of_entry_are_sorted e 0 things) (flat_rise es parts.1)
       (all_under (λ x. IsLessThanAll x (flat_map (accounts_under things) es)) e (range_with_len 0 things) (λ i. after_flat (e, thing_at i) es parts.0))
 
-  -- the accounts of all entries with the things whose numbers are below `things` are sorted by account_cmp
   accounts_rise : AreSortedAccounts (accounts things)
   unfolding are_ascending
   accounts_rise = flat_rise all_entries refl
 
--- the list of a map from accounts to amounts (`entries`) is sorted by account_cmp
 pub amounts_sorted : (m : FinMap account_cmp ℤ) → is_sorted account_cmp (entries m) ≡ true
 amounts_sorted m = is_true _ (entries_sorted m)
 
@@ -107,7 +91,6 @@ none_either true o h = h
 none_either false o h = refl
 
 module _ (amount : Account → ℤ) where
-  -- an account less than all accounts of a list (`IsLessThanAll`) is less than all those of them that `listed_of` keeps
   after_listed : (a : Account) (chosen : List Account) → IsLessThanAll a chosen → below_all account_cmp a (listed_of amount chosen) ≡ true
   after_listed a [] h = refl
   after_listed a (c ∷ others) h =
@@ -117,7 +100,6 @@ module _ (amount : Account → ℤ) where
         | false ↦ ap (λ o. is_lt o && below_all account_cmp a rest) h.0 ∙ after_listed a others h.1
       ]
 
-  -- what `listed_of` keeps of a sorted list of accounts is sorted by account_cmp
   sorted_listed : (chosen : List Account) → AreSortedAccounts chosen → is_sorted account_cmp (listed_of amount chosen) ≡ true
   sorted_listed [] h = refl
   sorted_listed (c ∷ others) h =
@@ -165,18 +147,15 @@ entries-amounts things books are =
 
 -- ---- what is so of each amount
 
--- an account that account_cmp calls less than another doesn't compare equal to it
 less_apart : (a b : Account) → is_lt (account_cmp a b) ≡ true → eq_by_cmp account_cmp a b ≡ false
 less_apart a b h = elim (account_cmp a b) as (λ o. is_lt o ≡ true → is_eq o ≡ false) [ Less ↦ λ _. refl | Equal ↦ λ not. absurd (false≢true not) | Greater ↦ λ _. refl ] h
 
--- an account less than all of a list is not found in it
 none_before : (a : Account) (es : List (Account × ℤ)) → below_all account_cmp a es ≡ true → find account_cmp a es ≡ None
 none_before a [] h = refl
 none_before a (e ∷ es) h =
     let parts = and_parts (is_lt (account_cmp a e.0)) (below_all account_cmp a es) h in
     ap (λ b. cond b (Some e.1) (find account_cmp a es)) (less_apart a e.0 parts.0) ∙ none_before a es parts.1
 
--- an amount that is found after the first entry of a sorted list is found in the whole list
 later_found : (e : Account × ℤ) (es : List (Account × ℤ)) (a : Account) (z : ℤ) → below_all account_cmp e.0 es ≡ true → find account_cmp a es ≡ Some z → find account_cmp a (e ∷ es) ≡ Some z
 later_found e es a z h is =
     elim (cases_account a e.0) [
@@ -185,14 +164,12 @@ later_found e es a z h is =
     ]
 
 module _ (P : Account → ℤ → Type 0) where
-  -- if P holds of each account and amount found in a sorted list, it holds of each element of the list
   each_of : (es : List (Account × ℤ)) → is_sorted account_cmp es ≡ true → ((a : Account) (z : ℤ) → find account_cmp a es ≡ Some z → P a z) → AllByRecursion (λ x. P x.0 x.1) es
   each_of [] s h = tt
   each_of (e ∷ es) s h =
       let parts = and_parts (below_all account_cmp e.0 es) (is_sorted account_cmp es) s in
       (h e.0 e.1 (ap (λ b. cond b (Some e.1) (find account_cmp e.0 es)) (account_itself e.0)), each_of es parts.1 (λ a z is. h a z (later_found e es a z parts.0 is)))
 
-  -- if P holds of each element of a list, it holds of each account and amount found in it
   found_of : (es : List (Account × ℤ)) (a : Account) (z : ℤ) → AllByRecursion (λ x. P x.0 x.1) es → find account_cmp a es ≡ Some z → P a z
   found_of [] a z h is = none_some z is
   found_of (e ∷ es) a z h is =
@@ -204,23 +181,18 @@ module _ (P : Account → ℤ → Type 0) where
         | inr apart ↦ found_of es a z h.1 (sym (ap (λ b. cond b (Some e.1) (find account_cmp a es)) apart) ∙ is)
       ]
     where
-      -- if Some x and Some y are equal, the amounts x and y are
       inside : (x y : ℤ) → Some x ≡ Some y → x ≡ y
       inside x y e = cc
 
-  -- if P holds of each account and amount of a map, it holds of each element of the map's list (`entries`)
   pub each_amount : (m : FinMap account_cmp ℤ) → ((a : Account) (z : ℤ) → get m a ≡ Some z → P a z) → AllByRecursion (λ x. P x.0 x.1) (entries m)
   each_amount m h = each_of (entries m) (amounts_sorted m) (λ a z is. h a z (get-entries m a ∙ is))
 
-  -- if P holds of each element of a map's list (`entries`), it holds of each account and amount of the map
   pub amount_of_each : (m : FinMap account_cmp ℤ) → AllByRecursion (λ x. P x.0 x.1) (entries m) → (a : Account) (z : ℤ) → get m a ≡ Some z → P a z
   amount_of_each m h a z is = found_of (entries m) a z h (sym (get-entries m a) ∙ is)
 
--- a list of length 0 is empty
 no_length : {A : Type 0} (xs : List A) → length xs ≡ 0 → xs ≡ []
 no_length [] h = refl
 no_length (x ∷ xs) h = absurd (omega arith)
 
--- the list of the empty map (`entries`) is empty
 pub entries-none : entries (empty {X = ℤ} {R = account_cmp}) ≡ []
 entries-none = no_length (entries (empty {X = ℤ} {R = account_cmp})) (sym (len-entries (empty {X = ℤ} {R = account_cmp})) ∙ len-empty account_cmp ℤ)

@@ -15,17 +15,14 @@ use Rattle.atl_records.proofs.EveryLaws.{none_some}
 
 -- ---- amounts of 0
 
--- an amount for which is_zero is true is 0
 pub zero_is : (z : ℤ) → is_zero z ≡ true → z ≡ pos 0
 zero_is (pos zero) h = refl
 zero_is (pos (suc n)) h = let none : (suc n == 0) ≡ false = grind (arith, nat_tests) in absurd (false≢true (sym none ∙ h))
 zero_is (negsuc n) h = absurd (false≢true h)
 
--- is_zero is false for an amount other than 0
 pub nonzero_fails_is_zero : (z : ℤ) → z ≢ pos 0 → is_zero z ≡ false
 nonzero_fails_is_zero z h = elim (is_zero z) as (λ b. is_zero z ≡ b → b ≡ false) [ true ↦ λ is. absurd (h (zero_is z is)) | false ↦ λ _. refl ] refl
 
--- an amount for which is_zero is false is not 0
 pub failing_is_nonzero : (z : ℤ) → is_zero z ≡ false → z ≢ pos 0
 failing_is_nonzero z h is = false≢true (sym h ∙ ap is_zero is)
 
@@ -33,11 +30,9 @@ failing_is_nonzero z h is = false≢true (sym h ∙ ap is_zero is)
 abbrev pub listing_of : ℤ → Option ℤ
 listing_of z = cond (is_zero z) None (Some z)
 
--- from how the books list an amount (`listing_of`), the amount is read back, with 0 for None
 pub amount_listed : (z : ℤ) → unwrap_or (listing_of z) (pos 0) ≡ z
 amount_listed z = elim (is_zero z) as (λ b. is_zero z ≡ b → unwrap_or (cond b None (Some z)) (pos 0) ≡ z) [ true ↦ λ is. sym (zero_is z is) | false ↦ λ _. refl ] refl
 
--- an amount that is listed as x is x, and x is not 0
 pub listed_some : (z x : ℤ) → listing_of z ≡ Some x → (z ≡ x) × (x ≢ pos 0)
 listed_some z x is =
     elim (is_zero z) as (λ b. is_zero z ≡ b → cond b None (Some z) ≡ Some x → (z ≡ x) × (x ≢ pos 0)) [
@@ -48,7 +43,6 @@ listed_some z x is =
 -- ---- an amount set
 
 module _ (books : BooksValue) (e : BooksEntry) (t : Thing) (z : ℤ) where
-  -- once an amount is set, the books list it under its entry and thing, if it isn't 0, and all other accounts as before
   pub get-with_amount : (a : Account) → get (with_amount books e t z).amounts a ≡ cond (eq_by_cmp account_cmp a (e, t)) (listing_of z) (get books.amounts a)
   get-with_amount a =
       elim (is_zero z) as (λ b. get (cond b (remove books.amounts (e, t)) (insert books.amounts (e, t) z)) a ≡ cond (eq_by_cmp account_cmp a (e, t)) (cond b None (Some z)) (get books.amounts a)) [
@@ -56,7 +50,6 @@ module _ (books : BooksValue) (e : BooksEntry) (t : Thing) (z : ℤ) where
         | false ↦ get-insert account_total books.amounts (e, t) z a
       ]
 
-  -- once an amount is set under an entry and a thing, it is read there, and each other amount is as before
   pub amount-with_amount : (f : BooksEntry) (u : Thing) → amount_in (with_amount books e t z) f u ≡ cond (eq_by_cmp account_cmp (f, u) (e, t)) z (amount_in books f u)
   amount-with_amount f u =
       ap (λ o. unwrap_or o (pos 0)) (get-with_amount (f, u)) ∙ elim (eq_by_cmp account_cmp (f, u) (e, t)) as (λ b. unwrap_or (cond b (listing_of z) (get books.amounts (f, u))) (pos 0) ≡ cond b z (amount_in books f u)) [
@@ -64,15 +57,12 @@ module _ (books : BooksValue) (e : BooksEntry) (t : Thing) (z : ℤ) where
         | false ↦ refl
       ]
 
-  -- the amount that is set under an entry and a thing is the amount that is read there
   pub its_amount : amount_in (with_amount books e t z) e t ≡ z
   its_amount = amount-with_amount e t ∙ ap (λ b. cond b z (amount_in books e t)) (account_itself (e, t))
 
-  -- once an amount is set under an entry and a thing, each amount under another entry or thing is as before
   pub other_amount : (f : BooksEntry) (u : Thing) → eq_by_cmp account_cmp (f, u) (e, t) ≡ false → amount_in (with_amount books e t z) f u ≡ amount_in books f u
   other_amount f u apart = amount-with_amount f u ∙ ap (λ b. cond b z (amount_in books f u)) apart
 
-  -- books of `things` things are still such books (`AreBooks`) after an amount of one of these things is set
   pub AreBooks-with_amount : (things : ℕ) → AreBooks things books → thing_index t < things → AreBooks things (with_amount books e t z)
   AreBooks-with_amount things old there =
       record {
@@ -86,7 +76,6 @@ module _ (books : BooksValue) (e : BooksEntry) (t : Thing) (z : ℤ) where
         ];
       }
 
--- books of `things` things are still such books (`AreBooks`) after an amount of one of these things is booked
 pub AreBooks-after_booking : (things : ℕ) (books : BooksValue) (e : BooksEntry) (t : Thing) (n : ℤ) → AreBooks things books → thing_index t < things → AreBooks things (after_booking books e t n)
 AreBooks-after_booking things books e t n old there = AreBooks-with_amount books e t (amount_in books e t +ℤ n) things old there
 
@@ -96,7 +85,6 @@ AreBooks-after_booking things books e t n old there = AreBooks-with_amount books
 abbrev pub booked_for : Thing → Thing → ℤ → ℤ
 booked_for t u n = cond (thing_index t == thing_index u) n (pos 0)
 
--- what a booking of n under entry e adds to the amount under entry f: n where f is e, else 0
 abbrev added_under : BooksEntry → ℤ → BooksEntry → ℤ
 added_under e n f = cond (entry_index f == entry_index e) n (pos 0)
 
@@ -104,23 +92,18 @@ added_under e n f = cond (entry_index f == entry_index e) n (pos 0)
 plus_zero : (z : ℤ) → z ≡ z +ℤ pos 0
 plus_zero z = omega (arith, ints)
 
--- (x + y) + (z + w) is (x + z) + (y + w): for `sum_of-raised`
 regroup : (x y z w : ℤ) → (x +ℤ y) +ℤ (z +ℤ w) ≡ (x +ℤ z) +ℤ (y +ℤ w)
 regroup x y z w = omega (arith, ints)
 
--- for two functions a and b from entries to amounts, the sum of a e + b e over a list of entries e is the sum of a e
--- plus that of b e
 sum_of-raised : (a b : BooksEntry → ℤ) (es : List BooksEntry) → sum_of (map (λ e. a e +ℤ b e) es) ≡ sum_of (map a es) +ℤ sum_of (map b es)
 sum_of-raised a b [] = plus_zero (pos 0)
 sum_of-raised a b (e ∷ es) = ap (λ z. (a e +ℤ b e) +ℤ z) (sum_of-raised a b es) ∙ regroup (a e) (b e) (sum_of (map a es)) (sum_of (map b es))
 
--- what a booking of n under entry e adds to the amounts under all entries (`added_under`), summed over them, is n
 sum_of_one_booking : (e : BooksEntry) (n : ℤ) → sum_of (map (added_under e n) all_entries) ≡ n
 sum_of_one_booking Founding n = omega (arith, ints)
 sum_of_one_booking _ n = omega (arith, ints)
 
 module _ (books : BooksValue) (e : BooksEntry) (u : Thing) (n : ℤ) where
-  -- a booking of n adds n to the thing's amount under its entry, and nothing under any other (`added_under`)
   raised : (f : BooksEntry) → amount_in (after_booking books e u n) f u ≡ amount_in books f u +ℤ added_under e n f
   raised f =
       elim (cases_eq (entry_index f) (entry_index e)) [
@@ -135,7 +118,6 @@ module _ (books : BooksValue) (e : BooksEntry) (u : Thing) (n : ℤ) where
             ∙ ap (λ b. amount_in books f u +ℤ cond b n (pos 0)) (sym tested)
       ]
 
-  -- a booking of n of a thing raises the sum of the thing's amounts by n
   raised_sum : booked (after_booking books e u n) u ≡ booked books u +ℤ n
   unfolding booked
   raised_sum =
@@ -157,7 +139,6 @@ module _ (books : BooksValue) (e : BooksEntry) (u : Thing) (n : ℤ) where
             (λ i. sum_of (map (λ f. each f i) all_entries)) ∙ plus_zero (booked books t) ∙ ap (λ b. booked books t +ℤ cond b n (pos 0)) (sym tested)
       ]
 
-  -- a booking of n changes each amount of the books by n, or not at all
   pub amount-after_booking : (f : BooksEntry) (t : Thing) → (amount_in (after_booking books e u n) f t ≡ amount_in books f t +ℤ n) ⊎ (amount_in (after_booking books e u n) f t ≡ amount_in books f t)
   amount-after_booking f t =
       elim (cases_account (f, t) (e, u)) [
@@ -168,27 +149,22 @@ module _ (books : BooksValue) (e : BooksEntry) (u : Thing) (n : ℤ) where
 
 -- ---- books with nothing in them
 
--- every amount of books that were just made (`no_amounts`) is 0
 pub amount-no_amounts : (things : ℕ) (e : BooksEntry) (t : Thing) → amount_in (no_amounts things) e t ≡ pos 0
 amount-no_amounts things e t = ap (λ o. unwrap_or o (pos 0)) (get-empty {X = ℤ} account_cmp (e, t))
 
--- the sum of a thing's amounts, if all are 0, is 0
 none_booked : (books : BooksValue) (t : Thing) → ((e : BooksEntry) → amount_in books e t ≡ pos 0) → booked books t ≡ pos 0
 unfolding booked
 none_booked books t none i = sum_of (map (λ e. none e i) all_entries)
 
--- in books that were just made (`no_amounts`) the sum of each thing's amounts is 0
 pub booked-no_amounts : (things : ℕ) (t : Thing) → booked (no_amounts things) t ≡ pos 0
 booked-no_amounts things t = none_booked (no_amounts things) t (λ e. amount-no_amounts things e t)
 
--- books that were just made for `things` things are books of that many things (`AreBooks`)
 pub AreBooks-no_amounts : (things : ℕ) → AreBooks things (no_amounts things)
 AreBooks-no_amounts things = record { count = refl; listed = λ e t amount is. none_some amount (sym (get-empty {X = ℤ} account_cmp (e, t)) ∙ is) }
 
 -- ---- what books list
 
 module _ (things : ℕ) (books : BooksValue) (are : AreBooks things books) where
-  -- the books list each amount that is not 0, and no other
   pub get-listed : (e : BooksEntry) (t : Thing) → get books.amounts (e, t) ≡ listing_of (amount_in books e t)
   get-listed e t =
       elim (get books.amounts (e, t)) as (λ o. get books.amounts (e, t) ≡ o → o ≡ listing_of (unwrap_or o (pos 0))) [
@@ -196,7 +172,6 @@ module _ (things : ℕ) (books : BooksValue) (are : AreBooks things books) where
         | Some z ↦ λ is. ap (λ b. cond b None (Some z)) (sym (nonzero_fails_is_zero z (are.listed e t z is).1))
       ] refl
 
-  -- books of `things` things have an amount of 0 under each entry for a thing whose number is `things` or more
   pub none_past : (e : BooksEntry) (t : Thing) → things ≤ thing_index t → amount_in books e t ≡ pos 0
   none_past e t past =
       elim (get books.amounts (e, t)) as (λ o. get books.amounts (e, t) ≡ o → unwrap_or o (pos 0) ≡ pos 0) [
@@ -204,15 +179,12 @@ module _ (things : ℕ) (books : BooksValue) (are : AreBooks things books) where
         | Some z ↦ λ is. let there = (are.listed e t z is).0 in absurd (omega arith)
       ] refl
 
-  -- in books of `things` things, the sum of the amounts of a thing whose number is `things` or more is 0
   pub booked_past : (t : Thing) → things ≤ thing_index t → booked books t ≡ pos 0
   booked_past t past = none_booked books t (λ e. none_past e t past)
 
--- books with the same two fields are equal
 pub same_value : (a b : BooksValue) → a.things ≡ b.things → a.amounts ≡ b.amounts → a ≡ b
 same_value a b things amounts i = record { things = things i; amounts = amounts i }
 
--- two books of equally many things, with the same amount of each thing under each entry, are equal
 pub same_books : (things : ℕ) (a b : BooksValue) → AreBooks things a → AreBooks things b → ((e : BooksEntry) (t : Thing) → amount_in a e t ≡ amount_in b e t) → a ≡ b
 same_books things a b are also same =
     same_value a b (are.count ∙ sym also.count) (same_map account_total account_same a.amounts b.amounts (λ c.

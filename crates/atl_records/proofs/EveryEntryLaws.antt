@@ -12,31 +12,25 @@ use Rattle.atl_records.specs.Limits.{entry_count}
 use Rattle.atl_records.specs.declared.books.BooksEntry.{BooksEntry}
 use Rattle.atl_records.specs.declared.books.BooksEntry.TheVariants.{Founding}
 
--- an entry is in all_entries at its index
 pub entry_there : (e : BooksEntry) → slice_get all_entries (entry_index e) ≡ Some e
 entry_there Founding = refl
 entry_there _ = refl
 
--- entry_numbered gives for the number of an entry e, which is its index plus 1, the entry e
 pub numbered_entry : (e : BooksEntry) → entry_numbered (entry_index e + 1) ≡ Some e
 numbered_entry Founding = refl
 numbered_entry _ = refl
 
--- the index of an entry is below entry_count
 pub entry_small : (e : BooksEntry) → entry_index e < entry_count
 entry_small e = slice_get_within all_entries (entry_index e) e (entry_there e)
 
--- the entry at index n of all_entries has index n
 pub entry_in_place : (n : ℕ) → n < entry_count → entry_index (get_or all_entries n Founding) ≡ n
 entry_in_place n l =
     let index : entry_index (get_or all_entries n Founding) ≡ 0 + n = sym (get_or-map entry_index all_entries n Founding 0 l) ∙ get_or-range_with_len 0 entry_count n 0 l in
     omega (arith, index)
 
--- each index below entry_count is that of an entry
 pub entry_at : (n : ℕ) → n < entry_count → (e : BooksEntry) × (entry_index e ≡ n)
 entry_at n l = (get_or all_entries n Founding, entry_in_place n l)
 
--- a test that every element of the list all_entries passes is passed by each entry
 pub each_entry : (test : BooksEntry → Bool) → list_all test all_entries ≡ true → (e : BooksEntry) → test e ≡ true
 each_entry test all e = elim (cases_Bool (test e)) [
   | inl is ↦ is

@@ -15,23 +15,19 @@ use Rattle.atl_world.proofs.SumLaws.{chosen-cons}
 use Rattle.atl_records.specs.Every.{EachEntry, Every, HasValue}
 use Rattle.std.proofs.lemmas.Bool.Decides.{nat_tests}
 
--- a Bool that holds as a proposition (`T b`) is true
 pub is_true : (b : Bool) → T b → b ≡ true
 is_true true h = refl
 is_true false h = absurd h
 
--- None is not Some x: if they were equal, any statement P would hold
 pub none_some : {A P : Type 0} (x : A) → None ≡ Some x → P
 none_some x e = cc
 
 -- ---- a value put in
 
 module _ {V : Type 0} where
-  -- P holds of every value of the empty map, whatever P is
   pub every-empty : (P : ℕ → V → Type 0) → Every P (empty {X = V} {R = nat_cmp})
   every-empty P n v is = none_some v (sym (get-empty nat_cmp n) ∙ is)
 
-  -- if P holds of every value of a map, and of v at k, it holds of every value of the map once v is put in under k
   pub every-insert : (P : ℕ → V → Type 0) (m : FinMap nat_cmp V) (k : ℕ) (v : V) → P k v → Every P m → Every P (insert m k v)
   every-insert P m k v here old n x is =
       elim (nat_cmp n k) as (λ o. nat_cmp n k ≡ o → cond (is_eq o) (Some v) (get m n) ≡ Some x → P n x) [
@@ -44,11 +40,9 @@ module _ {V : Type 0} where
   abbrev at_or : FinMap nat_cmp V → ℕ → V → ℕ → Option V
   at_or m k v n = cond (is_eq (nat_cmp n k)) (Some v) (get m n)
 
-  -- if at_or gives a value for n, the map with v put under k has a value under n
   there_by : (m : FinMap nat_cmp V) (k n : ℕ) (v : V) → (x : V) × (at_or m k v n ≡ Some x) → HasValue (insert m k v) n
   there_by m k n v (x, is) = (x, get-insert nat_cmp_total m k v n ∙ is)
 
-  -- a map with a value put under k has a value under k
   pub there-new : (m : FinMap nat_cmp V) (k : ℕ) (v : V) → HasValue (insert m k v) k
   there-new m k v =
       there_by m k k v (elim (nat_cmp k k) as (λ o. nat_cmp k k ≡ o → (x : V) × (cond (is_eq o) (Some v) (get m k) ≡ Some x)) [
@@ -57,12 +51,10 @@ module _ {V : Type 0} where
         | Greater ↦ λ e. let l = ranked k k Greater (sym e) in absurd (omega arith)
       ] refl)
 
-  -- a number that has a value in a map still has one once a value is put in under k
   pub there-insert : (m : FinMap nat_cmp V) (k n : ℕ) (v : V) → HasValue m n → HasValue (insert m k v) n
   there-insert m k n v (x, is) =
       there_by m k n v (elim (nat_cmp n k) as (λ o. (y : V) × (cond (is_eq o) (Some v) (get m n) ≡ Some y)) [ Less ↦ (x, is) | Equal ↦ (v, refl) | Greater ↦ (x, is) ])
 
-  -- a value put under k changes nothing under another number
   pub get-insert_other : (m : FinMap nat_cmp V) (k n : ℕ) (v : V) → n ≢ k → get (insert m k v) n ≡ get m n
   get-insert_other m k n v apart =
       get-insert nat_cmp_total m k v n ∙ elim (nat_cmp n k) as (λ o. nat_cmp n k ≡ o → cond (is_eq o) (Some v) (get m n) ≡ get m n) [
@@ -73,7 +65,6 @@ module _ {V : Type 0} where
 
   -- ---- the entries of a map
 
-  -- a number below all numbers of a list is not found in it
   pub not_below : (k : ℕ) (es : List (ℕ × V)) → below_all nat_cmp k es ≡ true → find nat_cmp k es ≡ None
   not_below k [] h = refl
   not_below k (e ∷ es) h =
@@ -83,7 +74,6 @@ module _ {V : Type 0} where
         | Greater ↦ λ g. absurd (false≢true g)
       ] (and_parts _ _ h).0
 
-  -- a value that is found after the first entry of a sorted list is found in the whole list
   pub later : (e : ℕ × V) (es : List (ℕ × V)) (n : ℕ) (v : V) → is_sorted nat_cmp (e ∷ es) ≡ true → find nat_cmp n es ≡ Some v → find nat_cmp n (e ∷ es) ≡ Some v
   later e es n v s is =
       elim (nat_cmp n e.0) as (λ o. nat_cmp n e.0 ≡ o → cond (is_eq o) (Some e.1) (find nat_cmp n es) ≡ Some v) [
@@ -92,7 +82,6 @@ module _ {V : Type 0} where
         | Greater ↦ λ _. is
       ] refl
 
-  -- the number of a list's first entry is found in the list, with the entry's value
   pub first : (e : ℕ × V) (es : List (ℕ × V)) → find nat_cmp e.0 (e ∷ es) ≡ Some e.1
   first e es =
       elim (nat_cmp e.0 e.0) as (λ o. nat_cmp e.0 e.0 ≡ o → cond (is_eq o) (Some e.1) (find nat_cmp e.0 es) ≡ Some e.1) [
@@ -101,7 +90,6 @@ module _ {V : Type 0} where
         | Greater ↦ λ o. let l = ranked e.0 e.0 Greater (sym o) in absurd (omega arith)
       ] refl
 
-  -- if P holds of each entry of a list (EachEntry), it holds of each value that is found in it
   pub found_of : (P : ℕ → V → Type 0) (es : List (ℕ × V)) (n : ℕ) (v : V) → EachEntry P es → find nat_cmp n es ≡ Some v → P n v
   found_of P [] n v h is = none_some v is
   found_of P (e ∷ es) n v h is =
@@ -111,24 +99,19 @@ module _ {V : Type 0} where
         | Greater ↦ λ _. found_of P es n v h.1
       ] refl is
 
-  -- if P holds of each value that is found in a sorted list, it holds of each of its entries
   pub each_of : (P : ℕ → V → Type 0) (es : List (ℕ × V)) → is_sorted nat_cmp es ≡ true → ((n : ℕ) (v : V) → find nat_cmp n es ≡ Some v → P n v) → EachEntry P es
   each_of P [] s h = tt
   each_of P (e ∷ es) s h = (h e.0 e.1 (first e es), each_of P es (and_parts _ _ s).1 (λ n v is. h n v (later e es n v s is)))
 
-  -- the list of a map by number (`entries`) is sorted by number
   pub sorted : (m : FinMap nat_cmp V) → is_sorted nat_cmp (entries m) ≡ true
   sorted m = is_true _ (entries_sorted m)
 
-  -- if P holds of each entry of a map, it holds of every value
   pub every-from_each : (P : ℕ → V → Type 0) (m : FinMap nat_cmp V) → EachEntry P (entries m) → Every P m
   every-from_each P m h n v is = found_of P (entries m) n v h (sym (get-entries m n) ∙ is)
 
-  -- if P holds of every value of a map, it holds of each entry
   pub each-from_every : (P : ℕ → V → Type 0) (m : FinMap nat_cmp V) → Every P m → EachEntry P (entries m)
   each-from_every P m h = each_of P (entries m) (sorted m) (λ n v is. h n v (get-entries m n ∙ is))
 
-  -- if no value of a list's entries passes the test p, each value that is found in the list fails it
   fails : (p : V → Bool) (es : List (ℕ × V)) (n : ℕ) (v : V) → list_any (λ e. p e.1) es ≡ false → find nat_cmp n es ≡ Some v → p v ≡ false
   fails p [] n v h is = none_some v is
   fails p (e ∷ es) n v h is =
@@ -145,7 +128,6 @@ module _ {V : Type 0} where
       or_parts true b h = cc
       or_parts false b h = (refl, h)
 
-  -- if no value of a map's entries passes the test p, every value of the map fails it
   pub every-from_none : (p : V → Bool) (m : FinMap nat_cmp V) → list_any (λ e. p e.1) (entries m) ≡ false → Every (λ n v. p v ≡ false) m
   every-from_none p m h n v is = fails p (entries m) n v h (sym (get-entries m n) ∙ is)
 
@@ -156,11 +138,9 @@ module _ {V : Type 0} where
     abbrev chosen : List (ℕ × V) → List ℕ
     chosen es = map (λ e. e.0) (filter (λ e. p e.1) es)
 
-    -- the list has under the number n a value that passes the test p
     abbrev Passing : List (ℕ × V) → ℕ → Type 0
     Passing es n = (v : V) × (find nat_cmp n es ≡ Some v) × (p v ≡ true)
 
-    -- if a sorted list without its first entry has under n a value that passes the test p, so has the whole list
     after : (e : ℕ × V) (es : List (ℕ × V)) (n : ℕ) → is_sorted nat_cmp (e ∷ es) ≡ true → Passing es n → Passing (e ∷ es) n
     after e es n s (v, is, h) = (v, later e es n v s is, h)
 
@@ -172,45 +152,36 @@ module _ {V : Type 0} where
     listed_in true e es t s d rest (suc i) h = after e es (get_or (chosen es) i d) s (rest i (omega arith))
     listed_in false e es t s d rest i h = after e es (get_or (chosen es) i d) s (rest i h)
 
-    -- each number chosen from a sorted list has a value in the list that passes the test p
     listed : (es : List (ℕ × V)) → is_sorted nat_cmp es ≡ true → (d i : ℕ) → i < length (chosen es) → Passing es (get_or (chosen es) i d)
     listed [] s d i h = absurd (omega arith)
     listed (e ∷ es) s d i h = subst (λ (ns : List ℕ). i < length ns → Passing (e ∷ es) (get_or ns i d)) (sym (chosen-cons p e es)) (listed_in (p e.1) e es refl s d (listed es (and_parts _ _ s).1 d) i) h
 
-    -- each number that `numbers_where p` lists has a value in the map, which passes the test p
     pub passes-listed : (m : FinMap nat_cmp V) (i d : ℕ) → i < length (numbers_where p m) → (v : V) × (get m (get_or (numbers_where p m) i d) ≡ Some v) × (p v ≡ true)
     passes-listed m i d h = let (v, is, t) = listed (entries m) (sorted m) d i h in (v, get-entries m (get_or (numbers_where p m) i d) ∙ is, t)
 
 -- ---- a map with f at each value
 
 module _ {V W : Type 0} (f : V → W) where
-  -- if an option mapped by f is Some x, the option is Some v, where f v is x
   under : (o : Option V) (x : W) → option_map f o ≡ Some x → (v : V) × (o ≡ Some v) × (f v ≡ x)
   under None x is = none_some x is
   under (Some v) x is = let same : f v ≡ x = cc in (v, refl, same)
 
-  -- if P holds of f v for every value v of a map, it holds of every value of the map with f applied to each value
   pub every-mapped : (P : ℕ → W → Type 0) (m : FinMap nat_cmp V) → Every (λ n v. P n (f v)) m → Every P (map_values f m)
   every-mapped P m h n x is = let (v, there, same) = under (get m n) x (sym (get-mapped f m n) ∙ is) in subst (P n) same (h n v there)
 
-  -- a map with f applied to each value has values under the same numbers as the map itself
   pub there-mapped : (m : FinMap nat_cmp V) (n : ℕ) → HasValue (map_values f m) n ↔ HasValue m n
   there-mapped m n = (back, forth)
     where
-      -- a number that has a value in the map with f applied to each value has one in the map itself
       back : HasValue (map_values f m) n → HasValue m n
       back (x, is) = let (v, there, same) = under (get m n) x (sym (get-mapped f m n) ∙ is) in (v, there)
 
-      -- a number that has a value in the map itself has one in the map with f applied to each value
       forth : HasValue m n → HasValue (map_values f m) n
       forth (v, is) = (f v, get-mapped f m n ∙ ap (option_map f) is)
 
 -- ---- numbers compared
 
--- the test `==` of a number and itself is true
 pub same_number : (a : ℕ) → (a == a) ≡ true
 same_number a = grind (arith, nat_tests)
 
--- the test `==` of two different numbers is false
 pub other_number : (a b : ℕ) → a ≢ b → (a == b) ≡ false
 other_number a b ne = grind (arith, nat_tests)

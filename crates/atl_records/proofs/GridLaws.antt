@@ -25,19 +25,15 @@ or_later true y h = refl
 or_later false y h = h
 
 module _ {A : Type 0} (p : A → Bool) where
-  -- if some element of xs passes a test, some element of xs ++ ys does
   any_first : (xs ys : List A) → list_any p xs ≡ true → list_any p (xs ++ ys) ≡ true
   any_first [] ys h = absurd (false≢true h)
   any_first (x ∷ xs) ys h =
       elim (p x) as (λ b. (b || list_any p xs) ≡ true → (b || list_any p (xs ++ ys)) ≡ true) [ true ↦ λ _. refl | false ↦ λ later. any_first xs ys later ] h
 
-  -- if some element of ys passes a test, some element of xs ++ ys does
   any_later : (xs ys : List A) → list_any p ys ≡ true → list_any p (xs ++ ys) ≡ true
   any_later [] ys h = h
   any_later (x ∷ xs) ys h = or_later (p x) (list_any p (xs ++ ys)) (any_later xs ys h)
 
-  -- if e is among the entries es, and some element of the list f e passes a test, so does some element of the lists
-  -- that f gives for es, joined
   any_flat : (f : BooksEntry → List A) (e : BooksEntry) (es : List BooksEntry) → list_any (λ d. entry_index d == entry_index e) es ≡ true → list_any p (f e) ≡ true → list_any p (flat_map f es) ≡ true
   any_flat f e [] h its = absurd (false≢true h)
   any_flat f e (d ∷ es) h its =
@@ -48,12 +44,10 @@ module _ {A : Type 0} (p : A → Bool) where
             any_later (f d) (flat_map f es) (any_flat f e es (sym (ap (λ b. b || list_any (λ c. entry_index c == entry_index e) es) tested) ∙ h) its)
       ]
 
--- each entry is in all_entries
 each_listed : (e : BooksEntry) → list_any (λ d. entry_index d == entry_index e) all_entries ≡ true
 each_listed Founding = refl
 each_listed _ = refl
 
--- an account is among those of its entry with the n things from number a on, if its thing is one of these
 any_under : (e : BooksEntry) (t : Thing) (a n : ℕ) → a ≤ thing_index t → thing_index t < a + n → list_any (eq_by_cmp account_cmp (e, t)) (map (λ i. (e, thing_at i)) (range_with_len a n)) ≡ true
 any_under e t a zero l h = absurd (omega arith)
 any_under e t a (suc n) l h =
@@ -63,7 +57,6 @@ any_under e t a (suc n) l h =
       | inr apart ↦ or_later (eq_by_cmp account_cmp (e, t) (e, thing_at a)) others (any_under e t (a + 1) n (omega arith) (omega arith))
     ]
 
--- an account is among the accounts of all entries with the things below `things`, if its thing is one of these
 pub any_accounts : (things : ℕ) (e : BooksEntry) (t : Thing) → thing_index t < things → list_any (eq_by_cmp account_cmp (e, t)) (accounts things) ≡ true
 any_accounts things e t h = any_flat (eq_by_cmp account_cmp (e, t)) (accounts_under things) e all_entries (each_listed e) (any_under e t 0 things (omega arith) (omega arith))
 
@@ -84,16 +77,13 @@ get-filled amount (c ∷ others) books a =
           ap (λ b. cond b (listing_of (amount c)) old) apart ∙ get-filled amount others books a ∙ sym (ap (λ b. cond (b || later) (listing_of (amount a)) (get books.amounts a)) apart)
     ]
 
--- each cell of a thing without a row is 0
 cell_past : (rows : List (List ℤ)) (a : Account) → length rows ≤ thing_index a.1 → cell rows a ≡ pos 0
 cell_past rows a past = ap (λ row. get_or row (entry_index a.0) (pos 0)) (get_or_past rows (thing_index a.1) [] past)
 
--- the books that the code's rows stand for (`as_books`) have as many things as there are rows
 pub things-as_books : (rows : List (List ℤ)) → (as_books rows).things ≡ length rows
 unfolding as_books
 things-as_books rows = refl
 
--- the books that the code's rows stand for (`as_books`) list each cell that is not 0, and no other
 get-as_books : (rows : List (List ℤ)) (a : Account) → get (as_books rows).amounts a ≡ listing_of (cell rows a)
 unfolding as_books
 get-as_books rows a =
@@ -107,11 +97,9 @@ get-as_books rows a =
           ]
     ]
 
--- each amount of the books that the code's rows stand for (`as_books`) is that in its cell
 pub amount-as_books : (rows : List (List ℤ)) (e : BooksEntry) (t : Thing) → amount_in (as_books rows) e t ≡ cell rows (e, t)
 amount-as_books rows e t = ap (λ o. unwrap_or o (pos 0)) (get-as_books rows (e, t)) ∙ amount_listed (cell rows (e, t))
 
--- the books that the code's rows stand for are books of as many things as there are rows (`AreBooks`)
 pub AreBooks-as_books : (rows : List (List ℤ)) → AreBooks (length rows) (as_books rows)
 AreBooks-as_books rows =
     record {
@@ -126,15 +114,12 @@ AreBooks-as_books rows =
 
 -- ---- rows with nothing in them
 
--- a list of n copies of a value, read with this value as the default, gives it at each index
 get_or-replicate_same : {A : Type 0} (n i : ℕ) (a : A) → get_or (replicate n a) i a ≡ a
 get_or-replicate_same n i a = elim (cases_lt i n) [ inl h ↦ get_or-replicate n i a a h | inr h ↦ get_or_past (replicate n a) i a (rw length-replicate h) ]
 
--- a row of amounts that are all 0
 abbrev zero_row : List ℤ
 zero_row = replicate entry_count (pos 0)
 
--- each cell of rows in which each amount is 0 is 0, also of a thing without a row
 cell-replicate : (things : ℕ) (a : Account) → cell (replicate things zero_row) a ≡ pos 0
 cell-replicate things a =
     elim (cases_lt (thing_index a.1) things) [
@@ -142,7 +127,6 @@ cell-replicate things a =
       | inr h ↦ let past : things ≤ thing_index a.1 = h in cell_past (replicate things zero_row) a (rw length-replicate past)
     ]
 
--- rows in which each amount is 0 stand for books in which each amount is 0 (`no_amounts`)
 pub as_books-replicate : (things : ℕ) → as_books (replicate things (replicate entry_count (pos 0))) ≡ no_amounts things
 as_books-replicate things =
     let rows = replicate things zero_row in
@@ -152,15 +136,12 @@ as_books-replicate things =
 -- ---- another amount in a cell
 
 module _ (rows : List (List ℤ)) (grid : IsGrid rows) (e : BooksEntry) (t : Thing) (z : ℤ) (there : thing_index t < length rows) where
-  -- the row of thing t with z as the amount in the column of entry e
   abbrev row_with_amount : List ℤ
   row_with_amount = set (row_of rows t) (entry_index e) z
 
-  -- the row of thing t has an amount for each entry
   wide : length (row_of rows t) ≡ entry_count
   wide = grid.wide (thing_index t) [] there
 
-  -- rows that are a grid (`IsGrid`: entry_count amounts in each) are one still after an amount is written into a cell
   pub IsGrid-with_cell : IsGrid (with_cell rows e t z)
   IsGrid-with_cell =
       record {
@@ -173,7 +154,6 @@ module _ (rows : List (List ℤ)) (grid : IsGrid rows) (e : BooksEntry) (t : Thi
             ];
       }
 
-  -- once z is written into the cell of entry e and thing t, this cell is z, and each other cell is what it was
   cell-with_cell : (a : Account) → cell (with_cell rows e t z) a ≡ cond (eq_by_cmp account_cmp a (e, t)) z (cell rows a)
   cell-with_cell a =
       let choice = λ (b : Bool). cond b z (cell rows a) in
@@ -202,14 +182,12 @@ module _ (rows : List (List ℤ)) (grid : IsGrid rows) (e : BooksEntry) (t : Thi
 
 -- ---- the sum of a row
 
--- a row of entry_count amounts is the list of its amounts at the indices of all entries, in their order
 row_listed : (row : List ℤ) → length row ≡ entry_count → map (λ e. get_or row (entry_index e) (pos 0)) all_entries ≡ row
 row_listed row size =
     ext_get_or (pos 0) (map (λ e. get_or row (entry_index e) (pos 0)) all_entries) row (length-map all_entries (λ e. get_or row (entry_index e) (pos 0)) ∙ sym size) (λ i h.
     let small : i < entry_count = omega (arith, h, length-map all_entries (λ e. get_or row (entry_index e) (pos 0))) in
     get_or-map (λ e. get_or row (entry_index e) (pos 0)) all_entries i Founding (pos 0) small ∙ ap (λ k. get_or row k (pos 0)) (entry_in_place i small))
 
--- the sum of a thing's amounts in the books that rows stand for is the sum of the thing's row
 booked-as_books : (rows : List (List ℤ)) (t : Thing) → IsGrid rows → thing_index t < length rows → booked (as_books rows) t ≡ sum_of (row_of rows t)
 unfolding booked
 booked-as_books rows t grid there =
@@ -218,22 +196,17 @@ booked-as_books rows t grid there =
 
 -- ---- for the code of Books
 
--- if rows stand for books, each thing of these books has a row
 pub grid_there : (rows : List (List ℤ)) (books : BooksValue) (t : Thing) → as_books rows ≡ books → thing_index t < books.things → thing_index t < length rows
 grid_there rows books t is there = let size = ap (λ (b : BooksValue). b.things) (sym is) ∙ things-as_books rows in omega (arith, size, there)
 
--- the row that is read at the index of a thing is the thing's row (`row_of`)
 row_read : (rows : List (List ℤ)) (t : Thing) (index : ℕ) (row : List ℤ) → row ≡ get_or rows index row → index ≡ thing_index t → thing_index t < length rows → row ≡ row_of rows t
 row_read rows t index row is at there = is ∙ ap (λ k. get_or rows k row) at ∙ get_or_default rows (thing_index t) row [] there
 
--- the amount read at the indices of an account's row and column is the account's cell
 pub cell_read : (rows : List (List ℤ)) (e : BooksEntry) (t : Thing) (index k : ℕ) (row : List ℤ) → row ≡ get_or rows index row → index ≡ thing_index t → k ≡ entry_index e → thing_index t < length rows → get_or row k (pos 0) ≡ cell rows (e, t)
 cell_read rows e t index k row is at entry there = let its = row_read rows t index row is at there in λ i. get_or (its i) (entry i) (pos 0)
 
--- rows in which z is written at the indices of an account's row and column are those with z in its cell (`with_cell`)
 pub cell_written : (rows : List (List ℤ)) (e : BooksEntry) (t : Thing) (index k : ℕ) (row : List ℤ) (x z : ℤ) → row ≡ get_or rows index row → index ≡ thing_index t → k ≡ entry_index e → x ≡ z → thing_index t < length rows → set rows index (set row k x) ≡ with_cell rows e t z
 cell_written rows e t index k row x z is at entry value there = let its = row_read rows t index row is at there in λ i. set rows (at i) (set (its i) (entry i) (value i))
 
--- the sum of the row read at the index of a thing's row is the sum booked of the thing
 pub row_summed : (rows : List (List ℤ)) (t : Thing) (index : ℕ) (row : List ℤ) → row ≡ get_or rows index row → index ≡ thing_index t → IsGrid rows → thing_index t < length rows → sum_of row ≡ booked (as_books rows) t
 row_summed rows t index row is at grid there = ap sum_of (row_read rows t index row is at there) ∙ sym (booked-as_books rows t grid there)

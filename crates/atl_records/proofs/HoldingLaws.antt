@@ -14,8 +14,6 @@ use Rattle.atl_records.specs.Limits.{holding_limit}
 use Rattle.atl_records.proofs.EveryLaws.{every-insert, get-insert_other}
 use Rattle.atl_records.proofs.RemovedLaws.{every-remove, get-remove_other}
 
--- a condition P holds of every amount of a map after one is set, if it held of all before, and holds of the new one
--- where this isn't 0
 pub every_amount : (P : ℕ → ℕ → Type 0) (items : FinMap nat_cmp ℕ) (i amount : ℕ) → (1 ≤ amount → P i amount) → Every P items → Every P (with_amount_of items i amount)
 every_amount P items i amount here old = by_zero (amount == 0) refl
   where
@@ -24,7 +22,6 @@ every_amount P items i amount here old = by_zero (amount == 0) refl
     by_zero true is = every-remove items i P old
     by_zero false is = let some : 1 ≤ amount = grind (arith, nat_tests) in every-insert P items i amount (here some) old
 
--- once the amount under i is set, it is read under i, and under each other number the amount is as before
 pub amount_after_setting : (items : FinMap nat_cmp ℕ) (i amount j : ℕ) → amount_of (with_amount_of items i amount) j ≡ cond (eq_by_cmp nat_cmp j i) amount (amount_of items j)
 amount_after_setting items i amount j = by_zero (amount == 0) refl
   where
@@ -38,56 +35,44 @@ amount_after_setting items i amount j = by_zero (amount == 0) refl
     taken true e = e
     taken false e = refl
 
-    -- the amount under j is read as `amount_after_setting` says once the one under i is set: if this is 0 (b), i is
-    -- removed, else it is put in
     by_zero : (b : Bool) → (amount == 0) ≡ b → amount_of (if b then remove items i else insert items i amount) j ≡ cond (eq_by_cmp nat_cmp j i) amount (amount_of items j)
     by_zero true is =
         let none : 0 ≡ amount = grind (arith, nat_tests) in
         ap (λ (o : Option ℕ). unwrap_or o 0) (get-remove nat_cmp_total items i j) ∙ taken (eq_by_cmp nat_cmp j i) none
     by_zero false is = ap (λ (o : Option ℕ). unwrap_or o 0) (get-insert nat_cmp_total items i amount j) ∙ put (eq_by_cmp nat_cmp j i)
 
--- a unit's amount of an item is at most holding_limit
 pub amount_within : (h : HoldingValue) (i : ℕ) → IsHolding h → amount_of h.items i ≤ holding_limit
 amount_within h i is = by_option (get h.items i) refl
   where
-    -- an amount is at most holding_limit, whether it is listed or not
     by_option : (o : Option ℕ) → get h.items i ≡ o → unwrap_or o 0 ≤ holding_limit
     by_option None e = omega arith
     by_option (Some amount) e = (is.items i amount e).1
 
--- if nat_cmp calls two numbers equal, they are equal
 pub compared_equal_is_equal : (i j : ℕ) → eq_by_cmp nat_cmp j i ≡ true → j ≡ i
 compared_equal_is_equal i j is = let same : (j == i) ≡ true = unsigned_ties j i ∙ is in grind (arith, nat_tests)
 
 -- ---- the amount that was set, and each other one
 
 module _ (items : FinMap nat_cmp ℕ) (i amount : ℕ) where
-  -- the amount that is set under i is the amount that is read under i
   pub set_same : amount_of (with_amount_of items i amount) i ≡ amount
   set_same = let same : (i == i) ≡ true = grind (arith, nat_tests) in amount_after_setting items i amount i ∙ ap (λ b. cond b amount (amount_of items i)) (sym (unsigned_ties i i) ∙ same)
 
-  -- once the amount under i is set, each other number has its amount as before
   pub set_other : (j : ℕ) → j ≢ i → amount_of (with_amount_of items i amount) j ≡ amount_of items j
   set_other j apart = elim (cases_Bool (eq_by_cmp nat_cmp j i)) [
     | inl same ↦ absurd (apart (compared_equal_is_equal i j same))
     | inr other ↦ amount_after_setting items i amount j ∙ ap (λ b. cond b amount (amount_of items j)) other
   ]
 
-  -- once the amount under i is set, each other number is listed as before
   pub get-set_other : (j : ℕ) → j ≢ i → get (with_amount_of items i amount) j ≡ get items j
   get-set_other j apart = by_zero (amount == 0)
     where
-      -- another number j is listed as before once the amount under i is set: if it is 0 (b), i is removed, else it is
-      -- put in
       by_zero : (b : Bool) → get (if b then remove items i else insert items i amount) j ≡ get items j
       by_zero true = get-remove_other items i j apart
       by_zero false = get-insert_other items i j amount apart
 
-  -- setting the amount that is there already leaves all amounts as they were
   pub set_again : has_amount items i amount ≡ true → with_amount_of items i amount ≡ items
   set_again has = by_entry (get items i) refl has
     where
-      -- setting the amount that is there already changes nothing, whether one is listed under i (`listed`) or none
       by_entry : (listed : Option ℕ) → get items i ≡ listed → is_listed listed amount ≡ true → with_amount_of items i amount ≡ items
       by_entry None is none = ap (λ b. if b then remove items i else insert items i amount) none ∙ remove_none items i is
       by_entry (Some listed) is same =
@@ -103,8 +88,6 @@ pub AreAmounts-set : {E : Type 0} (r : Result (Unit {0}) E) (old new : FinMap na
 AreAmounts-set (Ok u) old new item amount h put same is = subst AreAmounts (sym put) (every_amount (λ i n. (1 ≤ n) × (n ≤ holding_limit)) old item amount (λ some. (some, h)) is)
 AreAmounts-set (Err e) old new item amount h put same is = subst AreAmounts (sym same) is
 
--- each listed amount of an item is still from 1 to holding_limit after one from 1 to holding_limit is put in, or after
--- memory ran out, so that none is put in
 pub AreAmounts-put : {E : Type 0} (r : Result (Unit {0}) E) (old new : FinMap nat_cmp ℕ) (item amount : ℕ) → (1 ≤ amount) × (amount ≤ holding_limit) → OnOk r (new ≡ insert old item amount) → OnErr r (new ≡ old) → AreAmounts old → AreAmounts new
 AreAmounts-put (Ok u) old new item amount h put same is = subst AreAmounts (sym put) (every-insert (λ i n. (1 ≤ n) × (n ≤ holding_limit)) old item amount h is)
 AreAmounts-put (Err e) old new item amount h put same is = subst AreAmounts (sym same) is

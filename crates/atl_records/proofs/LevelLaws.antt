@@ -10,22 +10,17 @@ use Rattle.atl_world.proofs.EntryOrderLaws.{BeginsFrom, begins_later, begins_sam
 use Rattle.atl_records.specs.Limits.{most_u32}
 use Rattle.atl_records.specs.Levels.{greatest, days_for}
 
--- a number that passes a test is the greatest up to itself that passes it
 pub greatest_here : (passes : ℕ → Bool) (n : ℕ) → passes n ≡ true → n ≡ greatest passes n
 greatest_here passes zero h = refl
 greatest_here passes (suc n) h = sym (ap (λ b. if b then suc n else greatest passes n) h)
 
--- if n fails a test, the greatest number up to n that passes it is the greatest up to n - 1
 pub greatest_below : (passes : ℕ → Bool) (n m : ℕ) → n ≡ m + 1 → passes n ≡ false → greatest passes n ≡ greatest passes m
 greatest_below passes zero m e h = absurd (omega arith)
 greatest_below passes (suc n) m e h = let same : n ≡ m = omega arith in ap (λ b. if b then suc n else greatest passes n) h ∙ ap (greatest passes) same
 
--- a level for which the days are not enough is at least 1
 pub unreached_level_is_above_0 : (level men days : ℕ) → nat_le (days_for level men) days ≡ false → 1 ≤ level
 unreached_level_is_above_0 zero men days h = let none : nat_le (days_for 0 men) days ≡ true = grind (arith, nat_tests) in absurd (true≢false (sym none ∙ h))
 unreached_level_is_above_0 (suc n) men days h = omega arith
-
--- ---- sums
 
 -- the total `all` of a sum so far (`sum`) and of the terms left (`whole`, which is x + rest) stays as it is when the
 -- term x moves to the sum so far
@@ -44,6 +39,5 @@ fits_next low sum x e es sorted few fits from small far =
       | inr h ↦ (low, few, let none : x ≡ 0 = far h in omega (arith, fits, none), begins_same low e es sorted from)
     ]
 
--- if one piece weighs (or carries) 0, any number of such pieces weighs (or carries) 0
 pub weightless_pieces : (amount each : ℕ) → each ≡ 0 → amount * each ≡ 0
 weightless_pieces amount each h = grind arith

@@ -12,7 +12,6 @@ use Rattle.atl_records.proofs.EveryLaws.{none_some}
 -- ---- a value that is taken out
 
 module _ {V : Type 0} (m : FinMap nat_cmp V) (k : ℕ) where
-  -- removing k changes nothing under another number
   pub get-remove_other : (n : ℕ) → n ≢ k → get (remove m k) n ≡ get m n
   get-remove_other n apart =
       get-remove nat_cmp_total m k n ∙ elim (nat_cmp n k) as (λ o. nat_cmp n k ≡ o → cond (is_eq o) None (get m n) ≡ get m n) [
@@ -21,7 +20,6 @@ module _ {V : Type 0} (m : FinMap nat_cmp V) (k : ℕ) where
         | Greater ↦ λ _. refl
       ] refl
 
-  -- once a number is removed from a map, it has no value there
   pub get-remove_same : get (remove m k) k ≡ None
   get-remove_same =
       get-remove nat_cmp_total m k k ∙ elim (nat_cmp k k) as (λ o. nat_cmp k k ≡ o → cond (is_eq o) None (get m k) ≡ None) [
@@ -30,7 +28,6 @@ module _ {V : Type 0} (m : FinMap nat_cmp V) (k : ℕ) where
         | Greater ↦ λ o. let l = ranked k k Greater (sym o) in absurd (omega arith)
       ] refl
 
-  -- a value v that the map has under n after k is removed was there before, and n is not k
   pub still : (n : ℕ) (v : V) → get (remove m k) n ≡ Some v → (n ≢ k) × (get m n ≡ Some v)
   still n v is =
       elim (nat_cmp n k) as (λ o. nat_cmp n k ≡ o → cond (is_eq o) None (get m n) ≡ Some v → (n ≢ k) × (get m n ≡ Some v)) [
@@ -39,11 +36,9 @@ module _ {V : Type 0} (m : FinMap nat_cmp V) (k : ℕ) where
         | Greater ↦ λ o e. (λ same. let l = ranked n k Greater (sym o) in absurd (omega arith), e)
       ] refl (sym (get-remove nat_cmp_total m k n) ∙ is)
 
-  -- if P holds of every value of a map, it still does once a value is removed
   pub every-remove : (P : ℕ → V → Type 0) → Every P m → Every P (remove m k)
   every-remove P old n v is = old n v (still n v is).1
 
-  -- a map has no more values after one is removed than before
   pub fewer : len (remove m k) ≤ len m
   fewer = let is = len-remove nat_cmp_total m k in less (contains_key m k) (len (remove m k)) (len m) is
     where
@@ -53,12 +48,9 @@ module _ {V : Type 0} (m : FinMap nat_cmp V) (k : ℕ) where
       less true x y h = omega arith
       less false x y h = omega arith
 
-  -- the sum of f over a map without number k, plus f of k's value, is the sum of f over the map
   pub sum_over-remove : (f : V → ℕ) (v : V) → get m k ≡ Some v → sum_over f (remove m k) + f v ≡ sum_over f m
   sum_over-remove f v is = sym (sum_over-insert_new f (remove m k) k v get-remove_same) ∙ ap (sum_over f) (sym (put_back_keeps_map m k v is))
 
--- a condition P holds of every value of a map with v put under k, if it holds of v there, and of each value under
--- another number
 pub every-insert_other : {V : Type 0} (P : ℕ → V → Type 0) (m : FinMap nat_cmp V) (k : ℕ) (v : V) → P k v → ((n : ℕ) (x : V) → n ≢ k → get m n ≡ Some x → P n x) → Every P (insert m k v)
 every-insert_other P m k v here others n x is =
     elim (nat_cmp n k) as (λ o. nat_cmp n k ≡ o → cond (is_eq o) (Some v) (get m n) ≡ Some x → P n x) [

@@ -53,8 +53,6 @@ thing_at zero = Money
 thing_at (suc zero) = People
 thing_at (suc (suc i)) = Item i
 
--- ---- the amounts
-
 -- an account, to which amounts are booked: an entry and a thing
 abbrev pub Account : Type 0
 Account = BooksEntry × Thing
@@ -65,9 +63,7 @@ account_cmp a b = ordering_then (nat_cmp (entry_index a.0) (entry_index b.0)) (n
 
 -- the books: how many things there are (money, people and the world's items), and each account's amount that is not 0
 pub record BooksValue : Type 0 where
-  -- how many things the books have: money, people and each item of the world
   pub things : ℕ
-  -- the amount of each account, an entry and a thing, where the amount is not 0
   pub amounts : FinMap account_cmp ℤ
 
 -- for proofs alone: books encoded as the pair of their two fields, as the kit asks of a type that contracts see
@@ -111,9 +107,7 @@ booked books t = sum_of (map (λ e. amount_in books e t) all_entries)
 
 -- books have as many things as `things`, and each listed amount is of one of them and is not 0
 pub record AreBooks (things : ℕ) (books : BooksValue) : Type 0 where
-  -- the books have as many things as `things`
   pub count : books.things ≡ things
-  -- each listed amount is of a thing whose number is below `things`, and is not 0
   pub listed :
       (e : BooksEntry) (t : Thing) (amount : ℤ) → get books.amounts (e, t) ≡ Some amount
       → (thing_index t < things) × (amount ≢ pos 0)
@@ -124,9 +118,7 @@ LeavesRoomForJoining z = (z ≤ℤ pos (2 ^ 62)) × (negsuc (2 ^ 62) ≤ℤ z)
 
 -- an amount from -bound to bound
 pub record IsWithin (bound : ℕ) (amount : ℤ) : Type 0 where
-  -- the amount is at most `bound`
   pub most : amount ≤ℤ pos bound
-  -- the amount is at least -bound
   pub least : pos 0 ≤ℤ (amount +ℤ pos bound)
 
 -- the number of an account in the dirty set of the books: 16 * (the thing's number) + the entry's index

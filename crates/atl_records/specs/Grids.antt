@@ -8,9 +8,7 @@ use Rattle.atl_records.specs.declared.books.Thing.{Thing}
 
 -- the rows are a grid: at most possible_things of them, each of entry_count amounts
 pub record IsGrid (rows : List (List ℤ)) : Type 0 where
-  -- there are at most possible_things rows
   pub few : length rows ≤ possible_things
-  -- each row has entry_count amounts, one for each entry
   pub wide : All (λ row. length row ≡ entry_count) rows
 
 -- the row of a thing, empty for a thing without a row

@@ -7,17 +7,11 @@ use Rattle.atl_records.specs.Limits.{men_limit, holding_limit}
 
 -- what a unit has: name, men, money, guard flag, pieces of each item by its index, and days of each skill over all men
 pub record HoldingValue : Type 0 where
-  -- the name of the unit, as bytes
   pub name : List ℕ
-  -- the number of men of the unit
   pub men : ℕ
-  -- the money of the unit
   pub money : ℕ
-  -- the guard flag of the unit
   pub guard : Bool
-  -- the number of pieces of each item that the unit has, by the item's number
   pub items : FinMap nat_cmp ℕ
-  -- the days of study of each skill, over all men of the unit, by the skill's number
   pub days : FinMap nat_cmp ℕ
 
 -- for proofs alone: a holding encoded as nested pairs of its fields, as the kit asks of a type that contracts see
@@ -54,9 +48,6 @@ AreAmounts items = (item amount : ℕ) → get items item ≡ Some amount → (1
 
 -- men, money and each item of a holding are within their limits, and no item is listed with 0
 pub record IsHolding (h : HoldingValue) : Type 0 where
-  -- the number of men is at most men_limit
   pub men : h.men ≤ men_limit
-  -- the money is at most holding_limit
   pub money : h.money ≤ holding_limit
-  -- each listed amount of an item is from 1 to holding_limit
   pub items : AreAmounts h.items

@@ -10,8 +10,6 @@ use Rattle.atl_records.specs.declared.levels.Measure.TheVariants.{Weight, Carry}
 use Rattle.atl_records.specs.Holdings.{HoldingValue, amount_of}
 use Rattle.atl_records.specs.Limits.{level_days}
 
--- ---- levels
-
 -- the greatest number from 1 to n that passes a test, or 0 where none does
 abbrev pub greatest : (ℕ → Bool) → ℕ → ℕ
 greatest passes zero = 0
@@ -34,8 +32,6 @@ level_in h skill = level_of (amount_of h.days skill) h.men
 abbrev pub level_in_any : HoldingValue → Option ℕ → ℕ
 level_in_any h None = 0
 level_in_any h (Some skill) = level_in h skill
-
--- ---- loads
 
 -- what one piece of an item weighs, 0 for an item that the world does not have
 abbrev pub weight_of : WorldValue → ℕ → ℕ

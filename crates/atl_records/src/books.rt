@@ -51,7 +51,6 @@ pub enum BooksEntry {
 /// What amounts are booked of: money, people, or an item.
 #[derive(Drop, Clone, Copy, Debug, PartialEq, Eq)]
 pub enum Thing {
-    /// The money of regions and units.
     Money,
     /// Peasants and men.
     People,
@@ -59,7 +58,6 @@ pub enum Thing {
     Item(u16),
 }
 
-/// Converts between entries, their numbers and their indices in a row of the books.
 impl BooksEntry {
     /// All entries, in the order of their numbers.
     pub const ALL: [BooksEntry; 16] = variants!(
@@ -94,7 +92,6 @@ impl BooksEntry {
     }
 }
 
-/// Converts between things, their numbers and the indices of their rows in the books.
 impl Thing {
     /// The number of a thing: 0 for money, 1 for people, 2 + i for the world's item with index i.
     pub fn number(self) -> u32
@@ -138,7 +135,6 @@ pub fn amount_number(entry: BooksEntry, thing: Thing) -> u32
     ENTRY_COUNT as u32 * thing.number() + entry.number() - 1
 }
 
-/// The sum of a row of the books: the amounts of one thing under all entries.
 fn row_sum(row: &[i64; ENTRY_COUNT]) -> i128
     ensures { result ≡ sum_of row.now }
 {
@@ -172,7 +168,6 @@ impl Model for Books {
     ghost invariant = { λ a. IsGrid a.rows.items };
 }
 
-/// Makes books whose amounts are all 0, and reads, sums, sets and adds to amounts.
 impl Books {
     /// Books of as many things as `things`, with all amounts 0. Things are money, people, and at
     /// most one item for each number of 16 bits. AllocError without memory.

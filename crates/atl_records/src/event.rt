@@ -9,13 +9,10 @@ use std::fmt;
 /// What an event reports on: an order, a unit's work without an order, or its upkeep.
 #[derive(Drop, Clone, Copy, Debug, PartialEq, Eq)]
 pub enum EventVerb {
-    /// An order of a mailing, or the work of a unit without one.
     Order(Verb),
-    /// The upkeep that all units pay.
     Upkeep,
 }
 
-/// Gives the word that reports print for an order, or for upkeep.
 impl EventVerb {
     ghost use Rattle.atl_records.specs.Events.{event_keyword};
 
@@ -91,7 +88,6 @@ const FAULTS: [EventFault; 24] = variants!(
     NotComplete NoCrew NotLearning CannotTeach NoFee NoMarket
 );
 
-/// Converts between faults, their numbers and their names in reports.
 impl EventFault {
     ghost use Rattle.std.specs.Prelude.{find, ◌==◌};
     ghost use Rattle.atl_records.specs.Events.{event_fault_number, event_fault_name, event_faults};
@@ -133,7 +129,6 @@ impl fmt::Display for EventFault {
     }
 }
 
-/// Lets a caller handle an event fault as any `Error`; its text is what `Display` writes.
 impl Error for EventFault {}
 
 /// What came of an order, of work without one, or of upkeep: done, a fault, or men that starved.
@@ -160,6 +155,5 @@ pub struct Event {
     pub line: u32,
     /// The order's verb, WORK for work without an order, or upkeep.
     pub verb: EventVerb,
-    /// What came of the order, the work or the upkeep.
     pub outcome: Outcome,
 }

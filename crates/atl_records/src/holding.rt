@@ -22,14 +22,12 @@ pub struct Holding {
     days: Numbered<u32>,
 }
 
-/// Drops the name, the items and the days of a holding.
 impl Drop for Holding {
     fn drop(self) {
         let_go!(self: Holding { name, men, money, guard, items, days });
     }
 }
 
-/// Contracts see a holding as a `HoldingValue`, with the same six fields.
 impl Model for Holding {
     ghost use Rattle.std.specs.Prelude.{◌≤◌};
     ghost use Rattle.atl_records.specs.Holdings.{HoldingValue, holding_code, IsHolding};
@@ -82,7 +80,6 @@ pub fn put_amount(amounts: &mut Numbered<u32>, number: u32, amount: u32) -> Resu
     amounts.insert(number, amount)
 }
 
-/// Makes a holding, and reads and sets its parts.
 impl Holding {
     /// A holding of at most MEN_LIMIT men, at most HOLDING_LIMIT of money, and from 1 to
     /// HOLDING_LIMIT pieces of each listed item. The days of each skill are over all men; the guard
@@ -110,7 +107,6 @@ impl Holding {
         }
     }
 
-    /// The unit's name, as reports show it.
     pub fn name(&self) -> &Text
         ensures { result.now ≡ self.now.name }
     {
@@ -147,7 +143,6 @@ impl Holding {
         amount_under(&self.items, item)
     }
 
-    /// Whether the unit holds exactly this many pieces of an item.
     pub fn has_amount(&self, item: u32, amount: u32) -> bool
         ensures { result ≡ has_amount self.now.items item amount }
     {

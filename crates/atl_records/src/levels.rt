@@ -93,13 +93,10 @@ fn times(amount: u32, each: u32) -> u64
 /// Which property of goods is summed: their weight, or what they carry.
 #[derive(Drop, Clone, Copy)]
 enum Measure {
-    /// The weight of the goods.
     Weight,
-    /// The weight that the goods carry.
     Carry,
 }
 
-/// The weight of one piece of an item, or the weight that it carries, as the measure says.
 fn item_measure(world: &World, item: u32, of: Measure) -> u32
     ensures value { result ≡ measure_of of world.now item }
     ensures small { result ≤ most_weight }
@@ -111,7 +108,6 @@ fn item_measure(world: &World, item: u32, of: Measure) -> u32
     }
 }
 
-/// The sum of amount times weight, or amount times carry, over the items that a unit holds.
 fn goods_measure(world: &World, holding: &Holding, of: Measure) -> u64
     ensures value { result ≡ goods_measure of world.now holding.now }
     ensures small { result ≤ most_u32 * most_weight * most_items }
@@ -132,7 +128,6 @@ pub fn goods(world: &World, holding: &Holding) -> u64
     goods_measure(world, holding, Measure::Weight)
 }
 
-/// What a unit's goods carry: the sum of amount times carry over the items that it holds.
 fn carried_by_goods(world: &World, holding: &Holding) -> u64
     ensures value { result ≡ carried_by_goods world.now holding.now }
     ensures small { result ≤ most_u32 * most_weight * most_items }

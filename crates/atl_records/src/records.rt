@@ -19,7 +19,6 @@ pub struct Faction {
     pub gone: bool,
 }
 
-/// Drops the names and the pass text of a faction.
 impl Drop for Faction {
     fn drop(self) {
         let_go!(self: Faction { number, joined_as, name, pass, gone });
@@ -38,7 +37,6 @@ pub struct Unit {
     pub holding: Holding,
 }
 
-/// Drops the holding of a unit.
 impl Drop for Unit {
     fn drop(self) {
         let_go!(self: Unit { faction, region, structure, holding });
@@ -56,14 +54,12 @@ pub struct Region {
     pub stocks: Numbered<u32>,
 }
 
-/// Drops the stocks of a region.
 impl Drop for Region {
     fn drop(self) {
         let_go!(self: Region { peasants, money, stocks });
     }
 }
 
-/// Reads how much of an item is in a region's stock.
 impl Region {
     ghost use Rattle.std.specs.Prelude.{◌≡◌};
     ghost use Rattle.atl_records.specs.Holdings.{amount_of};
@@ -111,5 +107,4 @@ impl fmt::Display for JoinFault {
     }
 }
 
-/// Lets a caller handle a refused joining as any `Error`; its text is what `Display` writes.
 impl Error for JoinFault {}

@@ -10,63 +10,47 @@ use Rattle.atl_report.specs.Events.{faulty_lines, event_lines, own_events, resul
 use Rattle.atl_report.specs.Sight.{view_of}
 use Rattle.atl_report.specs.Report.{header_line, region_parts, report_of, OthersEventsAreNotReported, OnlyWhatIsSeenIsReported}
 
--- without faulty lines, a report's text for the events of a list that pass the test p is `None.`, if none passes
 none_passes : (p : Event → Bool) (es : List Event) → list_any p es ≡ false → results_text [] (filter p es) ≡ codes "None.\n"
 none_passes p [] h = refl
 none_passes p (e ∷ es) h = by_test (p e) h (none_passes p es)
   where
-    -- for `none_passes`: with the event `e` in front of the list the text is still `None.`, since `e` fails the test,
-    -- too (`t` is false)
     by_test : (t : Bool) → (t || list_any p es) ≡ false → (list_any p es ≡ false → results_text [] (filter p es) ≡ codes "None.\n") → results_text [] (cond t (e ∷ filter p es) (filter p es)) ≡ codes "None.\n"
     by_test true h rest = absurd (false≢true (sym h))
     by_test false h rest = rest h
 
--- without faulty lines, a report's text for the events of a list that pass the test p is the lines of these events, if
--- one passes
 some_passes : (p : Event → Bool) (es : List Event) → list_any p es ≡ true → results_text [] (filter p es) ≡ event_lines (filter p es)
 some_passes p [] h = absurd (false≢true h)
 some_passes p (e ∷ es) h = by_test (p e) h (some_passes p es)
   where
-    -- for `some_passes`: with the event `e` in front of the list the text is the lines of the events that pass the
-    -- test, whether `e` passes (`t`) or not
     by_test : (t : Bool) → (t || list_any p es) ≡ true → (list_any p es ≡ true → results_text [] (filter p es) ≡ event_lines (filter p es)) → results_text [] (cond t (e ∷ filter p es) (filter p es)) ≡ event_lines (cond t (e ∷ filter p es) (filter p es))
     by_test true h rest = refl
     by_test false h rest = rest h
 
--- a list with a first element is not of length 0
 some_length : (f : FaultyLine) (fs : List FaultyLine) → (length (f ∷ fs) == 0) ≡ false
 some_length f fs = grind (arith, nat_tests)
 
--- where there are no faulty lines and no own events, the text that a report has for them is `None.`
 pub results_none : (faction : ℕ) (faults : List FaultyLine) (events : List Event) → ((length faults == 0) && not (list_any (λ (e : Event). e.faction == faction) events)) ≡ true
     → results_text faults (own_events faction events) ≡ codes "None.\n"
 results_none faction (f ∷ fs) events h = absurd (false≢true (sym (ap (λ b. b && not (list_any (λ (e : Event). e.faction == faction) events)) (some_length f fs)) ∙ h))
 results_none faction [] events h = by_test (list_any (λ (e : Event). e.faction == faction) events) h (none_passes (λ (e : Event). e.faction == faction) events)
   where
-    -- for `results_none`: without faulty lines the text is `None.`, if `t`, whether some event is the faction's own, is
-    -- false
     by_test : (t : Bool) → not t ≡ true → (t ≡ false → results_text [] (own_events faction events) ≡ codes "None.\n") → results_text [] (own_events faction events) ≡ codes "None.\n"
     by_test true h rest = absurd (false≢true h)
     by_test false h rest = rest refl
 
--- where there are faulty lines or own events, the text that a report has for them is their lines
 pub results_lines : (faction : ℕ) (faults : List FaultyLine) (events : List Event) → ((length faults == 0) && not (list_any (λ (e : Event). e.faction == faction) events)) ≡ false
     → results_text faults (own_events faction events) ≡ faulty_lines faults ++ event_lines (own_events faction events)
 results_lines faction (f ∷ fs) events h = refl
 results_lines faction [] events h = by_test (list_any (λ (e : Event). e.faction == faction) events) h (some_passes (λ (e : Event). e.faction == faction) events)
   where
-    -- for `results_lines`: without faulty lines the text is the lines of the own events, if `t`, whether some event is
-    -- the faction's own, is true
     by_test : (t : Bool) → not t ≡ false → (t ≡ true → results_text [] (own_events faction events) ≡ event_lines (own_events faction events)) → results_text [] (own_events faction events) ≡ event_lines (own_events faction events)
     by_test true h rest = rest refl
     by_test false h rest = absurd (false≢true (sym h))
 
--- two lists of events with the same events of a faction give that faction the same report
 pub others_events_are_not_reported : OthersEventsAreNotReported
 unfolding report_of orders_part
 others_events_are_not_reported w v faults events others h = ap (λ own. header_line v ++ ((codes "Orders:\n" ++ results_text faults own) ++ region_parts w v.regions)) h
 
--- a faction gets one report of two campaigns, if it sees the same of both, and has the same faulty lines and own events
 pub only_what_is_seen_is_reported : OnlyWhatIsSeenIsReported
 unfolding view_of
 only_what_is_seen_is_reported w c d faction faults events others seen results_text =

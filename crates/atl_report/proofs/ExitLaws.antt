@@ -12,11 +12,9 @@ use Rattle.atl_report.specs.Report.{exit_text, exit_texts, joined_or_none}
 abbrev pub exit_as_written : (is_first : Bool) → (direction : List ℕ) → Option ℕ → List ℕ
 exit_as_written is_first direction exit = option_map_or (λ to. (if is_first then [] else codes ", ") ++ exit_text direction to) exit []
 
--- the texts of a list joined, each with a comma in front
 abbrev after_commas : List (List ℕ) → List ℕ
 after_commas texts = each_text (λ t. codes ", " ++ t) texts
 
--- the texts of exits, with the text of one more exit in front if it is there (Some)
 abbrev with_exit : (direction : List ℕ) → Option ℕ → List (List ℕ) → List (List ℕ)
 with_exit direction exit texts = cons_option (option_map (exit_text direction) exit) texts
 
@@ -27,11 +25,9 @@ later_exit_is_written : (direction : List ℕ) (exit : Option ℕ) (texts : List
 later_exit_is_written direction None texts = refl
 later_exit_is_written direction (Some to) texts = refl
 
--- the last exit, where it isn't the first, is written after a comma
 last_exit_is_written : (direction : List ℕ) (exit : Option ℕ) → after_commas (with_exit direction exit []) ≡ exit_as_written false direction exit
 last_exit_is_written direction exit = later_exit_is_written direction exit [] ∙ append-nil (exit_as_written false direction exit)
 
--- four exits written in turn, each with a comma if an earlier one is there, are their texts joined by commas
 four_exits_are_joined : (north south east west : Option ℕ) →
     separated_texts (codes ", ") (with_exit (codes "north") north (with_exit (codes "south") south (with_exit (codes "east") east (with_exit (codes "west") west []))))
     ≡ exit_as_written true (codes "north") north
@@ -51,7 +47,6 @@ four_exits_are_joined None None (Some e) w = ap (λ l. exit_text (codes "east") 
 four_exits_are_joined None None None (Some w) = append-nil (exit_text (codes "west") w)
 four_exits_are_joined None None None None = refl
 
--- the exits of a region written in turn are their texts joined by commas
 pub joined_in_turn : (p : RegionPlan) →
     separated_texts (codes ", ") (exit_texts p)
     ≡ exit_as_written true (codes "north") p.north
@@ -61,8 +56,6 @@ pub joined_in_turn : (p : RegionPlan) →
 unfolding exit_texts
 joined_in_turn p = four_exits_are_joined p.north p.south p.east p.west
 
--- `joined_or_none` gives of the texts of four exits `none` if none of the four is there, else the texts joined by
--- commas
 four_exits_or_none : (north south east west : Option ℕ) →
     let texts = with_exit (codes "north") north (with_exit (codes "south") south (with_exit (codes "east") east (with_exit (codes "west") west []))) in
     joined_or_none texts ≡ if ((is_none north && is_none south) && is_none east) && is_none west then codes "none" else separated_texts (codes ", ") texts
@@ -72,7 +65,6 @@ four_exits_or_none None None (Some e) w = refl
 four_exits_or_none None None None (Some w) = refl
 four_exits_or_none None None None None = refl
 
--- `joined_or_none` gives of the exits of a region `none` if it has no exit, else their texts joined by commas
 pub none_or_joined : (p : RegionPlan) →
     joined_or_none (exit_texts p)
     ≡ if ((is_none p.north && is_none p.south) && is_none p.east) && is_none p.west then codes "none" else separated_texts (codes ", ") (exit_texts p)

@@ -21,11 +21,9 @@ use Rattle.atl_records.proofs.EveryLaws.{each-from_every}
 use Rattle.atl_report.specs.Watching.{is_watching, sees_region}
 use Rattle.atl_report.specs.Gathering.{with_region, with_watched, with_all_watched}
 
--- a number compares equal to itself
 equal_to_itself : (n : ℕ) → is_eq (nat_cmp n n) ≡ true
 equal_to_itself n = ap is_eq (tied_itself nat_cmp_total n)
 
--- a number above another does not compare equal to it
 above_is_not_equal : (k q : ℕ) → is_lt (nat_cmp k q) ≡ true → is_eq (nat_cmp q k) ≡ false
 above_is_not_equal k q h = elim (nat_cmp q k) as (λ o. nat_cmp q k ≡ o → is_eq o ≡ false) [
   | Less ↦ λ _. refl
@@ -63,14 +61,11 @@ module _ {X : Type 0} (p : X → Bool) (g : Option X → Bool) where
         | false ↦ rest
       ]
 
-  -- in a map `g` holds of some value looked up by the number of an entry that passes `p`, just where some entry passes
-  -- both `p` and `g`
   some_where : (m : FinMap nat_cmp X) → list_any (λ n. g (get m n)) (numbers_where p m) ≡ list_any (λ e. p e.1 && g (Some e.1)) (entries m)
   some_where m = ap (λ (f : ℕ → Option X). list_any (λ n. g (f n)) (numbers_where p m)) (λ i n. get-entries m n i) ∙ some_found (entries m) (is_true _ (entries_sorted m))
 
 -- ---- who watches where
 
--- whether a unit is the faction's (`f`), has men, and is in region `q`
 abbrev watches_in : ℕ → ℕ → Option Unit → Bool
 watches_in f q None = false
 watches_in f q (Some u) = is_watching f (Some u) && eq_by_cmp nat_cmp q u.region
@@ -98,13 +93,10 @@ region_is_seen_by_unit c f q =
 abbrev forget_value : {V : Type 0} → V → Prim.Unit {0}
 forget_value v = tt
 
--- an entry with its value replaced by `tt`
 abbrev number_alone : {V : Type 0} → ℕ × V → ℕ × Prim.Unit {0}
 number_alone e = (e.0, tt)
 
 module _ {V : Type 0} where
-  -- to look up a number among entries with their values replaced by `tt` gives `tt` exactly where it gives a value
-  -- among the entries themselves
   find-alone : (q : ℕ) (es : List (ℕ × V)) → find nat_cmp q (map number_alone es) ≡ option_map forget_value (find nat_cmp q es)
   find-alone q [] = refl
   find-alone q (e ∷ es) = elim (is_eq (nat_cmp q e.0)) as (λ b. cond b (Some tt) (find nat_cmp q (map number_alone es)) ≡ option_map forget_value (cond b (Some e.1) (find nat_cmp q es))) [
@@ -112,12 +104,10 @@ module _ {V : Type 0} where
     | false ↦ find-alone q es
   ]
 
-  -- a number is below all entries with their values replaced by `tt` exactly if it is below all entries themselves
   below-alone : (k : ℕ) (es : List (ℕ × V)) → below_all nat_cmp k (map number_alone es) ≡ below_all nat_cmp k es
   below-alone k [] = refl
   below-alone k (e ∷ es) = ap (λ b. is_lt (nat_cmp k e.0) && b) (below-alone k es)
 
-  -- entries with their values replaced by `tt` are sorted exactly if the entries themselves are
   sorted-alone : (es : List (ℕ × V)) → is_sorted nat_cmp (map number_alone es) ≡ is_sorted nat_cmp es
   sorted-alone [] = refl
   sorted-alone (e ∷ es) = ap (λ b. b && is_sorted nat_cmp (map number_alone es)) (below-alone e.0 es) ∙ ap (λ b. below_all nat_cmp e.0 es && b) (sorted-alone es)
@@ -129,7 +119,6 @@ module _ {V : Type 0} where
   alone_chosen false o = refl
 
 module _ (c : CampaignValue) (f q : ℕ) where
-  -- Some `tt` if the campaign has region `k`, else None
   abbrev there : ℕ → Option (Prim.Unit {0})
   there k = option_map forget_value (get c.regions k)
 
@@ -153,8 +142,6 @@ module _ (c : CampaignValue) (f q : ℕ) where
     | Greater ↦ λ _. was
   ] refl
 
-  -- After a unit's region is added to the gathered regions, `q` is one of them if it was (b), or if the campaign has
-  -- region `q` and the unit is one of the faction's with men in it.
   one_watched : (seen : FinMap nat_cmp (Prim.Unit {0})) (b : Bool) (o : Option Unit) → get seen q ≡ cond b (there q) None → get (with_watched c f seen o) q ≡ cond (watches_in f q o || b) (there q) None
   one_watched seen b None was = was
   one_watched seen b (Some u) was =
@@ -171,8 +158,6 @@ module _ (c : CampaignValue) (f q : ℕ) where
   or_order false true b = refl
   or_order false false b = refl
 
-  -- After the regions of some units are added to the gathered ones, `q` is one of them if it was (b), or if the
-  -- campaign has region `q` and one of the units is one of the faction's with men in it.
   all_watched : (ns : List ℕ) (seen : FinMap nat_cmp (Prim.Unit {0})) (b : Bool) → get seen q ≡ cond b (there q) None
       → get (with_all_watched c f ns seen) q ≡ cond (list_any (λ n. watches_in f q (get c.units n)) ns || b) (there q) None
   all_watched [] seen b was = was
@@ -185,29 +170,34 @@ module _ (c : CampaignValue) (f q : ℕ) where
   or_none true = refl
   or_none false = refl
 
-  -- the regions gathered from all units of a faction are just those that it sees
   get-with_all_watched : get (with_all_watched c f (numbers_of_faction f c.units) empty) q ≡ cond (sees_region c f q) (there q) None
   get-with_all_watched =
       all_watched (numbers_of_faction f c.units) empty false (get-empty nat_cmp q)
       ∙ ap (λ t. cond t (there q) None) (or_none (list_any (λ n. watches_in f q (get c.units n)) (numbers_of_faction f c.units)) ∙ region_is_seen_by_unit c f q)
 
--- the numbers gathered from the faction's units are those of the regions that it sees, in rising order
-pub entries-with_all_watched : (c : CampaignValue) (f : ℕ) → entries (with_all_watched c f (numbers_of_faction f c.units) empty) ≡ map (λ e. (e.0, tt)) (filter (λ e. sees_region c f e.0) (entries c.regions))
-entries-with_all_watched c f =
-    let seen = where_key nat_cmp (sees_region c f) (entries c.regions) in
-    let numbers : List (ℕ × Prim.Unit {0}) = map number_alone seen in
-    let sorted : T (is_sorted nat_cmp numbers) = rw (sorted-alone seen) (is_sorted-where_key nat_cmp (sees_region c f) (entries c.regions) (entries_sorted c.regions)) in
-    ap entries (same_map nat_cmp_total nat_cmp-IsAntisymmetric (with_all_watched c f (numbers_of_faction f c.units) empty) (from_sorted numbers) (λ q.
-    get-with_all_watched c f q ∙ sym (get-from_sorted nat_cmp numbers q sorted ∙ find-alone q seen
-    ∙ ap (option_map forget_value) (find-where_key nat_cmp (sees_region c f) q (λ x e. ap (sees_region c f) (sym (nat_cmp-IsAntisymmetric q x e))) (entries c.regions) ∙ ap (λ o. cond (sees_region c f q) o None) (sym (get-entries c.regions q)))
-    ∙ alone_chosen (sees_region c f q) (get c.regions q))))
+-- a set that has just those numbers of a map that pass a test has them in the order of the map
+pub chosen_numbers : {V : Type 0} (m : FinMap nat_cmp V) (t : ℕ → Bool) (seen : FinMap nat_cmp (Prim.Unit {0}))
+    → ((q : ℕ) → get seen q ≡ cond (t q) (option_map forget_value (get m q)) None)
+    → entries seen ≡ map (λ e. (e.0, tt)) (filter (λ e. t e.0) (entries m))
+chosen_numbers {V} m t seen are =
+    let chosen : List (ℕ × V) = where_key nat_cmp t (entries m) in
+    let numbers : List (ℕ × Prim.Unit {0}) = map number_alone chosen in
+    let sorted : T (is_sorted nat_cmp numbers) = rw (sorted-alone chosen) (is_sorted-where_key nat_cmp t (entries m) (entries_sorted m)) in
+    ap entries (same_map nat_cmp_total nat_cmp-IsAntisymmetric seen (from_sorted numbers) (λ q.
+    are q ∙ sym (get-from_sorted nat_cmp numbers q sorted ∙ find-alone q chosen
+    ∙ ap (option_map forget_value) (find-where_key nat_cmp t q (λ x e. ap t (sym (nat_cmp-IsAntisymmetric q x e))) (entries m) ∙ ap (λ o. cond (t q) o None) (sym (get-entries m q)))
+    ∙ alone_chosen (t q) (get m q))))
     ∙ entries-from_sorted nat_cmp numbers sorted
 
--- regions looked up by the numbers of chosen entries
-module _ {A : Type 0} (m : FinMap nat_cmp Region) (make : ℕ → Region → A) where
-  -- if the map `m` has each entry of `es`, then to look up in `m` the regions of those entries that pass `p`, by
-  -- number, and apply `make` to each, gives what `make` gives of these entries
-  looked_up : (p : ℕ × Region → Bool) (es : List (ℕ × Region)) → EachEntry (λ n r. get m n ≡ Some r) es
+-- the numbers gathered from the faction's units are those of the regions that it sees, in rising order
+pub entries-with_all_watched : (c : CampaignValue) (f : ℕ) → entries (with_all_watched c f (numbers_of_faction f c.units) empty) ≡ map (λ e. (e.0, tt)) (filter (λ e. sees_region c f e.0) (entries c.regions))
+entries-with_all_watched c f = chosen_numbers c.regions (sees_region c f) (with_all_watched c f (numbers_of_faction f c.units) empty) (λ q. get-with_all_watched c f q)
+
+-- values looked up by the numbers of chosen entries
+module _ {A V : Type 0} (m : FinMap nat_cmp V) (make : ℕ → V → A) where
+  -- if the map `m` has each entry of `es`, then to look up in `m` the values of those entries that pass `p`, by number,
+  -- and apply `make` to each, gives what `make` gives of these entries
+  looked_up : (p : ℕ × V → Bool) (es : List (ℕ × V)) → EachEntry (λ n v. get m n ≡ Some v) es
       → filter_map (λ (e : ℕ × Prim.Unit {0}). option_map (make e.0) (get m e.0)) (map number_alone (filter p es)) ≡ map (λ e. make e.0 e.1) (filter p es)
   looked_up p [] h = refl
   looked_up p (e ∷ es) h =
@@ -216,7 +206,7 @@ module _ {A : Type 0} (m : FinMap nat_cmp Region) (make : ℕ → Region → A) 
         | false ↦ looked_up p es h.1
       ]
 
--- to look up in a map the regions of those entries that pass `p`, by number, and apply `make` to each, gives what
--- `make` gives of these entries
-pub regions_looked_up : {A : Type 0} (m : FinMap nat_cmp Region) (make : ℕ → Region → A) (p : ℕ × Region → Bool) → filter_map (λ (e : ℕ × Prim.Unit {0}). option_map (make e.0) (get m e.0)) (map (λ e. (e.0, tt)) (filter p (entries m))) ≡ map (λ e. make e.0 e.1) (filter p (entries m))
-regions_looked_up m make p = looked_up m make p (entries m) (each-from_every (λ n r. get m n ≡ Some r) m (λ n r is. is))
+-- to look up in a map the values of those entries that pass `p`, by number, and apply `make` to each, gives what `make`
+-- gives of these entries
+pub values_looked_up : {A V : Type 0} (m : FinMap nat_cmp V) (make : ℕ → V → A) (p : ℕ × V → Bool) → filter_map (λ (e : ℕ × Prim.Unit {0}). option_map (make e.0) (get m e.0)) (map (λ e. (e.0, tt)) (filter p (entries m))) ≡ map (λ e. make e.0 e.1) (filter p (entries m))
+values_looked_up m make p = looked_up m make p (entries m) (each-from_every (λ n v. get m n ≡ Some v) m (λ n v is. is))

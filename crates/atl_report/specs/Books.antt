@@ -45,8 +45,6 @@ thing_name w Money = codes "money"
 thing_name w People = codes "people"
 thing_name w (Item i) = item_name (slice_get w.items i)
 
--- ---- a thing
-
 -- the end of an entry's line, after the thing: the entry's name and its amount, with `-` if it is negative
 abbrev pub amount_text : BooksEntry → ℤ → List ℕ
 amount_text e amount = codes " " ▸ entry_name e ▸ codes " " ▸ signed_decimal amount ▸ codes "\n"
@@ -66,8 +64,6 @@ total_line w c t = thing_name w t ▸ codes " total " ▸ decimal (total c t) �
 -- all lines of a thing: those of its entries, and its total
 unfoldable pub thing_part : WorldValue → CampaignValue → Thing → List ℕ
 thing_part w c t = amount_lines w c.books t all_entries ▸ total_line w c t
-
--- ---- the whole
 
 -- the lines of the first n items of the world, in its order
 abbrev pub item_parts : WorldValue → CampaignValue → ℕ → List ℕ

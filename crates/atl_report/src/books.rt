@@ -10,7 +10,6 @@ use atl_world::{World, text_of};
 use std::alloc::{AllocError, Global};
 use std::fmt::Write;
 
-/// The name of an entry, as the text of the books prints it.
 fn entry_name(entry: BooksEntry) -> &'static str
     ensures { result.now ≡ entry_name entry }
 {
@@ -22,7 +21,6 @@ fn entry_name(entry: BooksEntry) -> &'static str
     )
 }
 
-/// Writes the name of a thing, with which each of its lines begins.
 fn write_thing(out: &mut String, world: &World, thing: Thing) -> Result<(), AllocError>
     ensures { OnOk result (string_bytes out.new
         ≡ string_bytes out.old ++ thing_name world.now thing) }
@@ -48,7 +46,6 @@ fn write_item(out: &mut String, world: &World, item: u16) -> Result<(), AllocErr
     }
 }
 
-/// Writes the end of an entry's line: the entry's name and its amount, with `-` if it is negative.
 fn write_amount(out: &mut String, entry: BooksEntry, amount: i64) -> Result<(), AllocError>
     ensures { OnOk result (string_bytes out.new
         ≡ string_bytes out.old ++ amount_text entry amount) }
@@ -57,7 +54,6 @@ fn write_amount(out: &mut String, entry: BooksEntry, amount: i64) -> Result<(), 
     write!(out, " {name} {amount}\n")
 }
 
-/// Writes the line of a thing under an entry; nothing where the amount is 0.
 #[tactic(auto, unfolding(crate::specs::Books::amount_line))]
 fn write_entry(
     out: &mut String,
@@ -77,8 +73,6 @@ fn write_entry(
     Ok(())
 }
 
-/// Writes the lines of a thing that the books count, under the entries of a list, without those
-/// whose amount is 0.
 fn write_entries(
     out: &mut String,
     world: &World,
@@ -117,8 +111,6 @@ fn write_total(
     Ok(())
 }
 
-/// Writes all lines of a thing that the books count: those of its entries, and its total. There are
-/// at most 1,000,000 units and regions together.
 #[tactic(auto, unfolding(crate::specs::Books::thing_part))]
 fn write_thing_part(
     out: &mut String,
@@ -136,8 +128,6 @@ fn write_thing_part(
     Ok(())
 }
 
-/// Writes the lines of all items of the world, in its order. The books count the things of this
-/// world, and there are at most 1,000,000 units and regions together.
 fn write_items(out: &mut String, world: &World, campaign: &Campaign) -> Result<(), AllocError>
     requires things { campaign.now.value.books.things ≡ thing_count world.now }
     requires countable { IsCountable campaign.now.value }

@@ -9,7 +9,6 @@ use atl_orders::FaultyLine;
 use std::alloc::AllocError;
 use std::fmt::Write;
 
-/// Writes the line for a line of the mailing that was not read: its line number and its fault.
 #[tactic(auto, unfolding(crate::specs::Events::faulty_line))]
 fn write_faulty_line(out: &mut String, faulty: &FaultyLine) -> Result<(), AllocError>
     ensures { OnOk result (string_bytes out.new ≡ string_bytes out.old ++ faulty_line faulty.now) }
@@ -20,7 +19,6 @@ fn write_faulty_line(out: &mut String, faulty: &FaultyLine) -> Result<(), AllocE
     write!(out, "Line {line}: {number} {name}.\n")
 }
 
-/// Writes the lines for all faulty lines of the mailing, in their order.
 fn write_faulty_lines(out: &mut String, faults: &[FaultyLine]) -> Result<(), AllocError>
     ensures { OnOk result (string_bytes out.new ≡ string_bytes out.old ++ faulty_lines faults.now) }
 {
@@ -30,7 +28,6 @@ fn write_faulty_lines(out: &mut String, faults: &[FaultyLine]) -> Result<(), All
     Ok(())
 }
 
-/// The name of the fault with a number; empty where no fault has the number.
 fn name_of_number(number: u8) -> &'static str
     ensures { result.now ≡ name_of_number number }
 {
@@ -40,7 +37,6 @@ fn name_of_number(number: u8) -> &'static str
     }
 }
 
-/// Writes the line of an event: what was done, the fault, or how many men starved.
 #[tactic(auto, unfolding(crate::specs::Events::event_line))]
 fn write_event(out: &mut String, event: &Event) -> Result<(), AllocError>
     ensures { OnOk result (string_bytes out.new ≡ string_bytes out.old ++ event_line event.now) }
@@ -61,7 +57,6 @@ fn write_event(out: &mut String, event: &Event) -> Result<(), AllocError>
     }
 }
 
-/// Writes the lines of the faction's own events.
 fn write_events(out: &mut String, faction: u32, events: &[Event]) -> Result<(), AllocError>
     ensures { OnOk result (string_bytes out.new
         ≡ string_bytes out.old ++ event_lines (own_events faction events.now)) }
@@ -74,14 +69,12 @@ fn write_events(out: &mut String, faction: u32, events: &[Event]) -> Result<(), 
     Ok(())
 }
 
-/// Whether some event is the faction's own.
 fn has_own_event(faction: u32, events: &[Event]) -> bool
     ensures { result ≡ list_any (λ e. e.faction == faction) events.now }
 {
     events.iter().any(|event| event.faction == faction)
 }
 
-/// Whether there is no faulty line and no event of the faction.
 fn has_no_results(faction: u32, faults: &[FaultyLine], events: &[Event]) -> bool
     ensures { result ≡ (length faults.now == 0 && not
         (list_any (λ e. e.faction == faction) events.now)) }
@@ -89,7 +82,6 @@ fn has_no_results(faction: u32, faults: &[FaultyLine], events: &[Event]) -> bool
     faults.is_empty() && !has_own_event(faction, events)
 }
 
-/// Writes the faulty lines and the faction's own events, or `None.` where there is neither.
 #[tactic(auto, using(crate::proofs::EventLaws::results_none))]
 fn write_results(
     out: &mut String,

@@ -19,7 +19,6 @@ trait InReport {
     ghost use Rattle.std.specs.Prelude.{List, ℕ};
     ghost use Rattle.atl_world.specs.Worlds.{WorldValue};
 
-    // The text of the part in a report.
     ghost text: { WorldValue → Self → List ℕ };
 
     /// Writes the text of the part at the end of `out`.
@@ -28,7 +27,6 @@ trait InReport {
             ≡ string_bytes out.old ++ text world.now self.now) };
 }
 
-/// Writes the texts of a list's elements, one after another.
 fn write_each<T: InReport>(out: &mut String, world: &World, list: &[T]) -> Result<(), AllocError>
     ensures { OnOk result (string_bytes out.new
         ≡ string_bytes out.old ++ each_text (T.text world.now) list.now) }
@@ -39,7 +37,6 @@ fn write_each<T: InReport>(out: &mut String, world: &World, list: &[T]) -> Resul
     Ok(())
 }
 
-/// Writes the first line of a report: the month, and the faction's number and name.
 #[tactic(auto, unfolding(crate::specs::Report::header_line))]
 fn write_header(out: &mut String, view: &View) -> Result<(), AllocError>
     ensures { OnOk result (string_bytes out.new ≡ string_bytes out.old ++ header_line view.now) }
@@ -53,8 +50,6 @@ fn write_header(out: &mut String, view: &View) -> Result<(), AllocError>
     )
 }
 
-/// Writes the start of a unit's line: number, name and men, with the money of an own unit or the
-/// faction of another's.
 fn write_head(out: &mut String, unit: &UnitView) -> Result<(), AllocError>
     ensures { OnOk result (string_bytes out.new
         ≡ string_bytes out.old ++ unit_head unit.now unit.now.side) }
@@ -82,7 +77,6 @@ fn write_head(out: &mut String, unit: &UnitView) -> Result<(), AllocError>
     }
 }
 
-/// Writes the word `guard`, after a comma, if a unit guards; else nothing.
 fn write_guard(out: &mut String, guard: bool) -> Result<(), AllocError>
     ensures { OnOk result (string_bytes out.new ≡ string_bytes out.old ++ guard_text guard) }
 {
@@ -108,7 +102,6 @@ fn write_inside(out: &mut String, structure: u32) -> Result<(), AllocError>
 impl InReport for ItemView {
     ghost text = { item_text };
 
-    /// Writes the item's amount and name at the end of `out`; nothing for an item not in the world.
     #[tactic(auto, unfolding(crate::specs::Report::item_text))]
     fn write(&self, out: &mut String, world: &World) -> Result<(), AllocError> {
         let Some(item) = world.items().get(self.item as usize) else {
@@ -125,7 +118,6 @@ impl InReport for ItemView {
 impl InReport for SkillView {
     ghost text = { skill_text };
 
-    /// Writes the skill with level and days at the end of `out`; nothing for one not in the world.
     #[tactic(auto, unfolding(crate::specs::Report::skill_text))]
     fn write(&self, out: &mut String, world: &World) -> Result<(), AllocError> {
         let Some(skill) = world.skills().get(self.skill as usize) else {
@@ -138,7 +130,6 @@ impl InReport for SkillView {
     }
 }
 
-/// Writes the items and the skills of an own unit; nothing for another faction's.
 fn write_goods(out: &mut String, world: &World, side: &Side) -> Result<(), AllocError>
     ensures { OnOk result (string_bytes out.new
         ≡ string_bytes out.old ++ goods_text world.now side.now) }
@@ -164,7 +155,6 @@ fn write_goods(out: &mut String, world: &World, side: &Side) -> Result<(), Alloc
 impl InReport for UnitView {
     ghost text = { unit_line };
 
-    /// Writes the unit's line at the end of `out`.
     #[tactic(auto, unfolding(crate::specs::Report::unit_line))]
     fn write(&self, out: &mut String, world: &World) -> Result<(), AllocError> {
         write_head(out, self)?;
@@ -176,8 +166,6 @@ impl InReport for UnitView {
     }
 }
 
-/// Writes the line of a structure: number, name, the kind's name, how much is done of the kind's
-/// full size, and the owner.
 fn write_structure_text(
     out: &mut String,
     structure: &StructureView,
@@ -202,7 +190,6 @@ fn write_structure_text(
 impl InReport for StructureView {
     ghost text = { structure_line };
 
-    /// Writes the structure's line at the end of `out`; nothing for a kind not in the world.
     #[tactic(auto, unfolding(crate::specs::Report::structure_line))]
     fn write(&self, out: &mut String, world: &World) -> Result<(), AllocError> {
         match world.kind(self.kind) {
@@ -212,7 +199,6 @@ impl InReport for StructureView {
     }
 }
 
-/// Writes the line of a region; nothing where the world does not have it.
 #[tactic(auto, unfolding(crate::specs::Report::region_line))]
 fn write_region(out: &mut String, world: &World, region: &RegionView) -> Result<(), AllocError>
     ensures { OnOk result (string_bytes out.new
@@ -258,7 +244,6 @@ fn write_exit(
     }
 }
 
-/// Writes the exits of a region in the order north, south, east, west, with commas between them.
 fn write_directions(out: &mut String, plan: &RegionPlan) -> Result<(), AllocError>
     ensures { OnOk result (string_bytes out.new
         ≡ string_bytes out.old ++ separated_texts (codes ", ") (exit_texts plan.now)) }
@@ -273,7 +258,6 @@ fn write_directions(out: &mut String, plan: &RegionPlan) -> Result<(), AllocErro
     Ok(())
 }
 
-/// Whether a region has no exit.
 fn has_no_exit(plan: &RegionPlan) -> bool
     ensures { result
         ≡ (((is_none plan.now.north && is_none plan.now.south) && is_none plan.now.east)
@@ -282,7 +266,6 @@ fn has_no_exit(plan: &RegionPlan) -> bool
     plan.north.is_none() && plan.south.is_none() && plan.east.is_none() && plan.west.is_none()
 }
 
-/// Writes the line with the exits of a region of the world, or with `none`.
 fn write_known_exits(out: &mut String, plan: &RegionPlan) -> Result<(), AllocError>
     ensures { OnOk result (string_bytes out.new ≡ string_bytes out.old ++ exits_text plan.now) }
 {
@@ -296,7 +279,6 @@ fn write_known_exits(out: &mut String, plan: &RegionPlan) -> Result<(), AllocErr
     Ok(())
 }
 
-/// Writes the line of a region's exits; nothing where the world does not have the region.
 #[tactic(auto, unfolding(crate::specs::Report::exits_line))]
 fn write_exits(out: &mut String, world: &World, region: &RegionView) -> Result<(), AllocError>
     ensures { OnOk result (string_bytes out.new
@@ -308,7 +290,6 @@ fn write_exits(out: &mut String, world: &World, region: &RegionView) -> Result<(
     }
 }
 
-/// Writes the line of a market: the item's name, stock, wanted pieces and prices.
 fn write_market_text(
     out: &mut String,
     seen: MarketView,
@@ -329,7 +310,6 @@ fn write_market_text(
     )
 }
 
-/// Writes the line of a market in a region; nothing where the world has no such market.
 #[tactic(auto, unfolding(crate::specs::Report::market_line))]
 fn write_market(
     out: &mut String,
@@ -349,7 +329,6 @@ fn write_market(
     }
 }
 
-/// Writes the lines of a list of markets of one region, in their order.
 fn write_markets(
     out: &mut String,
     world: &World,
@@ -369,7 +348,6 @@ fn write_markets(
 impl InReport for RegionView {
     ghost text = { region_part };
 
-    /// Writes the region's line, and the lines of all that is seen there, at the end of `out`.
     #[tactic(auto, unfolding(crate::specs::Report::region_part))]
     fn write(&self, out: &mut String, world: &World) -> Result<(), AllocError> {
         write_region(out, world, self)?;

@@ -5,15 +5,12 @@ use atl_world::{Sequence, Text, let_go};
 pub struct View {
     /// The month last closed.
     pub month: u32,
-    /// The number of the faction.
     pub faction: u32,
-    /// The faction's name, as reports show it.
     pub name: Text,
     /// The views of the regions that the faction sees, by number.
     pub regions: Sequence<RegionView>,
 }
 
-/// Drops the name and the views of the regions.
 impl Drop for View {
     fn drop(self) {
         let_go!(self: View { month, faction, name, regions });
@@ -33,7 +30,6 @@ pub struct RegionView {
     pub units: Sequence<UnitView>,
 }
 
-/// Drops the views of the region's markets, structures and units.
 impl Drop for RegionView {
     fn drop(self) {
         let_go!(self: RegionView { number, peasants, money, markets, structures, units });
@@ -45,7 +41,6 @@ impl Drop for RegionView {
 pub struct MarketView {
     /// The index of the item in the world.
     pub item: u16,
-    /// How many pieces there are in stock.
     pub stock: u32,
     /// How many more pieces the market's limit leaves room for.
     pub wanted: u32,
@@ -76,7 +71,6 @@ pub struct UnitView {
     pub side: Side,
 }
 
-/// Drops the unit's name and what is shown of its side.
 impl Drop for UnitView {
     fn drop(self) {
         let_go!(self: UnitView { number, name, men, guard, structure, side });
@@ -92,14 +86,12 @@ pub enum Side {
         items: Sequence<ItemView>,
         skills: Sequence<SkillView>,
     },
-    /// Another faction's, with that faction's number and name.
     Other {
         faction: u32,
         name: Text,
     },
 }
 
-/// Drops an own unit's items and skills, or another's faction name.
 impl Drop for Side {
     fn drop(self) {
         match self {

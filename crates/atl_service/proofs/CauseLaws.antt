@@ -23,34 +23,26 @@ module _ {F : Type 0} (memory other : F) (apart : memory ≢ other) where
   is_first true is = refl
   is_first false is = absurd (apart is)
 
-  -- for `write_gave_other_error` and `creation_failed`: if a test that chooses between the faults `memory` and `other`,
-  -- which differ, chose `other`, it is false
   is_second : (b : Bool) → other ≡ cond b memory other → b ≡ false
   is_second true is = absurd (apart (sym is))
   is_second false is = refl
 
 module _ {S : Type 0} (g : Ghosts S) (own : Statements) (old new : Held S) where
-  -- the faults Memory and Store of creating the tables are different
   creates_apart : create.Memory ≢ create.Store
   creates_apart is = let e = is in cc
 
-  -- the faults Memory and Store of a write are different
   writes_apart : write.Memory ≢ write.Store
   writes_apart is = let e = is in cc
 
-  -- if creating the tables reported Memory, one of its calls ran out of memory
   pub creation_lacked : IsFaultOfError g own create_fault old new create.Memory → GivesError g own true old new
   creation_lacked (e, is, given) = record { error = e; memory_is = is_first create.Memory create.Store creates_apart (is_memory e) is; given = given }
 
-  -- if creating the tables reported Store, one of its calls gave an error other than out of memory
   pub creation_failed : IsFaultOfError g own create_fault old new create.Store → GivesError g own false old new
   creation_failed (e, is, given) = record { error = e; memory_is = is_second create.Memory create.Store creates_apart (is_memory e) is; given = given }
 
-  -- if a write reported Memory, one of its calls ran out of memory
   write_lacked_memory : IsFaultOfError g own write_fault old new write.Memory → GivesError g own true old new
   write_lacked_memory (e, is, given) = record { error = e; memory_is = is_first write.Memory write.Store writes_apart (is_memory e) is; given = given }
 
-  -- if a write reported Store, one of its calls gave an error other than out of memory
   write_gave_other_error : IsFaultOfError g own write_fault old new write.Store → GivesError g own false old new
   write_gave_other_error (e, is, given) = record { error = e; memory_is = is_second write.Memory write.Store writes_apart (is_memory e) is; given = given }
 
@@ -60,8 +52,6 @@ module _ {S : Type 0} (g : Ghosts S) (own : Statements) (old new : Held S) where
   write_has_cause write.Memory says = inr (λ clean. write_lacked_memory (says clean))
   write_has_cause write.Store says = λ clean. write_gave_other_error (says clean)
 
-  -- if a call ends with a write's fault, which on a clean disk reports an error of a call of the write, this error is
-  -- the cause of the service's fault (`HasCause`)
   pub call_has_cause : {A : Type 0} (fault : WriteFault) (r : Result A WriteFault) → IsErrAnd r (λ f. f ≡ fault) → (HasCleanDisk (state g new) → IsFaultOfError g own write_fault old new fault) → IfErr r (λ f. HasCause g own old new (fault_of_write f))
   call_has_cause fault (Ok a) is says = tt
   call_has_cause fault (Err f) is says = subst (λ x. HasCause g own old new (fault_of_write x)) (sym is) (write_has_cause fault says)

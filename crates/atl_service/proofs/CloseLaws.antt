@@ -38,7 +38,8 @@ use Rattle.atl_phase.specs.Month.{HaveOwnFactions, by_faction}
 use Rattle.atl_month.specs.Month.{after_month, month_of}
 use Rattle.atl_report.specs.Report.{report_of}
 use Rattle.atl_report.specs.Sight.{view_of}
-use Rattle.atl_report.specs.Sites.{AreSites}
+use Rattle.atl_report.specs.Sites.{AreRegionLists}
+use Rattle.atl_report.specs.declared.sites.RegionLists.{RegionLists}
 use Rattle.atl_service.specs.declared.closing.ReadMail.{ReadMail}
 use Rattle.atl_service.specs.declared.reporting.MonthResult.{MonthResult}
 use Rattle.atl_service.specs.Months.{AreFactions, HasRead, ReadSoFar, reported_to_all}
@@ -51,30 +52,23 @@ module _ (w : WorldValue) (n : ℕ) (text : List ℕ) where
   abbrev pub IsReadAsOf : Result Reading MailFault → Type 0
   IsReadAsOf read = (r : Reading) × (read ≡ Ok r) × (r.faction ≡ n)
 
-  -- a mailing whose header names the faction is read as one of that faction
   named : (next : ℕ) (rest : List (List ℕ)) → header_from 1 (lines text) ≡ Ok (record { faction = n; next = next; rest = rest }) → IsReadAsOf (after_header w (header_from 1 (lines text)))
   named next rest is = rw is (_, refl, refl)
 
-  -- a mailing whose header names the faction is still read as one of that faction after the test of its length
-  -- (`long`), if it has at most 65,536 bytes
   names_if_short : (long : Bool) → nat_lt most_bytes (length text) ≡ long → length text ≤ most_bytes → IsReadAsOf (after_header w (header_from 1 (lines text))) → IsReadAsOf (cond long (Err TooLong) (after_header w (header_from 1 (lines text))))
   names_if_short true is short names = absurd (grind (arith, nat_tests))
   names_if_short false is short names = names
 
-  -- a stored mailing of a faction can be read, and names that faction
   pub stored_mailing_is_read : IsMailingOf n text → IsReadAsOf (reading w text)
   unfolding reading
   stored_mailing_is_read sent = names_if_short (nat_lt most_bytes (length text)) refl sent.short (let (next, rest, is) = sent.header in named next rest is)
 
-  -- reading a stored mailing of a faction never fails
   pub not_unread : (fault : MailFault) → IsMailingOf n text → reading w text ≡ Err fault → ⊥
   not_unread fault sent unread = let (r, is, own) = stored_mailing_is_read sent in apart r fault (sym is ∙ unread)
     where
-      -- for `not_unread`: a mailing that was read (Ok) is not one that can't be read (Err)
       apart : (r : Reading) (fault : MailFault) → ◌≡◌ {A = Result Reading MailFault} (Ok r) (Err fault) → ⊥
       apart r fault is = cc
 
-  -- if the code fails to read a stored mailing of a faction, its fault is Memory
   pub only_memory : (fault : MailFault) → IsMailingOf n text → AgreesOrMemory reading_of (Err fault) (reading w text) → fault ≡ Memory
   only_memory TooLong sent unread = absurd (not_unread TooLong sent unread)
   only_memory NoHeader sent unread = absurd (not_unread NoHeader sent unread)
@@ -86,23 +80,19 @@ module _ (w : WorldValue) where
   abbrev texts_read : List (ℕ × List ℕ) → List Reading
   texts_read es = flat_map (λ e. read_of (reading w e.1)) es
 
-  -- the readings of stored mailings name the factions under whose numbers they are stored
   factions_read : (es : List (ℕ × List ℕ)) → EachEntry IsMailingOf es → map (λ r. r.faction) (texts_read es) ≡ map (λ e. e.0) es
   factions_read [] h = refl
   factions_read (e ∷ es) h =
       let (r, is, own) = stored_mailing_is_read w e.0 e.1 h.0 in
       ap (λ read. map (λ r. r.faction) (read_of read ++ texts_read es)) is ∙ ap₂ (λ n ns. n ∷ ns) own (factions_read es h.1)
 
--- mailings and their readings name the same factions in the same order
 factions_of : (ms : List Mailing) → map (λ r. r.faction) (map reading_of ms) ≡ map (λ m. m.faction) ms
 factions_of [] = refl
 factions_of (m ∷ ms) = ap (λ ns. m.faction ∷ ns) (factions_of ms)
 
--- each stored mailing of a good campaign is a mailing of its faction
 sent_by : (w : WorldValue) (c : CampaignValue) → IsGood w c → EachEntry IsMailingOf (entries c.mail)
 sent_by w c good = each-from_every IsMailingOf c.mail (λ n text there. (good.sound.mail n text there).0)
 
--- no two mailings read from a good campaign are of one faction
 pub own_factions : (w : WorldValue) (c : CampaignValue) (ms : List Mailing) → IsGood w c → map reading_of ms ≡ readings w c → HaveOwnFactions ms
 own_factions w c ms good is =
     let numbers = map (λ e. e.0) (entries c.mail) in
@@ -112,12 +102,9 @@ own_factions w c ms good is =
 
 -- ---- the faulty lines of each mailing
 
--- the faulty lines found under a number are those of that faction's mailing, or none without a mailing (`faults_in`)
 pub faulty_lines_under : (w : WorldValue) (mail : FinMap nat_cmp (List ℕ)) (n : ℕ) → unwrap_or (get (map_values (λ text. faults_of (reading w text)) mail) n) [] ≡ faults_in w (get mail n)
 faulty_lines_under w mail n = ap (λ o. unwrap_or o []) (get-mapped (λ text. faults_of (reading w text)) mail n) ∙ at (get mail n)
   where
-    -- for `faulty_lines_under`: the faulty lines found for a faction, with a mailing (`o`) or without one, are those of
-    -- `faults_in`
     at : (o : Option (List ℕ)) → unwrap_or (option_map (λ text. faults_of (reading w text)) o) [] ≡ faults_in w o
     at None = refl
     at (Some text) = refl
@@ -125,30 +112,24 @@ faulty_lines_under w mail n = ap (λ o. unwrap_or o []) (get-mapped (λ text. fa
 -- ---- the reports
 
 module _ (w : WorldValue) (events : List Event) where
-  -- reports made by two functions (`f`, `g`) that give the same faulty lines for each faction make the same campaign
   pub same_reports : (f g : ℕ → List FaultyLine) → ((n : ℕ) → f n ≡ g n) → (c : CampaignValue) (ns : List ℕ) → fold (reported_to w f events) c ns ≡ fold (reported_to w g events) c ns
   same_reports f g same c [] = refl
   same_reports f g same c (n ∷ ns) =
       ap (λ faults. fold (reported_to w f events) (reported_with w c n faults events) ns) (same n) ∙ same_reports f g same (reported_to w g events c n) ns
 
-  -- storing reports for factions of the campaign keeps the campaign good
   pub good_reports : (faults : ℕ → List FaultyLine) (c : CampaignValue) (ns : List ℕ) → AreFactions c ns → IsGood w c → IsGood w (fold (reported_to w faults events) c ns)
   good_reports faults c [] there good = good
   good_reports faults c (n ∷ ns) (here, there) good =
       good_reports faults (reported_to w faults events c n) ns there (IsGood-with_report w c n (report_of w (view_of w c n) (faults n) events) here good)
 
--- what is true of every faction's number is true of the numbers of the factions that pass a test
 there_among : (P : ℕ → Type 0) (p : Faction → Bool) (es : List (ℕ × Faction)) → EachEntry (λ n f. P n) es → AllByRecursion P (numbers_among p es)
 there_among P p [] all = tt
 there_among P p (e ∷ es) (here, all) = at (p e.1) (there_among P p es all)
   where
-    -- for `there_among`: if P holds of the numbers of the other factions that pass the test, it also does with the
-    -- first faction e in front, whether e passes the test (`b`) or not
     at : (b : Bool) → AllByRecursion P (numbers_among p es) → AllByRecursion P (map (λ x. x.0) (cond b (e ∷ filter (λ x. p x.1) es) (filter (λ x. p x.1) es)))
     at true rest = (here, rest)
     at false rest = rest
 
--- the factions that weren't gone before are in the campaign after, if no faction was removed
 pub active_there : (before after : CampaignValue) → ((n : ℕ) → HasValue before.factions n → HasValue after.factions n) → AreFactions after (active before)
 active_there before after stay = there_among (HasValue after.factions) (λ f. not f.gone) (entries before.factions) (each-from_every (λ n f. HasValue after.factions n) before.factions (λ n f is. stay n (f, is)))
 
@@ -170,24 +151,18 @@ closed_is w c after events words faults is wrong =
 marked_as : (c d : MarkedCampaign) (what : CampaignValue) (marks : Marks) → d.value ≡ what → d.marks ≡ marks → MarksChanges c (record { value = what; marks = marks }) → MarksChanges c d
 marked_as c d what marks is m h = subst (MarksChanges c) (sym (ap₂ (λ s n. record { value = s; marks = n }) is m)) h
 
--- with the month counted and the campaign row marked, no mark is lost and all that changed is marked (`MarksChanges`)
 pub month_marked : (c d : MarkedCampaign) (n : ℕ) → d.value ≡ with_month c.value n → d.marks ≡ mark_campaign_row c → MarksChanges c d
 month_marked c d n is m = marked_as c d (with_month c.value n) (mark_campaign_row c) is m (marks-month c n)
 
--- with the mail removed and all mail marked, no mark is lost and all that changed is marked (`MarksChanges`)
 pub mail_marked : (c d : MarkedCampaign) → d.value ≡ without_mail c.value → d.marks ≡ mark_all_mail c → MarksChanges c d
 mail_marked c d is m = marked_as c d (without_mail c.value) (mark_all_mail c) is m (marks-no_mail c)
 
--- with a report stored and marked, no mark is lost and all that changed is marked (`MarksChanges`)
 pub report_marked : (w : WorldValue) (c d : MarkedCampaign) (n : ℕ) (faults : List FaultyLine) (events : List Event) → d.value ≡ reported_with w c.value n faults events → d.marks ≡ mark_report c n → MarksChanges c d
 report_marked w c d n faults events is m = marked_as c d (reported_with w c.value n faults events) (mark_report c n) is m (marks-report c n (report_of w (view_of w c.value n) faults events))
 
--- with phases run, month counted and mail removed, no mark is lost and all that changed is marked (`MarksChanges`)
 pub turned_marked : (a b c d : MarkedCampaign) (n : ℕ) → MarksChanges a b → c.value ≡ with_month b.value n → c.marks ≡ mark_campaign_row b → d.value ≡ without_mail c.value → d.marks ≡ mark_all_mail c → MarksChanges a d
 turned_marked a b c d n run is m taken t = marks-trans a b d run (marks-trans b c d (month_marked b c n is m) (mail_marked c d taken t))
 
--- where a call answers Ok, and stores and marks a report, no mark is lost and all that changed is marked
--- (`MarksChanges`)
 pub stored_marked : {A E : Type 0} (w : WorldValue) (c d : MarkedCampaign) (n : ℕ) (faults : List FaultyLine) (events : List Event) (r : Result A E) → OnOk r (d.value ≡ reported_with w c.value n faults events) → OnOk r (d.marks ≡ mark_report c n)
     → OnOk r (MarksChanges c d)
 stored_marked w c d n faults events (Ok a) is m = report_marked w c d n faults events is m
@@ -195,11 +170,9 @@ stored_marked w c d n faults events (Err e) is m = tt
 
 -- ---- the mail, read one mailing after another
 
--- the faulty lines of each mailing in the entries `es` of the mail, with the number of its faction
 abbrev faulty_lines_in : WorldValue → List (ℕ × List ℕ) → List (ℕ × List FaultyLine)
 faulty_lines_in w es = map (λ e. (e.0, faults_of (reading w e.1))) es
 
--- the faulty lines of all mailings of a campaign, by faction
 abbrev faulty_lines_of_mail : WorldValue → CampaignValue → FinMap nat_cmp (List FaultyLine)
 faulty_lines_of_mail w c = map_values (λ text. faults_of (reading w text)) c.mail
 
@@ -214,7 +187,6 @@ read_begins w c ms faults all good is none none_wrong =
       sent_by w c good,
     )
 
--- after one more mailing is read, what was read and what is left still make the whole mail (`ReadSoFar`)
 pub read_goes_on : (w : WorldValue) (c : CampaignValue) (ms ns : List Mailing) (faults faults' : FinMap nat_cmp (List FaultyLine)) (here rest : List (ℕ × List ℕ)) (n : ℕ) (text : List ℕ) (m : Mailing) → here ≡ (n, text) ∷ rest → ns ≡ ms ++ m ∷ [] → IsReadWith w m → m.text ≡ text
     → faults' ≡ insert faults n m.faults → ReadSoFar w c ms faults here → ReadSoFar w c ns faults' rest
 read_goes_on w c ms ns faults faults' here rest n text m left one_more read kept put (mailings, all, outcome, sent) =
@@ -231,7 +203,6 @@ read_goes_on w c ms ns faults faults' here rest n text m left one_more read kept
       (subst (EachEntry IsMailingOf) left sent).1,
     )
 
--- if no mailing is left to read, all mail is read (`HasRead`)
 pub read_ends : (w : WorldValue) (c : CampaignValue) (r : ReadMail) (rest : List (ℕ × List ℕ)) → rest ≡ [] → ReadSoFar w c r.mailings.items r.faults rest → HasRead w c r
 read_ends w c r rest none (mailings, all, outcome, sent) = record {
   readings_are = sym (append-nil (map reading_of r.mailings.items)) ∙ subst (λ es. map reading_of r.mailings.items ++ texts_read w es ≡ readings w c) none mailings;
@@ -246,10 +217,10 @@ read_ends w c r rest none (mailings, all, outcome, sent) = record {
 pub fold_further : {A B : Type 0} (step : A → B → A) (old new last : A) (all : List B) (i : ℕ) (d : B) → i < length all → new ≡ step old (get_or all i d) → fold step old (drop i all) ≡ last → fold step new (drop (i + 1) all) ≡ last
 fold_further step old new last all i d h is whole = ap (λ a. fold step a (drop (i + 1) all)) is ∙ subst (λ l. fold step old l ≡ last) (drop_more all i d h) whole
 
--- lists of the structures by region are still those of the campaign's structures (`AreSites`) after a report is stored
-pub sites_stay : (w : WorldValue) (faults : ℕ → List FaultyLine) (events : List Event) (c d : CampaignValue) (n : ℕ) → d ≡ reported_to w faults events c n → (sites : FinMap nat_cmp (List ℕ)) → AreSites c.structures sites → AreSites d.structures sites
-sites_stay w faults events c d n is sites listed =
-    subst (λ (s : CampaignValue). AreSites s.structures sites) (sym is) listed
+-- lists of the structures and the units by region are still right (`AreRegionLists`) after a report is stored
+pub lists_stay : (w : WorldValue) (faults : ℕ → List FaultyLine) (events : List Event) (c d : CampaignValue) (n : ℕ) → d ≡ reported_to w faults events c n → (lists : RegionLists) → AreRegionLists w c lists → AreRegionLists w d lists
+lists_stay w faults events c d n is lists listed =
+    subst (λ (s : CampaignValue). AreRegionLists w s lists) (sym is) (record { sites = listed.sites; levels = listed.levels })
 
 -- ---- what the store requires, and what is written
 

@@ -29,11 +29,9 @@ use Rattle.atl_service.specs.Found.{Founds, FailsToFound, LeavesByCause, Refuses
 use Rattle.atl_service.proofs.CauseLaws.{creation_failed, creation_lacked}
 
 module _ {S : Type 0} (g : Ghosts S) where
-  -- every connection is a later state of itself (`IsLater`)
   later_itself : (conn : Held S) → IsLater (state g conn) (state g conn)
   later_itself conn = record { clean = λ clean. clean; counts = omega arith; shield = λ k. k }
 
-  -- a founding that leaves the connection unchanged leaves what a failed one may leave (`FailsToFound`)
   nothing_done : (conn : Held S) (text pass : List ℕ) → FailsToFound g conn text pass conn
   nothing_done conn text pass = record { tables = λ clean. unchanged_itself (state g conn); unfounded = λ bad. refl; crash = λ clean w is db may. inl may }
 
@@ -42,7 +40,6 @@ module _ {S : Type 0} (g : Ghosts S) where
   pub refuses_unchanged : (conn : Held S) (text pass : List ℕ) (why : Cause) → ((is_there : Bool) → MayBeCause text pass is_there why) → RefusesFounding g conn text pass why conn
   refuses_unchanged conn text pass why cause = record { cause = cause (has_campaign conn.schema); leaves = leaves why cause; later = later_itself conn }
     where
-      -- with a cause that doesn't depend on the tables the connection may be left unchanged (`LeavesByCause`)
       leaves : (why : Cause) → ((is_there : Bool) → MayBeCause text pass is_there why) → LeavesByCause g conn text pass conn why
       leaves (BadWorld fault) is = refl
       leaves BadPassText is = refl
@@ -65,7 +62,6 @@ module _ {S : Type 0} (g : Ghosts S) where
     text = λ up clean. ap world_of (world_text_is (state g conn) text c (holds clean)) ∙ is;
   }
 
-  -- if the world text is a world, the pass text is good and the tables were created, the campaign is founded (`Founds`)
   pub founds_on : (old conn : Held S) (w : WorldValue) (c : CampaignValue) (text pass : List ℕ) → Prepares text pass w c → Creates g text c old conn → IsLater (state g old) (state g conn) → Founds g old text pass (record { conn = conn; world = w; campaign = Some c })
   founds_on old conn w c text pass made creates later = record {
     fresh = creates.fresh;
@@ -89,7 +85,6 @@ module _ {S : Type 0} (g : Ghosts S) where
       crash = λ clean v v_is. let same : w ≡ v = ok_same w v (sym made.world ∙ v_is) in subst (λ (d : CampaignValue). MayLeaveCampaign (state g old) text d (state g new)) (made.campaign ∙ ap (λ u. founded_of u pass) same) (fails.crash clean);
     }
       where
-        -- for `failed_creation_fails_founding`: if the results Ok of reading two worlds are equal, so are the worlds
         ok_same : (a b : WorldValue) → ◌≡◌ {A = Result WorldValue WorldFault} (Ok a) (Ok b) → a ≡ b
         ok_same a b e = cc
 

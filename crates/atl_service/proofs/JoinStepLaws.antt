@@ -18,27 +18,22 @@ use Rattle.atl_service.specs.declared.command.Refusal.TheVariants as why
 use Rattle.atl_service.specs.Step.{step, reported}
 
 module _ (w : WorldValue) (c : CampaignValue) (name pass : List ℕ) (word : ℕ) where
-  -- `step` refuses with BadName a join whose name breaks the rule of names
   pub bad_name : not (name_ok name) ≡ true → step w c (Join name pass word) ≡ (c, Refused why.BadName)
   unfolding step
   bad_name e = rw e refl
 
-  -- `step` refuses with BadPassText a join whose name is good and whose pass text breaks the rule of pass texts
   pub bad_pass : name_ok name ≡ true → not (pass_ok pass) ≡ true → step w c (Join name pass word) ≡ (c, Refused why.BadPassText)
   unfolding step
   bad_pass a e = rw (a, e) refl
 
-  -- `step` refuses a join with NameTaken if name and pass text are good and `join_of` gives NameTaken
   pub is_taken : name_ok name ≡ true → pass_ok pass ≡ true → join_of w name pass word c ≡ Err NameTaken → step w c (Join name pass word) ≡ (c, Refused why.NameTaken)
   unfolding step
   is_taken a b e = rw (a, b, e) refl
 
-  -- `step` refuses a join with Full if name and pass text are good and `join_of` gives Full
   pub is_too_full : name_ok name ≡ true → pass_ok pass ≡ true → join_of w name pass word c ≡ Err Full → step w c (Join name pass word) ≡ (c, Refused why.Full)
   unfolding step
   is_too_full a b e = rw (a, b, e) refl
 
-  -- if name and pass text are good and `join_of` succeeds, `step` stores the first report and answers Joined
   pub steps_on : (d : CampaignValue) (n m : ℕ) → name_ok name ≡ true → pass_ok pass ≡ true → join_of w name pass word c ≡ Ok (d, (n, m)) → step w c (Join name pass word) ≡ (reported w d n, Joined n m)
   unfolding step
   steps_on d n m a b e = rw (a, b, e) refl
@@ -50,7 +45,6 @@ join_result_is_joined true full x y e = cc
 join_result_is_joined false true x y e = cc
 join_result_is_joined false false x y e = cc
 
--- an option that has a value is not None
 is_there : {V : Type 0} (o : Option V) (v : V) → o ≡ Some v → IsSome o
 is_there o v is = ap is_some is
 
@@ -72,8 +66,6 @@ arrival w name pass word c good =
       report = is_there _ report (get_inserted c.reports c.next_faction report);
     }
 
--- the campaign that a successful `join_of` makes of a good one, with the first report, has what a write of the join
--- needs (`HasArrival`)
 pub arrives : (w : WorldValue) (name pass : List ℕ) (word : ℕ) (c d : CampaignValue) (n m : ℕ) → IsGood w c → join_of w name pass word c ≡ Ok (d, (n, m)) → HasArrival (reported w d n) n
 unfolding join_of
 arrives w name pass word c d n m good e =
@@ -82,7 +74,6 @@ arrives w name pass word c d n m good e =
     let number : c.next_faction ≡ n = ap (λ p. p.1.0) is in
     subst (λ (s : CampaignValue). HasArrival (reported w s n) n) same (subst (λ k. HasArrival (reported w (after_join w name pass word c) k) k) number (arrival w name pass word c good))
 
--- a join that succeeds in a good campaign, with its first report, is one that the store can write (`IsJoining`)
 pub joining_is : (w : WorldValue) (name pass : List ℕ) (word : ℕ) (c d : CampaignValue) (n m : ℕ) → IsGood w c → join_of w name pass word c ≡ Ok (d, (n, m)) → IsJoining c n (reported w d n)
 unfolding join_of
 joining_is w name pass word c d n m good e =

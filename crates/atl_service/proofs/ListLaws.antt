@@ -36,7 +36,6 @@ stops_from w few many s text before after h stops = record {
   crash = stops.crash;
 }
   where
-    -- for `stops_from`: more disk failures than `many` are more than `few`, which is at most `many`
     lower : (few many now : ℕ) → few ≤ many → MoreFaults many now → MoreFaults few now
     lower few many now h more = omega (arith, h, more)
 
@@ -98,8 +97,6 @@ module _ {S : Type 0} (g : Ghosts S) where
         ap (λ (e : ServiceValue S). e.world) on.1 ∙ ap (λ (e : ServiceValue S). e.world) closes.same,
       )
 
-  -- all answers to a list are right (`FollowsAt`), if its first command ran in an open service as `run` may
-  -- (`RunsOpen`), and the later answers are right from there on
   first_open : (old mid new : ServiceValue S) (c : CampaignValue) (x : Command) (a : Answer) (cs : List Command) (rs : List Answer) → RunsOpen g c old x a mid
       → (HasCleanDisk (state g new.conn) → HasCleanDisk (state g mid.conn)) → IsLater (state g old.conn) (state g mid.conn) → HoldsCampaign g old.conn (text_in g old.conn) c → old.campaign ≡ Some c → FollowsAt g mid cs rs new mid.campaign
       → FollowsAt g old (x ∷ cs) (a ∷ rs) new (Some c)
@@ -115,8 +112,6 @@ module _ {S : Type 0} (g : Ghosts S) where
   first_open old mid new c x (Fault Store) cs rs ran was later holds up rest = let k = ended_in_fault old mid new c x Store cs rs ran.0 ran.1 holds later.clean rest in (((λ e. let d = e in cc), k.0, k.1, k.2, k.3), k.4)
   first_open old mid new c x (Fault Closed) cs rs ran was later holds up rest = absurd ran
 
-  -- all answers to a list are right (`FollowsAt`), if its first command ran in an open or a closed service as `run` may
-  -- (`RunsAt`), and the later answers are right from there on
   first_at : (old mid new : ServiceValue S) (x : Command) (a : Answer) (cs : List Command) (rs : List Answer) (o : Option CampaignValue) → old.campaign ≡ o → RunsAt g old x a mid o
       → (HasCleanDisk (state g new.conn) → HasCleanDisk (state g mid.conn)) → IsLater (state g old.conn) (state g mid.conn) → IfSome o (λ c. HoldsCampaign g old.conn (text_in g old.conn) c) → FollowsAt g mid cs rs new mid.campaign
       → FollowsAt g old (x ∷ cs) (a ∷ rs) new o
@@ -125,7 +120,6 @@ module _ {S : Type 0} (g : Ghosts S) where
       let on = subst (FollowsAt g old cs rs new) shut (subst (λ (e : ServiceValue S). FollowsAt g e cs rs new e.campaign) ran.1 rest) in
       ((ran.0, on.0), on.1)
 
-  -- a later state of a later state is a later state of the first (`IsLater` is transitive)
   later_on : (old mid new : State) → IsLater old mid → IsLater mid new → IsLater old new
   later_on old mid new a b = record { clean = λ h. a.clean (b.clean h); counts = omega (arith, a.counts, b.counts); shield = λ s. b.shield (a.shield s) }
 
@@ -139,14 +133,10 @@ module _ {S : Type 0} (g : Ghosts S) where
     later = later_on (state g old.conn) (state g mid.conn) (state g new.conn) later rest.later;
   }
 
-  -- to an empty list of commands, no answers and an unchanged service are allowed (`FollowsAt`), if the tables of a
-  -- service with a campaign hold it
   none_left : (now : ServiceValue S) (o : Option CampaignValue) → now.campaign ≡ o → IfSome o (λ c. HoldsCampaign g now.conn (text_in g now.conn) c) → FollowsAt g now [] [] now o
   none_left now (Some c) is holds = ((is, holds), refl)
   none_left now None is holds = (tt, refl)
 
-  -- to an empty list of commands, no answers and an unchanged service are what `run_all` promises (`RunsAll`), if the
-  -- tables of a service with a campaign hold it
   pub run_none : (now : ServiceValue S) → IfSome now.campaign (λ c. HoldsCampaign g now.conn (text_in g now.conn) c) → RunsAll g now [] [] now
   run_none now holds = record { follows = none_left now now.campaign refl holds; each = refl; later = record { clean = λ h. h; counts = omega arith; shield = λ s. s } }
 
@@ -161,7 +151,6 @@ module _ {S : Type 0} (g : Ghosts S) where
       let next : drop i cs ≡ c ∷ drop (i + 1) cs = drop_more cs i c h ∙ ap (λ x. x ∷ drop (i + 1) cs) (sym is) in
       subst (λ ts. RunsAll g e cs ts new) (sym (append_assoc sofar (a ∷ []) rs)) (whole (a ∷ rs) new (subst (λ ds. RunsAll g mid ds (a ∷ rs) new) (sym next) (run_first mid now new c a (drop (i + 1) cs) rs holds ran later rest)))
 
-  -- once all commands are run, the answers so far are what `run_all` promises for the whole list (`RunsAll`)
   pub all_done : (e now : ServiceValue S) (cs : List Command) (i : ℕ) (sofar : List Answer) → length cs ≤ i → ((ts : List Answer) (n : ServiceValue S) → RunsAll g now (drop i cs) ts n → RunsAll g e cs (sofar ++ ts) n)
       → IfSome now.campaign (λ c. HoldsCampaign g now.conn (text_in g now.conn) c) → RunsAll g e cs sofar now
   all_done e now cs i sofar h whole holds = subst (λ ts. RunsAll g e cs ts now) (append-nil sofar) (whole [] now (subst (λ ds. RunsAll g now ds [] now) (sym (drop_all i cs h)) (run_none now holds)))
@@ -172,15 +161,12 @@ module _ {S : Type 0} (g : Ghosts S) where
   abbrev Ends : List ℕ → ℕ → WorldValue → CampaignValue → List Command → List Answer → ServiceValue S → Type 0
   Ends text faults w c cs rs new = Headline g text w c cs rs new ⊎ Interrupted g text faults w c cs rs new
 
-  -- if every command is answered Closed, the answers are one Closed for each command
   all_closed : (cs : List Command) (rs : List Answer) → AreClosed cs rs → rs ≡ map (λ _. Fault Closed) cs
   all_closed [] [] h = refl
   all_closed [] (a ∷ rs) h = absurd h
   all_closed (x ∷ cs) [] h = absurd h
   all_closed (x ∷ cs) (a ∷ rs) h = ap₂ (λ b bs. b ∷ bs) h.0 (all_closed cs rs h.1)
 
-  -- the main theorem holds of a list, or a command of it ended in a fault (`Ends`), if this is so of the list without
-  -- its first command, whose answer is that of `step`
   further : (text : List ℕ) (faults : ℕ) (w : WorldValue) (c : CampaignValue) (x : Command) (a : Answer) (cs : List Command) (rs : List Answer) (new : ServiceValue S) → (step w c x).1 ≡ a → Ends text faults w (step w c x).0 cs rs new
       → Ends text faults w c (x ∷ cs) (a ∷ rs) new
   further text faults w c x a cs rs new is (inl h) = inl (record { answers_are = ap₂ (λ b bs. b ∷ bs) (sym is) h.answers_are; campaign_is = h.campaign_is; tables = h.tables })
@@ -197,8 +183,6 @@ module _ {S : Type 0} (g : Ghosts S) where
     tables = simp unary_clauses (simp unary_clauses at h.tables);
   })
 
-  -- if answers follow from `step` up to a fault (`Follows`), the main theorem holds of them, or a command ended in a
-  -- fault (`Ends`)
   ends : (text : List ℕ) (faults : ℕ) (w : WorldValue) (c : CampaignValue) (cs : List Command) (rs : List Answer) (new : ServiceValue S) → Follows g text faults w c cs rs new → Ends text faults w c cs rs new
   ends text faults w c [] [] new f = inl (record { answers_are = refl; campaign_is = f.0; tables = f.1 })
   ends text faults w c [] (a ∷ rs) new f = absurd f
@@ -221,8 +205,6 @@ module _ {S : Type 0} (g : Ghosts S) where
     tables = f.3;
   })
 
-  -- answers that follow from `step` in an open service, or are Closed in a closed one (`FollowsAt`), are as the main
-  -- theorem says or end in a fault (`HeadlineAt`)
   headline_at : (old new : ServiceValue S) (cs : List Command) (rs : List Answer) (o : Option CampaignValue) → FollowsAt g old cs rs new o → HeadlineAt g old cs rs new o
   headline_at old new cs rs (Some c) f = ends (text_in g old.conn) (state g old.conn).faults old.world c cs rs new f.0
   headline_at old new cs rs None f = (all_closed cs rs f.0, f.1)

@@ -10,7 +10,7 @@ use Rattle.atl_campaign.specs.Campaign.{MarkedCampaign}
 use Rattle.atl_store.specs.Loading.{Loads, RefusesToLoad, LeavesAlone}
 use Rattle.atl_store.specs.declared.fault.StoreFault.{StoreFault}
 use Rattle.atl_store.specs.declared.fault.StoreFault.TheVariants.{Store}
-use Rattle.atl_sql.specs.Rows.{Holds}
+use Rattle.atl_store.specs.Rows.{Holds}
 use Rattle.atl_store.specs.WorldText.{world_text}
 use Rattle.atl_store.proofs.AlikeLaws.{holds_one, one_text}
 use Rattle.atl_store.proofs.OneWorldLaws.{holds_one_world}
@@ -19,12 +19,10 @@ use Rattle.atl_service.specs.Service.{IsService}
 use Rattle.atl_service.specs.Opened.{ComesBack, Opens, RefusesOpening, cause_of_loading_fault}
 use Rattle.sqlite.specs.State.{HasCleanDisk}
 
--- if the test for autocommit is true, the connection is in no transaction
 pub is_idle : (says busy : Bool) → says ≡ not busy → says ≡ true → busy ≡ false
 is_idle says false is so = refl
 is_idle says true is so = cc
 
--- if the test for autocommit is false, the connection is in a transaction
 pub is_busy : (says busy : Bool) → says ≡ not busy → says ≡ false → busy ≡ true
 is_busy says false is so = cc
 is_busy says true is so = refl
@@ -39,21 +37,17 @@ module _ {S : Type 0} (g : Ghosts S) where
     mode = refl;
   }
 
-  -- opening may refuse a connection in a transaction with Store, and leave it as it is (`RefusesOpening`)
   pub refused_in_transaction : (conn : Held S) → conn.in_transaction ≡ true → RefusesOpening g conn (cause_of_loading_fault Store) conn
   refused_in_transaction conn busy = record { fault = Store; why_is = refl; cause = λ clean. inl busy; alone = alone_itself conn; later = survives_is_later _ _ _ (alone_itself conn).survives }
 
   module _ (old new : Held S) (alone : LeavesAlone g old new) where
-    -- if loading fails with a fault, opening refuses with the cause of the same name (`RefusesOpening`)
     pub refused_by_load : (fault : StoreFault) → (HasCleanDisk (state g new) → RefusesToLoad g old fault) → RefusesOpening g old (cause_of_loading_fault fault) new
     refused_by_load fault cause = record { fault = fault; why_is = refl; cause = cause; alone = alone; later = survives_is_later _ _ _ alone.survives }
 
     module _ (w : WorldValue) (c : MarkedCampaign) (loads : Loads g old new w c) where
-      -- a service of the world and campaign that were loaded is one that `open` may return (`Opens`)
       pub opens : Opens g old (record { conn = new; world = w; campaign = Some c.value })
       opens = record { campaign = c; is_open = refl; loads = loads; alone = alone; later = survives_is_later _ _ _ alone.survives }
 
-      -- on a clean disk the text, world and campaign of the opened service are those that the tables held (`ComesBack`)
       pub comes_back : ComesBack g old (record { conn = new; world = w; campaign = Some c.value })
       comes_back clean text v d reads good held =
           let kept = loads.tables clean in

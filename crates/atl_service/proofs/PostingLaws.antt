@@ -27,13 +27,10 @@ module _ (c : CampaignValue) (faction : ℕ) (text : List ℕ) where
   abbrev StoresIfMailed : CampaignValue × Answer → Type 0
   StoresIfMailed made = IsMailed made.1 → made.0 ≡ with_mail c faction text
 
-  -- a result that stores the mailing where it answers Mailed (`StoresIfMailed`) still does after the test that the
-  -- header names the sender, which may refuse instead
   kept_own : (other : Bool) (done : CampaignValue × Answer) → StoresIfMailed done → StoresIfMailed (cond other (c, Refused why.WrongFaction) done)
   kept_own true done keeps taken = absurd taken
   kept_own false done keeps taken = keeps taken
 
-  -- whatever a mailing is read as, its text is stored where the answer is Mailed (`StoresIfMailed`)
   kept_read : (read : Result Reading MailFault) → StoresIfMailed (mailed c faction text read)
   kept_read (Ok r) taken = kept_own (not (r.faction == faction)) _ (λ _. refl) taken
   kept_read (Err TooLong) taken = absurd taken
@@ -41,18 +38,14 @@ module _ (c : CampaignValue) (faction : ℕ) (text : List ℕ) where
   kept_read (Err BadHeader) taken = absurd taken
   kept_read (Err Memory) taken = absurd taken
 
-  -- a result that stores the mailing where it answers Mailed (`StoresIfMailed`) still does after the test that the
-  -- faction isn't gone, which may refuse instead
   kept_here : (gone : Bool) (done : CampaignValue × Answer) → StoresIfMailed done → StoresIfMailed (cond gone (c, Refused why.Gone) done)
   kept_here true done keeps taken = absurd taken
   kept_here false done keeps taken = keeps taken
 
-  -- whatever the test of number and pass text gives, the text is stored where the answer is Mailed (`StoresIfMailed`)
   kept_by : (w : WorldValue) (who : Result Faction Refusal) → StoresIfMailed (mailed_by w c faction text who)
   kept_by w (Err refusal) taken = absurd taken
   kept_by w (Ok f) taken = kept_here f.gone (mailed c faction text (reading w text)) (kept_read (reading w text)) taken
 
-  -- a command Mail that is answered Mailed stores its text
   mailed_text_is_stored : (w : WorldValue) (pass : List ℕ) → StoresIfMailed (step w c (Mail faction pass text))
   unfolding step
   mailed_text_is_stored w pass = kept_by w (faction_with_pass pass (get c.factions faction))
@@ -67,7 +60,6 @@ mail_after mail (Mail faction _ text ∷ more) = mail_after (insert mail faction
 mail_after mail (Close _ _ _ ∷ more) = mail_after mail more
 mail_after mail (Report _ _ ∷ more) = mail_after mail more
 
--- running stored mailings changes the mail alone, to `mail_after`
 run_posts : (w : WorldValue) (c : CampaignValue) (sent : List Command) → AreMailed w c sent → (run_of w c sent).0 ≡ record c { mail = mail_after c.mail sent }
 run_posts w c [] all = refl
 run_posts w c (Join _ _ _ ∷ more) all = absurd all
@@ -85,7 +77,6 @@ get_posted mail (Mail faction pass text ∷ more) n =
     get_posted (insert mail faction text) more n
     ∙ ap (λ o. last_text n o more) (get-insert nat_cmp_total mail faction text n ∙ ap (λ b. cond b (Some text) (get mail n)) (swapped n faction))
   where
-    -- for `get_posted`: two faction numbers a and b are equal by `nat_cmp` exactly if b and a are by `==`
     swapped : (a b : ℕ) → eq_by_cmp nat_cmp a b ≡ (b == a)
     swapped a b = sym (unsigned_ties a b) ∙ grind (arith, nat_tests)
 get_posted mail (Close _ _ _ ∷ more) n = get_posted mail more n
@@ -98,8 +89,6 @@ last_or n before other [] = refl
 last_or n before other (Join _ _ _ ∷ more) = last_or n before other more
 last_or n before other (Mail faction pass text ∷ more) = ap (λ o. last_text n o more) (inside (faction == n)) ∙ last_or n (cond (faction == n) (Some text) before) other more
   where
-    -- for `last_or`: putting a text in place of the earlier mail (where `b` is true), and falling back to `other`, may
-    -- be done in either order
     inside : (b : Bool) → cond b (Some text) (option_or before other) ≡ option_or (cond b (Some text) before) other
     inside true = refl
     inside false = refl
@@ -112,7 +101,6 @@ same_mail : (mail : FinMap nat_cmp (List ℕ)) (sent others : List Command) → 
 same_mail mail sent others same = same_map nat_cmp_total nat_cmp-IsAntisymmetric (mail_after mail sent) (mail_after mail others) (λ n.
     get_posted mail sent n ∙ last_or n None (get mail n) sent ∙ ap (λ o. option_or o (get mail n)) (same n) ∙ sym (get_posted mail others n ∙ last_or n None (get mail n) others))
 
--- after two lists of stored mailings with the same last text of each faction, closing a month gives the same result
 pub only_the_last_mail_counts : OnlyTheLastMailCounts
 only_the_last_mail_counts w c sent others month pass words all all_others same =
     ap (λ d. step w d (Close month pass words)) (run_posts w c sent all ∙ ap (λ mail. record c { mail = mail }) (same_mail c.mail sent others same) ∙ sym (run_posts w c others all_others))

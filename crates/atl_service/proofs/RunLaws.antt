@@ -33,12 +33,9 @@ module _ {S : Type 0} (g : Ghosts S) where
     abbrev pub Answered : Answer → Type 0
     Answered = Answers g w c conn command c' conn'
 
-    -- after an answered command in a consistent service, the tables hold the new campaign with the same world text, if
-    -- the disk is clean
     holding : (answer : Answer) → IsConsistent g conn w c true → LeavesIdle g conn conn' → Answered answer → HoldsCampaign g conn' (text_in g conn) c'
     holding answer before leaves done clean = done.tables clean (text_in g conn) (before.tables refl (leaves.later.clean clean))
 
-    -- a consistent open service stays consistent after an answered command
     consistent_open : (answer : Answer) → IsConsistent g conn w c true → LeavesIdle g conn conn' → Answered answer → IsConsistent g conn' w c' true
     consistent_open answer before leaves done = record {
       idle = leaves.idle;
@@ -47,18 +44,15 @@ module _ {S : Type 0} (g : Ghosts S) where
       text = λ up clean. ap world_of (world_text_is (state g conn') (text_in g conn) c' (holding answer before leaves done clean)) ∙ before.text refl (leaves.later.clean clean);
     }
 
-    -- a consistent service stays consistent after an answered command, if its field `is_open` is true
     pub consistent_after : (answer : Answer) (is_open : Bool) → is_open ≡ true → IsConsistent g conn w c is_open → LeavesIdle g conn conn' → Answered answer → IsConsistent g conn' w c' is_open
     consistent_after answer true up before leaves done = consistent_open answer before leaves done
     consistent_after answer false up before leaves done = absurd (false≢true up)
 
-    -- after an answered command the tables of an open, consistent service hold its new campaign, if the disk is clean
     pub tables_after : (answer : Answer) (is_open : Bool) → is_open ≡ true → IsConsistent g conn w c is_open → LeavesIdle g conn conn' → Answered answer
         → IfSome (service_value conn' w c' is_open).campaign (λ d. HoldsCampaign g conn' (text_in g conn') d)
     tables_after answer true up before leaves done = (consistent_open answer before leaves done).tables refl
     tables_after answer false up before leaves done = absurd (false≢true up)
 
-    -- the answer to an answered command of an open, consistent service is one that `run` may give (`RunsOpen`)
     runs_open : (answer : Answer) → IsConsistent g conn w c true → LeavesIdle g conn conn' → Answered answer → RunsOpen g c (service_value conn w c true) command answer (service_value conn' w c' true)
     runs_open (Joined f u) before leaves done = record { after = c'; step = done.step_is; same = refl; tables = holding (Joined f u) before leaves done }
     runs_open (Mailed n fs) before leaves done = record { after = c'; step = done.step_is; same = refl; tables = holding (Mailed n fs) before leaves done }
@@ -78,8 +72,6 @@ module _ {S : Type 0} (g : Ghosts S) where
     abbrev pub EndedInFault : Type 0
     EndedInFault = CommandLeavesAfterFault g w c conn command conn'
 
-    -- a command of a consistent open service that ended in a fault closes the service, and on a clean disk the tables
-    -- hold the campaign before it (`Closes`)
     closes_open : IsConsistent g conn w c true → LeavesIdle g conn conn' → EndedInFault → Closes g c (service_value conn w c true) command (service_value conn' w c' false)
     closes_open before leaves gave_up = record { same = refl; tables = λ clean. gave_up clean (text_in g conn) (before.tables refl (leaves.later.clean clean)) }
 
@@ -89,8 +81,6 @@ module _ {S : Type 0} (g : Ghosts S) where
         → Runs g old command (Fault says) (service_value conn' w c' false)
     closes_for old fault says true is seen up before leaves gave_up cause = subst (λ e. Runs g e command (Fault says) (service_value conn' w c' false)) seen (subst (λ t. RunsOpen g c (service_value conn w c true) command (Fault t) (service_value conn' w c' false)) (sym is) (closes fault cause))
       where
-        -- for `closes_for`: the open service, whose command ended in a fault of a write that has its cause, may answer
-        -- the service's fault for it and close (`RunsOpen`)
         closes : (fault : WriteFault) → HasCause g (OfCommand w c command) conn conn' (fault_of_write fault) → RunsOpen g c (service_value conn w c true) command (Fault (fault_of_write fault)) (service_value conn' w c' false)
         closes write.Memory cause = (closes_open before leaves gave_up, cause)
         closes write.Store cause = (closes_open before leaves gave_up, cause)

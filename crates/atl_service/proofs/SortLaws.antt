@@ -23,16 +23,12 @@ by_faction : (b : Bool) (o : Option (List Event)) (listed rest : List Event) (e 
 by_faction true o listed rest e h = ap (λ l. (l ++ (e ∷ [])) ++ rest) (h refl) ∙ append_assoc (unwrap_or o []) (e ∷ []) rest
 by_faction false o listed rest e h = refl
 
--- if two faction numbers are equal, their lists of events are equal
 same_list : (sorted : FinMap nat_cmp (List Event)) (q r : ℕ) → (r == q) ≡ true → events_of sorted r ≡ events_of sorted q
 same_list sorted q r h = ap (events_of sorted) (equal q r h)
   where
-    -- for `same_list`: two faction numbers that the test `==` finds equal are equal
     equal : (q r : ℕ) → (r == q) ≡ true → r ≡ q
     equal q r h = grind (arith, nat_tests)
 
--- a faction's list followed by the faction's unsorted events is the same after the first unsorted event is added to the
--- list of the event's own faction
 event_goes_on : (sorted : FinMap nat_cmp (List Event)) (e : Event) (es : List Event) (n : ℕ)
     → events_of (with_event sorted e) n ++ own_events n es ≡ events_of sorted n ++ own_events n (e ∷ es)
 event_goes_on sorted e es n =
@@ -50,17 +46,13 @@ sorted_on sorted new events i d whole n h is so_far =
     ∙ ap (λ es. events_of sorted n ++ own_events n es) (sym (drop_more events i d h))
     ∙ so_far
 
--- before the first event is sorted, the list of each faction is empty
 pub none_sorted : (m : FinMap nat_cmp (List Event)) → m ≡ empty → (n : ℕ) → events_of m n ≡ []
 none_sorted m h n = ap (λ (m : FinMap nat_cmp (List Event)). events_of m n) h ∙ ap (λ o. unwrap_or o []) (get-empty nat_cmp n)
 
--- choosing a faction's own events a second time changes nothing
 pub own_again : (n : ℕ) (events : List Event) → own_events n (own_events n events) ≡ own_events n events
 own_again n [] = refl
 own_again n (e ∷ es) = by_test (e.faction == n) refl (own_again n es)
   where
-    -- for `own_again`: choosing again changes nothing in e ∷ es, whether event e is the faction's own (`b`) or not,
-    -- if it changes nothing in es
     by_test : (b : Bool) → (e.faction == n) ≡ b → own_events n (own_events n es) ≡ own_events n es → own_events n (cond b (e ∷ own_events n es) (own_events n es)) ≡ cond b (e ∷ own_events n es) (own_events n es)
     by_test true is rest = ap (λ t. cond t (e ∷ own_events n (own_events n es)) (own_events n (own_events n es))) is ∙ ap (λ (more : List Event). e ∷ more) rest
     by_test false is rest = rest

@@ -17,6 +17,5 @@ module _ {S : Type 0} (g : Ghosts S) (text : List ℕ) (old new : Held S) (w : W
   pub upgrades_to : IsLater (state g old) (state g new) → UpgradesTo g old text (record { conn = new; world = w; campaign = Some c.value })
   upgrades_to later = record { campaign = c; is_open = refl; upgrades = upgrades; text_is = λ clean. world_text_is (state g new) text c.value (upgrades.tables clean); later = later }
 
-  -- the service of an upgraded file is consistent, with an empty dirty set
   pub upgraded_consistent : IsService g new w c true
   upgraded_consistent = record { consistent = founded_consistent g new w c.value text upgrades.idle upgrades.good upgrades.world upgrades.tables; unmarked = λ up. upgrades.unmarked }

@@ -44,11 +44,9 @@ pub record Answers {S : Type 0} (g : Ghosts S) (w : WorldValue) (before : Campai
     (command : Command) (after : CampaignValue) (new : Held S) (answer : Answer) : Type 0 where
   -- the campaign after the command and the answer are those of `step`
   pub step_is : step w before command ≡ (after, answer)
-  -- the answer is no fault
   pub no_fault : IsNoFault answer
   -- a report or a refusal changes neither campaign nor connection
   pub same : IfTextOrRefused answer ((after ≡ before) × (new ≡ old))
-  -- the campaign after the command is good (`IsGood`)
   pub good : IsGood w after
   -- if the disk is clean, tables that held the campaign before hold the campaign after, with the same world text
   pub tables : HasCleanDisk (state g new) → (text : List ℕ) → Keeps (state g old) text before → Keeps (state g new) text after
@@ -64,7 +62,6 @@ CommandLeavesAfterFault g w before old command new =
 -- failure of it is forgotten, and reads that are compared with digests stay so (`IsLater`). If the disk is clean,
 -- tables that aren't the campaign's hold what they held.
 pub record LeavesIdle {S : Type 0} (g : Ghosts S) (old new : Held S) : Type 0 where
-  -- the connection is in no transaction
   pub idle : new.in_transaction ≡ false
   -- a disk that isn't clean stays so, no failure of it is forgotten, and reads that are compared with digests stay so
   -- (`IsLater`)

@@ -20,8 +20,6 @@ use Rattle.atl_service.specs.declared.command.Fault.{Fault}
 use Rattle.atl_service.specs.declared.command.Fault.TheVariants.{Memory, Store, Closed}
 use Rattle.atl_service.specs.Step.{step}
 
--- ---- the statements that may be at fault
-
 -- the SQL statements that store what a command changes, with the rows of the campaign after the command; none for a
 -- report
 abbrev pub OfCommand : WorldValue → CampaignValue → Command → Statements
@@ -34,12 +32,9 @@ OfCommand w c (Report faction pass) = λ sql params. ⊥
 abbrev pub OfFoundingBy : List ℕ → List ℕ → Statements
 OfFoundingBy text pass sql params = (w : WorldValue) × (world_of text ≡ Ok w) × OfFounding text (founded_of w pass) sql params
 
--- ---- causes
-
 -- A call of the transaction that runs the statements `own` gave an error; `memory` says whether the error was out of
 -- memory.
 pub record GivesError {S : Type 0} (g : Ghosts S) (own : Statements) (memory : Bool) (old new : Held S) : Type 0 where
-  -- the error that a call of the transaction gave
   pub error : Error
   -- the error is out of memory exactly if `memory` is true
   pub memory_is : is_memory error ≡ memory
@@ -67,7 +62,6 @@ HasCause g own old new Closed = ⊥
 -- `faults` times. If the disk is clean, the tables before the command held the campaign `c`.
 pub record IsFault {S : Type 0} (g : Ghosts S) (text : List ℕ) (faults : ℕ) (w : WorldValue) (c : CampaignValue)
     (command : Command) (fault : Fault) (new : Held S) : Type 0 where
-  -- the connection before the command
   pub old : Held S
   -- the connection before the command is one after the list began: it counts all failures of the disk until then
   pub since : faults ≤ (state g old).faults

@@ -13,8 +13,6 @@ use Rattle.atl_month.specs.Month.{after_month, month_of}
 use Rattle.atl_report.specs.Report.{report_of}
 use Rattle.atl_report.specs.Sight.{view_of}
 
--- ---- the mail
-
 -- the reading of a mailing's text as a list of one; an empty list if the text can't be read
 abbrev pub read_of : Result Reading MailFault → List Reading
 read_of (Ok r) = r ∷ []
@@ -34,8 +32,6 @@ abbrev pub faults_in : WorldValue → Option (List ℕ) → List FaultyLine
 faults_in w None = []
 faults_in w (Some text) = faults_of (reading w text)
 
--- ---- the reports
-
 -- the campaign with a new report for a faction: what it sees, the faulty lines of its mailing, and its own among the
 -- events
 abbrev pub reported_with : WorldValue → CampaignValue → ℕ → List FaultyLine → List Event → CampaignValue
@@ -44,8 +40,6 @@ reported_with w c faction faults events = with_report c faction (report_of w (vi
 -- the campaign with a new report for a faction, where `faults` gives the faulty lines of each faction's mailing
 abbrev pub reported_to : WorldValue → (ℕ → List FaultyLine) → List Event → CampaignValue → ℕ → CampaignValue
 reported_to w faults events c faction = reported_with w c faction (faults faction) events
-
--- ---- the whole
 
 -- the campaign after a month's phases, with the month counted, the mail removed, and new reports for the factions not
 -- gone before the month

@@ -90,7 +90,6 @@ enum MailError {
     Memory,
 }
 
-/// A refusal becomes the reason why a mailing is not stored.
 impl From<Refusal> for MailError {
     ghost use Rattle.atl_service.specs.declared.answering.MailError.TheVariants.{Refused};
 

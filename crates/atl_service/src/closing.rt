@@ -54,7 +54,6 @@ fn read_stored(alloc: Global, world: &World, text: &[u8]) -> Result<Mailing, All
     }
 }
 
-/// Reads all stored mailings of a good campaign.
 fn read_mail(alloc: Global, world: &World, campaign: &Campaign) -> Result<ReadMail, AllocError>
     requires { IsGood world.now campaign.now.value }
     ensures { IfOk result (HasRead world.now campaign.now.value) }

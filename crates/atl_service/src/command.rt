@@ -21,7 +21,6 @@ use std::fmt;
 pub enum Command {
     /// A faction joins. See docs/RULES.md, "Joining".
     Join {
-        /// The faction's name.
         name: Sequence<u8>,
         /// The pass text that the faction's later commands must give.
         pass: Sequence<u8>,
@@ -30,9 +29,7 @@ pub enum Command {
     },
     /// A faction sends its orders for the month to come. See docs/RULES.md, "Mail".
     Mail {
-        /// The faction's number.
         faction: u32,
-        /// The faction's pass text.
         pass: Sequence<u8>,
         /// The mailing, which is kept byte for byte.
         text: Sequence<u8>,
@@ -41,21 +38,17 @@ pub enum Command {
     Close {
         /// The month's number: one more than that of the month last closed.
         month: u32,
-        /// The moderator's pass text.
         pass: Sequence<u8>,
         /// A word of the dice for each region, in the order of the regions' numbers.
         words: Sequence<u32>,
     },
     /// A faction asks for its stored report. See docs/RULES.md, "Reports".
     Report {
-        /// The faction's number.
         faction: u32,
-        /// The faction's pass text.
         pass: Sequence<u8>,
     },
 }
 
-/// Drops the name, the texts or the words of a command.
 impl Drop for Command {
     fn drop(self) {
         match self {
@@ -116,7 +109,6 @@ pub enum Refusal {
     WrongDice = 14,
 }
 
-/// Gives the number and the name of a refusal, as answers have them.
 impl Refusal {
     /// The refusal's number, from 1 to 14, as answers have it. See docs/FORMATS.md, "Refusals".
     pub fn number(self) -> u8
@@ -143,7 +135,6 @@ impl fmt::Display for Refusal {
     }
 }
 
-/// Lets a caller handle a refusal as any `Error`; its text is what `Display` writes.
 impl Error for Refusal {}
 
 /// Why a command could not be carried out. If the disk is clean, the tables are as before while the
@@ -159,7 +150,6 @@ pub enum Fault {
     Closed,
 }
 
-/// Gives the name of a fault, as answers have it.
 impl Fault {
     /// The fault's name, as answers have it. See docs/FORMATS.md, "Refusals".
     pub fn name(self) -> &'static str
@@ -180,10 +170,8 @@ impl fmt::Display for Fault {
     }
 }
 
-/// Lets a caller handle a fault as any `Error`; its text is what `Display` writes.
 impl Error for Fault {}
 
-/// A fault of a write to the store: Memory becomes Memory, and Store becomes Store.
 impl From<WriteFault> for Fault {
     ghost from_gives = { λ fault returned. returned ≡ fault_of_write fault };
 
@@ -201,21 +189,17 @@ impl From<WriteFault> for Fault {
 pub enum Answer {
     /// A faction joined, and its first report is stored.
     Joined {
-        /// The number of the faction.
         faction: u32,
-        /// The number of the faction's first unit.
         unit: u32,
     },
     /// A mailing is stored for the next month to be closed, in place of an older one.
     Mailed {
         /// The number of orders in the mailing; FORM counts, UNIT and END don't.
         orders: usize,
-        /// The faulty lines of the mailing, each with its fault.
         faults: Sequence<FaultyLine>,
     },
     /// A month was closed; the mail is removed, and the reports are stored.
     MonthDone {
-        /// The number of the month.
         month: u32,
     },
     /// The stored report of the faction, empty if none is stored; nothing changes.
@@ -226,7 +210,6 @@ pub enum Answer {
     Fault(Fault),
 }
 
-/// Drops the faulty lines or the report of an answer.
 impl Drop for Answer {
     fn drop(self) {
         match self {
@@ -290,7 +273,6 @@ impl fmt::Display for Cause {
     }
 }
 
-/// Lets a caller handle a cause as any `Error`; its text is what `Display` writes.
 impl Error for Cause {}
 
 /// A fault of a world text: Memory becomes Memory, and each other one `World` with the fault.
@@ -305,7 +287,6 @@ impl From<WorldFault> for Cause {
     }
 }
 
-/// A fault of creating the tables becomes the cause of the same name.
 impl From<CreateFault> for Cause {
     ghost from_gives = { λ fault cause. cause ≡ cause_of_creation_fault fault };
 
@@ -318,7 +299,6 @@ impl From<CreateFault> for Cause {
     }
 }
 
-/// A fault of loading a campaign becomes the cause of the same name.
 impl From<StoreFault> for Cause {
     ghost from_gives = { λ fault cause. cause ≡ cause_of_loading_fault fault };
 
@@ -333,7 +313,6 @@ impl From<StoreFault> for Cause {
     }
 }
 
-/// A fault of the store's upgrade becomes the cause of the same name.
 impl From<UpgradeFault> for Cause {
     ghost from_gives = { λ fault cause. cause ≡ cause_of_upgrade_fault fault };
 
@@ -350,7 +329,6 @@ impl From<UpgradeFault> for Cause {
     }
 }
 
-/// A failed allocation becomes Memory.
 impl From<AllocError> for Cause {
     ghost use Rattle.atl_service.specs.declared.command.Cause.TheVariants.{Memory};
 
@@ -365,7 +343,6 @@ impl From<AllocError> for Cause {
 /// disk its tables are as they were.
 #[derive(Drop)]
 pub struct Refused<S: Alter> {
-    /// The first cause that applies.
     pub why: Cause,
     /// The connection that the call was given.
     pub conn: Connection<S>,

@@ -32,7 +32,6 @@ pub struct Service<S: Alter> {
     is_open: bool,
 }
 
-/// Drops the connection, the world and the campaign of a service.
 impl<S: Alter + Drop> Drop for Service<S> {
     fn drop(self) {
         let_go!(self: Service { alloc, conn, world, campaign, is_open });
@@ -57,7 +56,6 @@ impl<S: Alter> Model for Service<S> {
     ghost invariant = { λ a. IsService S.Store a.conn a.world a.campaign a.is_open };
 }
 
-/// Makes a service, runs commands, gives its campaign, books and world, and ends it.
 impl<S: Alter> Service<S> {
     ghost use Rattle.atl_campaign.specs.Good.{IsGood};
     ghost use Rattle.atl_campaign.specs.Marks.{no_marks};

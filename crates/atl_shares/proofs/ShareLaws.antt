@@ -18,7 +18,6 @@ pub upto_mono : (pot total x y : ℕ) → 0 < total → x ≤ y → share_upto p
 upto_mono pot total x y p h =
     (le-div_iff_mul-le p).1 (omega (arith, mul_comm (share_upto pot total x) total, (upto_is_rounded_quotient pot total x p).0, mul-le-mul_left pot h))
 
--- a share, by prefix sums, is at most its want, if the pot is at most the sum of all wants, `total`, which isn't 0
 pub part_le : (pot total before want : ℕ) → 0 < total → pot ≤ total → share_upto pot total (before + want) - share_upto pot total before ≤ want
 part_le pot total before want p h =
     let spread : pot * (before + want) ≡ pot * before + pot * want = mul-add pot before want in
@@ -42,8 +41,6 @@ sum-shares_after pot total before p (w ∷ ws) =
     let same : share_upto pot total ((before + w) + sum ws) ≡ share_upto pot total (before + sum (w ∷ ws)) = ap (share_upto pot total) (omega arith) in
     omega arith
 
--- The shares by prefix sums of two lists of wants, one after the other, are those of the first list and then those of
--- the second.
 pub shares_after-append : (pot total before : ℕ) (xs ys : List ℕ) → shares_after pot total before (xs ++ ys) ≡ shares_after pot total before xs ++ shares_after pot total (before + sum xs) ys
 shares_after-append pot total before [] ys = ap (λ n. shares_after pot total n ys) (omega arith)
 shares_after-append pot total before (x ∷ xs) ys =
@@ -66,11 +63,9 @@ share_near pot total before want p =
     let q1 = upto_is_rounded_quotient pot total (before + want) p in
     (omega arith, omega arith)
 
--- the shares are the wants, if the pot is enough for all wants
 pub shares-enough : (pot : ℕ) (wants : List ℕ) → sum wants ≤ pot → shares pot wants ≡ wants
 shares-enough pot wants h = grind (arith, nat_tests)
 
--- the shares are the differences of what the first wants together get, if the pot isn't enough for all wants
 pub shares-short : (pot : ℕ) (wants : List ℕ) → pot < sum wants → shares pot wants ≡ shares_after pot (sum wants) 0 wants
 shares-short pot wants h = grind (arith, nat_tests)
 
@@ -110,12 +105,10 @@ share_is_near pot wants i h =
     (λ b w. let n = share_near pot (sum wants) b w (omega arith) in record { above = n.0; below = n.1 })
     (record { above = omega arith; below = omega arith }) 0 wants i)
 
--- there are as many shares by prefix sums as wants
 pub length-shares_after : (pot total before : ℕ) (wants : List ℕ) → length (shares_after pot total before wants) ≡ length wants
 length-shares_after pot total before [] = refl
 length-shares_after pot total before (w ∷ ws) = ap suc (length-shares_after pot total (before + w) ws)
 
--- there are as many shares as wants
 pub length-shares : (pot : ℕ) (wants : List ℕ) → length (shares pot wants) ≡ length wants
 length-shares pot wants = elim (cases_lt pot (sum wants)) [
   | inl h ↦ ap length (shares-short pot wants h) ∙ length-shares_after pot (sum wants) 0 wants
@@ -179,10 +172,7 @@ splitting_keeps_others pot ahead parts after =
 
 -- `left` is the remainder of `pot * before / total`, which the code carries from want to want
 pub record IsRemainder (pot total before left : ℕ) : Type 0 where
-  -- the remainder is less than the sum of all wants, `total`
   pub small : left < total
-  -- what the wants up to `before` get together, times the sum of all wants, and the remainder add up to the pot times
-  -- `before`
   pub whole : total * share_upto pot total before + left ≡ pot * before
 
 -- The pot times the next want, plus the running remainder, divided by the sum of all wants and rounded down, is the
@@ -196,7 +186,6 @@ next_share pot total before left want p h =
     let split : share_upto pot total (before + want) ≡ due / total + low = ap (λ n. n / total) all ∙ add-mul-div_left due low p in
     omega arith
 
--- the remainder of the division that gives the next want's share is again the running remainder (`IsRemainder`)
 pub next_left : (pot total before left want : ℕ) → 0 < total → IsRemainder pot total before left →
     IsRemainder pot total (before + want) ((pot * want + left) % total)
 next_left pot total before left want p h =

@@ -5,7 +5,6 @@ ghost use Rattle.atl_shares.specs.Share.{IsNearPart, SplittingKeepsOthers, share
 
 use std::alloc::{AllocError, Global};
 
-/// The sum of the wants.
 fn sum_of(wants: &[u64]) -> u128
     requires { All (λ want. want ≤ most_amount) wants.now }
     ensures value { result ≡ sum wants.now }

@@ -19,13 +19,10 @@ use Rattle.atl_sql.proofs.Terms.{cast_int}
 abbrev campaign_update_terms : List Term
 campaign_update_terms = col 1 0 ∷ lit Null ∷ col 1 2 ∷ col 0 0 ∷ col 0 1 ∷ col 0 2 ∷ col 0 3 ∷ col 0 4 ∷ col 1 8 ∷ []
 
--- the text `campaign_upsert` means an INSERT of the campaign row, with an UPDATE by the terms `campaign_update_terms`
--- (`MeansOwn`)
 campaign_upsert_meaning : MeansOwn campaign_upsert campaign_update_terms
 unfolding understood everything
 campaign_upsert_meaning = record { is = λ more indexes. refl; plain = λ more indexes. (refl, refl) }
 
--- of a row with values `before` and world text `text`, the UPDATE makes the row with values `head` and the same text
 update_keeps_world_text : (head before : CampaignRowValue) (world text : List ℕ) (r : Row) → visible_row campaign_table r ≡ campaign_row before text → changed_to campaign_update_terms head world r ≡ campaign_row head text
 update_keeps_world_text head before world text r shows =
     let id : rowid r ≡ int 1 = ap (λ row. column row 0) shows in

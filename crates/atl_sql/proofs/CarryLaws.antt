@@ -21,29 +21,24 @@ use Rattle.atl_sql.proofs.ListLaws.{has_map}
 
 -- ---- tables without a foreign key refer to nothing
 
--- tables without a foreign key give no foreign key to check, whatever check `f` would make of one
 none_refer : (tables : List Table) (f : Table → Reference → Option Work) → AllByRecursion (λ t. t.references ≡ []) tables → flat_map (λ child. filter_map (f child) child.references) tables ≡ []
 none_refer [] f free = refl
 none_refer (t ∷ tables) f free = rw (free.0) (none_refer tables f free.1)
 
--- a write of a table checks no reference, if no table of the schema has a foreign key
 pub write_checks_no_reference : (tables : List Table) (indexes : List Index) (tree : ℕ) → AllByRecursion (λ t. t.references ≡ []) tables → (olds news : List Row) → works (all_tables_and_others tables indexes) Enforced 0 tree olds news ≡ []
 write_checks_no_reference tables indexes tree free olds news = none_refer tables (work_for (all_tables_and_others tables indexes) Enforced 0 tree olds news) free
 
 -- ---- indexes that make nothing unique find nothing
 
--- two rows share no unique value by the indexes of a list, if none of these makes anything unique in the table `t`
 pub none_share : (t : Table) (target : Option (List ℕ)) (new r : Row) (indexes : List Index) → ((i : Index) → Has indexes i → guards i t ≡ false) → list_any (shares target t new r) indexes ≡ false
 none_share t target new r [] plain = refl
 none_share t target new r (i ∷ indexes) plain = rw (plain i (inl refl)) (none_share t target new r indexes (λ j there. plain j (inr there)))
 
 -- ---- one of the tables is one of all that are there
 
--- one of the campaign's ten tables is among all tables of the schema, whatever others follow
 pub among_all : (tables : List Table) (t : Table) → Has all_tables t → Has (all_tables ++ tables) t
 among_all tables t there = has_left all_tables tables t there
 
--- the trees of a database with a campaign's tables are sound under the schema of these and of all other tables in it
 pub sound_under : (db : Database) (has : HasTables db) → IsSoundDatabase (all_tables_and_others has.begins.tables has.begins.indexes) db.trees
 sound_under db has = subst (λ s. IsSoundDatabase s db.trees) has.begins.made_of has.sound
 
@@ -52,7 +47,6 @@ module _ (t : Table) (old new : Database) (has : HasTables old) (ours : Has all_
   abbrev schema : Schema
   schema = all_tables_and_others has.begins.tables has.begins.indexes
 
-  -- every table of the schema but `t` has the same rows before and after
   abbrev OthersStay : Type 0
   OthersStay = (u : Table) → Has schema.tables u → u.tree ≢ t.tree → new.trees u.tree ≡ old.trees u.tree
 
@@ -64,7 +58,6 @@ module _ (t : Table) (old new : Database) (has : HasTables old) (ours : Has all_
     sound = subst (λ s. IsSoundDatabase s new.trees) (sym is) sound;
   }
 
-  -- if schema and all tables but `t` are unchanged, no table or index is gone, and tables but the ten stay (`Carries`)
   pub carried : new.schema ≡ schema → OthersStay → Carries old new
   carried is others =
       let same : new.schema ≡ old.schema = is ∙ sym has.begins.made_of in
@@ -74,7 +67,6 @@ module _ (t : Table) (old new : Database) (has : HasTables old) (ours : Has all_
         others = λ u there free. others u (subst (λ (s : Schema). Has s.tables u) has.begins.made_of there) (λ same. free (subst (Has all_trees) (sym same) (has_map (λ (x : Table). x.tree) all_tables t ours)));
       }
 
-  -- a write that makes the rows of `t` the set `S` (`Makes`) changes no other table of a campaign (`Alters`)
   pub altered : (S : Set) → Makes schema t old new S → Alters t S old new
   altered S makes = record { rows = makes.rows; others = λ u listed apart. makes.others u (among_all has.begins.tables u listed) apart }
 
@@ -85,11 +77,9 @@ module _ (t : Table) (old new : Database) (has : HasTables old) (ours : Has all_
 
 -- ---- tables carried along by no write, and by two
 
--- a database that stays as it is keeps all tables and indexes (`Carries` is reflexive)
 pub carries_none : (a : Database) → Carries a a
 carries_none a = record { tables = λ t there. there; indexes = λ i there. there; others = λ t there free. refl }
 
--- two steps that each keep all tables and indexes, as `Carries` says, keep them together (`Carries` is transitive)
 pub carries_then : (a b c : Database) → Carries a b → Carries b c → Carries a c
 carries_then a b c one two = record {
   tables = λ t there. two.tables t (one.tables t there);

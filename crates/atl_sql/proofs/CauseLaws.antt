@@ -17,26 +17,21 @@ use Rattle.atl_sql.specs.Errors.{is_memory}
 use Rattle.atl_sql.specs.Statements.{Statements}
 use Rattle.atl_sql.specs.Causes.{IsGiven, IsBroken, IsRefused, Gives, Leads, IsReached}
 
--- if the count of disk failures grew from `a` to `b`, it grew from `a` to each count that is at least `b`
 more_later : (a b c : ℕ) → b ≤ c → MoreFaults a b → MoreFaults a c
 more_later a b c later more = omega (arith, later, more)
 
--- if the count of disk failures grew from `b` to `c`, it grew to `c` from each count that is at most `b`
 more_before : (a b c : ℕ) → a ≤ b → MoreFaults b c → MoreFaults a c
 more_before a b c before more = omega (arith, before, more)
 
 -- ---- one call
 
 module _ (old new : State) where
-  -- an error of a call has a cause: the disk or the connection broke (`IsBroken`), or the call was refused
   abbrev Caused : Error → Type 0
   Caused e = IsBroken old new ⊎ IsRefused e old new
 
-  -- an error that is lack of memory can't fail the test `is_memory`
   no_memory : (e : Error) → e ≡ SqliteFailure code.OutOfMemory → is_memory e ≡ false → ⊥
   no_memory e is other = true≢false (sym (ap is_memory is) ∙ other)
 
-  -- an error of the store, other than lack of memory, has a cause: disk or connection broke, or a refusal (`Caused`)
   by_cause : (too_big : Type 0) (e : Error) (cause : StoreError) → e ≡ store_error cause → HasCause old new too_big cause → is_memory e ≡ false → Caused e
   by_cause too_big e OutOfMemory is has other = absurd (no_memory e is other)
   by_cause too_big e Io is has other = inl (inl has)
@@ -45,11 +40,9 @@ module _ (old new : State) where
   by_cause too_big e Broken is has other = inl (inr has)
   by_cause too_big e Unstorable is has other = inr (inl is)
 
-  -- an error of a failed call, other than lack of memory, has a cause (`Caused`)
   by_failure : (too_big : Type 0) (e : Error) → Fails old new too_big e → is_memory e ≡ false → Caused e
   by_failure too_big e failed = by_cause too_big e failed.0 failed.1 failed.2
 
-  -- an error of an executed statement, other than lack of memory, has a cause (`Caused`)
   execution_caused : (sql : List ℕ) (params : Row) (e : Error) → ExecutesIn false sql params old new (Err e) → is_memory e ≡ false → Caused e
   unfolding ExecutesIn IsNotRun
   execution_caused sql params e (inl (inl refused)) other = inr (inr refused.1)
@@ -59,7 +52,6 @@ module _ (old new : State) where
     | inr runs ↦ elim (rw runs at ran.2) [ inl refused ↦ inr (inr refused.1) | inr failed ↦ by_failure _ e failed other ]
   ]
 
-  -- an error of a statement or of the commit (`IsGiven`), other than lack of memory, has a cause (`Caused`)
   call_caused : (own : Statements) (e : Error) → IsGiven own e old new → is_memory e ≡ false → Caused e
   call_caused own e (inl ran) other = elim ran.3 [ inl whole ↦ execution_caused ran.0 ran.1 e whole.0 other | inr ends ↦ inr (inr ends.2) ]
   call_caused own e (inr (inside, inl failed)) other = by_failure _ e failed other
@@ -68,7 +60,6 @@ module _ (old new : State) where
 -- ---- one statement after another
 
 module _ {S : Type 0} (g : Ghosts S) (own : Statements) where
-  -- if `count` statements of `own` lead from `a` to `b`, and some from `b` to `c`, then some lead from `a` to `c`
   pub reached_then : (count : ℕ) (a b c : Held S) → Leads g own count a b → IsReached g own b c → IsReached g own a c
   reached_then zero a b c same rest = subst (λ h. IsReached g own h c) (sym same) rest
   reached_then (suc count) a b c first rest = let whole = reached_then count first.0 b c first.2 rest in (suc whole.0, (first.0, first.1, whole.1))
@@ -76,22 +67,17 @@ module _ {S : Type 0} (g : Ghosts S) (own : Statements) where
 -- ---- statements that are among others
 
 module _ {S : Type 0} (g : Ghosts S) (own more : Statements) (among : (sql : List ℕ) (params : Row) → own sql params → more sql params) where
-  -- if statements of `own` lead from connection `old` to `new`, so do those of `more`, which has all of `own`
   leads_among : (count : ℕ) (old new : Held S) → Leads g own count old new → Leads g more count old new
   leads_among zero old new same = same
   leads_among (suc count) old new (mid, ran, rest) = (mid, (ran.0, ran.1, among ran.0 ran.1 ran.2, ran.3, ran.4), leads_among count mid new rest)
 
-  -- a connection that statements of `own` reach is reached by statements of `more`, which has all those of `own`
   pub reached_among : (old new : Held S) → IsReached g own old new → IsReached g more old new
   reached_among old new reached = (reached.0, leads_among reached.0 old new reached.1)
 
-  -- if the statements of `own` are among those of `more`, an error given by one of `own` or by the commit is given by
-  -- one of `more` or by the commit
   given_among : (e : Error) (before after : State) → IsGiven own e before after → IsGiven more e before after
   given_among e before after (inl ran) = inl (ran.0, ran.1, among ran.0 ran.1 ran.2, ran.3)
   given_among e before after (inr fails) = inr fails
 
-  -- an error that a transaction of statements of `own` gives is given in one of `more`, which has all of `own`
   pub gives_among : (e : Error) (old new : Held S) → Gives g own e old new → Gives g more e old new
   gives_among e old new gave = record {
     before = gave.before;
@@ -105,11 +91,9 @@ module _ {S : Type 0} (g : Ghosts S) (own more : Statements) (among : (sql : Lis
 -- ---- from one call to the whole transaction
 
 module _ {S : Type 0} (g : Ghosts S) (own : Statements) (e : Error) where
-  -- a connection in a transaction is unchanged by setting its flag `in_transaction`
   as_begun : (old : Held S) → IsTrue (state g old).in_transaction → record old { in_transaction = true } ≡ old
   as_begun old inside = ap (λ b. record old { in_transaction = b }) (sym inside)
 
-  -- an error that a statement or the commit gave inside a transaction is one that the transaction gave (`Gives`)
   pub gives : (old new : Held S) → IsTrue (state g old).in_transaction → IsGiven own e (state g old) (state g new) → Gives g own e old new
   gives old new inside given = record { before = old; after = new; reached = (0, as_begun old inside); kept = record { was_open = λ up. up; committed = λ _. refl }; given = given; cause = call_caused (state g old) (state g new) own e given }
 
@@ -134,7 +118,6 @@ module _ {S : Type 0} (g : Ghosts S) (own : Statements) (e : Error) where
     ];
   }
 
-  -- an error that a transaction gave between `old` and `mid` is one between `old` and any later state `new` (`Gives`)
   pub gives_until : (old mid new : Held S) → (state g mid).faults ≤ (state g new).faults → Gives g own e old mid → Gives g own e old new
   gives_until old mid new counts gave = record {
     before = gave.before;
@@ -145,7 +128,6 @@ module _ {S : Type 0} (g : Ghosts S) (own : Statements) (e : Error) where
     cause = λ other. elim (gave.cause other) [ inl (inl more) ↦ inl (inl (more_later _ _ _ counts more)) | inl (inr shut) ↦ inl (inr shut) | inr refused ↦ inr refused ];
   }
 
-  -- an error given between the connection after BEGIN and `new` is one given between that before BEGIN and `new`
   pub gives_begun : (old begun new : Held S) → begun ≡ record old { in_transaction = true } → Gives g own e begun new → Gives g own e old new
   gives_begun old begun new begins gave =
       let same : Gives g own e (record old { in_transaction = true }) new = subst (λ h. Gives g own e h new) begins gave in
@@ -160,7 +142,6 @@ module _ {S : Type 0} (g : Ghosts S) (own : Statements) (e : Error) where
 
 -- ---- of a result
 
--- what holds of the error `e` holds of the error of the result `r` (`IfErr`), if `r` is the error `e`
 pub property_of_equal_error : {A E : Type 0} (P : E → Type 0) (r : Result A E) (e : E) → IsErrAnd r (λ f. f ≡ e) → P e → IfErr r P
 property_of_equal_error P (Ok a) e says p = tt
 property_of_equal_error P (Err f) e says p = subst P (sym says) p

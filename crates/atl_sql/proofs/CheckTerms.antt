@@ -12,21 +12,17 @@ use Rattle.sqlite_schema.specs.Code.{op_term, term_to, term_in}
 use Rattle.sqlite_schema.specs.declared.code.Op.{Op}
 use Rattle.sqlite_schema.specs.declared.code.Op.TheVariants.{Literal, Column, Unary, Binary, Case}
 
--- the operator = of SQL
 abbrev equals : BinaryOp
 equals = Compare Eq collation.Binary
 
--- the value 1
 abbrev one : Value
 one = Int (pos 1)
 
--- the term "id = 1"
 abbrev id_is_one : Term
 id_is_one = op2 equals (col 1 0) (lit one)
 
 -- ---- from a term to its node
 
--- a node whose term is "id = 1" is an equation of two nodes, whose terms are the column `id` and the number 1
 node_is_equation : (below : ℕ → Term) (op : Op) → op_term below op ≡ id_is_one → (a : ℕ) × (b : ℕ) × (op ≡ Binary equals a b) × (below a ≡ col 1 0) × (below b ≡ lit one)
 node_is_equation below (Literal v) says = absurd (cc)
 node_is_equation below (Column slot at) says = absurd (cc)
@@ -34,7 +30,6 @@ node_is_equation below (Unary op a) says = absurd (cc)
 node_is_equation below (Binary op a b) says = (a, b, cc, cc, cc)
 node_is_equation below (Case t a b) says = absurd (cc)
 
--- a node whose term is the column `id` is this column
 node_is_id_column : (below : ℕ → Term) (op : Op) → op_term below op ≡ col 1 0 → op ≡ Column 1 0
 node_is_id_column below (Literal v) says = absurd (cc)
 node_is_id_column below (Column slot at) says = cc
@@ -42,7 +37,6 @@ node_is_id_column below (Unary op a) says = absurd (cc)
 node_is_id_column below (Binary op a b) says = absurd (cc)
 node_is_id_column below (Case t a b) says = absurd (cc)
 
--- a node whose term is the number 1 is this literal
 node_is_literal_one : (below : ℕ → Term) (op : Op) → op_term below op ≡ lit one → op ≡ Literal one
 node_is_literal_one below (Literal v) says = cc
 node_is_literal_one below (Column slot at) says = absurd (cc)
@@ -54,18 +48,15 @@ node_is_literal_one below (Case t a b) says = absurd (cc)
 abbrev no_node : Op
 no_node = Literal Null
 
--- a node that is not the default (`no_node`) is in the list at its index
 node_is_in_list : (ops : List Op) (at : ℕ) (op : Op) → op ≢ no_node → get_or ops at no_node ≡ op → slice_get ops at ≡ Some op
 node_is_in_list [] at op other is = absurd (other (sym is))
 node_is_in_list (x ∷ ops) zero op other is = ap Some is
 node_is_in_list (x ∷ ops) (suc at) op other is = node_is_in_list ops at op other is
 
--- the node at an index whose term is the column `id` is this column
 number_at : (ops : List Op) (depth at : ℕ) → term_to ops depth at ≡ col 1 0 → slice_get ops at ≡ Some (Column 1 0)
 number_at ops zero at says = absurd (cc)
 number_at ops (suc depth) at says = node_is_in_list ops at (Column 1 0) (λ same. absurd (cc)) (node_is_id_column (term_to ops depth) (get_or ops at no_node) says)
 
--- the node at an index whose term is the number 1 is this literal
 one_at : (ops : List Op) (depth at : ℕ) → term_to ops depth at ≡ lit one → slice_get ops at ≡ Some (Literal one)
 one_at ops zero at says = absurd (cc)
 one_at ops (suc depth) at says = node_is_in_list ops at (Literal one) (λ same. absurd (cc)) (node_is_literal_one (term_to ops depth) (get_or ops at no_node) says)
@@ -76,7 +67,6 @@ one_at ops (suc depth) at says = node_is_in_list ops at (Literal one) (λ same. 
 abbrev MakeIdIsOne : List Op → ℕ → ℕ → ℕ → Type 0
 MakeIdIsOne ops root a b = (slice_get ops root ≡ Some (Binary equals a b)) × (slice_get ops a ≡ Some (Column 1 0)) × (slice_get ops b ≡ Some (Literal one))
 
--- a term "id = 1" has three nodes: the comparison, the column `id` and the number 1 (`MakeIdIsOne`)
 says_to : (ops : List Op) (depth root : ℕ) → term_to ops depth root ≡ id_is_one → (a : ℕ) × (b : ℕ) × MakeIdIsOne ops root a b
 says_to ops zero root says = absurd (cc)
 says_to ops (suc depth) root says =
@@ -92,7 +82,6 @@ looked_up_nodes_make_term (x ∷ []) zero (suc a) b first second third = absurd 
 looked_up_nodes_make_term (x ∷ []) (suc root) a b first second third = absurd (cc)
 looked_up_nodes_make_term (x ∷ y ∷ ops) root a b first second third = rw (first, second, third) refl
 
--- the comparison, the column `id` and the number 1 (`MakeIdIsOne`) make the term "id = 1"
 three_nodes_make_term : (ops : List Op) (root a b : ℕ) → MakeIdIsOne ops root a b → term_in ops root ≡ id_is_one
 three_nodes_make_term ops root a b (first, second, third) =
     looked_up_nodes_make_term ops root a b (get_or_from_slice_get ops root _ no_node first) (get_or_from_slice_get ops a _ no_node second) (get_or_from_slice_get ops b _ no_node third)
@@ -110,7 +99,6 @@ equation_is_id_is_one ops root a b first = (
   λ both. three_nodes_make_term ops root a b (first, both.0, both.1),
 )
 
--- if the root is no equation, its term is not "id = 1"
 pub no_equation_is_not_id_is_one : (ops : List Op) (root : ℕ) → ((a b : ℕ) → slice_get ops root ≢ Some (Binary equals a b)) → term_in ops root ≢ id_is_one
 no_equation_is_not_id_is_one ops root other says =
     let (a, b, (is, number, constant)) = says_to ops (length ops) root says in

@@ -29,19 +29,13 @@ use Rattle.atl_sql.proofs.WriteLaws.{weaker, among_only}
 
 -- the text is a CREATE TABLE that turns the schema `before` into `after`, with `table` as the last table
 pub record IsCreate (before after : Schema) (table : Table) (text : List ℕ) : Type 0 where
-  -- the text means a CREATE TABLE
   pub command : command_of (understood before text) ≡ CreateTable
-  -- the text is one statement, with nothing after it
   pub whole : statement_of text (understood before text) ≡ text
   -- the text defines the table, with 0 as the number of its tree
   pub defines : table_defined_by text ≡ Ok (record table { tree = 0 })
-  -- the CREATE TABLE has no RETURNING and doesn't read the time
   pub plain : IsPlain (understood before text)
-  -- the schema `before` with the table added is `after`
   pub after_is : created before (record table { tree = 0 }) ≡ after
-  -- the next free tree of the schema `before` is the table's
   pub tree_is : next_tree before ≡ table.tree
-  -- the new table is the last of the schema `after`
   pub last : after.tables ≡ before.tables ++ table ∷ []
   -- the schema `after` lacks no table of sequences, which only AUTOINCREMENT needs
   pub uncounted : lacks_sequence after ≡ false
@@ -57,12 +51,10 @@ makes_table before after table text is old new count has ran =
 
 -- ---- of each part
 
--- the index of a part in a list, or the length of the list if the part isn't in it
 abbrev place_among : Part → List Part → ℕ
 place_among part [] = 0
 place_among part (p ∷ parts) = cond (nat_eq (tree_of part) (tree_of p)) 0 (place_among part parts + 1)
 
--- the index of a part in the list of all parts
 abbrev position : Part → ℕ
 position part = place_among part all_parts
 
@@ -72,11 +64,9 @@ unfolding understood everything
 is_made Own = record { command = refl; whole = refl; defines = refl; plain = (refl, refl); after_is = refl; tree_is = refl; last = refl; uncounted = refl }
 is_made part = record { command = refl; whole = refl; defines = refl; plain = (refl, refl); after_is = refl; tree_is = refl; last = refl; uncounted = refl }
 
--- the index that `position` gives to the part at index `i` of the list of all parts is `i`
 placed : (i : ℕ) (d : Part) → i < length all_parts → position (get_or all_parts i d) ≡ i
 placed i d small = sym (get_or-map position all_parts i d 0 small) ∙ get_or-range_with_len 0 (length all_parts) i 0 small ∙ zero-add i
 
--- the CREATE text of the part at index `i` makes its table after the first `i` tables (`IsCreate`)
 made_at : (i : ℕ) (d : Part) → i < length all_parts → IsCreate (schema_of_first i) (schema_of_first (i + 1)) (table_of (get_or all_parts i d)) (creation_of (get_or all_parts i d))
 made_at i d small =
     let part = get_or all_parts i d in
@@ -89,21 +79,17 @@ made_at i d small =
 abbrev pub MakesNextTable : Schema → Schema → List ℕ → Type 1
 MakesNextTable before after text = Has (map creation_of all_parts) text × ((old new : State) → RunsStatement text [] old new → Extends before after old new)
 
--- the CREATE text of a part that turns `before` into `after` (`IsCreate`) makes the next table (`MakesNextTable`)
 create_text_makes_next_table : (before after : Schema) (table : Table) (text : List ℕ) → Has (map creation_of all_parts) text → IsCreate before after table text → MakesNextTable before after text
 create_text_makes_next_table before after table text listed is = (listed, run)
   where
-    -- running the text inside a transaction turns empty tables of `before` into empty tables of `after`
     run : (old new : State) → RunsStatement text [] old new → Extends before after old new
     run old new (inside, count, h) = extends before after table old new inside h.1.mode is.last (λ has. makes_table before after table text is old new count has h.0)
 
 -- a list whose elements have the CREATE texts of the ten tables, in the order of the tables
 module _ {X : Type 0} (text : X → List ℕ) (xs : List X) (all : map text xs ≡ map creation_of all_parts) where
-  -- a list whose elements have the CREATE texts of the ten tables has ten elements
   pub as_many : length xs ≡ table_count
   as_many = sym (length-map xs text) ∙ ap length all
 
-  -- the text at index `i` of the list makes the table at index `i` of the ten (`MakesNextTable`)
   pub makes_next : (i : ℕ) (d : X) → i < length xs → MakesNextTable (schema_of_first i) (schema_of_first (i + 1)) (text (get_or xs i d))
   makes_next i d small =
       let part = get_or all_parts i Own in
@@ -115,10 +101,8 @@ module _ {X : Type 0} (text : X → List ℕ) (xs : List X) (all : map text xs �
 -- ---- in a transaction
 
 module _ {S A : Type 0} (g : Ghosts S) {r : Result A Error} {a b : MutBor (Held S)} where
-  -- a step that runs nothing but the CREATE text of a part runs nothing but CREATE statements of the ten tables
   pub creating : {Does : State → State → Type 0} {before after : Schema} (text : List ℕ) → MakesNextTable before after text → Writes g (OneStatement text []) Does r a b → Writes g Creations Does r a b
   creating text makes one = among_only g text [] (makes.0, refl) one
 
-  -- a step that runs a part's CREATE text runs only such texts (`Creations`), and adds one empty table (`Extends`)
   pub made_by : {before after : Schema} (text : List ℕ) → MakesNextTable before after text → Writes g (OneStatement text []) (RunsStatement text []) r a b → Writes g Creations (Extends before after) r a b
   made_by text makes one = weaker g makes.1 (creating text makes one)

@@ -31,41 +31,29 @@ use Rattle.sqlite.proofs.Callers.{one_step}
 use Rattle.atl_sql.specs.Sets.{AreKeyedByRowid}
 use Rattle.atl_sql.proofs.ListLaws.{keyed_without, keyed_put, has_map, map_has, AreFound, stays, was_there}
 
--- a step that ended with Ok did `R`, if it either stopped with an error or did `R`
 pub ok_step_did : {B E R : Type 0} {b : B} {Stops : E → Type 0} → ((stop : E) × Stops stop × (Ok b ≡ Err stop)) ⊎ R → R
 ok_step_did (inl stopped) = absurd (let e = stopped.2 in cc)
 ok_step_did (inr on) = on
 
--- two results Ok that are equal have the same value
 pub same_value : {B E : Type 0} {a b : B} → ◌≡◌ {A = Result B E} (Ok a) (Ok b) → a ≡ b
 same_value e = cc
 
 -- after an edit the rows that pass the test `p` are gone, and no other row and no other table changed
 pub record Loses (schema : Schema) (table : Table) (p : Row → Bool) (db next : Trees) : Type 0 where
-  -- each row of the table after the edit was there before it, and fails the test `p`
   pub from : (r : Row) → Has (next table.tree) r → Has (db table.tree) r × (p r ≡ false)
-  -- each row of the table before the edit that fails the test `p` is there after it
   pub kept : (r : Row) → Has (db table.tree) r → p r ≡ false → Has (next table.tree) r
-  -- after the edit the rowids of the table are integers, no two alike
   pub keyed : AreKeyedByRowid (next table.tree)
-  -- each table of the schema with another tree than `table` holds after the edit what it held before
   pub others : (t : Table) → Has schema.tables t → t.tree ≢ table.tree → next t.tree ≡ db t.tree
 
 -- after an edit the rows that pass the test `p` are gone, the row `new` is there, and nothing else changed
 pub record Swaps (schema : Schema) (table : Table) (p : Row → Bool) (new : Row) (db next : Trees) : Type 0 where
-  -- after the edit the row `new` is in the table
   pub there : Has (next table.tree) new
-  -- each row of the table after the edit is `new`, or was there before it and fails the test `p`
   pub from : (r : Row) → Has (next table.tree) r → (r ≡ new) ⊎ (Has (db table.tree) r × (p r ≡ false))
-  -- each row of the table before the edit that fails the test `p` is there after it
   pub kept : (r : Row) → Has (db table.tree) r → p r ≡ false → Has (next table.tree) r
-  -- after rows that pass `p` gave way to `new`, the table's rowids are integers, no two alike
   pub keyed : AreKeyedByRowid (next table.tree)
-  -- each table of the schema with another tree than `table` holds after the edit what it held before
   pub others : (t : Table) → Has schema.tables t → t.tree ≢ table.tree → next t.tree ≡ db t.tree
 
 module _ (schema : Schema) (table : Table) (unlinked : (olds news : List Row) → works schema Enforced 0 table.tree olds news ≡ []) where
-  -- an edit that removes the rows found by a test leaves exactly the rows that fail the test (`Loses`)
   loses : (p : Row → Bool) (db next : Trees) (found : List Row) → AreKeyedByRowid (db table.tree) → AreFound p (db table.tree) found
       → Edited schema Enforced db (edit_of db table (ids_of found) Given 0 []) (Ok next) → Loses schema table p db next
   loses p db next found keyed are h =
@@ -79,7 +67,6 @@ module _ (schema : Schema) (table : Table) (unlinked : (olds news : List Row) �
 
   -- ---- DELETE
 
-  -- a DELETE that ran removed exactly the rows that pass its test (`Loses`)
   pub deletes : (limit : Option ℕ) (params : Row) (q : _) (p : Row → Bool) (db : Trees) (w : Written) → AreKeyedByRowid (db table.tree)
       → ((rows : List Row) → Answers (record { schema = schema; trees = db }) q params rows → AreFound p (db table.tree) rows)
       → Deletes (record { limit = limit; keys = Enforced; schema = schema; table = table; params = params }) q db (Ok w) → Loses schema table p db w.trees
@@ -92,11 +79,9 @@ module _ (schema : Schema) (table : Table) (unlinked : (olds news : List Row) �
   -- ---- INSERT OR REPLACE of one row
 
   module _ (limit : Option ℕ) (params : Row) where
-    -- what a statement on the table is run with: the step limit, the schema, the table and the parameters
     abbrev task : Task
     task = record { limit = limit; keys = Enforced; schema = schema; table = table; params = params }
 
-    -- putting one row (`Puts`) adds it to the table: no row goes, rowids stay different, and other tables stay
     pub puts : (new : Row) (db : Trees) (w : Written) → AreKeyedByRowid (db table.tree) → Puts task new db (Ok w)
         → Has (w.trees table.tree) (cast_row table new)
         × ((r : Row) → Has (w.trees table.tree) r → (r ≡ cast_row table new) ⊎ Has (db table.tree) r)
@@ -115,11 +100,9 @@ module _ (schema : Schema) (table : Table) (unlinked : (olds news : List Row) �
           subst AreKeyedByRowid (sym rows) (keyed_put (cast_row table new) (db table.tree) keyed (not-true _ (and_parts _ _ done.fresh).0) (and_parts _ _ done.keyed).0),
         )
 
-    -- whether a row of the table (the second argument) conflicts in a key with the new row (the first)
     abbrev p : Row → Row → Bool
     p new r = conflicts None schema.indexes table new r
 
-    -- removing the rows that conflict with the new row, and putting the new row, swaps them for it (`Swaps`)
     clears : (new : Row) (db : Trees) (w : Written) (found : List Row) → AreKeyedByRowid (db table.tree) → AreConflicts None schema.indexes table (db table.tree) new found
         → Clears task Replace new db found (Ok w) → Swaps schema table (p new) (cast_row table new) db w.trees
     clears new db w [] keyed are h =
@@ -144,13 +127,11 @@ module _ (schema : Schema) (table : Table) (unlinked : (olds news : List Row) �
           others = λ t listed other. put.3 t listed other ∙ lost.others t listed other;
         }
 
-    -- one attempt to put a row by INSERT OR REPLACE swaps the rows that conflict with it for that row (`Swaps`)
     pub tries : (new : Row) (db : Trees) (w : Written) → AreKeyedByRowid (db table.tree) → Tries task Replace [] new db (Ok w)
         → Swaps schema table (p new) (cast_row table new) db w.trees
     tries new db w keyed (inl refused) = absurd (let e = refused.1 in cc)
     tries new db w keyed (inr check_own_rows) = go check_own_rows.0 check_own_rows.2
       where
-        -- whatever the check of the row's own values says, an attempt that ended with Ok swapped the rows (`Swaps`)
         go : (verdict : Option Refusal) → Judged task Replace [] new db verdict (Ok w) → Swaps schema table (p new) (cast_row table new) db w.trees
         go None h = clears new db w h.0 keyed h.1 h.2
         go (Some why) h = absurd (let e = h in cc)
@@ -171,28 +152,23 @@ delete_query tree filter = record {
   offset = lit (Int (pos 0));
 }
 
--- a permutation of a list has each element of the list
 pub has_permuted : {X : Type 0} (xs ys : List X) (x : X) → IsPermutation xs ys → Has xs x → Has ys x
 has_permuted xs ys x h there = all_has (λ y. Has ys y) xs x (all-permutation (λ y. Has ys y) ys xs (IsPermutation-sym xs ys h) (all_from _ ys (λ y k. k))) there
 
 module _ (p : Row → Bool) (f : Row → Env) where
-  -- for a row that passes the test p, `f` of it is in the list of `f` of all rows that pass
   has_chosen : (rows : List Row) (r : Row) → Has rows r → p r ≡ true → Has (flat_map (λ r. cond (p r) (f r ∷ []) []) rows) (f r)
   has_chosen [] r h passes = absurd h
   has_chosen (x ∷ rows) r (inl same) passes = rw (← same, passes) (inl refl)
   has_chosen (x ∷ rows) r (inr later) passes = go (p x) (has_chosen rows r later passes)
     where
-      -- for `has_chosen`: what is in the later rows' list is in the list of all rows, whether or not the first passes
       go : (b : Bool) → Has (flat_map (λ r. cond (p r) (f r ∷ []) []) rows) (f r) → Has (cond b (f x ∷ []) [] ++ flat_map (λ r. cond (p r) (f r ∷ []) []) rows) (f r)
       go true h = inr h
       go false h = h
 
-  -- whatever is in the list of `f` of all rows that pass the test p is `f` of such a row
   chosen_has : (rows : List Row) (e : Env) → Has (flat_map (λ r. cond (p r) (f r ∷ []) []) rows) e → (r : Row) × Has rows r × (p r ≡ true) × (e ≡ f r)
   chosen_has [] e h = absurd h
   chosen_has (x ∷ rows) e h = go (p x) refl h (chosen_has rows e)
     where
-      -- for `chosen_has`: an element `e` is `f` of the first row, if that passes the test p, or of a later row
       go : (b : Bool) → p x ≡ b → Has (cond b (f x ∷ []) [] ++ flat_map (λ r. cond (p r) (f r ∷ []) []) rows) e
           → (Has (flat_map (λ r. cond (p r) (f r ∷ []) []) rows) e → (r : Row) × Has rows r × (p r ≡ true) × (e ≡ f r)) → (r : Row) × Has (x ∷ rows) r × (p r ≡ true) × (e ≡ f r)
       go true is (inl same) more = (x, inl refl, is, same)

@@ -29,14 +29,12 @@ Fits [] (v ∷ vs) = ⊥
 Fits (c ∷ cs) [] = ⊥
 Fits (c ∷ cs) (v ∷ vs) = (cast c.kind v ≡ v) × Fits cs vs
 
--- values that are of their columns' types are as many as the columns
 pub fits_length : (cs : List Column) (vs : Row) → Fits cs vs → length vs ≡ length cs
 fits_length [] [] fits = refl
 fits_length [] (v ∷ vs) fits = absurd fits
 fits_length (c ∷ cs) [] fits = absurd fits
 fits_length (c ∷ cs) (v ∷ vs) fits = ap suc (fits_length cs vs fits.1)
 
--- SQL's casts don't change values that are of their columns' types
 fits_cast : (cs : List Column) (vs : Row) → Fits cs vs → cast_all cs vs ≡ vs
 fits_cast [] [] fits = refl
 fits_cast [] (v ∷ vs) fits = absurd fits
@@ -45,26 +43,20 @@ fits_cast (c ∷ cs) (v ∷ vs) fits = let here = fits.0 in let later = fits_cas
 
 -- ---- the columns of a row, one by one
 
--- mapping the range from `a + 1` by the function `f` is mapping the range from `a` by the function `g`, if `f (k + 1)`
--- is `g k` for each `k`
 shifted_range_maps_alike : {X : Type 0} (f g : ℕ → X) → ((k : ℕ) → f (k + 1) ≡ g k) → (a n : ℕ) → map f (range_with_len (a + 1) n) ≡ map g (range_with_len a n)
 shifted_range_maps_alike f g same a zero = refl
 shifted_range_maps_alike f g same a (suc n) = let here = same a in let later = shifted_range_maps_alike f g same (a + 1) n in cc
 
--- column `k + 1` of a row is column `k` of the row without its first value
 next_column : (v : Value) (vs : Row) (k : ℕ) → column (v ∷ vs) (k + 1) ≡ column vs k
 next_column v vs k = let next : k + 1 ≡ suc k = omega arith in ap (column (v ∷ vs)) next
 
--- the first columns of the row `vs ++ more`, as many as `vs` has values, are `vs`
 each_column : (vs more : Row) → map (column (vs ++ more)) (range_with_len 0 (length vs)) ≡ vs
 each_column [] more = refl
 each_column (v ∷ vs) more = ap (λ (l : Row). v ∷ l) (shifted_range_maps_alike (column (v ∷ (vs ++ more))) (column (vs ++ more)) (next_column v (vs ++ more)) 0 (length vs) ∙ each_column vs more)
 
--- the columns after the first of the row `v ∷ (vs ++ more)`, as many as `vs` has values, are `vs`
 each_later : (v : Value) (vs more : Row) → map (column (v ∷ (vs ++ more))) (range_with_len 1 (length vs)) ≡ vs
 each_later v vs more = shifted_range_maps_alike (column (v ∷ (vs ++ more))) (column (vs ++ more)) (next_column v (vs ++ more)) 0 (length vs) ∙ each_column vs more
 
--- the column after the values `vs` of a row has the value `x` that follows them
 column_after : (vs : Row) (x : Value) (more : Row) → column (vs ++ x ∷ more) (length vs) ≡ x
 column_after [] x more = refl
 column_after (v ∷ vs) x more = column_after vs x more
@@ -82,36 +74,28 @@ changed_row width = col 1 0 ∷ lit Null ∷ map (col 0) (range_with_len 1 width
 
 -- the terms of the INSERT and of the UPDATE make the row of this number and these values
 pub record MakesRow (t : Table) (width number : ℕ) (values : Row) : Type 0 where
-  -- the terms of the INSERT give the number, NULL, and the values
   pub source : value_rows ((int number ∷ values) ++ []) (width + 2) (length (given_row width) / (width + 2)) (given_row width) ≡ (int number ∷ Null ∷ values) ∷ []
   -- the terms of the UPDATE give the number of the row that is there, NULL, and the values
   pub changed : (more r : Row) → eval_all (changed_row width) (((int number ∷ values) ++ more) ∷ r ∷ []) ≡ column r 0 ∷ Null ∷ values
-  -- SQL's casts to the columns' types leave the row as stored (the number, NULL, the values) unchanged
   pub casted : cast_row t (int number ∷ Null ∷ values) ≡ int number ∷ Null ∷ values
-  -- of the row as stored, SQL shows the number and the values
   pub shown : visible_row t (int number ∷ Null ∷ values) ≡ int number ∷ values
   -- of what the UPDATE reads, the column after the number and the values is `x`, the rowid of the row to change
   pub aimed : (x : Value) (more : Row) → column ((int number ∷ values) ++ x ∷ more) (width + 1) ≡ x
 
 module _ (tree : ℕ) (name key_name : List ℕ) (columns : List Column) (uniques : List (List ℕ)) where
-  -- the table whose first column, its key, is the row's number, and whose other columns are `columns`
   abbrev t : Table
   t = table tree name (integer_column key_name ∷ columns) (Some 0) (0 ∷ []) uniques []
 
   module _ (n : ℕ) (values : Row) (fits : Fits columns values) where
-    -- the number of values after the row's number
     abbrev width : ℕ
     width = length values
 
-    -- the row of the number and the values as it is stored
     abbrev stored_row : Row
     stored_row = int n ∷ Null ∷ values
 
-    -- the terms that read the parameters after the first, which is the number, give the values
     of_parameters : (more : Row) (rows : List Row) → eval_all (map (col 0) (range_with_len 1 width)) ((int n ∷ (values ++ more)) ∷ rows) ≡ values
     of_parameters more rows = map-map (λ (t : Term). eval t ((int n ∷ (values ++ more)) ∷ rows)) (col 0) (range_with_len 1 width) ∙ each_later (int n) values more
 
-    -- the terms of the INSERT make the row of the number and the values
     source_is : value_rows ((int n ∷ values) ++ []) (width + 2) (length (given_row width) / (width + 2)) (given_row width) ≡ stored_row ∷ []
     source_is =
         let counted : length (given_row width) ≡ width + 2 = omega (arith, length-map-range_with_len (col 0) 1 width) in
@@ -119,25 +103,21 @@ module _ (tree : ℕ) (name key_name : List ℕ) (columns : List Column) (unique
         let all : take (width + 2) (given_row width) ≡ given_row width = take_all (width + 2) (given_row width) (omega (arith, counted)) in
         ap (λ (count : ℕ). value_rows ((int n ∷ values) ++ []) (width + 2) count (given_row width)) once ∙ ap (λ (l : List Term). eval_all l (((int n ∷ values) ++ []) ∷ []) ∷ []) all ∙ ap (λ (l : Row). (int n ∷ Null ∷ l) ∷ []) (of_parameters [] [])
 
-    -- SQL shows the row as its number and its values
     shown_is : visible_row t stored_row ≡ int n ∷ values
     shown_is =
         let alone : map (column values) (range_with_len 0 width) ≡ values = subst (λ l. map (column l) (range_with_len 0 width) ≡ values) (append-nil values) (each_column values []) in
         let after : map (λ k. column stored_row (place_of t k)) (range_with_len 1 width) ≡ values = shifted_range_maps_alike (λ k. column stored_row (place_of t k)) (column values) second 0 width ∙ alone in
         ap (λ l. int n ∷ l) (subst (λ w. map (λ k. column stored_row (place_of t k)) (range_with_len 1 w) ≡ values) (fits_length columns values fits) after)
       where
-        -- for `shown_is`: column `k + 1` of the stored row, as SQL shows it, is value `k` of `values`
         second : (k : ℕ) → column stored_row (place_of t (k + 1)) ≡ column values k
         second k =
             let apart : nat_eq 0 (k + 1) ≡ false = grind (arith, nat_tests) in
             let position : place_of t (k + 1) ≡ suc (suc k) = rw apart (omega arith) in
             ap (column stored_row) position
 
-    -- SQL's casts leave the row of the number and the values unchanged
     casted_is : cast_row t stored_row ≡ stored_row
     casted_is = rw (cast_int (pos n), cast_null, fits_cast columns values fits) refl
 
-    -- the terms for as many columns as there are values make the row of the number and the values (`MakesRow`)
     made : MakesRow t width n values
     made = record {
       source = source_is;

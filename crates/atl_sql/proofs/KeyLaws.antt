@@ -8,7 +8,6 @@ use Rattle.sqlite.specs.Kind.TheVariants.{Integer}
 use Rattle.sqlite_trees.specs.View.{is_int}
 use Rattle.sqlite_schema.specs.Rules.{is_of}
 
--- what a strict INTEGER NOT NULL column stores is an integer
 pub strict_integer_is_int : (v : Value) → is_of Integer v ≡ true → is_null v ≡ false → is_int v ≡ true
 strict_integer_is_int Null typed some = absurd (true≢false some)
 strict_integer_is_int (Int n) typed some = refl
@@ -16,11 +15,9 @@ strict_integer_is_int (Real x) typed some = absurd (true≢false (sym typed))
 strict_integer_is_int (Text t) typed some = absurd (true≢false (sym typed))
 strict_integer_is_int (Blob b) typed some = absurd (true≢false (sym typed))
 
--- equal rows have equal first values, and are equal without these
 pub cons_is : (a b : Value) (xs ys : Row) → ◌≡◌ {A = Row} (a ∷ xs) (b ∷ ys) → (a ≡ b) × (xs ≡ ys)
 cons_is a b xs ys e = (cc, cc)
 
--- a test "`b` or `rest`" is `b`, if `rest` is false
 pub or_with_false : (b rest : Bool) → rest ≡ false → (b || rest) ≡ b
 or_with_false true rest none = refl
 or_with_false false rest none = none

@@ -56,14 +56,12 @@ abbrev pub agree_at : List ℕ → Row → Row → Bool
 agree_at [] x y = true
 agree_at (p ∷ positions) x y = equal Binary (column x p) (column y p) && agree_at positions x y
 
--- rows with integers in these columns that are equal there by SQL's = have equal values there
 same_at : (positions : List ℕ) (x y : Row) → AreInts positions x → AreInts positions y → agree_at positions x y ≡ true → at_places positions x ≡ at_places positions y
 same_at [] x y one two agree = refl
 same_at (p ∷ positions) x y one two agree =
     let (here, later) = and_parts _ _ agree in
     rw (equal_is (column x p) (column y p) one.0 two.0 here, same_at positions x y one.1 two.1 later) refl
 
--- rows with equal integers in these columns are equal there by SQL's =
 agree_same : (positions : List ℕ) (x y : Row) → AreInts positions y → at_places positions x ≡ at_places positions y → agree_at positions x y ≡ true
 agree_same [] x y ints same = refl
 agree_same (p ∷ positions) x y ints same =
@@ -75,15 +73,11 @@ agree_same (p ∷ positions) x y ints same =
 -- The columns at the indexes `positions` are the key of table `t`: whole numbers, the first columns that SQL shows, and
 -- the only unique ones. The index of the table among all tables is `at`.
 pub record HasKey (t : Table) (at : ℕ) (positions : List ℕ) : Type 0 where
-  -- the table is one of the ten
   pub ours : Has all_tables t
-  -- the table has the index `at` among all tables of the schema
   pub position : (more : List Table) → slice_get (all_tables ++ more) at ≡ Some t
-  -- the table's tree is one of the file, not that of a temporary table
   pub plain : (db : Trees) → overlay db [] t.tree ≡ db t.tree
   -- a row that passes the table's checks has integers in the columns of the key
   pub ints : (schema : Schema) (x : Row) → passes Datatype schema (λ u. []) t x ≡ true → passes NotNull schema (λ u. []) t x ≡ true → AreInts positions x
-  -- the first columns that SQL shows of a row are its key
   pub first : (x : Row) → take (length positions) (visible_row t x) ≡ at_places positions x
   -- if `r` clashes with none of `rows` in any index of the table, none of these with another rowid has the key of `r`
   pub unique : (indexes : List Index) (rows : List Row) (r : Row)
@@ -107,15 +101,11 @@ MeansUpsert tree at positions sql width terms hole project = (more : List Table)
 
 -- the terms of an upsert make a row that shows these values, whether it is inserted or updated, and under any rowid
 pub record MakesValues (t : Table) (positions : List ℕ) (width : ℕ) (terms : List Term) (hole : ℕ) (project : List Term) (values : Row) : Type 0 where
-  -- the terms of the INSERT give the values, with NULL for a rowid that SQL chooses
   pub source : value_rows (values ++ []) width (length terms / width) terms ≡ (Null ∷ values) ∷ []
   -- SQL's casts leave the row of these values, with NULL as its rowid, unchanged
   pub casted : cast_row t (Null ∷ values) ≡ Null ∷ values
-  -- SQL's casts leave the row of these values, with any rowid `n`, unchanged
   pub again : (n : ℤ) → cast_row t (Int n ∷ values) ≡ Int n ∷ values
-  -- of a row of these values, with any rowid `n`, SQL shows the values alone
   pub shown : (n : ℤ) → visible_row t (Int n ∷ values) ≡ values
-  -- a row of these values, with any rowid `n`, has integers in the columns of the key
   pub ints : (n : ℤ) → AreInts positions (Int n ∷ values)
   -- of what the UPDATE reads, the column at the index `hole`, after the values, is `x`, the rowid of the row to change
   pub aimed : (x : Value) (more : Row) → column (values ++ x ∷ more) hole ≡ x
@@ -125,21 +115,17 @@ pub record MakesValues (t : Table) (positions : List ℕ) (width : ℕ) (terms :
 
 -- the table of index `at` among the tables of a campaign, with a key of whole numbers
 module _ (tree : ℕ) (name : List ℕ) (columns : List Column) (positions : List ℕ) (at : ℕ) where
-  -- the table of this tree, name and columns, whose key is the columns at `positions`
   abbrev t : Table
   t = table tree name columns None positions (positions ∷ []) []
 
   module _ (key : HasKey t at positions) where
     module _ (more : List Table) (indexes : List Index) (db : Trees) (sound : IsSoundDatabase (all_tables_and_others more indexes) db) where
-      -- the schema of the ten tables with their indexes, and then other tables and indexes
       abbrev schema : Schema
       schema = all_tables_and_others more indexes
 
-      -- each row of the table has integers in the columns of the key
       key_ints : (x : Row) → Has (db tree) x → AreInts positions x
       key_ints x there = key.ints schema x (keeps_at Datatype schema db t x (sound.listed.obeys.rules Datatype) (among_all more t key.ours) there) (keeps_at NotNull schema db t x (sound.listed.obeys.rules NotNull) (among_all more t key.ours) there)
 
-      -- two rows of the table with the same key have the same rowid, so they are one row
       alone : (x r : Row) → Has (db tree) x → Has (db tree) r → take (length positions) (visible_row t x) ≡ take (length positions) (visible_row t r)
           → is_eq (value_cmp (rowid x) (rowid r)) ≡ true
       alone x r one two same =
@@ -153,7 +139,6 @@ module _ (tree : ℕ) (name : List ℕ) (columns : List Column) (positions : Lis
 
     -- ---- the upsert of a row
 
-    -- inside a transaction, the upsert that ran put its row, in place of the row with the same key
     puts : (sql : List ℕ) (width hole : ℕ) (terms project : List Term) → MeansUpsert tree at positions sql width terms hole project → AlwaysPlain sql
         → (values : Row) → MakesValues t positions width terms hole project values
         → (old new : State) (count : ℕ) → IsTrue old.in_transaction → ExecutesInside 0 sql values old new (Ok count)
@@ -198,7 +183,6 @@ module _ (tree : ℕ) (name : List ℕ) (columns : List Column) (positions : Lis
 
     -- ---- the DELETE of rows by the first columns of the key
 
-    -- inside a transaction, the DELETE that ran removed the rows whose first columns of the key are the parameters
     drops : (sql : List ℕ) (filter : List Term) → MeansDelete tree at sql filter → AlwaysPlain sql → (front : List ℕ)
         → ((x : Row) → AreInts positions x → AreInts front x) → ((x : Row) → take (length front) (visible_row t x) ≡ at_places front x)
         → (k : Row) → AreInts front (Null ∷ k) → at_places front (Null ∷ k) ≡ k

@@ -27,26 +27,20 @@ use Rattle.atl_sql.proofs.Terms.{cast_null, cast_int}
 
 -- the three parts whose key is several numbers: those of the tables `has`, `books` and `market`
 data KeyedPart : Type 0 where
-  -- the part in the table `has`: the items and skills of units
   InHas : KeyedPart
-  -- the part in the table `books`: the amounts of the books
   InBooks : KeyedPart
-  -- the part in the table `market`: the stocks of markets
   InMarket : KeyedPart
 
--- the part that has `has`, `books` or `market` as its table
 abbrev part_of : KeyedPart → Part
 part_of InHas = Goods
 part_of InBooks = Books
 part_of InMarket = Markets
 
--- the number of columns of a part's table
 abbrev column_count_of : Part → ℕ
 column_count_of part = length (table_of part).columns
 
 -- ---- the numbers of the key
 
--- a row of `has` that passes the table's checks has integers in its key
 goods_ints : (schema : Schema) (x : Row) → passes Datatype schema (λ t. []) has_table x ≡ true → passes NotNull schema (λ t. []) has_table x ≡ true
     → AreInts has_unique x
 goods_ints schema [] typed present = absurd (true≢false (sym present))
@@ -62,7 +56,6 @@ goods_ints schema (r ∷ a ∷ b ∷ c ∷ rest) typed present =
     let p3 = and_parts _ _ p2.1 in
     (strict_integer_is_int a t1.0 (not-true _ p1.0), (strict_integer_is_int b t2.0 (not-true _ p2.0), (strict_integer_is_int c t3.0 (not-true _ p3.0), tt)))
 
--- a row of `has`, `books` or `market` that passes the table's checks has integers in its key
 key_is_integers : (k : KeyedPart) (schema : Schema) (x : Row) → passes Datatype schema (λ t. []) (table_of (part_of k)) x ≡ true → passes NotNull schema (λ t. []) (table_of (part_of k)) x ≡ true
     → AreInts (table_of (part_of k)).primary x
 key_is_integers InHas = goods_ints
@@ -86,26 +79,18 @@ keyed_insert_terms width = lit Null ∷ map (col 0) (range_with_len 0 width)
 abbrev update_terms : ℕ → ℕ → List Term
 update_terms key width = map (col 1) (range_with_len 0 (key + 1)) ++ map (col 0) (range_with_len key (width - key))
 
--- the filter of a DELETE: the first `count` columns of the key equal the parameters
 abbrev key_filter : ℕ → List Term
 key_filter count = map (λ at. op2 (Compare Eq Binary) (col 1 (at + 1)) (col 0 at)) (range_with_len 0 count)
 
 -- what the three texts of a part mean: the upsert, the DELETE by the whole key, and the DELETE by its first number
 record StatementMeanings (part : Part) : Type 0 where
-  -- the upsert's text means an INSERT of a row, with an UPDATE of the row that has its key
   puts : MeansUpsert (table_of part).tree (place_in part) (table_of part).primary (upsert (table_of part) (key_width_of part)) (column_count_of part + 1) (keyed_insert_terms (column_count_of part)) (column_count_of part) (update_terms (key_width_of part) (column_count_of part))
-  -- the upsert has no RETURNING and doesn't read the time
   puts_plain : AlwaysPlain (upsert (table_of part) (key_width_of part))
-  -- the text of the DELETE by the whole key means the DELETE of the rows with this key
   drops : MeansDelete (table_of part).tree (place_in part) (deletion (table_of part) (key_width_of part)) (key_filter (key_width_of part))
-  -- the DELETE by the whole key has no RETURNING and doesn't read the time
   drops_plain : AlwaysPlain (deletion (table_of part) (key_width_of part))
-  -- the text of the DELETE by the key's first number means the DELETE of all rows with this number
   clears : MeansDelete (table_of part).tree (place_in part) (deletion (table_of part) 1) (key_filter 1)
-  -- the DELETE by the key's first number has no RETURNING and doesn't read the time
   clears_plain : AlwaysPlain (deletion (table_of part) 1)
 
--- the texts for `has`, `books` and `market` mean their upsert and their two DELETEs, whatever other tables follow
 statement_meanings : (k : KeyedPart) → StatementMeanings (part_of k)
 unfolding understood everything
 statement_meanings InHas = record { puts = λ more indexes. refl; puts_plain = λ more indexes. (refl, refl); drops = λ more indexes. refl; drops_plain = λ more indexes. (refl, refl); clears = λ more indexes. refl; clears_plain = λ more indexes. (refl, refl) }
@@ -113,7 +98,6 @@ statement_meanings k = record { puts = λ more indexes. refl; puts_plain = λ mo
 
 -- ---- a row is put
 
--- the terms of the upsert of `has` make the row of these four numbers
 makes_has : (unit sort thing amount : ℕ) → MakesValues has_table has_unique 5 (keyed_insert_terms 4) 4 (update_terms 3 4) (has_row unit sort thing amount)
 makes_has unit sort thing amount = record {
   source = refl;
@@ -129,19 +113,16 @@ makes_has unit sort thing amount = record {
       rw (one.0, two.0, three.0, cast_int (pos unit), cast_int (pos sort), cast_int (pos thing), cast_int (pos amount)) refl;
 }
 
--- the upsert of `has` that ran put the row of this unit, kind, thing and amount
 pub puts_has : (unit sort thing amount : ℕ) → PutsRow has_table 3 (has_row unit sort thing amount)
 puts_has unit sort thing amount =
     let is = statement_meanings InHas in
     puts_keyed has_table.tree _ _ has_unique 4 (key_is InHas) (upsert has_table 3) 5 4 (keyed_insert_terms 4) (update_terms 3 4) is.puts is.puts_plain (has_row unit sort thing amount) (makes_has unit sort thing amount)
 
--- the upsert of `books` that ran put the row of this entry, thing and amount
 pub puts_books : (entry thing : ℕ) (amount : ℤ) → PutsRow books_table 2 (books_row entry thing amount)
 puts_books entry thing amount =
     let is = statement_meanings InBooks in
     puts_keyed books_table.tree _ _ books_unique 8 (key_is InBooks) (upsert books_table 2) 4 3 (keyed_insert_terms 3) (update_terms 2 3) is.puts is.puts_plain (books_row entry thing amount) (makes_pair 10 (codes "books") (codes "entry") (codes "thing") (codes "amount") entry thing amount)
 
--- the upsert of `market` that ran put the row of this region, item and stock
 pub puts_market : (region item stock : ℕ) → PutsRow market_table 2 (market_row region item stock)
 puts_market region item stock =
     let is = statement_meanings InMarket in
@@ -149,31 +130,26 @@ puts_market region item stock =
 
 -- ---- rows are deleted
 
--- the DELETE of `has` by the key removes the row of this unit, kind and thing
 pub drops_has : (unit sort thing : ℕ) → DropsKey has_table 3 (has_key unit sort thing)
 drops_has unit sort thing =
     let is = statement_meanings InHas in
     drops_keyed has_table.tree _ _ has_unique 4 (key_is InHas) (deletion has_table 3) (key_filter 3) is.drops is.drops_plain has_unique (λ x ints. ints) (λ x. refl) (has_key unit sort thing) (refl, (refl, (refl, tt))) refl (λ x. refl)
 
--- the DELETE of `books` by the key removes the row of this entry and thing
 pub drops_books : (entry thing : ℕ) → DropsKey books_table 2 (books_key entry thing)
 drops_books entry thing =
     let is = statement_meanings InBooks in
     drops_keyed books_table.tree _ _ books_unique 8 (key_is InBooks) (deletion books_table 2) (key_filter 2) is.drops is.drops_plain books_unique (λ x ints. ints) (λ x. refl) (books_key entry thing) (refl, (refl, tt)) refl (λ x. refl)
 
--- the DELETE of `market` by the key removes the row of this region and item
 pub drops_stock : (region item : ℕ) → DropsKey market_table 2 (market_key region item)
 drops_stock region item =
     let is = statement_meanings InMarket in
     drops_keyed market_table.tree _ _ market_unique 9 (key_is InMarket) (deletion market_table 2) (key_filter 2) is.drops is.drops_plain market_unique (λ x ints. ints) (λ x. refl) (market_key region item) (refl, (refl, tt)) refl (λ x. refl)
 
--- the DELETE of `has` by the unit removes all rows of the unit
 pub drops_goods : (unit : ℕ) → DropsKey has_table 1 (int unit ∷ [])
 drops_goods unit =
     let is = statement_meanings InHas in
     drops_keyed has_table.tree _ _ has_unique 4 (key_is InHas) (deletion has_table 1) (key_filter 1) is.clears is.clears_plain (1 ∷ []) (λ x ints. (ints.0, tt)) (λ x. refl) (int unit ∷ []) (refl, tt) refl (λ x. refl)
 
--- the DELETE of `market` by the region removes all rows of the region
 pub drops_stocks : (region : ℕ) → DropsKey market_table 1 (int region ∷ [])
 drops_stocks region =
     let is = statement_meanings InMarket in

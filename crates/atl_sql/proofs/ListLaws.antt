@@ -26,13 +26,11 @@ use Rattle.atl_sql.specs.Sets.{AreKeyedByRowid}
 
 -- ---- membership in a map
 
--- the image of an element of a list is in the mapped list
 pub has_map : {X Y : Type 0} (f : X → Y) (xs : List X) (x : X) → Has xs x → Has (map f xs) (f x)
 has_map f [] x h = absurd h
 has_map f (y ∷ xs) x (inl same) = inl (ap f same)
 has_map f (y ∷ xs) x (inr later) = inr (has_map f xs x later)
 
--- an element of a mapped list is the image of an element of the list
 pub map_has : {X Y : Type 0} (f : X → Y) (xs : List X) (y : Y) → Has (map f xs) y → (x : X) × Has xs x × (y ≡ f x)
 map_has f [] y h = absurd h
 map_has f (x ∷ xs) y (inl same) = (x, inl refl, same)
@@ -40,17 +38,14 @@ map_has f (x ∷ xs) y (inr later) = let r = map_has f xs y later in (r.0, inr r
 
 -- ---- rowids
 
--- if `a` equals `b` by the order of values, `b` equals `a` by it
 pub eq_sym : (a b : Value) → is_eq (value_cmp a b) ≡ true → is_eq (value_cmp b a) ≡ true
 eq_sym a b h = sym (ap is_eq (value_cmp_total.antisymm a b) ∙ reversed (value_cmp b a)) ∙ h
   where
-    -- a reversed ordering is "equal" exactly if the ordering is
     reversed : (o : Ordering) → is_eq (ordering_reverse o) ≡ is_eq o
     reversed Less = refl
     reversed Equal = refl
     reversed Greater = refl
 
--- two rows with the same rowid are equal, if they are of a list in which no two rowids are alike
 pub one_rowid : (rows : List Row) → IsAscending (λ a b. is_eq (value_cmp (rowid a) (rowid b)) ≡ false) rows → (a b : Row) → Has rows a → Has rows b → is_eq (value_cmp (rowid a) (rowid b)) ≡ true → a ≡ b
 one_rowid [] up a b h k same = absurd h
 one_rowid (r ∷ rows) up a b (inl e) (inl f) same = e ∙ sym f
@@ -58,13 +53,11 @@ one_rowid (r ∷ rows) up a b (inl e) (inr k) same = absurd (true≢false (sym s
 one_rowid (r ∷ rows) up a b (inr h) (inl f) same = absurd (true≢false (sym (eq_sym _ _ same) ∙ rw f (all_has _ rows a up.0 h)))
 one_rowid (r ∷ rows) up a b (inr h) (inr k) same = one_rowid rows up.1 a b h k same
 
--- a row stays when the rows of some rowids are removed, if its own rowid isn't one of them
 pub without_keeps : (ids : List ℤ) (rows : List Row) (r : Row) → Has rows r → ((id : ℤ) → Has ids id → has_rowid id r ≡ false) → Has (without_all rows ids) r
 without_keeps [] rows r h apart = h
 without_keeps (id ∷ ids) rows r h apart =
     without_keeps ids (without_rowid id rows) r (has_kept _ rows r h (ap not (apart id (inl refl)))) (λ i there. apart i (inr there))
 
--- no row that is left after the rows of some rowids are removed has one of these rowids
 pub without_drops : (ids : List ℤ) (rows : List Row) (r : Row) → Has (without_all rows ids) r → (id : ℤ) → Has ids id → has_rowid id r ≡ false
 without_drops [] rows r h id there = absurd there
 without_drops (i ∷ ids) rows r h id (inl same) =
@@ -76,17 +69,13 @@ without_drops (i ∷ ids) rows r h id (inr later) = without_drops ids (without_r
 
 -- the rowids in `found` are exactly those of the rows that pass the test `p`
 pub record AreFound (p : Row → Bool) (rows found : List Row) : Type 0 where
-  -- each rowid in `found` is that of one of `rows` that passes the test `p`
   pub sound : (x : Row) → Has found x → (r : Row) × Has rows r × (p r ≡ true) × (x ≡ rowid r ∷ [])
-  -- the rowid of each of `rows` that passes the test `p` is in `found`
   pub complete : (r : Row) → Has rows r → p r ≡ true → Has found (rowid r ∷ [])
 
--- the rowid of a row of a table is an integer, if the rowids of all its rows are
 pub is_int_at : (rows : List Row) (r : Row) → AllByRecursion (λ r. is_int (rowid r) ≡ true) rows → Has rows r → rowid r ≡ Int (id_in (rowid r))
 is_int_at rows r ints h = int_is (rowid r) (all_has _ rows r ints h)
 
 module _ (p : Row → Bool) (rows found : List Row) (keyed : AreKeyedByRowid rows) (are : AreFound p rows found) where
-  -- a row that fails the test `p` stays when the rows whose rowids are in `found` (`AreFound`) are removed
   pub stays : (r : Row) → Has rows r → p r ≡ false → Has (without_all rows (ids_of found)) r
   stays r h fails = without_keeps (ids_of found) rows r h (λ id there.
       let it = map_has (λ r. id_in (rowid r)) found id there in
@@ -98,7 +87,6 @@ module _ (p : Row → Bool) (rows found : List Row) (keyed : AreKeyedByRowid row
         | inr apart ↦ apart
       ])
 
-  -- a row that is left when the rows whose rowids are in `found` are removed was there, and fails the test `p`
   pub was_there : (r : Row) → Has (without_all rows (ids_of found)) r → Has rows r × (p r ≡ false)
   was_there r h =
       let was = without_all_has (ids_of found) rows r h in (
@@ -114,7 +102,6 @@ module _ (p : Row → Bool) (rows found : List Row) (keyed : AreKeyedByRowid row
 
 -- ---- an edit keeps the rowids apart
 
--- once rows are removed, the rowids of those left are still integers, no two alike (`AreKeyedByRowid`)
 pub keyed_without : (ids : List ℤ) (rows : List Row) → AreKeyedByRowid rows → AreKeyedByRowid (without_all rows ids)
 keyed_without [] rows keyed = keyed
 keyed_without (id ∷ ids) rows keyed = keyed_without ids (without_rowid id rows) (record {
@@ -122,21 +109,17 @@ keyed_without (id ∷ ids) rows keyed = keyed_without ids (without_rowid id rows
   ints = all_from _ _ (λ r there. all_has _ rows r keyed.ints (has_filtered _ rows r there).0);
 })
 
--- no two rowids of a list of rows are alike after a row is put, if no two were before, and the row's rowid was not
--- taken
 apart_put : (new : Row) (rows : List Row) → IsAscending (λ a b. is_eq (value_cmp (rowid a) (rowid b)) ≡ false) rows → is_taken rows new ≡ false
     → IsAscending (λ a b. is_eq (value_cmp (rowid a) (rowid b)) ≡ false) (put_row new rows)
 apart_put new [] apart free = (tt, tt)
 apart_put new (r ∷ rows) apart free = go (value_cmp (rowid r) (rowid new)) refl (apart_put new rows apart.1 (or_parts _ _ free).1)
   where
-    -- for `apart_put`: no row of the table, which is `r ∷ rows`, has the rowid of the row `new`
     untaken : (x : Row) → Has (r ∷ rows) x → is_eq (value_cmp (rowid new) (rowid x)) ≡ false
     untaken x there = elim (cases_Bool (is_eq (value_cmp (rowid new) (rowid x)))) [
       | inl same ↦ absurd (true≢false (sym (some_from (λ r. is_eq (value_cmp (rowid r) (rowid new))) (r ∷ rows) x there (eq_sym _ _ same)) ∙ free))
       | inr other ↦ other
     ]
 
-    -- `put_row` keeps the rowids different, whichever way the first row's rowid compares with the new one
     go : (o : Ordering) → value_cmp (rowid r) (rowid new) ≡ o → IsAscending (λ a b. is_eq (value_cmp (rowid a) (rowid b)) ≡ false) (put_row new rows)
         → IsAscending (λ a b. is_eq (value_cmp (rowid a) (rowid b)) ≡ false) (match_ordering o (r ∷ put_row new rows) (new ∷ rows) (new ∷ r ∷ rows))
     go Less is more = (all-put_row _ new rows (ap is_eq is) apart.0, more)

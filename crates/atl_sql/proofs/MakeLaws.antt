@@ -26,14 +26,12 @@ use Rattle.atl_sql.proofs.EditLaws.{Swaps, Loses}
 use Rattle.atl_sql.proofs.UpsertLaws.{hits, given, Upserted}
 use Rattle.atl_sql.proofs.StatementLaws.{mode}
 
--- a statement that wrote (`Writes`) under this schema did to the trees what its command means under it (`Does`)
 pub write_does_command : (schema : Schema) (old new : State) (command : Command) (text : List ℕ) (params : Row) (count : ℕ) → old.now.schema ≡ schema → (w : Writes old new None command text params count)
     → Does old.step_limit mode params (record { schema = schema; trees = old.now.trees }) text None command (Ok (w.tally, new.now))
 write_does_command schema old new command text params count has w =
     subst (λ s. Does old.step_limit mode params (record old.now { schema = s }) text None command (Ok (w.tally, new.now))) has w.changed
 
 module _ (schema : Schema) (among : (u : Table) → Has all_tables u → Has schema.tables u) (t : Table) (key : ℕ) where
-  -- a row that SQL shows of a list of stored rows is shown of one row in the list
   shown_again : (rows : List Row) (r : Row) → Has (map (visible_row t) rows) r → (x : Row) × Has rows x × (r ≡ visible_row t x)
   shown_again rows r h = map_has (visible_row t) rows r h
 
@@ -41,7 +39,6 @@ module _ (schema : Schema) (among : (u : Table) → Has all_tables u → Has sch
   abbrev pub Tests : (Row → Bool) → Row → List Row → Type 0
   Tests p k rows = (x : Row) → Has rows x → (p x ≡ true → take key (visible_row t x) ≡ k) × (take key (visible_row t x) ≡ k → p x ≡ true)
 
-  -- if the rows of a key are exchanged for a new row, the table's set of rows is the old one with the new row put
   pub swaps_set : (p : Row → Bool) (n v : Row) (db next : Trees) → Swaps schema t p n db next → visible_row t n ≡ v → Tests p (take key v) (db t.tree)
       → HasExactly (rows_in t next) (put key v (Has (rows_in t db)))
   swaps_set p n v db next swap is tests r = (
@@ -65,7 +62,6 @@ module _ (schema : Schema) (among : (u : Table) → Has all_tables u → Has sch
     ],
   )
 
-  -- if the rows of a key are gone, the table's set of rows is the old one without them
   pub loses_set : (p : Row → Bool) (k : Row) (db next : Trees) → Loses schema t p db next → Tests p k (db t.tree) → HasExactly (rows_in t next) (drop_key key k (Has (rows_in t db)))
   loses_set p k db next lose tests r = (
     λ there.
@@ -80,7 +76,6 @@ module _ (schema : Schema) (among : (u : Table) → Has all_tables u → Has sch
         ]))),
   )
 
-  -- trees stay sound (`IsSoundDatabase`) if schema and other tables stay, and rowids of `t` are integers, no two alike
   pub stays_sound : (old new : Database) → IsSoundDatabase schema old.trees → IsDatabase new → new.schema ≡ schema → AreKeyedByRowid (new.trees t.tree)
       → ((u : Table) → Has schema.tables u → u.tree ≢ t.tree → new.trees u.tree ≡ old.trees u.tree) → IsSoundDatabase schema new.trees
   stays_sound old new sound base is keyed others = record {
@@ -91,7 +86,6 @@ module _ (schema : Schema) (among : (u : Table) → Has all_tables u → Has sch
     listed = subst (λ s. IsSound s new.trees) is base;
   }
 
-  -- once the rows of a key are swapped for a new row, the table is the old one with the new row put (`Makes`)
   pub swaps_make : (p : Row → Bool) (n v : Row) (old new : Database) → Swaps schema t p n old.trees new.trees → visible_row t n ≡ v → Tests p (take key v) (old.trees t.tree)
       → IsSoundDatabase schema old.trees → IsDatabase new → new.schema ≡ schema → Makes schema t old new (put key v (Has (rows_in t old.trees)))
   swaps_make p n v old new swap shows tests sound base is = record {
@@ -101,7 +95,6 @@ module _ (schema : Schema) (among : (u : Table) → Has all_tables u → Has sch
     sound = stays_sound old new sound base is swap.keyed swap.others;
   }
 
-  -- once the rows of a key are gone, the table is the old one without these rows (`Makes`)
   pub loses_make : (p : Row → Bool) (k : Row) (old new : Database) → Loses schema t p old.trees new.trees → Tests p k (old.trees t.tree)
       → IsSoundDatabase schema old.trees → IsDatabase new → new.schema ≡ schema → Makes schema t old new (drop_key key k (Has (rows_in t old.trees)))
   loses_make p k old new lose tests sound base is = record {
@@ -121,8 +114,6 @@ module _ (schema : Schema) (among : (u : Table) → Has all_tables u → Has sch
     abbrev pub OneRow : Type 0
     OneRow = (x r : Row) → Has (old.trees t.tree) x → Has (old.trees t.tree) r → take key (visible_row t x) ≡ take key (visible_row t r) → is_eq (value_cmp (rowid x) (rowid r)) ≡ true
 
-    -- once an upsert has changed the row with the key to one that shows `v`, the table is the old one with the row `v`
-    -- put (`Makes`)
     over_make : (r : Row) → Has (old.trees t.tree) r → hits schema t unlinked limit params target position project plain new r ≡ true
         → Swaps schema t (λ x. is_eq (value_cmp (rowid x) (rowid r))) (cast_row t (eval_all project (given schema t unlinked limit params target position project plain new r ∷ r ∷ []))) old.trees next.trees
         → UpdateShowsValues → Tests (hits schema t unlinked limit params target position project plain new) (take key v) (old.trees t.tree) → OneRow
@@ -150,13 +141,10 @@ module _ (schema : Schema) (among : (u : Table) → Has all_tables u → Has sch
     updates_make (inl put_in) r there same changed tests alone listed sound base is = absurd (true≢false (sym ((tests r there).1 same) ∙ put_in.0 r there))
     updates_make (inr over) r there same changed tests alone listed sound base is = over_make over.0 over.1 over.2 over.3 changed tests alone listed sound base is
 
-    -- an upsert keeps the database sound (`IsSoundDatabase`): the trees list the schema, their rows keep its rules,
-    -- and in each of the ten tables the rowids are integers, no two alike
     pub upserts_sound : Upserted schema t unlinked limit params target position project plain new old.trees next.trees → IsSoundDatabase schema old.trees → IsDatabase next → next.schema ≡ schema → IsSoundDatabase schema next.trees
     upserts_sound (inl put_in) sound base is = stays_sound old next sound base is put_in.1.keyed put_in.1.others
     upserts_sound (inr over) sound base is = stays_sound old next sound base is over.3.keyed over.3.others
 
-    -- an upsert of the table `t` leaves each table of the schema with another tree as it was
     pub upserts_others : Upserted schema t unlinked limit params target position project plain new old.trees next.trees → (u : Table) → Has schema.tables u → u.tree ≢ t.tree → next.trees u.tree ≡ old.trees u.tree
     upserts_others (inl put_in) = put_in.1.others
     upserts_others (inr over) = over.3.others

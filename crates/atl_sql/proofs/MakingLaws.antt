@@ -14,7 +14,6 @@ use Rattle.atl_sql.specs.Tables.{all_indexes, all_tables, no_tables, table_count
 use Rattle.atl_sql.specs.Inside.{DoesInside, IsBlank}
 use Rattle.atl_sql.specs.Making.{AreEmpty}
 
--- a CREATE TABLE, run where all tables are empty, makes one table more, and all are still empty (`Extends`)
 pub extends : (before after : Schema) (table : Table) (old new : State) → IsTrue old.in_transaction → new.in_transaction ≡ true → after.tables ≡ before.tables ++ table ∷ []
     → (old.now.schema ≡ before → CreatesTable before after table.tree old.now new.now) → Extends before after old new
 extends before after table old new inside mode more makes = (
@@ -48,17 +47,14 @@ schema_of_first count = with_tables (take count all_tables)
 abbrev pub MakesFirst : ℕ → State → State → Type 0
 MakesFirst count old new = (new.in_transaction ≡ old.in_transaction) × (AreBare no_tables old.now → AreBare (schema_of_first count) new.now × (0 < count → IsDatabase new.now))
 
--- doing nothing makes the first 0 tables (`MakesFirst`)
 pub makes_none : (s : State) → MakesFirst 0 s s
 makes_none s = (refl, λ bare. (bare, λ some. absurd (omega (arith, some))))
 
--- making the next table after the first `count` makes the first `count + 1` (`MakesFirst`)
 pub makes_more : (count : ℕ) (a b c : State) → MakesFirst count a b → Extends (schema_of_first count) (schema_of_first (count + 1)) b c → MakesFirst (count + 1) a c
 makes_more count a b c first next = (next.0 ∙ first.0, λ bare. let made = next.1 (first.1 bare).0 in (made.0, λ some. made.1))
 
 -- ---- all ten tables
 
--- in a table without rows all rowids are integers, no two alike, since there are none
 no_rows : AreKeyedByRowid []
 no_rows = record { apart = tt; ints = tt }
 

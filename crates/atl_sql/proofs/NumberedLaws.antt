@@ -39,7 +39,6 @@ use Rattle.atl_sql.proofs.FitLaws.{Fits, given_row, changed_row, makes_row}
 use Rattle.atl_sql.proofs.EditLaws.{delete_query, found_by}
 use Rattle.atl_sql.proofs.Terms.{head_is, upsert_finds_number, one_number, delete_finds_number}
 
--- the filter of the DELETE: the row's number equals the parameter
 abbrev has_number : List Term
 has_number = op2 (Compare Eq Binary) (col 1 0) (col 0 0) ∷ []
 
@@ -47,47 +46,36 @@ has_number = op2 (Compare Eq Binary) (col 1 0) (col 0 0) ∷ []
 -- among all tables is `at`. Its two texts mean the upsert of a row and the DELETE of a row by its number, whatever
 -- other tables follow.
 pub record IsNumberedTable (t : Table) (at width : ℕ) : Type 0 where
-  -- the table is one of the ten
   pub ours : Has all_tables t
-  -- the table has the index `at` among all tables of the schema
   pub position : (more : List Table) → slice_get (all_tables ++ more) at ≡ Some t
   -- the table's tree is one of the file, not that of a temporary table
   pub plain : (db : Trees) → overlay db [] t.tree ≡ db t.tree
-  -- the upsert's text means an INSERT of a row, with an UPDATE of the row that has its number
   pub puts : (more : List Table) (indexes : List Index)
       → command_of (understood (all_tables_and_others more indexes) (upsert t 1)) ≡ InsertOr at Abort (Values (given_row width) (width + 2)) (conflict_clause (0 ∷ []) (record { lets = []; body = update_query t.tree (width + 1) (changed_row width) }) ∷ [])
-  -- the upsert has no RETURNING and doesn't read the time
   pub puts_plain : AlwaysPlain (upsert t 1)
-  -- the DELETE's text means the DELETE of the row that has the number
   pub drops : (more : List Table) (indexes : List Index)
       → command_of (understood (all_tables_and_others more indexes) (deletion t 1)) ≡ Delete at (record { lets = []; body = delete_query t.tree has_number })
-  -- the DELETE has no RETURNING and doesn't read the time
   pub drops_plain : AlwaysPlain (deletion t 1)
   -- no index of the ten tables makes the number unique
   pub no_index_shares : (new x : Row) → list_any (shares (Some (0 ∷ [])) t new x) all_indexes ≡ false
 
 -- one of the tables of a campaign, whose first column is the row's number
 module _ (tree : ℕ) (name key_name : List ℕ) (columns : List Column) (uniques : List (List ℕ)) (at : ℕ) where
-  -- how many columns the table has after the row's number
   abbrev width : ℕ
   width = length columns
 
-  -- the table whose first column, its key, is the row's number, and whose other columns are `columns`
   abbrev t : Table
   t = table tree name (integer_column key_name ∷ columns) (Some 0) (0 ∷ []) uniques []
 
-  -- the text of the upsert of a row by its number
   abbrev put : List ℕ
   put = upsert t 1
 
-  -- the text of the DELETE of a row by its number
   abbrev drop : List ℕ
   drop = deletion t 1
 
   module _ (is : IsNumberedTable t at width) where
     -- ---- the DELETE of a row
 
-    -- inside a transaction, the DELETE that ran removed the row that has the number
     drops : (n : ℕ) (old new : State) (count : ℕ) → IsTrue old.in_transaction → ExecutesInside 0 drop (int n ∷ []) old new (Ok count)
         → DoesInside HasTables (Drops t 1 (int n ∷ [])) old new
     drops n old new count inside ran = (
@@ -112,7 +100,6 @@ module _ (tree : ℕ) (name key_name : List ℕ) (columns : List Column) (unique
 
     -- ---- the upsert of a row
 
-    -- inside a transaction, the upsert that ran put its row, in place of the row with the same number
     puts : (n : ℕ) (values : Row) → Fits columns values → (old new : State) (count : ℕ) → IsTrue old.in_transaction
         → ExecutesInside 0 put (int n ∷ values) old new (Ok count) → DoesInside HasTables (Puts t 1 (int n ∷ values)) old new
     unfolding first_key

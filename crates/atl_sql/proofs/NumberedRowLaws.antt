@@ -14,7 +14,6 @@ use Rattle.atl_sql.proofs.StatementLaws.{PutsRow, DropsKey}
 abbrev pub place_in : Part → ℕ
 place_in part = unwrap_or (position (λ p. nat_eq (tree_of p) (tree_of part)) all_parts) 0
 
--- how many values a row of a part's table has after its number
 abbrev width_of : Part → ℕ
 width_of part = length (drop 1 (table_of part).columns)
 
@@ -36,7 +35,6 @@ part_is_numbered part is = record {
   no_index_shares = λ new x. refl;
 }
 
--- the upsert of a part whose key is the row's number puts the row of this number and these values (`PutsRow`)
 pub puts_part : (part : Part) → IsNumberedPart part → (n : ℕ) (values : Row) → Fits (drop 1 (table_of part).columns) values → PutsRow (table_of part) 1 (int n ∷ values)
 puts_part Own is = absurd is
 puts_part Goods is = absurd is
@@ -44,7 +42,6 @@ puts_part Books is = absurd is
 puts_part Markets is = absurd is
 puts_part part is = puts_numbered (table_of part).tree _ _ _ _ (place_in part) (part_is_numbered part is)
 
--- the DELETE of a part whose key is the row's number removes the row of that number
 pub drops_part : (part : Part) → IsNumberedPart part → (n : ℕ) → DropsKey (table_of part) 1 (int n ∷ [])
 drops_part Own is = absurd is
 drops_part Goods is = absurd is

@@ -34,7 +34,6 @@ use Rattle.atl_sql.proofs.CarryLaws.{among_all, write_checks_no_reference, none_
 use Rattle.atl_sql.proofs.MakeLaws.{write_does_command, upserts_make, updates_make, upserts_sound, upserts_others, Tests}
 use Rattle.atl_sql.proofs.Terms.{cast_null, cast_int, upsert_finds_number, one_number}
 
--- `campaign` is one of the ten tables
 campaign_table_is_listed : Has all_tables campaign_table
 campaign_table_is_listed = listed Own
 
@@ -42,7 +41,6 @@ campaign_table_is_listed = listed Own
 abbrev pub own_terms : List Term
 own_terms = lit (Int (pos 1)) ∷ lit Null ∷ lit (Int (pos 2)) ∷ col 0 0 ∷ col 0 1 ∷ col 0 2 ∷ col 0 3 ∷ col 0 4 ∷ col 0 5 ∷ []
 
--- the stored campaign row that the INSERT makes of these values and this world text
 abbrev stored_own_row : CampaignRowValue → List ℕ → Row
 stored_own_row head world = int 1 ∷ Null ∷ int 2 ∷ campaign_row_values head world
 
@@ -52,20 +50,15 @@ changed_to project head world r = visible_row campaign_table (cast_row campaign_
 
 -- an upsert of `campaign` inserts the row where there is none, or changes the one that is there by the terms `project`
 pub record PutsOwn (project : List Term) (head : CampaignRowValue) (world : List ℕ) (old new : Database) : Type 0 where
-  -- if there is no campaign row, the row of the values `head` and the world text `world` is put
   pub first : rows_in campaign_table old.trees ≡ [] → Puts campaign_table 1 (campaign_row head world) old new
   -- a campaign row `before` that is there is replaced by the row `after` that the UPDATE makes of it, if both have id 1
   pub again : (before after : Row) → take 1 before ≡ int 1 ∷ [] → take 1 after ≡ int 1 ∷ [] → HasExactly (rows_in campaign_table old.trees) (λ r. r ≡ before) → ((r : Row) → visible_row campaign_table r ≡ before → changed_to project head world r ≡ after) → Puts campaign_table 1 after old new
-  -- the tables of a campaign are there afterwards
   pub tables : HasTables new
-  -- no table or index is gone, and tables that aren't a campaign's hold what they held (`Carries`)
   pub carries : Carries old new
 
 -- the text means the upsert of `campaign` whose UPDATE has the terms `project`, whatever other tables follow
 pub record MeansOwn (sql : List ℕ) (project : List Term) : Type 1 where
-  -- the text means the INSERT of a campaign row, with an UPDATE by the terms `project` of a row that is there
   pub is : (more : List Table) (indexes : List Index) → command_of (understood (all_tables_and_others more indexes) sql) ≡ InsertOr 0 Abort (Values own_terms 9) (conflict_clause (0 ∷ []) (record { lets = []; body = update_query campaign_table.tree 6 project }) ∷ [])
-  -- the statement has no RETURNING and doesn't read the time
   pub plain : (more : List Table) (indexes : List Index) → IsPlain (understood (all_tables_and_others more indexes) sql)
 
 -- a text that means an upsert of the campaign row (`MeansOwn`) inserts or changes the row (`PutsOwn`)

@@ -32,7 +32,6 @@ module _ (tree : ℕ) (name first second amount : List ℕ) where
   abbrev pub pair_table : Table
   pair_table = table tree name (integer_column first ∷ integer_column second ∷ integer_column amount ∷ []) None pair_unique (pair_unique ∷ []) []
 
-  -- a row that passes the table's checks has integers in its key
   pub pair_ints : (schema : Schema) (x : Row) → passes Datatype schema (λ t. []) pair_table x ≡ true → passes NotNull schema (λ t. []) pair_table x ≡ true
       → AreInts pair_unique x
   pair_ints schema [] typed present = absurd (true≢false (sym present))
@@ -45,7 +44,6 @@ module _ (tree : ℕ) (name first second amount : List ℕ) where
       let p2 = and_parts _ _ p1.1 in
       (strict_integer_is_int a t1.0 (not-true _ p1.0), (strict_integer_is_int b t2.0 (not-true _ p2.0), tt))
 
-  -- the terms of the upsert make the row of these three numbers (`MakesValues`)
   pub makes_pair : (a b : ℕ) (n : ℤ) → MakesValues pair_table pair_unique 4 pair_terms 3 pair_update_terms (int a ∷ int b ∷ Int n ∷ [])
   makes_pair a b n = record {
     source = refl;

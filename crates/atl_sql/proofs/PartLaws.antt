@@ -14,30 +14,24 @@ tree_of part = (table_of part).tree
 
 -- ---- a part by the tree of its table
 
--- looking up the tree of a part's table among all parts finds the part
 found_part : (part : Part) → find (λ p. nat_eq (tree_of p) (tree_of part)) all_parts ≡ Some part
 found_part Own = refl
 found_part part = refl
 
--- two parts whose tables have one tree are one part
 pub same_part : (p q : Part) → tree_of p ≡ tree_of q → p ≡ q
 same_part p q same = same_Some p q (sym (found_part p) ∙ ap (λ tree. find (λ x. nat_eq (tree_of x) tree) all_parts) same ∙ found_part q)
 
--- what a search finds in a list is the first element, if that passes the test, or is found among the later ones
 first_or_later : {X : Type 0} (b : Bool) (y x : X) (later : Option X) → cond b (Some y) later ≡ Some x → (x ≡ y) ⊎ (later ≡ Some x)
 first_or_later true y x later is = inl (same_Some x y (sym is))
 first_or_later false y x later is = inr is
 
--- an element that is found in a list is in the list
 found_has : {X : Type 0} (p : X → Bool) (xs : List X) (x : X) → find p xs ≡ Some x → Has xs x
 found_has p [] x is = absurd cc
 found_has p (y ∷ xs) x is = elim (first_or_later (p y) y x (find p xs) is) [ inl same ↦ inl same | inr later ↦ inr (found_has p xs x later) ]
 
--- each part is in the list of all parts
 every_part : (part : Part) → Has all_parts part
 every_part part = found_has (λ p. nat_eq (tree_of p) (tree_of part)) all_parts part (found_part part)
 
--- the table of each part is one of the ten tables (`all_tables`)
 pub listed : (part : Part) → Has all_tables (table_of part)
 listed part = has_map table_of all_parts part (every_part part)
 
@@ -51,24 +45,19 @@ is_among parts part = list_any (λ p. nat_eq (tree_of part) (tree_of p)) parts
 abbrev pub are_apart : List Part → List Part → Bool
 are_apart ps qs = list_all (λ p. not (is_among qs p)) ps
 
--- a part that is in a list passes the test `is_among` for this list
 member_is_among : (parts : List Part) (part : Part) → Has parts part → is_among parts part ≡ true
 member_is_among parts part there = some_from (λ p. nat_eq (tree_of part) (tree_of p)) parts part there (itself (tree_of part))
   where
-    -- a number equals itself by the test `nat_eq`
     itself : (n : ℕ) → nat_eq n n ≡ true
     itself n = grind (arith, nat_tests)
 
--- a part that fails the test `is_among` is not in the list
 pub not_among : (parts : List Part) (part : Part) → is_among parts part ≡ false → ¬ Has parts part
 not_among parts part free there = true≢false (sym (member_is_among parts part there) ∙ free)
 
--- if the test "`b` or `c`" is true, at least one of `b` and `c` is true
 one_or_more : (b c : Bool) → (b || c) ≡ true → (b ≡ true) ⊎ (c ≡ true)
 one_or_more true c is = inl refl
 one_or_more false c is = inr is
 
--- a part that passes the test `is_among` is in the list
 among_has : (parts : List Part) (part : Part) → is_among parts part ≡ true → Has parts part
 among_has [] part is = absurd cc
 among_has (p ∷ parts) part is = elim (one_or_more (nat_eq (tree_of part) (tree_of p)) (is_among parts part) is) [
@@ -76,14 +65,11 @@ among_has (p ∷ parts) part is = elim (one_or_more (nat_eq (tree_of part) (tree
   | inr later ↦ inr (among_has parts part later)
 ]
   where
-    -- two numbers that are equal by the test `nat_eq` are equal
     equal : (a b : ℕ) → nat_eq a b ≡ true → a ≡ b
     equal a b same = grind (arith, nat_tests, same)
 
--- a list has each part, if all parts pass the test `is_among` for it
 pub all_among : (parts : List Part) → list_all (is_among parts) all_parts ≡ true → (part : Part) → Has parts part
 all_among parts all part = among_has parts part (test_has (is_among parts) all_parts part all (every_part part))
 
--- no part is in two lists that are apart
 pub not_both : (ps qs : List Part) → are_apart ps qs ≡ true → (part : Part) → Has ps part → ¬ Has qs part
 not_both ps qs apart part there also = true≢false (sym (test_has (λ p. not (is_among qs p)) ps part apart there) ∙ ap not (member_is_among qs part also))

@@ -14,12 +14,9 @@ use Rattle.atl_sql.proofs.CarryLaws.{carries_then, carries_none}
 -- some rows of the list `all` are put: once the rows `rest` are put too, all rows of the list are; the other tables are
 -- unchanged
 pub record IsPartlyPut (table : Table) (key : ℕ) (rest all : List Row) (old now : Database) : Type 0 where
-  -- putting the rows `rest` into the table now gives the same set as putting all rows into the table as it was before
   pub rows : (r : Row) → puts key rest (Has (rows_in table now.trees)) r ↔ puts key all (Has (rows_in table old.trees)) r
-  -- each table of a campaign but `table` holds now what it held before
   pub others : (t : Table) → Has all_tables t → t.tree ≢ table.tree → now.trees t.tree ≡ old.trees t.tree
 
--- putting the same rows into two sets with the same rows gives two sets with the same rows
 puts_same : (key : ℕ) (news : List Row) (S T : Set) → ((r : Row) → S r ↔ T r) → (r : Row) → puts key news S r ↔ puts key news T r
 puts_same key [] S T same r = same r
 puts_same key (new ∷ news) S T same r = puts_same key news (put key new S) (put key new T) (λ x. (
@@ -27,19 +24,15 @@ puts_same key (new ∷ news) S T same r = puts_same key news (put key new S) (pu
   λ h. elim h [ inl is ↦ inl is | inr was ↦ inr ((same x).1 was.0, was.1) ],
 )) r
 
--- a row is in a set after `xs` and then `ys` are put into it, if it is in it after both lists joined are put
 puts_append : (key : ℕ) (xs ys : List Row) (S : Set) (r : Row) → puts key (xs ++ ys) S r → puts key ys (puts key xs S) r
 puts_append key [] ys S r h = h
 puts_append key (x ∷ xs) ys S r h = puts_append key xs ys (put key x S) r h
 
--- a row is in a set after the lists `xs` and `ys` joined are put into it, if it is in it after `xs` and then `ys` are
--- put
 append_puts : (key : ℕ) (xs ys : List Row) (S : Set) (r : Row) → puts key ys (puts key xs S) r → puts key (xs ++ ys) S r
 append_puts key [] ys S r h = h
 append_puts key (x ∷ xs) ys S r h = append_puts key xs ys (put key x S) r h
 
 module _ (table : Table) (key : ℕ) where
-  -- putting the next rows, those of the list `xs`, leaves the rows `rest` to put (`IsPartlyPut`)
   towards_rows : (xs rest all : List Row) (old mid new : Database) → IsPartlyPut table key (xs ++ rest) all old mid → PutsRows table key xs mid new → IsPartlyPut table key rest all old new
   towards_rows xs rest all old mid new so_far more = record {
     rows = λ r.
@@ -50,7 +43,6 @@ module _ (table : Table) (key : ℕ) where
     others = λ t listed other. more.others t listed other ∙ so_far.others t listed other;
   }
 
-  -- putting one row puts the rows of the list of this row alone (`PutsRows`)
   puts_one : (x : Row) (old new : Database) → Puts table key x old new → PutsRows table key (x ∷ []) old new
   puts_one x old new one = record { rows = one.rows; others = one.others }
 
@@ -64,7 +56,6 @@ module _ (table : Table) (key : ℕ) where
         record { does = towards_rows xs rest all old.now mid.now new.now was.does now.does; tables = now.tables; carries = carries_then old.now mid.now new.now was.carries now.carries },
   )
 
-  -- before any row is put, the whole list is left to put (`IsPartlyPut`)
   pub none_yet : (rest all : List Row) → rest ≡ all → (s : State) → DoesInside HasTables (IsPartlyPut table key rest all) s s
   none_yet rest all same s = (
     refl,
@@ -75,7 +66,6 @@ module _ (table : Table) (key : ℕ) where
     },
   )
 
-  -- when no row is left to put, all rows of the list are put
   pub all_put : (rest all : List Row) → rest ≡ [] → (old new : State) → DoesInside HasTables (IsPartlyPut table key rest all) old new → DoesInside HasTables (PutsRows table key all) old new
   all_put rest all none old new did = (
     did.0,
@@ -88,15 +78,12 @@ module _ (table : Table) (key : ℕ) where
         },
   )
 
-  -- a list without rows is put by doing nothing
   pub none_put : (rows : List Row) → rows ≡ [] → (s : State) → DoesInside HasTables (PutsRows table key rows) s s
   none_put rows none s = all_put rows rows none s s (none_yet rows rows refl s)
 
-  -- putting one row puts the list of this row alone, inside a transaction
   pub one_put : (row : Row) (rows : List Row) → rows ≡ row ∷ [] → (old new : State) → DoesInside HasTables (Puts table key row) old new → DoesInside HasTables (PutsRows table key rows) old new
   one_put row rows is old new did = (did.0, λ has. let made = did.1 has in record { does = subst (λ list. PutsRows table key list old.now new.now) (sym is) (puts_one row old.now new.now made.does); tables = made.tables; carries = made.carries })
 
-  -- putting one list of rows and then another puts both joined, inside a transaction
   pub inside_both : (xs ys : List Row) (a b c : State) → DoesInside HasTables (PutsRows table key xs) a b → DoesInside HasTables (PutsRows table key ys) b c → DoesInside HasTables (PutsRows table key (xs ++ ys)) a c
   inside_both xs ys a b c one two = (
     two.0 ∙ one.0,

@@ -17,48 +17,38 @@ use Rattle.atl_sql.proofs.WriteLaws.{HandsOn, HasDone, begins, goes_on, stops, s
 
 -- some rows of the list `all` are put without an error, and the rows `rest` are still to put
 pub record HasPutSome {S : Type 0} (g : Ghosts S) (table : Table) (key : ℕ) (rest all : List Row) (old now : MutBor (Held S)) : Type 0 where
-  -- the steps done were upserts of rows of the list, and once `rest` is put too, all rows are (`IsPartlyPut`)
   pub so_far : HasDone g (RowStatements (upsert table key) (Has all)) (DoesInside HasTables (IsPartlyPut table key rest all)) old now
-  -- the rows that are still to put are rows of the list
   pub left : (row : Row) → Has rest row → Has all row
 
 module _ {S : Type 0} (g : Ghosts S) (table : Table) (key : ℕ) where
   -- ---- lists of rows and their parts
 
-  -- a step that writes the rows of the list `xs` writes those of the list `ys`, if both lists are equal
   pub same_written : (xs ys : List Row) {A : Type 0} {r : Result A Error} {a b : MutBor (Held S)} → xs ≡ ys → WritesRows g table key xs r a b → WritesRows g table key ys r a b
   same_written xs ys {r = r} {a = a} {b = b} same done = subst (λ (rows : List Row). WritesRows g table key rows r a b) same done
 
-  -- doing nothing writes a list without rows
   pub none_written : (rows : List Row) {A : Type 0} {x : A} {a : MutBor (Held S)} → rows ≡ [] → WritesRows g table key rows (Ok x) a a
   none_written rows none = begins g (none_put table key rows none)
 
-  -- a step that writes one row writes the rows of a list of just this row (`WritesRows`)
   pub one_written : (row : Row) (rows : List Row) {A : Type 0} {r : Result A Error} {a b : MutBor (Held S)} → rows ≡ row ∷ [] → WritesRow g table key row r a b → WritesRows g table key rows r a b
   one_written row rows is done =
       writes_among_more g (λ sql params only. (only.0, subst (λ (l : List Row). Has l params) (sym is) (inl only.1))) (weaker g (one_put table key row rows is) done)
 
   module _ (xs ys : List Row) where
-    -- a write by upserts of rows of `xs` is one by upserts of rows of `xs` and `ys` joined
     first_part : {Does : State → State → Type 0} {A : Type 0} {r : Result A Error} {a b : MutBor (Held S)} → Writes g (RowStatements (upsert table key) (Has xs)) Does r a b → Writes g (RowStatements (upsert table key) (Has (xs ++ ys))) Does r a b
     first_part done = among_each g (upsert table key) (Has xs) (λ row there. (refl, has_left xs ys row there)) done
 
-    -- writing the rows of two lists, one list after the other, writes the rows of both joined (`WritesRows`)
     pub both_written : {A X : Type 0} {x : X} {r : Result A Error} {a b c : MutBor (Held S)} → WritesRows g table key xs (Ok x) a b → WritesRows g table key ys r b c → WritesRows g table key (xs ++ ys) r a c
     both_written one two = two_steps g (inside_both table key xs ys) (first_part one) (among_each g (upsert table key) (Has ys) (λ row there. (refl, has_right xs ys row there)) two)
 
-    -- if the rows of `xs` can't be written, the write of `xs` and `ys` joined ends with this error (`WritesRows`)
     pub first_failed : {A X : Type 0} {e : Error} {r : Result A Error} {a b : MutBor (Held S)} → WritesRows {A = X} g table key xs (Err e) a b → HandsOn e r → WritesRows g table key (xs ++ ys) r a b
     first_failed one failed = stops g (first_part one) failed
 
   -- ---- in a loop
 
-  -- before the first row is put, the whole list is still to put
   pub putting_begins : (rest all : List Row) {a : MutBor (Held S)} → rest ≡ all → HasPutSome g table key rest all a a
   putting_begins rest all same = record { so_far = begins g (none_yet table key rest all same); left = λ row there. subst (λ (l : List Row). Has l row) same there }
 
   module _ (xs rest was all : List Row) (is : was ≡ xs ++ rest) where
-    -- a write by upserts of rows of `xs`, the next ones to put, is one by upserts of rows of the whole list `all`
     next_part : {old now : MutBor (Held S)} {Does : State → State → Type 0} {A : Type 0} {r : Result A Error} {a b : MutBor (Held S)} → HasPutSome g table key was all old now → Writes g (RowStatements (upsert table key) (Has xs)) Does r a b → Writes g (RowStatements (upsert table key) (Has all)) Does r a b
     next_part so_far more = among_each g (upsert table key) (Has xs) (λ row there. (refl, so_far.left row (subst (λ (l : List Row). Has l row) (sym is) (has_left xs rest row there)))) more
 
@@ -69,10 +59,8 @@ module _ {S : Type 0} (g : Ghosts S) (table : Table) (key : ℕ) where
       left = λ row there. so_far.left row (subst (λ (l : List Row). Has l row) (sym is) (has_right xs rest row there));
     }
 
-    -- if the next rows, those of `xs`, can't be put, the write of the whole list ends with this error
     pub putting_failed : {Does : State → State → Type 0} {A X : Type 0} {e : Error} {r : Result A Error} {a b c : MutBor (Held S)} → HasPutSome g table key was all a b → WritesRows {A = X} g table key xs (Err e) b c → HandsOn e r → Writes g (RowStatements (upsert table key) (Has all)) Does r a c
     putting_failed so_far more failed = stops_second g so_far.so_far (next_part so_far more) failed
 
-  -- when no row is left to put, the whole list is written
   pub putting_ends : (rest all : List Row) {a b : MutBor (Held S)} → rest ≡ [] → HasPutSome g table key rest all a b → WritesRows {A = Unit {0}} g table key all (Ok (tt {0})) a b
   putting_ends rest all none so_far = weaker g (all_put table key rest all none) so_far.so_far

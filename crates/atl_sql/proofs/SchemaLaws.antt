@@ -16,7 +16,6 @@ use Rattle.sqlite_rules.proofs.ListLemmas.{all_has, all_from, has_left, has_eith
 use Rattle.sqlite_trees.proofs.ListLemmas.{all-append}
 use Rattle.atl_sql.specs.Tables.{all_tables, all_indexes, all_trees, IsHarmless, AreTables, AreIndexes, Begins}
 
--- a list with exactly one element, which is `x`, is the list of `x` alone
 pub only_one : {A : Type 0} (xs : List A) (x d : A) → 1 ≤ length xs → length xs < 2 → d ≡ get_or xs 0 d → d ≡ x → xs ≡ x ∷ []
 only_one [] x d least most is same = absurd (omega (arith, least))
 only_one (y ∷ []) x d least most is same = ap (λ z. z ∷ []) (sym is ∙ same)
@@ -30,7 +29,6 @@ pub index_name_ends_in_one : (name : List ℕ) (tree table : ℕ) (key : List �
 index_name_ends_in_one name tree table key found r decides =
     subst (λ (d : List ℕ). Decides r (found ≡ record { name = codes "sqlite_autoindex_" ++ (name ++ (codes "_" ++ d)); tree = tree; table = table; columns = key; order = plain; is_unique = true })) (sym (decimal_digit 1 (omega arith))) decides
 
--- a unique index that makes nothing unique in these tables is an index of none of them
 pub harmless_is_of_none : (i : Index) (tables : List Table) → i.is_unique ≡ true → ((t : Table) → Has tables t → guards i t ≡ false)
     → list_any (λ t. i.table == t.tree) tables ≡ false
 harmless_is_of_none i [] unique guards_none = refl
@@ -39,7 +37,6 @@ harmless_is_of_none i (t ∷ tables) unique guards_none =
     let rest = harmless_is_of_none i tables unique (λ u there. guards_none u (inr there)) in
     rw (first, rest) refl
 
--- an index that is of none of these tables makes nothing unique in any of them
 pub guards_not : (i : Index) (tables : List Table) → list_any (λ t. i.table == t.tree) tables ≡ false → (t : Table) → Has tables t
     → guards i t ≡ false
 guards_not i [] none t there = absurd there
@@ -48,7 +45,6 @@ guards_not i (x ∷ tables) none t (inr later) = guards_not i tables (or_parts _
 
 -- ---- the trees of the first tables
 
--- some element of a mapped list passes a test exactly if the image of some element of the list does
 any_mapped : {A B : Type 0} (f : A → B) (p : B → Bool) (xs : List A) → list_any p (map f xs) ≡ list_any (λ x. p (f x)) xs
 any_mapped f p [] = refl
 any_mapped f p (x ∷ xs) = ap (λ b. p (f x) || b) (any_mapped f p xs)
@@ -65,8 +61,6 @@ our_trees tree_of xs same tree count =
 -- ---- the whole schema
 
 module _ (count keys : ℕ) (schema : Schema) where
-  -- a schema begins with a campaign's first `count` tables and `keys` indexes (`Begins`), if the schema's tables do
-  -- (`AreTables`), its indexes do (`AreIndexes`), and it has no view
   pub begins_made : AreTables count schema.tables → AreIndexes count keys schema.indexes → schema.views ≡ [] → Begins count keys schema
   begins_made tables indexes none = record {
     tables = tables.others;
@@ -79,17 +73,12 @@ module _ (count keys : ℕ) (schema : Schema) where
     plain = λ i there. all_has (IsHarmless count) indexes.others i indexes.plain there;
   }
 
-  -- the tables of a schema that begins with a campaign's are the first `count`, then others without a foreign key
-  -- (`AreTables`)
   pub its_tables : Begins count keys schema → AreTables count schema.tables
   its_tables begins = record { others = begins.tables; made_of = ap (λ (s : Schema). s.tables) begins.made_of; free = begins.free }
 
-  -- the indexes of a schema that begins with a campaign's tables are the first `keys` of the four, and then others,
-  -- which make nothing unique in the first `count` tables (`AreIndexes`)
   pub its_indexes : Begins count keys schema → AreIndexes count keys schema.indexes
   its_indexes begins = record { others = begins.indexes; made_of = ap (λ (s : Schema). s.indexes) begins.made_of; plain = all_from (IsHarmless count) begins.indexes begins.plain }
 
-  -- a schema that begins with the first `count` tables and `keys` indexes of a campaign has no views
   pub no_views : Begins count keys schema → schema.views ≡ []
   no_views begins = ap (λ (s : Schema). s.views) begins.made_of
 

@@ -36,18 +36,15 @@ use Rattle.atl_sql.proofs.ShownLaws.{whole_shown}
 market_harmless : IsHarmless 9 (automatic market_table 0 market_unique 13)
 market_harmless t there = all_has (λ t. guards (automatic market_table 0 market_unique 13) t ≡ false) (take 9 all_tables) t (refl, (refl, (refl, (refl, (refl, (refl, (refl, (refl, (refl, tt))))))))) there
 
--- a schema with the tables of a format has those of the first format
 pub has_first : (f : Format) (schema : Schema) → HasTablesOf f schema → HasTablesOf First schema
 has_first First schema has = has
 has_first Second schema has = begins_with_fewer 10 4 schema 9 3 (market_table ∷ []) (automatic market_table 0 market_unique 13 ∷ []) refl refl (refl, tt) (market_harmless, tt) has
 
 -- ---- columns
 
--- the terms that read the first `count` columns of a table from a stored row
 abbrev first_column_terms : Table → ℕ → List Term
 first_column_terms t count = map (λ at. col 1 (place_of t at)) (range_with_len 0 count)
 
--- the term that reads the rowid of a stored row
 abbrev rowid_term : Term
 rowid_term = col 1 0
 
@@ -58,7 +55,6 @@ columns_of Books = first_column_terms books_table 3 ++ rowid_term ∷ []
 columns_of Markets = first_column_terms market_table 3 ++ rowid_term ∷ []
 columns_of part = first_column_terms (table_of part) (length (table_of part).columns)
 
--- the number of columns of the key of a part's table
 abbrev key_of : Part → ℕ
 key_of Goods = 3
 key_of Books = 2
@@ -70,22 +66,17 @@ key_of part = 1
 -- The SELECT of a part means a query of its columns (`columns_of`) of all rows, in the order of the key, whatever other
 -- tables follow. The rows that the SELECT shows are those as which the part is read (`select_of_part`).
 record IsMeant (part : Part) : Type 0 where
-  -- the text means the query of the part's columns (`columns_of`) of all rows of its table, in the order of the key
   command : (more : List Table) (indexes : List Index)
       → command_of (understood (first_tables_and_others (table_count_in (select_of_part part).since) (index_count_in (select_of_part part).since) more indexes) (select_of_part part).select)
       ≡ Select (record { lets = []; body = all_query (table_of part).tree (columns_of part) (map (λ column. (column, ascending Binary)) (first_column_terms (table_of part) (key_of part))) }) (select_of_part part).names
-  -- the SELECT has no RETURNING and doesn't read the time
   plain : (more : List Table) (indexes : List Index) → IsPlain (understood (first_tables_and_others (table_count_in (select_of_part part).since) (index_count_in (select_of_part part).since) more indexes) (select_of_part part).select)
   -- the SELECT doesn't read `sqlite_schema`, the table in which the database lists its tables
   unlisted : (more : List Table) (indexes : List Index) → reads_listing (first_tables_and_others (table_count_in (select_of_part part).since) (index_count_in (select_of_part part).since) more indexes) (select_of_part part).select ≡ false
   -- the table's tree is one of the file, not that of a temporary table
   same : (db : Trees) → overlay db [] (table_of part).tree ≡ db (table_of part).tree
-  -- the rows that the query shows of the table are those as which the part is read (`select_of_part`)
   rows : (db : Trees) → map (λ r. eval_all (columns_of part) ([] ∷ r ∷ [])) (db (table_of part).tree) ≡ (select_of_part part).in_table db
-  -- a row that the query shows has just the columns that `select_of_part` names for the part
   whole : (r : Row) → first_columns (length (select_of_part part).names) (eval_all (columns_of part) ([] ∷ r ∷ [])) ≡ eval_all (columns_of part) ([] ∷ r ∷ [])
 
--- the SELECT of each part means the columns of all rows, in the order of the key (`IsMeant`)
 select_meaning : (part : Part) → IsMeant part
 unfolding understood everything
 select_meaning Own = record { command = λ more indexes. refl; plain = λ more indexes. (refl, refl); unlisted = λ more indexes. refl; same = λ db. refl; rows = λ db. refl; whole = λ r. refl }
@@ -103,6 +94,5 @@ reads_part part count same old new rows h has =
     let says : IsPermutation (listing.in_table old.now.trees) (map cut rows) = subst (λ was. IsPermutation was (map cut rows)) (is.rows old.now.trees) (whole_shown shown cut is.whole (old.now.trees (table_of part).tree) rows all) in
     subst (λ n. IsPermutation (listing.in_table old.now.trees) (map (first_columns n) rows)) (sym same) says
 
--- under the tables of its format the SELECT of a part has no RETURNING and doesn't read the time (`IsPlain`)
 pub part_plain : (part : Part) (schema : Schema) → HasTablesOf (select_of_part part).since schema → IsPlain (understood schema (select_of_part part).select)
 part_plain part schema has = subst (λ s. IsPlain (understood s (select_of_part part).select)) (sym has.made_of) ((select_meaning part).plain has.tables has.indexes)

@@ -17,27 +17,22 @@ use Rattle.atl_sql.specs.declared.fault.ReadFault.TheVariants.{Store, Refused, M
 use Rattle.atl_sql.proofs.KeepLaws.{survives_more, if_ok, if_err}
 
 module _ (old new : State) (inside : IsTrue old.in_transaction) (sql : List ℕ) (params : Row) where
-  -- a statement that wrote inside a transaction commits nothing
   writes_keep : (what : Option Returning) (command : _) (text : List ℕ) (row : Row) (count : ℕ) → Writes old new what command text row count → KeepsCommit old new
   writes_keep what command text row count w = record { was_open = λ _. w.shown.was_open; committed = λ _. w.shown.committed_is ∙ ap (λ b. cond b old.committed new.now) inside }
 
-  -- a SELECT that shows rows one by one commits nothing
   shows_keep : (c : _) (row : Row) (rows : List Row) (what : Option Returning) → ShowsRows old new sql c row rows what → KeepsCommit old new
   shows_keep c row rows None h = unchanged_keeps old new (inl h.3)
   shows_keep c row rows (Some what) h = writes_keep (Some what) _ _ row h.0 h.1
 
-  -- a SELECT that shows rows commits nothing
   pub shown_keeps : (rows : List Row) → Shown sql params old new rows → KeepsCommit old new
   unfolding Shown
   shown_keeps rows h = shows_keep h.0 _ rows h.0.returning h.2
 
-  -- a SELECT that fails while it shows rows commits nothing
   fails_keep : (c : _) (row : Row) (e : Error) (what : Option Returning) → FailsToShow old new sql c row e what → KeepsCommit old new
   fails_keep c row e None h = unchanged_keeps old new (inl h.3)
   fails_keep c row e (Some what) (inl h) = unchanged_keeps old new (inl h.1)
   fails_keep c row e (Some what) (inr h) = unchanged_keeps old new (inr h.3)
 
-  -- a SELECT that is refused commits nothing
   pub refused_keeps : (e : Error) → FailsToQuery sql params old new e ⊎ IsTooLate sql params old new e → KeepsCommit old new
   unfolding FailsToQuery IsNotRun
   refused_keeps e (inl (inl (inl h))) = unchanged_keeps old new (inl h.1)
@@ -47,17 +42,14 @@ module _ (old new : State) (inside : IsTrue old.in_transaction) (sql : List ℕ)
 
 -- ---- once the transaction is rolled back
 
--- a number of disk failures is at least itself
 pub no_fewer : (faults : ℕ) → faults ≤ faults
 no_fewer faults = omega arith
 
 module _ {S : Type 0} (g : Ghosts S) (sql : List ℕ) (old begun mid end : Held S) (begins : begun ≡ record old { in_transaction = true }) (ended : end.in_transaction ≡ false)
     (one : Survives (state g begun) (state g mid) (λ _. ⊥)) (back : HasCleanDisk (state g end) → IsRolledBack (state g mid) (state g end)) (two : Survives (state g mid) (state g end) (λ _. ⊥)) where
-  -- after BEGIN the connection is in a transaction
   begun_inside : IsTrue (state g begun).in_transaction
   begun_inside = ap (λ (h : Held S). h.in_transaction) begins
 
-  -- BEGIN, the SELECT and the rollback commit nothing, so a crash leaves only what it could before (`Survives`)
   survived : Survives (state g old) (state g end) (λ _. ⊥)
   survived = survives_begin g old (state g end) _ (subst (λ h. Survives (state g h) (state g end) (λ _. ⊥)) begins (survives_more (state g begun) (state g mid) (state g end) one two))
 
@@ -72,11 +64,9 @@ module _ {S : Type 0} (g : Ghosts S) (sql : List ℕ) (old begun mid end : Held 
         same = λ up. let was = rolled.undone up in let same = kept.committed (rolled.was_open up) in (inl (was.0 ∙ same), was.1 ∙ same);
       }
 
-  -- the SELECT after BEGIN is asked of the tables as they were before BEGIN (`IsAsked`)
   asked_after_begin : IsAsked (state g old) (state g begun)
   asked_after_begin = subst (λ h. IsAsked (state g old) (state g h)) (sym begins) (record { was_open = λ up. up; is_open = λ up. up; same = refl; limit = refl; faults = no_fewer (state g old).faults })
 
-  -- if the SELECT showed rows before the rollback, these are the result of asking it (`Asks`)
   pub showed : {Z : Type 0} (rows : Vec Row Z) → (HasCleanDisk (state g mid) → Shown sql [] (state g begun) (state g mid) rows.items) → Asks g sql old {Z = Z} (Ok rows) end
   showed rows ok = record {
     rows = λ clean. (begun, mid, asked_after_begin, ok (omega (arith, two.clean)));
@@ -92,7 +82,6 @@ module _ {S : Type 0} (g : Ghosts S) (sql : List ℕ) (old begun mid end : Held 
   not_late e (inl failed) = failed
   not_late e (inr late) = absurd (let no = sym begun_inside ∙ late.3 in cc)
 
-  -- if the SELECT was refused, its error's fault is the result of asking it (`Asks`)
   was_refused : {Z : Type 0} (e : Error) (fault : ReadFault) → fault ≡ read_fault e → (HasCleanDisk (state g mid) → FailsToQuery sql [] (state g begun) (state g mid) e ⊎ IsTooLate sql [] (state g begun) (state g mid) e) → Asks g sql old {Z = Z} (Err fault) end
   was_refused e fault is err = record {
     rows = λ _. tt;
@@ -102,34 +91,28 @@ module _ {S : Type 0} (g : Ghosts S) (sql : List ℕ) (old begun mid end : Held 
     idle = ended;
   }
 
-  -- a result with the fault of the refused SELECT's error is a result of asking it (`Asks`)
   pub says : {Z : Type 0} (e : Error) (r : Result (Vec Row Z) ReadFault) → IsErrAnd r (λ fault. fault ≡ read_fault e) → (HasCleanDisk (state g mid) → FailsToQuery sql [] (state g begun) (state g mid) e ⊎ IsTooLate sql [] (state g begun) (state g mid) e) → Asks g sql old {Z = Z} r end
   says e (Ok rows) is err = absurd is
   says e (Err fault) is err = was_refused e fault is err
 
 -- ---- each row read
 
--- the fault of a SELECT's error is never OtherType
 not_other : (e : Error) → read_fault e ≡ OtherType → ⊥
 not_other e same = by_memory (is_memory e) (is_failure e) same
   where
-    -- no choice between Memory, Store and Refused is OtherType
     by_memory : (a b : Bool) → cond a Memory (cond b Store Refused) ≡ OtherType → ⊥
     by_memory true b is = cc
     by_memory false true is = cc
     by_memory false false is = cc
 
--- the fault of a SELECT that is refused is never OtherType
 pub never_other : {S : Type 0} (g : Ghosts S) (sql : List ℕ) (old : Held S) (fault : ReadFault) → RefusesToSelect g sql old fault → fault ≡ OtherType → ⊥
 never_other g sql old fault says same = not_other says.2 (sym says.5 ∙ same)
 
--- if the value of a result Ok has each of two properties, it has both
 if_both : {A E : Type 0} (P Q : A → Type 0) (r : Result A E) → IfOk r P → IfOk r Q → IfOk r (λ a. P a × Q a)
 if_both P Q (Ok a) p q = (p, q)
 if_both P Q (Err e) p q = tt
 
 module _ {S A Z : Type 0} (g : Ghosts S) (sql : List ℕ) (old new : Held S) (forms : List Form) (shown : A → Row) where
-  -- if the SELECT was refused, a read returns the fault of the refusal (`ReadsRows`)
   pub unasked : {Y : Type 0} (fault : ReadFault) (r : Result (Vec A Z) ReadFault) → Asks g sql old {Z = Y} (Err fault) new → IsErrAnd r (λ says. says ≡ fault) → ReadsRows g sql old forms shown r new
   unasked fault (Ok all) asks is = absurd is
   unasked fault (Err says) asks is = record {
@@ -142,7 +125,6 @@ module _ {S A Z : Type 0} (g : Ghosts S) (sql : List ℕ) (old new : Held S) (fo
     idle = asks.idle;
   }
 
-  -- if the SELECT was answered, a read returns its rows, or OtherType or Memory for one of them (`ReadsRows`)
   pub parsed : {Y : Type 0} (rows : Vec Row Y) (lent : List Row) (r : Result (Vec A Z) ReadFault) → Asks g sql old (Ok rows) new → lent ≡ rows.items
       → IfOk r (λ all. map shown all.items ≡ map (first_columns (length forms)) lent) → IfOk r (λ _. AreTyped forms lent) → IfErr r (λ fault. fault ≡ OtherType → ¬ AreTyped forms lent) → IfErr r (λ fault. fault ≢ OtherType → fault ≡ Memory) → ReadsRows g sql old forms shown r new
   parsed rows lent r asks same ok typed other which = record {

@@ -18,46 +18,36 @@ use Rattle.atl_sql.specs.declared.fault.ReadFault.TheVariants.{Memory, OtherType
 pub whole_shown : (shown first : Row → Row) → ((r : Row) → first (shown r) ≡ shown r) → (tree rows : List Row) → IsPermutation (map shown tree) rows → IsPermutation (map shown tree) (map first rows)
 whole_shown shown first whole tree rows same = subst (λ l. IsPermutation l (map first rows)) (kept tree) (IsPermutation-map first _ rows same)
   where
-    -- a cut that changes no row that SQL shows changes none in the list of all rows as SQL shows them
     kept : (tree : List Row) → map first (map shown tree) ≡ map shown tree
     kept [] = refl
     kept (r ∷ tree) = ap (λ x. x ∷ map first (map shown tree)) (whole r) ∙ ap (λ l. shown r ∷ l) (kept tree)
 
--- an error whose fault is OtherType is not lack of memory
 other_only : (e : Error) → value_fault e ≡ OtherType → IsTrue (not (is_memory e))
 other_only e is = elim (is_memory e) as (λ b. (if b then Memory else OtherType) ≡ OtherType → not b ≡ true) [
   | true ↦ λ same. absurd (let k = same in cc)
   | false ↦ λ _. refl
 ] is
 
--- if reading one of the rows fails with OtherType, not all values of the rows are of their columns' forms (`AreTyped`)
 pub refuses_row : (forms : List Form) (rows : List Row) (at : ℕ) (row : Row) (e : Error) → at < length rows → row ≡ get_or rows at row → (IsTrue (not (is_memory e)) → ¬ IsTyped forms row) → value_fault e ≡ OtherType → ¬ AreTyped forms rows
 refuses_row forms rows at row e within is refused says typed = refused (other_only e says) (typed row (has_at rows at row within is))
 
--- if the values of `rows` and of one row more are of their columns' forms, so are those of all together (`AreTyped`)
 typed_more : (forms : List Form) (rows more : List Row) (row : Row) → more ≡ rows ++ row ∷ [] → AreTyped forms rows → IsTyped forms row → AreTyped forms more
 typed_more forms rows more row is before typed r there = elim (has_either rows (row ∷ []) r (subst (λ l. Has l r) is there)) [
   | inl one ↦ before r one
   | inr last ↦ elim last [ inl same ↦ subst (IsTyped forms) (sym same) typed | inr none ↦ absurd none ]
 ]
 
--- the first `at + 1` rows have values of their columns' forms (`AreTyped`), if the first `at` and the next one do
 pub typed_next : (forms : List Form) (rows : List Row) (at : ℕ) (row : Row) → at < length rows → row ≡ get_or rows at row → AreTyped forms (take at rows) → IsTyped forms row → AreTyped forms (take (at + 1) rows)
 typed_next forms rows at row within is = typed_more forms (take at rows) (take (at + 1) rows) row (take_more rows at row within ∙ ap (λ r. take at rows ++ r ∷ []) (sym is))
 
--- values read of the first `at` rows, with that of the next row at their end, are those of the first `at + 1` rows
 pub mapped_next : {A : Type 0} (shown : A → Row) (cut : Row → Row) (all more : List A) (a : A) (rows : List Row) (at : ℕ) (row : Row) → at < length rows → row ≡ get_or rows at row → more ≡ all ++ a ∷ [] → map shown all ≡ map cut (take at rows) → shown a ≡ cut row
     → map shown more ≡ map cut (take (at + 1) rows)
 mapped_next shown cut all more a rows at row within is more_is same one =
     ap (map shown) more_is ∙ map-append shown all (a ∷ []) ∙ ap (λ l. l ++ shown a ∷ []) same ∙ ap (λ r. map cut (take at rows) ++ r ∷ []) (one ∙ ap cut is)
     ∙ sym (map-append cut (take at rows) (get_or rows at row ∷ [])) ∙ ap (map cut) (sym (take_more rows at row within))
 
--- ---- rows with a text of UTF-8
-
--- a row of an integer and a text in UTF-8 has values of the forms of `report`'s columns (`IsTyped`)
 pub report_typed : (row : Row) (n : ℤ) (text : List ℕ) → column row 0 ≡ Int n → column row 1 ≡ Text text → IsUtf8 text → IsTyped report_forms row
 report_typed row n text first second utf8 = ((n, first), ((text, second, utf8), tt))
 
--- a campaign row has values of its columns' forms, if its world text is UTF-8 and the values before it are of theirs
 pub campaign_typed : (row : Row) (text : List ℕ) → IsTyped campaign_row_forms row → column row 7 ≡ Text text → IsUtf8 text → IsTyped campaign_forms row
 campaign_typed row text head last utf8 = (head.0, (head.1.0, (head.1.1.0, (head.1.1.1.0, (head.1.1.1.1.0, (head.1.1.1.1.1.0, (head.1.1.1.1.1.1.0, ((text, last, utf8), tt))))))))

@@ -47,7 +47,6 @@ mode = record { keys = Enforced; in_doubt = false; may_wait = false }
 module _ (schema : Schema) (tree : ℕ) (name : List ℕ) (columns : List Column) (key : Option ℕ) (primary : List ℕ) (uniques : List (List ℕ)) (checks : List Term)
     (at : ℕ) (position : slice_get schema.tables at ≡ Some (table tree name columns key primary uniques checks))
     (unlinked : (olds news : List Row) → works schema Enforced 0 tree olds news ≡ []) where
-  -- the table at index `at` of the schema
   abbrev t : Table
   t = table tree name columns key primary uniques checks
 
@@ -55,7 +54,6 @@ module _ (schema : Schema) (tree : ℕ) (name : List ℕ) (columns : List Column
   abbrev pub row_replaced_by : Trees → Row → Row
   row_replaced_by db src = with_rowid Chosen (db tree) (cast_row t (mended Replace t src))
 
-  -- what a statement on the table `u` is run with: the step limit, the schema, the table and the parameters
   abbrev task : Option ℕ → Row → Table → Task
   task limit params u = record { limit = limit; keys = Enforced; schema = schema; table = u; params = params }
 
@@ -64,7 +62,6 @@ module _ (schema : Schema) (tree : ℕ) (name : List ℕ) (columns : List Column
       → Then (Counts (task limit params t) done.0.trees counter done.1) (λ next. Gives (record done.0 { trees = next })) (Ok w) → w.trees ≡ done.0.trees
   counted limit params db done counter w h = let counts = ok_step_did h in ap (λ (x : Written). x.trees) (same_value counts.2) ∙ same_value counts.1
 
-  -- the end of a statement changes neither the trees that the statement wrote nor the schema
   concluded : (limit : Option ℕ) (params : Row) (w : Written) (out : Tally × Database) → Concludes (task limit params t) mode None w (Ok out)
       → (out.1.trees ≡ w.trees) × (out.1.schema ≡ schema)
   concluded limit params w out h =
@@ -72,7 +69,6 @@ module _ (schema : Schema) (tree : ℕ) (name : List ℕ) (columns : List Column
       let shown = ok_step_did tested.2 in
       (ap (λ (x : Tally × Database). x.1.trees) (same_value shown.2), ap (λ (x : Tally × Database). x.1.schema) (same_value shown.2))
 
-  -- a DELETE that ran removed exactly the rows that pass its filter (`Loses`)
   pub removes : (limit : Option ℕ) (params : Row) (text : List ℕ) (q : Program) (p : Row → Bool) (db : Trees) (out : Tally × Database)
       → AreKeyedByRowid (db tree)
       → ((rows : List Row) → Answers (record { schema = schema; trees = db }) q params rows → AreFound p (db tree) rows)
@@ -91,7 +87,6 @@ module _ (schema : Schema) (tree : ℕ) (name : List ℕ) (columns : List Column
   row_inserted_by db src = with_rowid Chosen (db tree) (cast_row t src)
 
   module _ (limit : Option ℕ) (params : Row) (target : List ℕ) (hole : ℕ) (project : List Term) (plain : (db : Trees) → overlay db [] tree ≡ db tree) where
-    -- the program of the UPDATE of this upsert
     abbrev q : Program
     q = record { lets = []; body = update_query tree hole project }
 
@@ -99,7 +94,6 @@ module _ (schema : Schema) (tree : ℕ) (name : List ℕ) (columns : List Column
     abbrev Changed : Row → Trees → Trees → Type 0
     Changed new db next = Upserted schema t unlinked limit params target hole project plain new db next
 
-    -- trying the one row of an upsert puts it, or changes the row with its key (`Changed`)
     each_upserts : (src : Row) (top : ℤ) (db : Trees) (done : Written × ℤ) → AreKeyedByRowid (db tree)
         → ((r : Row) → Has (db tree) r → column (params ++ rowid r ∷ shown t (row_inserted_by db src)) hole ≡ rowid r)
         → TriesEach (task limit params t) Abort (conflict_clause target q ∷ []) (src ∷ []) top (nothing db) (Ok done)
@@ -109,7 +103,6 @@ module _ (schema : Schema) (tree : ℕ) (name : List ℕ) (columns : List Column
         let is : done.0.trees ≡ one.0.trees = ap (λ (x : Written × ℤ). x.0.trees) (same_value one.2) in
         subst (Changed (row_inserted_by db src) db) (sym is) (upserts schema t unlinked limit params target hole project plain (row_inserted_by db src) db one.0 keyed aimed one.1)
 
-    -- an upsert whose terms make one row puts it, or changes the row with its key (`Changed`)
     rows_upsert : (terms : List Term) (width : ℕ) (src : Row) (db : Trees) (w : Written) → AreKeyedByRowid (db tree)
         → ((r : Row) → Has (db tree) r → column (params ++ rowid r ∷ shown t (row_inserted_by db src)) hole ≡ rowid r)
         → value_rows (params ++ []) width (length terms / width) terms ≡ src ∷ []
@@ -122,7 +115,6 @@ module _ (schema : Schema) (tree : ℕ) (name : List ℕ) (columns : List Column
         subst (Changed (row_inserted_by db src) db) (sym (counted limit params db each.0 counter.0 w each.2))
         (each_upserts src (count_of counter.0) db each.0 keyed aimed (subst (λ l. TriesEach (task limit params t) Abort (conflict_clause target q ∷ []) l (count_of counter.0) (nothing db) (Ok each.0)) given each.1))
 
-    -- an upsert that ran put its row, or changed the row with its key (`Changed`)
     pub upserting : (text : List ℕ) (terms : List Term) (width : ℕ) (src : Row) (db : Trees) (out : Tally × Database) → AreKeyedByRowid (db tree)
         → ((r : Row) → Has (db tree) r → column (params ++ rowid r ∷ shown t (row_inserted_by db src)) hole ≡ rowid r)
         → value_rows (params ++ []) width (length terms / width) terms ≡ src ∷ []
@@ -153,13 +145,11 @@ PutsRow t key row = DoneBy (upsert t key) row (Puts t key row)
 abbrev pub DropsKey : Table → ℕ → Row → Type 1
 DropsKey t key k = DoneBy (deletion t key) k (Drops t key k)
 
--- a text does `What` (`DoneBy`), if each run of it inside a transaction, with these values as parameters, does `What`
 pub done_by : (sql : List ℕ) (values : Row) (What : Database → Database → Type 0)
     → ((old new : State) (count : ℕ) → IsTrue old.in_transaction → ExecutesInside 0 sql values old new (Ok count) → DoesInside HasTables What old new)
     → DoneBy sql values What
 done_by sql values What does old new count params inside h same = does old new count inside (subst (λ p. ExecutesInside 0 sql p old new (Ok count)) same h)
 
--- a write that ran a statement with these values as parameters does `What`, if its text does so with them (`DoneBy`)
 pub runs_with : {S A : Type 0} (g : Ghosts S) {r : Result A Error} {a b : MutBor (Held S)} (sql : List ℕ) (values params : Row) (What : Database → Database → Type 0)
     → DoneBy sql values What → params ≡ values → Writes g (OneStatement sql params) (RunsStatement sql params) r a b → Writes g (OneStatement sql values) (DoesInside HasTables What) r a b
 runs_with g sql values params What done same ran = writes_among_more g (λ s p only. (only.0, only.1 ∙ same)) (weaker g (λ old new did. done old new did.1 params did.0 did.2 same) ran)

@@ -21,12 +21,10 @@ use Rattle.atl_sql.specs.declared.fault.ReadFault.TheVariants.{Memory}
 use Rattle.atl_sql.proofs.KeepLaws.{survives_more, if_ok, if_err}
 use Rattle.atl_sql.proofs.SelectingLaws.{never_other, no_fewer}
 
--- an unchanged connection is at rest: open only if it was, with its tables as they were (`Rests`)
 pub rests_unchanged : (old new : State) → IsUnchanged old new → Rests old new
 rests_unchanged old new h = record { was_open = λ _. h.0.was_open; same = λ _. (inr h.0.now_is, h.0.committed_is) }
 
 module _ (sql : List ℕ) (old new : State) (plain : IsPlain (understood old.now.schema sql)) where
-  -- a query without RETURNING that fails while it shows rows changes nothing
   pub fails_stay : (c : _) (row : Row) (e : Error) (what : Option Returning) → what ≡ None → FailsToShow old new sql c row e what → IsUnchanged old new
   fails_stay c row e None is h = h.3
   fails_stay c row e (Some what) is h = absurd (let k = is in cc)
@@ -38,18 +36,15 @@ module _ (sql : List ℕ) (old new : State) (plain : IsPlain (understood old.now
   refused_rests e (inl (inr h)) = record { was_open = h.3.was_open; same = λ up. let back = h.3.undone up in (inl back.0, back.1) }
   refused_rests e (inr h) = rests_unchanged old new (fails_stay h.0 _ e h.0.returning (subst IsPlain h.1.is plain).0 h.2)
 
--- a query on a connection that a call left unchanged is asked of the same tables as before the call (`IsAsked`)
 asked_unchanged : (old now : State) → IsUnchanged old now → Survives old now (λ _. ⊥) → IsAsked old now
 asked_unchanged old now h survives = record { was_open = λ _. h.0.was_open; is_open = λ _. h.0.is_open; same = h.0.now_is; limit = survives.limit; faults = survives.counts }
 
--- if a call changed nothing, and the next leaves the connection at rest (`Rests`), both together leave it at rest
 pub rests_then : (old mid new : State) → IsUnchanged old mid → Rests mid new → Rests old new
 rests_then old mid new first rests = record {
   was_open = λ up. first.0.was_open;
   same = λ up. let same = rests.same up in (elim same.0 [ inl last ↦ inl (last ∙ first.0.committed_is) | inr as_it_was ↦ inr (as_it_was ∙ first.0.now_is) ], same.1 ∙ first.0.committed_is);
 }
 
--- two calls that each leave the connection at rest (`Rests`) leave it at rest together
 rests_both : (old mid new : State) → Rests old mid → Rests mid new → Rests old new
 rests_both old mid new one two = record {
   was_open = λ up. one.was_open (two.was_open up);
@@ -64,7 +59,6 @@ rests_both old mid new one two = record {
       );
 }
 
--- a connection with the tables of one that has the tables of `old` has those of `old` (`IsAsked` is transitive)
 asked_then : (old mid new : State) → IsAsked old mid → IsAsked mid new → IsAsked old new
 asked_then old mid new one two = record {
   was_open = λ up. one.was_open (two.was_open up);
@@ -74,11 +68,9 @@ asked_then old mid new one two = record {
   faults = omega (arith, one.faults, two.faults);
 }
 
--- a query that may commit only what it shows (`CommitsShowing`) commits nothing, if it is plain (`IsPlain`)
 pub commits_nothing : (sql : List ℕ) (old new : State) → IsPlain (understood old.now.schema sql) → Survives old new (CommitsShowing sql [] old) → Survives old new (λ _. ⊥)
 commits_nothing sql old new plain = survives_weaker old new _ _ (λ _ db. never_commits sql [] old db plain)
 
--- two calls that each leave the connection unchanged leave it unchanged together (`IsUnchanged` is transitive)
 unchanged_then : (old mid new : State) → IsUnchanged old mid → IsUnchanged mid new → IsUnchanged old new
 unchanged_then old mid new a b = (
   record { was_open = a.0.was_open; is_open = b.0.is_open; now_is = b.0.now_is ∙ a.0.now_is; committed_is = b.0.committed_is ∙ a.0.committed_is; mode = b.0.mode ∙ a.0.mode },
@@ -86,23 +78,18 @@ unchanged_then old mid new a b = (
   b.2 ∙ a.2,
 )
 
--- mapping a list with one more element at its end maps the list and the element
 map_at_end : {A B : Type 0} (f : A → B) (xs : List A) (x : A) → map f (xs ++ x ∷ []) ≡ map f xs ++ f x ∷ []
 map_at_end f [] x = refl
 map_at_end f (y ∷ xs) x = ap (λ ys. f y ∷ ys) (map_at_end f xs x)
 
 -- a query is running, has given the rows `given`, and changed nothing
 pub record IsGiving {S : Type 0} (g : Ghosts S) (sql : List ℕ) (old : Held S) (given : List Row) (now : Held S) : Type 0 where
-  -- the connection on which the query runs is in no transaction
   pub idle : now.in_transaction ≡ false
-  -- so far the query has committed nothing: a crash leaves only what it could have left before the query (`Survives`)
   pub survives : Survives (state g old) (state g now) (λ _. ⊥)
-  -- if the disk is clean, the query has given the rows `given`, and the connection is unchanged
   pub given_so : HasCleanDisk (state g now) → HasGiven g sql [] now given × IsUnchanged (state g old) (state g now)
 
 module _ {S : Type 0} (g : Ghosts S) (sql : List ℕ) (old : Held S) where
   module _ {A : Type 0} (forms : List Form) (shown : A → Row) where
-    -- if the query is refused, reading its rows one by one returns the fault of the refusal (`Streams`)
     pub not_begun : {Z : Type 0} (now : Held S) (e : Error) (r : Result (Option (Vec A Z)) ReadFault) → IsPlain (understood old.schema sql) → IsErrAnd r (λ fault. fault ≡ read_fault e) → (HasCleanDisk (state g now) → FailsToQuery sql [] (state g old) (state g now) e)
         → now.in_transaction ≡ false → Survives (state g old) (state g now) (CommitsShowing sql [] (state g old)) → Streams g sql old forms shown r now
     not_begun now e (Ok read) plain says err idle survives = absurd says
@@ -115,7 +102,6 @@ module _ {S : Type 0} (g : Ghosts S) (sql : List ℕ) (old : Held S) where
       idle = idle;
     }
 
-    -- if a query is ended early, reading its rows one by one may return Ok None (`Streams`)
     pub given_up : {Z : Type 0} (given : List Row) (now : Held S) → IsGiving g sql old given now → Streams g sql old {Z = Z} forms shown (Ok None) now
     given_up given now giving = record {
       rows = λ _. tt;
@@ -127,20 +113,16 @@ module _ {S : Type 0} (g : Ghosts S) (sql : List ℕ) (old : Held S) where
     }
 
   module _ (given : List Row) (mid now : Held S) (giving : IsGiving g sql old given mid) (survives : Survives (state g mid) (state g now) (λ _. ⊥)) (idle : mid.in_transaction ≡ false → now.in_transaction ≡ false) where
-    -- the disk was clean before the next row was asked for, if it is clean after it
     clean_before : HasCleanDisk (state g now) → HasCleanDisk (state g mid)
     clean_before clean = omega (arith, survives.clean, clean)
 
-    -- up to the next row the query commits nothing, so a crash leaves only what it could before (`Survives`)
     survived : Survives (state g old) (state g now) (λ _. ⊥)
     survived = survives_more (state g old) (state g mid) (state g now) giving.survives survives
 
-    -- the connection was unchanged before the next row was asked for, if the disk is clean after it
     same_before : HasCleanDisk (state g now) → IsUnchanged (state g old) (state g mid)
     same_before clean = (giving.given_so (clean_before clean)).1
 
     module _ {A : Type 0} (forms : List Form) (shown : A → Row) where
-      -- if the next row can't be fetched, reading the rows returns the fault of the error (`Streams`)
       pub not_advanced : {Z : Type 0} (e : Error) (r : Result (Option (Vec A Z)) ReadFault) → IsPlain (understood old.schema sql) → IsErrAnd r (λ fault. fault ≡ read_fault e) → (HasCleanDisk (state g now) → FailsToAdvance g mid now e) → Streams g sql old forms shown r now
       not_advanced e (Ok read) plain says err = absurd says
       not_advanced e (Err fault) plain says err = record {
@@ -155,7 +137,6 @@ module _ {S : Type 0} (g : Ghosts S) (sql : List ℕ) (old : Held S) where
         idle = idle giving.idle;
       }
 
-      -- if no row is left, reading the rows returns all rows that were given (`Streams`)
       pub ended : {Z : Type 0} (all : Vec A Z) → map shown all.items ≡ map (first_columns (length forms)) given → AreTyped forms given → (HasCleanDisk (state g now) → Advances g mid now None) → (HasCleanDisk (state g now) → IsUnchanged (state g mid) (state g now))
           → Streams g sql old forms shown (Ok (Some all)) now
       ended all read typed done same = record {
@@ -167,12 +148,10 @@ module _ {S : Type 0} (g : Ghosts S) (sql : List ℕ) (old : Held S) where
         idle = idle giving.idle;
       }
 
-      -- if the values read are those of the rows given, they still are once the next row is given and its value is read
       pub read_more : (old_items new_items : List A) (row : Row) → map shown old_items ≡ map (first_columns (length forms)) given → AddsRow forms shown old_items row new_items → map shown new_items ≡ map (first_columns (length forms)) (given ++ row ∷ [])
       read_more old_items new_items row read adds =
           ap (map shown) adds.1 ∙ map_at_end shown old_items adds.0 ∙ ap (λ rs. rs ++ shown adds.0 ∷ []) read ∙ ap (λ r. map (first_columns (length forms)) given ++ r ∷ []) adds.2 ∙ sym (map_at_end (first_columns (length forms)) given row)
 
-      -- the rows given and the next row have values of their columns' forms (`AreTyped`), if the next could be parsed
       pub typed_more : (old_items new_items : List A) (row : Row) → AreTyped forms given → AddsRow forms shown old_items row new_items → AreTyped forms (given ++ row ∷ [])
       typed_more old_items new_items row typed adds one there = elim (has_either given (row ∷ []) one there) [
         | inl before ↦ typed one before
@@ -180,7 +159,6 @@ module _ {S : Type 0} (g : Ghosts S) (sql : List ℕ) (old : Held S) where
         | inr (inr none) ↦ absurd none
       ]
 
-    -- if a running query gives `row` and changes nothing, it is still running and has given `row` too (`IsGiving`)
     pub giving_more : (row : Row) → (HasCleanDisk (state g now) → Advances g mid now (Some row)) → (HasCleanDisk (state g now) → IsUnchanged (state g mid) (state g now)) → IsGiving g sql old (given ++ row ∷ []) now
     giving_more row more same = record {
       idle = idle giving.idle;
@@ -191,7 +169,6 @@ module _ {S : Type 0} (g : Ghosts S) (sql : List ℕ) (old : Held S) where
 -- ---- what was streamed, as rows that are read
 
 module _ {S A Z : Type 0} (g : Ghosts S) (sql : List ℕ) (old : Held S) (forms : List Form) (shown : A → Row) where
-  -- if reading the rows one by one gives all of them, they are the result of the read (`ReadsRows`)
   pub streamed : (all : Vec A Z) (new : Held S) → Streams g sql old {Z = Z} forms shown (Ok (Some all)) new → ReadsRows g sql old {Z = Z} forms shown (Ok all) new
   streamed all new streams = record {
     rows = streams.rows;
@@ -203,7 +180,6 @@ module _ {S A Z : Type 0} (g : Ghosts S) (sql : List ℕ) (old : Held S) (forms 
     idle = streams.idle;
   }
 
-  -- if reading the rows one by one returns a fault, the read returns this fault (`ReadsRows`)
   pub unstreamed : (fault : ReadFault) (r : Result (Vec A Z) ReadFault) (new : Held S) → Streams g sql old {Z = Z} forms shown (Err fault) new → IsErrAnd r (λ says. says ≡ fault) → ReadsRows g sql old forms shown r new
   unstreamed fault (Ok all) new streams is = absurd is
   unstreamed fault (Err says) new streams is = record {
@@ -228,14 +204,11 @@ module _ {S A Z : Type 0} (g : Ghosts S) (sql : List ℕ) (old : Held S) (forms 
     idle = reads.idle;
   }
     where
-      -- for `read_again`: the disk was clean between the two reads, if it is clean after the second
       before : HasCleanDisk (state g new) → HasCleanDisk (state g mid)
       before clean = omega (arith, reads.survives.clean, clean)
 
-      -- for `read_again`: rows that the SELECT shows between the two reads are rows that it shows before the first
       selects : HasCleanDisk (state g new) → (rows : List Row) → Selects g sql mid rows → Selects g sql old rows
       selects clean rows says = (says.0, says.1, asked_then (state g old) (state g mid) (state g says.0) (streams.same (before clean)) says.2, says.3)
 
-      -- for `read_again`: a fault of refusing the SELECT between the reads is one of refusing it before the first
       refuses : HasCleanDisk (state g new) → (fault : ReadFault) → RefusesToSelect g sql mid fault → RefusesToSelect g sql old fault
       refuses clean fault says = (says.0, says.1, says.2, asked_then (state g old) (state g mid) (state g says.0) (streams.same (before clean)) says.3, says.4, says.5)

@@ -15,49 +15,40 @@ use Rattle.sqlite_value.proofs.OrderLemmas.{value_cmp_total}
 use Rattle.atl_sql.specs.Shown.{int}
 use Rattle.atl_sql.proofs.UpsertLaws.{equal_is, is_equal}
 
--- a choice between a value and the same value is this value
 choice_of_equals : (b : Bool) (x : Value) → cond b x x ≡ x
 choice_of_equals true x = refl
 choice_of_equals false x = refl
 
--- a NULL stays NULL in an INTEGER column
 pub cast_null : cast Integer Null ≡ Null
 unfolding unary
 cast_null = choice_of_equals _ Null
 
--- an integer stays itself in an INTEGER column
 pub cast_int : (n : _) → cast Integer (Int n) ≡ Int n
 unfolding unary
 cast_int n = choice_of_equals _ (Int n)
 
--- a test "(`b` and true) or `rest`" is `b`, if `rest` is false
 pub and_true_or_false : (b rest : Bool) → rest ≡ false → ((b && true) || rest) ≡ b
 and_true_or_false true rest none = refl
 and_true_or_false false rest none = none
 
--- equal rows have equal first values
 pub head_is : (a b : Value) (xs ys : Row) → ◌≡◌ {A = Row} (a ∷ xs) (b ∷ ys) → a ≡ b
 head_is a b xs ys e = cc
 
--- an upsert's test of the key, which is the row's number `a`, is true exactly if `a` is `n`
 pub upsert_finds_number : (a : Value) (n : ℕ) (rest : Bool) → rest ≡ false → is_int a ≡ true → (((equal Binary a (int n) && true) || rest) ≡ true → ◌≡◌ {A = Row} (a ∷ []) (int n ∷ [])) × (◌≡◌ {A = Row} (a ∷ []) (int n ∷ []) → ((equal Binary a (int n) && true) || rest) ≡ true)
 upsert_finds_number a n rest none integer = (
   λ hit. ap (λ v. v ∷ []) (equal_is a (int n) integer refl (sym (and_true_or_false _ rest none) ∙ hit)),
   λ same. and_true_or_false _ rest none ∙ ap (λ v. equal Binary v (int n)) (head_is _ _ _ _ same) ∙ is_equal (int n) refl,
 )
 
--- a DELETE's test of the key, which is the row's number `a`, is true exactly if `a` is `n`
 pub delete_finds_number : (a : Value) (n : ℕ) → is_int a ≡ true → ((equal Binary a (int n) && true) ≡ true → ◌≡◌ {A = Row} (a ∷ []) (int n ∷ [])) × (◌≡◌ {A = Row} (a ∷ []) (int n ∷ []) → (equal Binary a (int n) && true) ≡ true)
 delete_finds_number a n integer = (
   λ hit. ap (λ v. v ∷ []) (equal_is a (int n) integer refl (sym (whole _) ∙ hit)),
   λ same. whole _ ∙ ap (λ v. equal Binary v (int n)) (head_is _ _ _ _ same) ∙ is_equal (int n) refl,
 )
   where
-    -- "`b` and true" is `b`
     whole : (b : Bool) → (b && true) ≡ b
     whole true = refl
     whole false = refl
 
--- keys of one value that are the same compare as equal: rows with the same number as their key have the same rowid
 pub one_number : (a b : Value) → ◌≡◌ {A = Row} (a ∷ []) (b ∷ []) → is_eq (value_cmp a b) ≡ true
 one_number a b same = ap (λ v. is_eq (value_cmp v b)) (head_is _ _ _ _ same) ∙ ap is_eq (tied_itself value_cmp_total b)

@@ -20,13 +20,10 @@ use Rattle.atl_sql.proofs.Terms.{cast_int}
 abbrev upgrade_update_terms : List Term
 upgrade_update_terms = col 1 0 ∷ lit Null ∷ lit (Int (pos 2)) ∷ col 1 3 ∷ col 1 4 ∷ col 1 5 ∷ col 1 6 ∷ col 1 7 ∷ col 0 5 ∷ []
 
--- the text `upgrading_upsert` means an INSERT of the campaign row, with an UPDATE by the terms `upgrade_update_terms`
--- (`MeansOwn`)
 upgrades_own : MeansOwn upgrading_upsert upgrade_update_terms
 unfolding understood everything
 upgrades_own = record { is = λ more indexes. refl; plain = λ more indexes. (refl, refl) }
 
--- of a campaign row of the first format, the UPDATE makes that of the second with the new world text
 update_upgrades_row : (head : CampaignRowValue) (text before : List ℕ) (r : Row) → visible_row campaign_table r ≡ campaign_row_in First head before → changed_to upgrade_update_terms head text r ≡ campaign_row head text
 update_upgrades_row head text before r shows =
     let id : rowid r ≡ int 1 = ap (λ row. column row 0) shows in

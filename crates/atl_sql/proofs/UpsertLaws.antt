@@ -46,12 +46,10 @@ use Rattle.atl_sql.proofs.EditLaws.{delete_query, Swaps, puts, ok_step_did, same
 
 -- ---- SQL's = on integers
 
--- a boolean that was made an SQL truth value is read back from it
 truth_again : (b : Bool) → is_true (from_truth (Some b)) ≡ b
 truth_again true = refl
 truth_again false = refl
 
--- SQL's = on integers is equality by the order of values
 pub equal_ints : (a b : Value) → is_int a ≡ true → is_int b ≡ true → equal Binary a b ≡ is_eq (value_cmp a b)
 unfolding binary
 equal_ints (Int m) (Int n) p q = truth_again _
@@ -64,11 +62,9 @@ equal_ints (Real x) b p q = absurd (true≢false (sym p))
 equal_ints (Text x) b p q = absurd (true≢false (sym p))
 equal_ints (Blob x) b p q = absurd (true≢false (sym p))
 
--- two whole numbers are equal, if their SQL integers are equal by the order of values
 same_int : (m n : ℤ) → is_eq (value_cmp (Int m) (Int n)) ≡ true → m ≡ n
 same_int m n h = let k = rw (value_cmp-Int m n) at h in grind (arith, ints, nat_tests)
 
--- two SQL values that are integers are equal, if they are equal by the order of values
 pub same_ints : (a b : Value) → is_int a ≡ true → is_int b ≡ true → is_eq (value_cmp a b) ≡ true → a ≡ b
 same_ints (Int m) (Int n) p q h = ap Int (same_int m n h)
 same_ints (Int m) Null p q h = absurd (true≢false (sym q))
@@ -80,21 +76,17 @@ same_ints (Real x) b p q h = absurd (true≢false (sym p))
 same_ints (Text x) b p q h = absurd (true≢false (sym p))
 same_ints (Blob x) b p q h = absurd (true≢false (sym p))
 
--- two SQL values that are integers are equal, if they are equal by SQL's =
 pub equal_is : (a b : Value) → is_int a ≡ true → is_int b ≡ true → equal Binary a b ≡ true → a ≡ b
 equal_is a b p q h = same_ints a b p q (sym (equal_ints a b p q) ∙ h)
 
--- an integer is equal to itself by SQL's =
 pub is_equal : (a : Value) → is_int a ≡ true → equal Binary a a ≡ true
 is_equal a p = equal_ints a a p p ∙ ap is_eq (tied_itself value_cmp_total a)
 
--- an ordering that isn't "different" is "equal"
 ne_or_eq : (o : Ordering) → is_ne o ≡ false → is_eq o ≡ true
 ne_or_eq Less h = absurd (true≢false h)
 ne_or_eq Equal h = refl
 ne_or_eq Greater h = absurd (true≢false h)
 
--- integers that SQL doesn't find different are equal by the order of values
 pub differ_not : (a b : Value) → is_int a ≡ true → is_int b ≡ true → differ a b ≡ false → is_eq (value_cmp a b) ≡ true
 unfolding binary
 differ_not (Int m) (Int n) p q h = ne_or_eq _ (sym (truth_again _) ∙ h)
@@ -114,16 +106,13 @@ abbrev pub update_query : ℕ → ℕ → List Term → Query
 update_query tree position project = record (delete_query tree (op2 (Compare Eq Binary) (col 1 0) (col 0 position) ∷ [])) { project = col 1 0 ∷ project }
 
 module _ (p : Row → Bool) (f : Row → Env) where
-  -- what a query by the test `p` chooses: the image by `f` of each row that passes
   abbrev chosen : List Row → List Env
   chosen rows = flat_map (λ r. cond (p r) (f r ∷ []) []) rows
 
-  -- a query whose test no row passes chooses no row
   none_chosen : (rows : List Row) → ((r : Row) → Has rows r → p r ≡ false) → chosen rows ≡ []
   none_chosen [] none = refl
   none_chosen (r ∷ rows) none = rw (none r (inl refl), none_chosen rows (λ x h. none x (inr h)))
 
-  -- a query for one rowid chooses the row with this rowid alone
   one_chosen : (rows : List Row) → IsAscending (λ a b. is_eq (value_cmp (rowid a) (rowid b)) ≡ false) rows → (r : Row) → Has rows r
       → ((x : Row) → Has rows x → p x ≡ is_eq (value_cmp (rowid x) (rowid r))) → chosen rows ≡ f r ∷ []
   one_chosen [] apart r h is = absurd h
@@ -132,7 +121,6 @@ module _ (p : Row → Bool) (f : Row → Env) where
       let rest : chosen rows ≡ [] = none_chosen rows (λ y h. is y (inr h) ∙ miss y h) in
       rw (hit, rest, e) refl
     where
-      -- for `one_chosen`, where the row asked for is the first of the list: no later row has its rowid
       miss : (y : Row) → Has rows y → is_eq (value_cmp (rowid y) (rowid r)) ≡ false
       miss y h = elim (cases_Bool (is_eq (value_cmp (rowid y) (rowid r)))) [
         | inl same ↦ absurd (true≢false (sym (eq_sym _ _ same) ∙ ap (λ z. is_eq (value_cmp (rowid z) (rowid y))) e ∙ all_has _ rows y apart.0 h))
@@ -155,7 +143,6 @@ update_finds_its_row tree position project db db' given rows r keyed there aimed
     let ordered = one_permutation (output q (f r)) a.ordered (subst (λ k. IsPermutation k a.ordered) kept a.same) in
     a.shown ∙ ap (map (λ (o : Output). o.1)) ordered
   where
-    -- "`b` and true" is `b`
     both_true : (b : Bool) → (b && true) ≡ b
     both_true true = refl
     both_true false = refl
@@ -168,11 +155,9 @@ conflict_clause target q = record { target = Some target; update = Some q }
 
 module _ (schema : Schema) (t : Table) (unlinked : (olds news : List Row) → works schema Enforced 0 t.tree olds news ≡ []) (limit : Option ℕ) (params : Row)
     (target : List ℕ) (position : ℕ) (project : List Term) (plain : (db : Trees) → overlay db [] t.tree ≡ db t.tree) where
-  -- what the upsert is run with: the step limit, the schema, the table and the parameters
   abbrev upsert_task : Task
   upsert_task = record { limit = limit; keys = Enforced; schema = schema; table = t; params = params }
 
-  -- the program of the UPDATE of this upsert
   abbrev q : Program
   q = record { lets = []; body = update_query t.tree position project }
 
@@ -190,7 +175,6 @@ module _ (schema : Schema) (t : Table) (unlinked : (olds news : List Row) → wo
       (((r : Row) → Has (db t.tree) r → hits new r ≡ false) × Swaps schema t (hits new) (cast_row t new) db next)
       ⊎ ((r : Row) × Has (db t.tree) r × (hits new r ≡ true) × Swaps schema t (λ x. is_eq (value_cmp (rowid x) (rowid r))) (cast_row t (eval_all project (given new r ∷ r ∷ []))) db next)
 
-  -- an edit that takes out one row of the table, and puts in another, exchanges just these two (`Swaps`)
   replaced_at : (r n : Row) (db next : Trees) → AreKeyedByRowid (db t.tree) → Has (db t.tree) r → Edited schema Enforced db (record { table = t; gone = id_in (rowid r) ∷ []; news = n ∷ [] }) (Ok next)
       → Swaps schema t (λ x. is_eq (value_cmp (rowid x) (rowid r))) n db next
   replaced_at r n db next keyed there h =
@@ -214,7 +198,6 @@ module _ (schema : Schema) (t : Table) (unlinked : (olds news : List Row) → wo
         others = λ u listed other. all_has _ schema.tables u done.tables listed other;
       }
 
-  -- the UPDATE of an upsert exchanges the row that it hits for the one that it computes
   updates : (new : Row) (db : Trees) (r x : Row) (w : Written) → AreKeyedByRowid (db t.tree) → Has (db t.tree) r → x ≡ rowid r ∷ [] → column (given new r) position ≡ rowid r
       → Updates upsert_task q (params ++ rowid x ∷ shown t new) db (Ok w) → Swaps schema t (λ x. is_eq (value_cmp (rowid x) (rowid r))) (cast_row t (eval_all project (given new r ∷ r ∷ []))) db w.trees
   updates new db r x w keyed there is aimed h =
@@ -225,7 +208,6 @@ module _ (schema : Schema) (t : Table) (unlinked : (olds news : List Row) → wo
       let edit = subst (λ l. Edited schema Enforced db (edit_of db t (ids_of l) Given 1 l) (Ok wrote.0)) rows wrote.1 in
       subst (Swaps schema t (λ x. is_eq (value_cmp (rowid x) (rowid r))) (cast_row t (eval_all project (given new r ∷ r ∷ []))) db) (sym trees) (replaced_at r _ db wrote.0 keyed there edit)
 
-  -- the clause ON CONFLICT puts the new row where no row has its key, and else changes the row that has it
   met : (new : Row) (db : Trees) (w : Written) (found : List Row) → AreKeyedByRowid (db t.tree) → ((r : Row) → Has (db t.tree) r → column (given new r) position ≡ rowid r)
       → AreConflicts (Some target) schema.indexes t (db t.tree) new found → Meets upsert_task (Upserts upsert_task Abort new db []) new db (conflict_clause target q) found (Ok w) → Upserted new db w.trees
   met new db w [] keyed aimed are h =
@@ -242,7 +224,6 @@ module _ (schema : Schema) (t : Table) (unlinked : (olds news : List Row) → wo
         },
       )
     where
-      -- where no row has the key, an upsert that ended with Ok has put the new row (`Puts`)
       either : (again : List Row) → Clears upsert_task Abort new db again (Ok w) → Puts upsert_task new db (Ok w)
       either [] k = k
       either (y ∷ more) k = k
@@ -256,7 +237,6 @@ module _ (schema : Schema) (t : Table) (unlinked : (olds news : List Row) → wo
   upserts new db w keyed aimed (inl refused) = absurd (let e = refused.1 in cc)
   upserts new db w keyed aimed (inr check_own_rows) = go check_own_rows.0 check_own_rows.2
     where
-      -- whatever the check of the row's own values says, an upsert that ended with Ok put or changed the row
       go : (verdict : Option Refusal) → Judged upsert_task Abort (conflict_clause target q ∷ []) new db verdict (Ok w) → Upserted new db w.trees
       go None h = met new db w h.0 keyed aimed h.1 h.2
       go (Some why) h = absurd (let e = h in cc)

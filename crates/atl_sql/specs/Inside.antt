@@ -12,9 +12,7 @@ use Rattle.atl_sql.specs.Tables.{Part, table_of, no_tables, all_tables, all_tree
 
 -- the schema begins with the tables of a campaign, and the trees are sound under it (`IsSoundDatabase`)
 pub record HasTables (db : Database) : Type 0 where
-  -- the schema begins with the tables of a campaign
   pub begins : HasAll db.schema
-  -- the trees list the schema, their rows keep its rules, and rowids of the ten tables are integers, no two alike
   pub sound : IsSoundDatabase db.schema db.trees
 
 -- the database has no table, no index and no view

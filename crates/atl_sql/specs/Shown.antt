@@ -6,16 +6,16 @@ use Rattle.sqlite.specs.Order.{Row}
 use Rattle.atl_world.specs.Formats.{format_number}
 use Rattle.atl_world.specs.declared.format.Format.{Format}
 use Rattle.atl_world.specs.declared.format.Format.TheVariants.{Second}
-use Rattle.atl_campaign.specs.declared.parts.StoredCampaignRow.{StoredCampaignRow}
-use Rattle.atl_campaign.specs.declared.parts.StoredFaction.{StoredFaction}
-use Rattle.atl_campaign.specs.declared.parts.StoredRegion.{StoredRegion}
-use Rattle.atl_campaign.specs.declared.parts.StoredUnit.{StoredUnit}
-use Rattle.atl_campaign.specs.declared.parts.StoredStructure.{StoredStructure}
-use Rattle.atl_campaign.specs.declared.parts.StoredMail.{StoredMail}
-use Rattle.atl_campaign.specs.declared.parts.StoredReport.{StoredReport}
-use Rattle.atl_campaign.specs.declared.parts.StoredHas.{StoredHas}
-use Rattle.atl_campaign.specs.declared.parts.StoredBooks.{StoredBooks}
-use Rattle.atl_campaign.specs.declared.parts.StoredMarket.{StoredMarket}
+use Rattle.atl_rows.specs.declared.parts.StoredCampaignRow.{StoredCampaignRow}
+use Rattle.atl_rows.specs.declared.parts.StoredFaction.{StoredFaction}
+use Rattle.atl_rows.specs.declared.parts.StoredRegion.{StoredRegion}
+use Rattle.atl_rows.specs.declared.parts.StoredUnit.{StoredUnit}
+use Rattle.atl_rows.specs.declared.parts.StoredStructure.{StoredStructure}
+use Rattle.atl_rows.specs.declared.parts.StoredMail.{StoredMail}
+use Rattle.atl_rows.specs.declared.parts.StoredReport.{StoredReport}
+use Rattle.atl_rows.specs.declared.parts.StoredHas.{StoredHas}
+use Rattle.atl_rows.specs.declared.parts.StoredBooks.{StoredBooks}
+use Rattle.atl_rows.specs.declared.parts.StoredMarket.{StoredMarket}
 use Rattle.atl_sql.specs.declared.rows.campaign.StoredCampaign.{StoredCampaign}
 use Rattle.atl_sql.specs.declared.rows.stored.RowWithId.{RowWithId}
 use Rattle.atl_sql.specs.Stored.{Form, Number, Utf8Text, TextBytes, Bytes}
@@ -32,11 +32,8 @@ flag b = Int (if b then pos 1 else pos 0)
 pub record CampaignRowValue : Type 0 where
   -- the number of the month last closed, 0 before the first
   pub month : ℕ
-  -- the number that the next faction gets
   pub next_faction : ℕ
-  -- the number that the next unit gets
   pub next_unit : ℕ
-  -- the number that the next structure gets
   pub next_structure : ℕ
   -- the bytes of the moderator's pass text
   pub pass : List ℕ

@@ -112,25 +112,15 @@ market_table = table 12 (codes "market")
 
 -- the parts of a campaign, one for each table: `Own` is the campaign row, `Goods` what units have, `Markets` the stocks
 pub data Part : Type 0 where
-  -- the part in the table `campaign`: the campaign row
   Own : Part
-  -- the part in the table `faction`: the factions
   Factions : Part
-  -- the part in the table `region`: the regions
   Regions : Part
-  -- the part in the table `unit`: the units
   Units : Part
-  -- the part in the table `has`: the items and skills of units
   Goods : Part
-  -- the part in the table `structure`: the structures
   Structures : Part
-  -- the part in the table `mail`: the mailings
   Mail : Part
-  -- the part in the table `report`: the last report of each faction
   Reports : Part
-  -- the part in the table `books`: the amounts of the books
   Books : Part
-  -- the part in the table `market`: the stocks of markets
   Markets : Part
 
 -- the table of a part
@@ -230,35 +220,24 @@ IsHarmless count i = (t : Table) → Has (take count all_tables) t → guards i 
 
 -- The list `all` is the first `count` of the ten tables and then others, of which none has a foreign key.
 pub record AreTables (count : ℕ) (all : List Table) : Type 0 where
-  -- the tables after the first `count`
   pub others : List Table
-  -- the list is the first `count` of the ten tables, and then the others
   pub made_of : all ≡ take count all_tables ++ others
-  -- none of the tables after the first `count` has a foreign key
   pub free : AllByRecursion (λ t. t.references ≡ []) others
 
 -- The list `all` is the first `keys` of the four indexes, and then others,
 -- none of which makes anything unique in the first `count` of the ten tables.
 pub record AreIndexes (count keys : ℕ) (all : List Index) : Type 0 where
-  -- the indexes after the first `keys`
   pub others : List Index
-  -- the list is the first `keys` of the four indexes, and then the others
   pub made_of : all ≡ take keys all_indexes ++ others
-  -- none of the indexes after the first `keys` makes anything unique in the first `count` tables
   pub plain : AllByRecursion (IsHarmless count) others
 
 -- The schema begins with the first `count` tables and `keys` indexes of a campaign, and has no view. After them it has
 -- only tables without a foreign key, and indexes that make nothing unique in these `count` tables.
 pub record Begins (count keys : ℕ) (schema : Schema) : Type 0 where
-  -- the schema's tables after the first `count`
   pub tables : List Table
-  -- the schema's indexes after the first `keys`
   pub indexes : List Index
-  -- the schema has the first `count` tables and then `tables`, the first `keys` indexes and then `indexes`, and no view
   pub made_of : schema ≡ first_tables_and_others count keys tables indexes
-  -- none of the tables after the first `count` has a foreign key
   pub free : AllByRecursion (λ t. t.references ≡ []) tables
-  -- none of the indexes after the first `keys` makes anything unique in the first `count` tables
   pub plain : (i : Index) → Has indexes i → IsHarmless count i
 
 -- ---- the schema of a campaign
@@ -309,7 +288,5 @@ all_trees = map (λ t. t.tree) all_tables
 -- The trees list what the schema has, and their rows keep its rules (`IsSound`).
 -- In each of the ten tables the rowids are integers, no two alike.
 pub record IsSoundDatabase (schema : Schema) (db : Trees) : Type 0 where
-  -- in each of the ten tables the rowids are integers, no two alike
   pub keyed : (table : Table) → Has all_tables table → AreKeyedByRowid (db table.tree)
-  -- the trees list what the schema has, and their rows keep its rules (`IsSound`)
   pub listed : IsSound schema db

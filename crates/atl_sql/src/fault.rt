@@ -23,13 +23,11 @@ pub enum ReadFault {
 
 /// Shows a fault of reading by its name, such as `Refused`.
 impl fmt::Display for ReadFault {
-    /// Writes the fault's name.
     fn fmt<W: fmt::Write>(&self, f: &mut fmt::Formatter<W>) -> fmt::Result {
         write!(f, "{self:?}")
     }
 }
 
-/// As an `Error`, a `ReadFault` is shown by its name.
 impl std::error::Error for ReadFault {}
 
 /// Chooses a fault for an error of the database: `memory` for lack of memory, else `other`.
@@ -47,7 +45,6 @@ pub fn by_cause<F: Drop>(error: Error, memory: F, other: F) -> F
 impl From<Error> for ReadFault {
     ghost from_gives = { λ error fault. fault ≡ read_fault error };
 
-    /// The fault of reading for an error of a SELECT: Memory, Store or Refused.
     fn from(error: Error) -> ReadFault {
         match error {
             Error::SqliteFailure(ErrorCode::OutOfMemory) => ReadFault::Memory,
@@ -64,25 +61,21 @@ impl From<Error> for ReadFault {
     }
 }
 
-/// A value that could not be stored for lack of memory becomes Memory.
 impl<T: Drop> From<AllocFailed<T>> for ReadFault {
     ghost use Rattle.atl_sql.specs.declared.fault.ReadFault.TheVariants.{Memory};
 
     ghost from_gives = { λ _ fault. fault ≡ Memory };
 
-    /// The fault Memory, whatever the value that could not be stored is.
     fn from(_e: AllocFailed<T>) -> ReadFault {
         ReadFault::Memory
     }
 }
 
-/// A failed allocation becomes Memory.
 impl From<AllocError> for ReadFault {
     ghost use Rattle.atl_sql.specs.declared.fault.ReadFault.TheVariants.{Memory};
 
     ghost from_gives = { λ _ fault. fault ≡ Memory };
 
-    /// The fault Memory.
     fn from(_e: AllocError) -> ReadFault {
         ReadFault::Memory
     }

@@ -14,14 +14,12 @@ use atl_world::Format;
 use indexes::are_indexes;
 use sqlite_schema::schema::{Schema, Table};
 
-/// Whether the table has no foreign key.
 fn has_no_foreign_key(found: &Table) -> bool
     ensures { IsTrue result ↔ (found.now.references ≡ []) }
 {
     found.references.is_empty()
 }
 
-/// Whether no table has a foreign key.
 fn have_no_foreign_key(tables: &[Table]) -> bool
     ensures { IsTrue result ↔ (AllByRecursion (λ t. t.references ≡ []) tables.now) }
 {
@@ -33,8 +31,6 @@ fn have_no_foreign_key(tables: &[Table]) -> bool
     true
 }
 
-/// Whether a schema's tables are the first `count` tables of a campaign and then tables without a
-/// foreign key.
 fn are_tables(tables: &[Table], count: usize) -> bool
     requires { count ≤ length all_tables }
     ensures { IsTrue result ↔ (AreTables count tables.now) }

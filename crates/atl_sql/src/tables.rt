@@ -60,7 +60,6 @@ pub(crate) const FACTION_UNIQUE: [usize; 1] = [2];
 /// The number of the file's tree that holds the index of the unique key of `faction`.
 pub(crate) const FACTION_INDEX: u32 = 2;
 
-/// The table `region`: a row for each region.
 const REGION: TableDefinition = TableDefinition {
     text: "CREATE TABLE region (number INTEGER NOT NULL PRIMARY KEY, peasants INTEGER NOT NULL, money INTEGER NOT NULL) STRICT",
     tree: 3,
@@ -68,7 +67,6 @@ const REGION: TableDefinition = TableDefinition {
     columns: columns!(Integer: b"number" b"peasants" b"money"),
 };
 
-/// The table `unit`: a row for each unit.
 const UNIT: TableDefinition = TableDefinition {
     text: "CREATE TABLE unit (number INTEGER NOT NULL PRIMARY KEY, faction INTEGER NOT NULL, name TEXT NOT NULL, region INTEGER NOT NULL, structure INTEGER NOT NULL, men INTEGER NOT NULL, money INTEGER NOT NULL, guard INTEGER NOT NULL) STRICT",
     tree: 4,
@@ -89,10 +87,8 @@ pub(crate) const HAS: TableDefinition = TableDefinition {
 /// The unique key of `has`, by its columns' indexes in a stored row: `unit`, `sort` and `thing`.
 pub(crate) const HAS_UNIQUE: [usize; 3] = [1, 2, 3];
 
-/// The number of the file's tree that holds the index of the unique key of `has`.
 pub(crate) const HAS_INDEX: u32 = 6;
 
-/// The table `structure`: a row for each structure.
 const STRUCTURE: TableDefinition = TableDefinition {
     text: "CREATE TABLE structure (number INTEGER NOT NULL PRIMARY KEY, kind INTEGER NOT NULL, name TEXT NOT NULL, region INTEGER NOT NULL, done INTEGER NOT NULL, owner INTEGER NOT NULL) STRICT",
     tree: 7,
@@ -127,7 +123,6 @@ pub(crate) const BOOKS: TableDefinition = TableDefinition {
 /// The unique key of `books`, by its columns' indexes in a stored row: `entry` and `thing`.
 pub(crate) const BOOKS_UNIQUE: [usize; 2] = [1, 2];
 
-/// The number of the file's tree that holds the index of the unique key of `books`.
 pub(crate) const BOOKS_INDEX: u32 = 11;
 
 /// The table `market` of the stocks of markets, which the first format doesn't have.
@@ -141,7 +136,6 @@ pub(crate) const MARKET: TableDefinition = TableDefinition {
 /// The unique key of `market`, by its columns' indexes in a stored row: `region` and `item`.
 pub(crate) const MARKET_UNIQUE: [usize; 2] = [1, 2];
 
-/// The number of the file's tree that holds the index of the unique key of `market`.
 pub(crate) const MARKET_INDEX: u32 = 13;
 
 /// The ten tables of a campaign, in the order in which they are made.
@@ -149,7 +143,6 @@ pub(crate) const ALL: [TableDefinition; 10] = [
     CAMPAIGN, FACTION, REGION, UNIT, HAS, STRUCTURE, MAIL, REPORT, BOOKS, MARKET,
 ];
 
-/// How many tables a campaign has: ten.
 pub(crate) const TABLES: usize = ALL.len();
 
 /// How many indexes the unique keys of the ten tables have.
@@ -173,7 +166,6 @@ fn is_campaign(found: &Table) -> bool
         && checks_id_is_one(&found.checks)
 }
 
-/// Whether a table of a schema is the table `faction`, in which `joined_as` is unique.
 fn is_faction(found: &Table) -> bool
     ensures { IsTrue result ↔ (found.now ≡ faction_table) }
 {
@@ -202,7 +194,6 @@ fn is_table(found: &Table, position: usize) -> bool
     }
 }
 
-/// Whether a schema's first `count` tables are the first `count` of the ten tables of a campaign.
 pub(crate) fn are_first_tables(tables: &[Table], count: usize) -> bool
     requires { count ≤ length tables.now }
     ensures { IsTrue result ↔ (take count tables.now ≡ take count all_tables) }

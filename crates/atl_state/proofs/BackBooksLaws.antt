@@ -9,7 +9,7 @@ use Rattle.std.specs.FinMap.{entries, get, is_sorted}
 use Rattle.std.specs.FinMap.Entries.{below_all}
 use Rattle.std.proofs.lemmas.Bool.{and_parts, false≢true}
 use Rattle.std.proofs.lemmas.List.Sorted.{IsPermutation-sym, IsPermutation-trans}
-use Rattle.atl_campaign.specs.declared.parts.StoredBooks.{StoredBooks}
+use Rattle.atl_rows.specs.declared.parts.StoredBooks.{StoredBooks}
 use Rattle.atl_records.specs.declared.books.BooksEntry.{BooksEntry}
 use Rattle.atl_records.specs.declared.books.Thing.{Thing}
 use Rattle.atl_records.specs.Books.{Account, BooksValue, account_cmp, amount_in, AreBooks, entry_index, entry_numbered, no_amounts, thing_at, thing_index}
@@ -27,38 +27,29 @@ use Rattle.atl_campaign.proofs.HasLaws.{is_same_key}
 
 -- ---- each row
 
--- a condition P holds for each row of `amounts_rows`, the rows of some accounts and amounts, if it holds for the row of
--- each account and its amount
 rows_each : (P : StoredBooks → Type 0) (es : List (Account × ℤ)) → AllByRecursion (λ x. P (books_row x.0.0 x.0.1 x.1)) es → AllByRecursion P (amounts_rows es)
 rows_each P [] h = tt
 rows_each P (x ∷ es) h = (h.0, rows_each P es h.1)
 
--- a condition P holds for the row of each account and its amount, if it holds for each row of `amounts_rows`, the rows
--- of some accounts and amounts
 each_row : (P : StoredBooks → Type 0) (es : List (Account × ℤ)) → AllByRecursion P (amounts_rows es) → AllByRecursion (λ x. P (books_row x.0.0 x.0.1 x.1)) es
 each_row P [] h = tt
 each_row P (x ∷ es) h = (h.0, each_row P es h.1)
 
 module _ (books : BooksValue) where
-  -- if P holds for the row of every listed amount of the books, it holds for each row of the books
   pub lines_each : (P : StoredBooks → Type 0) → ((e : BooksEntry) (t : Thing) (z : ℤ) → get books.amounts (e, t) ≡ Some z → P (books_row e t z)) → AllByRecursion P (books_rows books)
   lines_each P h = rows_each P (entries books.amounts) (each_amount (λ a z. P (books_row a.0 a.1 z)) books.amounts (λ a z is. h a.0 a.1 z is))
 
-  -- if P holds for each row of the books, it holds for the row of every listed amount
   pub line_at : (P : StoredBooks → Type 0) → AllByRecursion P (books_rows books) → (e : BooksEntry) (t : Thing) (z : ℤ) → get books.amounts (e, t) ≡ Some z → P (books_row e t z)
   line_at P h e t z is = amount_of_each (λ a y. P (books_row a.0 a.1 y)) books.amounts (each_row P (entries books.amounts) h) (e, t) z is
 
 -- ---- books whose rows are the same are the same
 
--- an amount that books list for an entry and a thing is the books' amount of this entry and thing (`amount_in`)
 pub listed_amount_is_amount_in : (books : BooksValue) (e : BooksEntry) (t : Thing) (z : ℤ) → get books.amounts (e, t) ≡ Some z → amount_in books e t ≡ z
 listed_amount_is_amount_in books e t z is = ap (λ o. unwrap_or o (pos 0)) is
 
--- the books have the amount of a row under the row's entry and thing
 abbrev HaveAmountOf : BooksValue → StoredBooks → Type 0
 HaveAmountOf books r = (e : BooksEntry) (t : Thing) → r.entry ≡ pos (entry_index e + 1) → r.thing ≡ pos (thing_index t) → amount_in books e t ≡ r.amount
 
--- books have the amount of each of their own rows
 says_itself : (books : BooksValue) → AllByRecursion (HaveAmountOf books) (books_rows books)
 says_itself books =
     lines_each books (HaveAmountOf books) (λ e t z is f u entry thing.
@@ -70,7 +61,6 @@ says_itself books =
 listed_amounts_agree : (a b : BooksValue) → IsPermutation (books_rows a) (books_rows b) → (e : BooksEntry) (t : Thing) (z : ℤ) → get a.amounts (e, t) ≡ Some z → amount_in b e t ≡ z
 listed_amounts_agree a b h e t z is = line_at a (HaveAmountOf b) (each_back (HaveAmountOf b) (books_rows a) (books_rows b) h (says_itself b)) e t z is e t refl refl
 
--- if two books have the same rows, in any order, they have the same amount for each entry and thing
 same_amounts : (a b : BooksValue) → IsPermutation (books_rows a) (books_rows b) → (e : BooksEntry) (t : Thing) → amount_in a e t ≡ amount_in b e t
 same_amounts a b h e t =
     elim (get a.amounts (e, t)) as (λ o. get a.amounts (e, t) ≡ o → unwrap_or o (pos 0) ≡ amount_in b e t) [
@@ -83,11 +73,9 @@ same_amounts a b h e t =
 
 -- ---- the rows of books in any order
 
--- an account (an entry and a thing) is not less than itself
 not_less_than_itself : (a : Account) → is_lt (account_cmp a a) ≡ false
 not_less_than_itself a = ap is_lt (tied_itself account_total a)
 
--- the key of the row of an account (an entry and a thing) differs from those of the rows of all higher accounts
 others_apart : (x : Account × ℤ) (es : List (Account × ℤ)) → below_all account_cmp x.0 es ≡ true → AllByRecursion (λ r. is_same_key (books_key (books_row x.0.0 x.0.1 x.1)) (books_key r) ≡ false) (amounts_rows es)
 others_apart x [] h = tt
 others_apart x (y ∷ es) h =
@@ -99,15 +87,12 @@ others_apart x (y ∷ es) h =
       others_apart x es parts.1,
     )
 
--- the rows of accounts (an entry and a thing) in rising order have distinct keys
 entries_apart : (es : List (Account × ℤ)) → is_sorted account_cmp es ≡ true → IsDistinct (λ a b. is_same_key (books_key a) (books_key b)) (amounts_rows es)
 unfolding IsDistinct
 entries_apart [] h = tt
 entries_apart (x ∷ es) h = let parts = and_parts (below_all account_cmp x.0 es) (is_sorted account_cmp es) h in (others_apart x es parts.0, entries_apart es parts.1)
 
 module _ (things : ℕ) (few : things ≤ 4294967294) (books : BooksValue) (are : AreBooks things books) where
-  -- each row of books over `things` things is read as an account of one of these things, and its amount is not 0
-  -- (`IsBooked`)
   pub lines_booked : AllByRecursion (IsBooked things) (books_rows books)
   lines_booked =
       lines_each books (IsBooked things) (λ e t z is.
@@ -124,12 +109,9 @@ module _ (things : ℕ) (few : things ≤ 4294967294) (books : BooksValue) (are 
       })
 
   module _ (rows : List StoredBooks) (h : IsPermutation (books_rows books) rows) where
-    -- the rows of the books, in any order, have distinct keys
     pub books_keys : HaveDistinctKeys books_key rows
     books_keys = keys_permuted books_key (books_rows books) rows h (entries_apart (entries books.amounts) (amounts_sorted books.amounts))
 
-    -- each row of the books, in any order, is read as an account of one of the `things` things, and its amount is not 0
-    -- (`IsBooked`)
     pub all_booked : AllByRecursion (IsBooked things) rows
     all_booked = each_permuted (IsBooked things) (books_rows books) rows h lines_booked
 

@@ -16,12 +16,10 @@ use Rattle.atl_campaign.proofs.MapOfRowsLaws.{HaveDistinctNumbers, rows_found}
 -- ---- what holds for each element of joined lists
 
 module _ {X R : Type 0} (P : R → Type 0) (f : X → List R) where
-  -- if P holds for each element of each list f x, it holds for each element of all these lists joined
   pub flat_each : (xs : List X) → AllByRecursion (λ x. AllByRecursion P (f x)) xs → AllByRecursion P (flat_map f xs)
   flat_each [] h = tt
   flat_each (x ∷ xs) h = append_each P (f x) (flat_map f xs) h.0 (flat_each xs h.1)
 
-  -- if P holds for each element of all lists f x joined, it holds for each element of each list f x
   pub each_flat : (xs : List X) → AllByRecursion P (flat_map f xs) → AllByRecursion (λ x. AllByRecursion P (f x)) xs
   each_flat [] h = tt
   each_flat (x ∷ xs) h = let both = each_appended P (f x) (flat_map f xs) h in (both.0, each_flat xs both.1)
@@ -29,23 +27,17 @@ module _ {X R : Type 0} (P : R → Type 0) (f : X → List R) where
 -- ---- the rows of all groups
 
 module _ {U R : Type 0} (f : ℕ × U → List R) (P : R → Type 0) where
-  -- If P holds for all rows f (n, u) of each entry's number n and value u (`EachEntry`), it holds for all rows f e of
-  -- each entry e.
   of_each : (es : List (ℕ × U)) → EachEntry (λ n u. AllByRecursion P (f (n, u))) es → AllByRecursion (λ e. AllByRecursion P (f e)) es
   of_each [] h = tt
   of_each (e ∷ es) h = (h.0, of_each es h.1)
 
-  -- If P holds for all rows f e of each entry e, it holds for all rows f (n, u) of each entry's number n and value u
-  -- (`EachEntry`).
   each_of : (es : List (ℕ × U)) → AllByRecursion (λ e. AllByRecursion P (f e)) es → EachEntry (λ n u. AllByRecursion P (f (n, u))) es
   each_of [] h = tt
   each_of (e ∷ es) h = (h.0, each_of es h.1)
 
-  -- if P holds for each row of each unit or region of a map, it holds for each row of the joined list of all of them
   pub groups_each : (units : FinMap nat_cmp U) → Every (λ n u. AllByRecursion P (f (n, u))) units → AllByRecursion P (flat_map f (entries units))
   groups_each units h = flat_each P f (entries units) (of_each (entries units) (each-from_every (λ n u. AllByRecursion P (f (n, u))) units h))
 
-  -- if P holds for each row of the joined list of all units or regions of a map, it holds for each row of each of them
   pub each_group : (units : FinMap nat_cmp U) → AllByRecursion P (flat_map f (entries units)) → Every (λ n u. AllByRecursion P (f (n, u))) units
   each_group units h = every-from_each (λ n u. AllByRecursion P (f (n, u))) units (each_of (entries units) (each_flat P f (entries units) h))
 
@@ -56,22 +48,18 @@ module _ {R : Type 0} (none : R → Bool) (row : ℕ → ℕ → R) (m : FinMap 
   abbrev lines : List R
   lines = filter (λ r. not (none r)) (rows_by row (entries m))
 
-  -- if P holds for the row of each amount of a map that is not 0, it holds for each row of the map (`lines`)
   pub lines_each : (P : R → Type 0) → Every (λ i a. none (row i a) ≡ false → P (row i a)) m → AllByRecursion P lines
   lines_each P h = kept (λ r. not (none r)) P (rows_by row (entries m)) (rows_every row (λ r. not (none r) ≡ true → P r) m (λ i a is some. h i a is (not-true (none (row i a)) some)))
 
-  -- if P holds for each row of a map of amounts (`lines`), it holds for the row of each amount that is not 0
   pub each_line : (P : R → Type 0) → AllByRecursion P lines → Every (λ i a. none (row i a) ≡ false → P (row i a)) m
   each_line P h i a is some = every_row row (λ r. not (none r) ≡ true → P r) m (unkept (λ r. not (none r)) P (rows_by row (entries m)) h) i a is (not_from_false (none (row i a)) some)
 
-  -- the rows of a map of amounts (`lines`) are distinct by test e, if it fails for rows of a lower and a higher number
   pub lines_apart : (e : R → R → Bool) → ((i k a b : ℕ) → i < k → e (row i a) (row k b) ≡ false) → IsDistinct e lines
   lines_apart e apart = filter_apart (λ r. not (none r)) e (rows_by row (entries m)) (rows_apart row e apart (entries m) (entries_rise m))
 
 -- ---- the amounts of a group
 
 module _ {R : Type 0} (thing amount : R → ℕ) (mine : R → Bool) (m : FinMap nat_cmp ℕ) (listed rows : List R) (same : IsPermutation listed rows) where
-  -- a map of amounts has, under the thing that a row names, the amount of the row
   abbrev IsIn : FinMap nat_cmp ℕ → R → Type 0
   IsIn k r = get k (thing r) ≡ Some (amount r)
 

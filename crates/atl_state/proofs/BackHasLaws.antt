@@ -9,7 +9,7 @@ use Rattle.std.specs.FinMap.{FinMap, get, entries}
 use Rattle.std.proofs.lemmas.Bool.{and_parts}
 use Rattle.std.proofs.lemmas.Bool.Decides.{nat_tests}
 use Rattle.atl_records.specs.Limits.{most_u32}
-use Rattle.atl_campaign.specs.declared.parts.StoredHas.{StoredHas}
+use Rattle.atl_rows.specs.declared.parts.StoredHas.{StoredHas}
 use Rattle.atl_records.specs.declared.records.Unit.{Unit}
 use Rattle.atl_campaign.specs.FromRows.{as_u32, is_of_unit_and_sort, things_had}
 use Rattle.atl_records.specs.Every.{Every}
@@ -25,17 +25,12 @@ abbrev pub goods_of : ℕ → Unit → FinMap nat_cmp ℕ
 goods_of zero u = u.holding.items
 goods_of (suc n) u = u.holding.days
 
--- ---- the rows of all units
-
--- whether a row's amount is 0
 abbrev has_zero_amount : StoredHas → Bool
 has_zero_amount r = is_zero r.amount
 
--- the rows of `has` for the goods of a unit
 abbrev goods_rows : ℕ × Unit → List StoredHas
 goods_rows e = held_rows e.0 e.1.holding
 
--- the rows of `has` of one unit and one sort have distinct keys
 sort_apart : (n sort : ℕ) (m : FinMap nat_cmp ℕ) → IsDistinct (λ a b. is_same_key (has_key a) (has_key b)) (rows_of_sort n sort (entries m))
 sort_apart n sort m =
     lines_apart has_zero_amount (has_row n sort) m (λ a b. is_same_key (has_key a) (has_key b)) (λ i k a b l. apart_keys (has_key (has_row n sort i a)) (has_key (has_row n sort k b)) (λ keys. let one = pos_is_injective i k keys.third in omega arith))
@@ -46,33 +41,27 @@ module _ (units : FinMap nat_cmp Unit) where
   has_each P h = groups_each goods_rows P units (λ n u is.
       append_each P (rows_of_sort n 0 (entries u.holding.items)) (rows_of_sort n 1 (entries u.holding.days)) (lines_each has_zero_amount (has_row n 0) u.holding.items P (h n u is 0 (omega arith))) (lines_each has_zero_amount (has_row n 1) u.holding.days P (h n u is 1 (omega arith))))
 
-  -- if P holds for each row of `has` of a map, it holds for the row of each amount, not 0, that a unit of the map has
   pub each_had : (P : StoredHas → Type 0) → AllByRecursion P (has_rows (entries units)) → Every (λ n u. (s : ℕ) → s < 2 → Every (λ i a. is_zero (pos a) ≡ false → P (has_row n s i a)) (goods_of s u)) units
   each_had P h n u is = of_sort (each_appended P (rows_of_sort n 0 (entries u.holding.items)) (rows_of_sort n 1 (entries u.holding.days)) (each_group goods_rows P units h n u is))
     where
-      -- if P holds for the rows of a unit's items and of its days, it holds for the row of each amount that isn't 0
       of_sort : AllByRecursion P (rows_of_sort n 0 (entries u.holding.items)) × AllByRecursion P (rows_of_sort n 1 (entries u.holding.days)) → (s : ℕ) → s < 2 → Every (λ i a. is_zero (pos a) ≡ false → P (has_row n s i a)) (goods_of s u)
       of_sort both zero l = each_line has_zero_amount (has_row n 0) u.holding.items P both.0
       of_sort both (suc zero) l = each_line has_zero_amount (has_row n 1) u.holding.days P both.1
       of_sort both (suc (suc s)) l = absurd (omega arith)
 
-  -- a row of `has` of sort 0 has another key than rows of sort 1
   sorts_differ : (a : StoredHas) (ys : List StoredHas) → a.sort ≡ pos 0 → AllByRecursion (λ b. b.sort ≡ pos 1) ys → AllByRecursion (λ b. is_same_key (has_key a) (has_key b) ≡ false) ys
   sorts_differ a [] item h = tt
   sorts_differ a (b ∷ ys) item h = (apart_keys (has_key a) (has_key b) (λ k. let one = pos_is_injective 0 1 (sym item ∙ k.second ∙ h.0) in omega arith), sorts_differ a ys item h.1)
 
-  -- rows of `has` of sort 0 have other keys than rows of sort 1
   all_differ : (xs ys : List StoredHas) → AllByRecursion (λ a. a.sort ≡ pos 0) xs → AllByRecursion (λ b. b.sort ≡ pos 1) ys → AllByRecursion (λ a. AllByRecursion (λ b. is_same_key (has_key a) (has_key b) ≡ false) ys) xs
   all_differ [] ys h k = tt
   all_differ (a ∷ xs) ys h k = (sorts_differ a ys h.0 k, all_differ xs ys h.1 k)
 
-  -- the rows of `has` of one unit have distinct keys
   held_apart : (n : ℕ) (u : Unit) → IsDistinct (λ a b. is_same_key (has_key a) (has_key b)) (held_rows n u.holding)
   held_apart n u =
       append_apart (λ a b. is_same_key (has_key a) (has_key b)) (rows_of_sort n 0 (entries u.holding.items)) (rows_of_sort n 1 (entries u.holding.days)) (sort_apart n 0 u.holding.items) (sort_apart n 1 u.holding.days)
       (all_differ (rows_of_sort n 0 (entries u.holding.items)) (rows_of_sort n 1 (entries u.holding.days)) (lines_each has_zero_amount (has_row n 0) u.holding.items (λ r. r.sort ≡ pos 0) (λ i a is some. refl)) (lines_each has_zero_amount (has_row n 1) u.holding.days (λ r. r.sort ≡ pos 1) (λ i a is some. refl)))
 
-  -- the rows of `has` of all units have distinct keys
   has_apart : IsDistinct (λ a b. is_same_key (has_key a) (has_key b)) (has_rows (entries units))
   has_apart =
       flat_apart (λ a b. is_same_key (has_key a) (has_key b)) (λ (e : ℕ × Unit). held_rows e.0 e.1.holding) (λ e f. e.0 < f.0) (λ e r. r.unit ≡ pos e.0)
@@ -82,17 +71,13 @@ module _ (units : FinMap nat_cmp Unit) where
 
   -- the numbers of units, items and skills fit 32 bits, and each amount of an item or of days is from 1 to most_u32
   pub record AreHad : Type 0 where
-    -- the numbers of units fit 32 bits
     pub numbers : Every (λ n u. n ≤ most_u32) units
-    -- the numbers of a unit's items and skills fit 32 bits, and each amount is from 1 to most_u32
     pub goods : Every (λ n u. (s : ℕ) → s < 2 → Every (λ i a. (i ≤ most_u32) × (1 ≤ a) × (a ≤ most_u32)) (goods_of s u)) units
 
   module _ (had : AreHad) (rows : List StoredHas) (h : IsPermutation (has_rows (entries units)) rows) where
-    -- the rows of `has` of all units, in any order, have distinct keys
     pub has_keys : HaveDistinctKeys has_key rows
     has_keys = keys_permuted has_key (has_rows (entries units)) rows h has_apart
 
-    -- the numbers in the keys of the rows of `has`, in any order, are read as themselves (HasWholeKey)
     pub all_keyed : AllByRecursion KeyFitsU32 rows
     all_keyed =
         each_permuted KeyFitsU32 (has_rows (entries units)) rows h (has_each KeyFitsU32 (λ n u there s few i a is some. record {
@@ -101,28 +86,22 @@ module _ (units : FinMap nat_cmp Unit) where
           thing = written_fits_u32 i (had.goods n u there s few i a is).0;
         }))
 
-    -- an amount of at least 1 is not 0
     nonzero : (a : ℕ) → 1 ≤ a → is_zero (pos a) ≡ false
     nonzero a l = grind (arith, nat_tests)
 
-    -- two units whose Some's are equal are equal
     some_same : (u v : Unit) → Some u ≡ Some v → u ≡ v
     some_same u v e = cc
 
     -- unit k and sort s are unit n and sort `sort`: k is n, and s is `sort`
     record IsSameUnitAndSort (n sort k s : ℕ) : Type 0 where
-      -- the numbers of the two units, k and n, are equal
       unit : k ≡ n
-      -- the two sorts, s and `sort`, are equal
       kind : s ≡ sort
 
-    -- if a row of unit k and sort s is read as of unit n and sort `sort`, k is n and s is `sort`
     of_row : (n sort k s i a : ℕ) → k ≤ most_u32 → s < 2 → is_of_unit_and_sort n sort (has_row k s i a) ≡ true → IsSameUnitAndSort n sort k s
     of_row n sort k s i a few l e =
         let both = and_parts (as_u32 (pos k) == n) (as_u32 (pos s) == sort) e in
         record { unit = sym (written_is_read k few) ∙ is_same (as_u32 (pos k)) n both.0; kind = sym (written_is_read s (omega arith)) ∙ is_same (as_u32 (pos s)) sort both.1 }
 
-    -- a row of `has` made for unit n and sort s is read as one of them, if n fits 32 bits and s is 0 or 1
     of_itself : (n s i a : ℕ) → n ≤ most_u32 → s < 2 → is_of_unit_and_sort n s (has_row n s i a) ≡ true
     of_itself n s i a few l =
         let unit : (as_u32 (pos n) == n) ≡ true = let e = written_is_read n few in grind (arith, nat_tests) in

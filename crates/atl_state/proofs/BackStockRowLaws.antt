@@ -8,7 +8,7 @@ use Rattle.std.specs.FinMap.{FinMap, get, entries}
 use Rattle.std.proofs.lemmas.Bool.Decides.{nat_tests}
 use Rattle.atl_world.specs.declared.format.Format.TheVariants.{Second}
 use Rattle.atl_records.specs.Limits.{most_u32}
-use Rattle.atl_campaign.specs.declared.parts.StoredMarket.{StoredMarket}
+use Rattle.atl_rows.specs.declared.parts.StoredMarket.{StoredMarket}
 use Rattle.atl_records.specs.declared.records.Region.{Region}
 use Rattle.atl_campaign.specs.FromRows.{as_u32, stocks_of}
 use Rattle.atl_records.specs.Every.{Every}
@@ -20,41 +20,32 @@ use Rattle.atl_campaign.proofs.ReadBackLaws.{each_permuted, written_is_read, wri
 use Rattle.atl_campaign.proofs.HasLaws.{is_same_key}
 use Rattle.atl_state.proofs.StockRowLaws.{HasWholeKey, is_row_of_region, items_apart}
 
--- whether a row's stock is 0
 abbrev has_zero_stock : StoredMarket → Bool
 has_zero_stock m = is_zero m.stock
 
--- the rows of `market` for the stocks of a region
 abbrev stock_rows_of_region : ℕ × Region → List StoredMarket
 stock_rows_of_region e = stock_rows e.0 (entries e.1.stocks)
 
--- the rows of `market` for the stocks of one region have distinct keys
 region_apart : (n : ℕ) (stocks : FinMap nat_cmp ℕ) → IsDistinct (λ a b. is_same_key (market_key a) (market_key b)) (stock_rows n (entries stocks))
 region_apart n stocks =
     lines_apart has_zero_stock (market_row n) stocks (λ a b. is_same_key (market_key a) (market_key b)) (λ i k a b l. apart_keys (market_key (market_row n i a)) (market_key (market_row n k b)) (λ keys. let one = pos_is_injective i k keys.second in omega arith))
 
--- an amount of at least 1 is not 0
 nonzero : (a : ℕ) → 1 ≤ a → is_zero (pos a) ≡ false
 nonzero a l = grind (arith, nat_tests)
 
--- the regions r and s are equal, if Some r and Some s are
 some_same : (r s : Region) → Some r ≡ Some s → r ≡ s
 some_same r s e = cc
 
--- a row of `market` that is made for a stock of region n is read as one of region n, if n fits 32 bits
 row_is_of_its_region : (n i a : ℕ) → n ≤ most_u32 → is_row_of_region n (market_row n i a) ≡ true
 row_is_of_its_region n i a few = let e = written_is_read n few in grind (arith, nat_tests)
 
 module _ (regions : FinMap nat_cmp Region) where
-  -- if P holds for the row of every stock, not 0, of the map's regions, it holds for each row of `market` of the map
   pub stocks_each : (P : StoredMarket → Type 0) → Every (λ n r. Every (λ i a. is_zero (pos a) ≡ false → P (market_row n i a)) r.stocks) regions → AllByRecursion P (market_rows Second (entries regions))
   stocks_each P h = groups_each stock_rows_of_region P regions (λ n r is. lines_each has_zero_stock (market_row n) r.stocks P (h n r is))
 
-  -- if P holds for each row of `market` of a map, it holds for the row of every stock, not 0, of the map's regions
   each_stock : (P : StoredMarket → Type 0) → AllByRecursion P (market_rows Second (entries regions)) → Every (λ n r. Every (λ i a. is_zero (pos a) ≡ false → P (market_row n i a)) r.stocks) regions
   each_stock P h n r is = each_line has_zero_stock (market_row n) r.stocks P (each_group stock_rows_of_region P regions h n r is)
 
-  -- the rows of `market` for all regions' stocks have distinct keys
   stocks_apart : IsDistinct (λ a b. is_same_key (market_key a) (market_key b)) (market_rows Second (entries regions))
   stocks_apart =
       flat_apart (λ a b. is_same_key (market_key a) (market_key b)) stock_rows_of_region (λ e f. e.0 < f.0) (λ e m. m.region ≡ pos e.0)
@@ -63,17 +54,13 @@ module _ (regions : FinMap nat_cmp Region) where
 
   -- the numbers of regions and of items in stock fit 32 bits, and each listed stock is from 1 to most_u32
   pub record AreStocked : Type 0 where
-    -- the numbers of regions fit 32 bits
     pub numbers : Every (λ n r. n ≤ most_u32) regions
-    -- the numbers of items in stock fit 32 bits, and each listed stock is from 1 to most_u32
     pub stocks : Every (λ n r. Every (λ i a. (i ≤ most_u32) × (1 ≤ a) × (a ≤ most_u32)) r.stocks) regions
 
   module _ (few : AreStocked) (rows : List StoredMarket) (h : IsPermutation (market_rows Second (entries regions)) rows) where
-    -- the rows of `market` for all regions' stocks, in any order, have distinct keys
     pub market_keys : HaveDistinctKeys market_key rows
     market_keys = keys_permuted market_key (market_rows Second (entries regions)) rows h stocks_apart
 
-    -- the numbers in the keys of the rows of `market`, in any order, are read as themselves (HasWholeKey)
     all_keyed : AllByRecursion HasWholeKey rows
     all_keyed =
         each_permuted HasWholeKey (market_rows Second (entries regions)) rows h (stocks_each HasWholeKey (λ n r there i a is some. record { region = written_fits_u32 n (few.numbers n r there); item = written_fits_u32 i (few.stocks n r there i a is).0 }))

@@ -13,7 +13,7 @@ use Rattle.std.proofs.lemmas.Bool.{false≢true}
 use Rattle.std.proofs.lemmas.Bool.Decides.{nat_tests}
 use Rattle.std.proofs.lemmas.List.{append-nil}
 use Rattle.std.proofs.lemmas.List.Sorted.{IsPermutation-map, IsPermutation-refl, IsPermutation-sym, IsPermutation-trans, IsPermutation-append_left, IsPermutation-append_right, IsPermutation-middle}
-use Rattle.atl_campaign.specs.declared.parts.StoredBooks.{StoredBooks}
+use Rattle.atl_rows.specs.declared.parts.StoredBooks.{StoredBooks}
 use Rattle.atl_records.specs.Books.{Account, BooksValue, account_cmp, AreBooks, entry_index, entry_numbered, no_amounts, thing_at, thing_index, with_amount}
 use Rattle.atl_campaign.specs.FromRows.{as_u32, with_books_row, with_books_rows}
 use Rattle.atl_records.specs.Limits.{entry_count}
@@ -39,7 +39,6 @@ put_new a z (e ∷ es) h =
           IsPermutation-trans (e ∷ put account_cmp a z es) (e ∷ (a, z) ∷ es) ((a, z) ∷ e ∷ es) (IsPermutation-append_right (e ∷ []) (put account_cmp a z es) ((a, z) ∷ es) (put_new a z es is)) (IsPermutation-middle (e ∷ []) (a, z) es)
     ] h
 
--- the row of `books` for an account (an entry and a thing) with its amount
 abbrev row_of_amount : Account × ℤ → StoredBooks
 row_of_amount x = books_row x.0.0 x.0.1 x.1
 
@@ -54,20 +53,13 @@ one_amount books a z none some =
 
 -- a row of `books` is read as an account (an entry and a thing) of the first `things` things, and its amount is not 0
 pub record IsBooked (things : ℕ) (r : StoredBooks) : Type 0 where
-  -- the account, which is an entry and a thing, that the row is read as
   pub account : Account
-  -- r is the row that is written for the account with the amount that r has
   pub row : books_row account.0 account.1 r.amount ≡ r
-  -- the row's entry is read as that of the account
   pub named : entry_numbered (as_u32 r.entry) ≡ Some account.0
-  -- the row's thing is read as that of the account
   pub numbered : thing_at (as_u32 r.thing) ≡ account.1
-  -- the row's thing is one of the first `things` things
   pub there : as_u32 r.thing < things
-  -- the row's amount is not 0
   pub some : r.amount ≢ pos 0
 
--- i + 1 is n, if n is at least 1 and i is n - 1
 one_up : (n i : ℕ) → 1 ≤ n → i ≡ n - 1 → i + 1 ≡ n
 one_up n i h e = omega arith
 
@@ -88,11 +80,9 @@ booked_row things r entry thing least most there some =
       some = some;
     }
 
--- the thing of the account that a row is read as (IsBooked) is one of the first `things` things
 pub account_there : (things : ℕ) (r : StoredBooks) (h : IsBooked things r) → thing_index h.account.1 < things
 account_there things r h = let is = sym (ap thing_index h.numbered) ∙ index_of_thing_at (as_u32 r.thing) in omega (arith, is, h.there)
 
--- putting a row that is read as an account (IsBooked) into books sets the amount of that account
 pub with_booked_row : (things : ℕ) (books : BooksValue) (r : StoredBooks) → AreBooks things books → (h : IsBooked things r) → with_books_row books r ≡ with_amount books h.account.0 h.account.1 r.amount
 with_booked_row things books r are h =
     let few : nat_lt (as_u32 r.thing) books.things ≡ true = let l : as_u32 r.thing < books.things = omega (arith, are.count, h.there) in grind (arith, nat_tests) in
@@ -100,15 +90,12 @@ with_booked_row things books r are h =
     ∙ ap (λ b. cond b (with_amount books h.account.0 (thing_at (as_u32 r.thing)) r.amount) books) few
     ∙ ap (λ t. with_amount books h.account.0 t r.amount) h.numbered
 
--- the key of the row of `books` that is written for an account
 abbrev key_of : Account → Key
 key_of a = books_key (books_row a.0 a.1 (pos 0))
 
--- the key of a row that is read as an account (IsBooked) is that of the account's row
 its_key : (things : ℕ) (r : StoredBooks) (h : IsBooked things r) → ◌≡◌ {A = Key} (key_of h.account) (books_key r)
 its_key things r h = ap books_key h.row
 
--- two rows with different keys that are read as accounts (IsBooked) are read as different accounts
 accounts_apart : (things : ℕ) (r s : StoredBooks) (h : IsBooked things r) (k : IsBooked things s) → is_same_key (books_key r) (books_key s) ≡ false → eq_by_cmp account_cmp k.account h.account ≡ false
 accounts_apart things r s h k differ =
     elim (cases_account k.account h.account) [
@@ -120,7 +107,6 @@ accounts_apart things r s h k differ =
 abbrev IsFree : ℕ → BooksValue → StoredBooks → Type 0
 IsFree things books r = (h : IsBooked things r) → get books.amounts h.account ≡ None
 
--- accounts of rows whose keys differ from row r's still have no amount (IsFree) once the amount of r's account is set
 stay_free : (things : ℕ) (books : BooksValue) (r : StoredBooks) (h : IsBooked things r) (rows : List StoredBooks) → AllByRecursion (λ y. is_same_key (books_key r) y ≡ false) (map books_key rows) → AllByRecursion (IsFree things books) rows
     → AllByRecursion (IsFree things (with_amount books h.account.0 h.account.1 r.amount)) rows
 stay_free things books r h [] d free = tt
@@ -144,7 +130,6 @@ putting_adds_rows things (r ∷ rows) books are all d free =
     (IsPermutation-trans (books_rows books ++ r ∷ rows) (r ∷ (books_rows books ++ rows)) last (IsPermutation-middle (books_rows books) r rows)
     (IsPermutation-trans (r ∷ (books_rows books ++ rows)) (books_rows new ++ rows) last step (putting_adds_rows things rows new also all.1 d.1 (stay_free things books r h rows d.0 free.1))))
 
--- in empty books no row's account has an amount (IsFree)
 all_free : (things : ℕ) (rows : List StoredBooks) → AllByRecursion (IsFree things (no_amounts things)) rows
 all_free things [] = tt
 all_free things (r ∷ rows) = (λ h. get-empty {X = ℤ} account_cmp h.account, all_free things rows)

@@ -9,11 +9,11 @@ use Rattle.atl_world.specs.declared.format.Format.TheVariants.{First, Second}
 use Rattle.atl_world.specs.Worlds.{WorldValue, IsWorld}
 use Rattle.atl_state.specs.declared.checking.Rule.{Rule}
 use Rattle.atl_state.specs.declared.checking.Rule.TheVariants.{OneRow, Ranges, Names, Known, Next, Days, Gone, Owners, Water, Guards, Books, Mail}
-use Rattle.atl_campaign.specs.declared.parts.Parts.{Parts}
+use Rattle.atl_rows.specs.declared.parts.Parts.{Parts}
 use Rattle.atl_records.specs.declared.books.BooksEntry.{BooksEntry}
 use Rattle.atl_records.specs.declared.books.Thing.{Thing}
-use Rattle.atl_campaign.specs.declared.parts.StoredBooks.{StoredBooks}
-use Rattle.atl_campaign.specs.declared.parts.StoredCampaignRow.{StoredCampaignRow}
+use Rattle.atl_rows.specs.declared.parts.StoredBooks.{StoredBooks}
+use Rattle.atl_rows.specs.declared.parts.StoredCampaignRow.{StoredCampaignRow}
 use Rattle.atl_state.specs.Checking.{rule_number, KeepsRule, KeepsRulesBelow, IsFirstBroken, Fits}
 use Rattle.std.specs.List.{list_all, AllByRecursion}
 use Rattle.atl_records.specs.Books.{BooksValue, amount_in, AreBooks, entry_index, no_amounts}
@@ -38,34 +38,28 @@ abbrev rule_at : ℕ → Rule
 rule_at n =
     cond (n == 1) OneRow (cond (n == 2) Ranges (cond (n == 3) Names (cond (n == 4) Known (cond (n == 5) Next (cond (n == 6) Days (cond (n == 7) Gone (cond (n == 8) Owners (cond (n == 9) Water (cond (n == 10) Guards (cond (n == 11) Books Mail))))))))))
 
--- the rule that rule_at gives for the number of r is r
 its_rule : (r : Rule) → rule_at (rule_number r) ≡ r
 its_rule OneRow = refl
 its_rule _ = refl
 
--- rules with the same number are equal
 same_rule : (r s : Rule) → rule_number r ≡ rule_number s → r ≡ s
 same_rule r s e = sym (its_rule r) ∙ ap rule_at e ∙ its_rule s
 
--- the number of a rule is at least 1
 rule_number_is_positive : (r : Rule) → 1 ≤ rule_number r
 rule_number_is_positive OneRow = omega arith
 rule_number_is_positive _ = omega arith
 
--- if there is exactly one campaign row by rule 1, the list of campaign rows has length 1
 only_one : (f : Format) (rows : List StoredCampaignRow) → is_one_campaign_row f rows ≡ true → length rows ≡ 1
 only_one f [] h = absurd (false≢true h)
 only_one f (r ∷ []) h = refl
 only_one f (r ∷ other ∷ rows) h = absurd (false≢true h)
 
--- an entry of markets fails the test for an entry of the first format (is_entry_in)
 later_entry : (n : ℕ) → first_entry_count ≤ n → n < 16 → is_entry_in First (as_u32 (pos (n + 1))) ≡ true → ⊥
 later_entry n l small h =
     let read = written_is_read (n + 1) (omega arith) in
     let most = from_le (as_u32 (pos (n + 1))) first_entry_count (and_parts (nat_le 1 (as_u32 (pos (n + 1)))) (nat_le (as_u32 (pos (n + 1))) first_entry_count) h).1 in
     absurd (omega (arith, read, most))
 
--- books whose rows all have entries of the first format have the amount 0 under each entry of markets
 no_amount : (books : BooksValue) → AllByRecursion (λ (r : StoredBooks). is_entry_in First (as_u32 r.entry) ≡ true) (books_rows books) → (e : BooksEntry) (t : Thing) → first_entry_count ≤ entry_index e → amount_in books e t ≡ pos 0
 no_amount books listed e t l =
     elim (get books.amounts (e, t)) as (λ o. get books.amounts (e, t) ≡ o → unwrap_or o (pos 0) ≡ pos 0) [
@@ -74,11 +68,9 @@ no_amount books listed e t l =
     ] refl
 
 module _ (f : Format) (w : WorldValue) (p : Parts) where
-  -- all rules with numbers below 1 are kept, as there are none
   pub below_first : KeepsRulesBelow f w p 1
   below_first r h = absurd (omega (arith, rule_number_is_positive r))
 
-  -- if rule r and all rules with lower numbers are kept, all rules with numbers below the number of r plus 1 are kept
   pub below_next : (r : Rule) → KeepsRulesBelow f w p (rule_number r) → KeepsRule f w p r → KeepsRulesBelow f w p (rule_number r + 1)
   below_next r before holds s h =
       elim (cases_eq (rule_number s) (rule_number r)) [
@@ -86,7 +78,6 @@ module _ (f : Format) (w : WorldValue) (p : Parts) where
         | inr apart ↦ before s (omega arith)
       ]
 
-  -- if the rules below r are kept, and b, which decides whether r is kept, is false, r is the first broken rule
   pub first_broken : (r : Rule) (b : Bool) → KeepsRulesBelow f w p (rule_number r) → Decides b (KeepsRule f w p r) → b ≡ false → IsFirstBroken f w p r
   first_broken r b before d e = record { before = before; broken = λ holds. false≢true (sym e ∙ d.1 holds) }
 
@@ -105,7 +96,6 @@ module _ (f : Format) (w : WorldValue) (p : Parts) where
     booked = (k Books (omega arith)).0;
   }
 
-  -- if rules 1 to 12 are kept, rules 1 to 11 are
   fewer : KeepsRulesBelow f w p 13 → KeepsRulesBelow f w p 12
   fewer k r h = k r (omega arith)
 
@@ -113,20 +103,17 @@ module _ (f : Format) (w : WorldValue) (p : Parts) where
   pub checked-rows : IsWorld w → KeepsRulesBelow f w p 13 → AreRowsOf f (campaign_of w p) p
   checked-rows world k = rows_said f w p (rows_keep world (fewer k))
 
-  -- the campaign read from rows of the first format that keep the rules on rows (RowsKeep) has no stocks
   no_stocks : f ≡ First → RowsKeep f w p → HasNoStocks (campaign_of w p)
   unfolding campaign_of
   no_stocks is rows =
       by_number-every (λ r. as_u32 r.number) (region_of p.markets) (λ n r. r.stocks ≡ empty) region_in_range (λ r good. ap (stocks_of (as_u32 r.number)) (none_in_first f w p rows is)) p.regions (ranges f w p rows).regions
 
-  -- books read from rows of the first format that keep the rules on rows (RowsKeep) have 0 under entries of markets
   first_entries : f ≡ First → RowsKeep f w p → (e : BooksEntry) (t : Thing) → first_entry_count ≤ entry_index e → amount_in (campaign_of w p).books e t ≡ pos 0
   unfolding campaign_of
   first_entries is rows =
       no_amount (with_books_rows p.books (no_amounts (thing_count w))) (each_back (λ r. is_entry_in First (as_u32 r.entry) ≡ true) (books_rows (with_books_rows p.books (no_amounts (thing_count w)))) p.books (books_said f w p rows)
       (each_passes (is_booked f w) (λ r. is_entry_in First (as_u32 r.entry) ≡ true) (λ r h. subst (λ g. is_entry_in g (as_u32 r.entry) ≡ true) is (and_parts (is_entry_in f (as_u32 r.entry)) (nat_lt (as_u32 r.thing) (thing_count w)) h).0) p.books rows.booked))
 
-  -- the format can hold the campaign assembled from rows that keep all rules
   pub checked-fits : IsWorld w → KeepsRulesBelow f w p 13 → Fits f (campaign_of w p)
   checked-fits world k =
       let rows = rows_keep world (fewer k) in
@@ -159,35 +146,26 @@ module _ (f : Format) (w : WorldValue) (p : Parts) where
         reported = (k Mail (omega arith)).1;
       }
 
-  -- ---- facts that checking the later rules requires
-
   -- If rows keep rules 1 to 10, the campaign read from them has at most 1,000,000 units and regions together
   -- (IsCountable).
   pub few-said : KeepsRulesBelow f w p 11 → IsCountable (campaign_of w p)
   few-said k = let range = AreInRange-said w p (k Ranges (omega arith)) in omega (arith, range.few_units, range.few_regions)
 
-  -- If rows keep rules 1 to 10, the books read from them have as many things as the world, and each listed amount is of
-  -- one of these and not 0.
   pub books-said : KeepsRulesBelow f w p 11 → AreBooks (thing_count w) (campaign_of w p).books
   books-said k = (AreInRange-said w p (k Ranges (omega arith))).books
 
-  -- if rows keep rules 1 to 10, the units read from them hold only items of the world
   pub items-said : KeepsRulesBelow f w p 11 → Every (λ n u. Every (λ i amount. i < length w.items) u.holding.items) (campaign_of w p).units
   items-said k n u is = ((k Known (omega arith)).0.units n u is).items
 
-  -- if rows keep rules 1 to 10, the regions read from them have stocks only of their markets
   pub stocks-said : KeepsRulesBelow f w p 11 → Every (λ n r. AreOfMarkets w n r.stocks) (campaign_of w p).regions
   stocks-said k = (k Known (omega arith)).0.markets
 
-  -- if rows keep rules 1 to 7, the region of each unit read from them exists
   pub places-said : KeepsRulesBelow f w p 8 → Every (λ n u. HasValue (campaign_of w p).regions u.region) (campaign_of w p).units
   places-said k n u is = ((k Known (omega arith)).0.units n u is).region
 
-  -- rows that keep rules 1 to 3 have exactly one campaign row
   pub one-said : KeepsRulesBelow f w p 4 → length p.campaign ≡ 1
   one-said k = only_one f p.campaign (k OneRow (omega arith)).0
 
-  -- if rows keep rules 1 to 3, each row of `faction`, `region`, `unit` and `has` is in its ranges
   pub people-said : KeepsRulesBelow f w p 4 → first_tables_in_range p ≡ true
   people-said k =
       let head = campaign_row_in_range (campaign_row_of p) in

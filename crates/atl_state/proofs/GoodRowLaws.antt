@@ -12,10 +12,10 @@ use Rattle.atl_world.specs.ByNumber.{market_of, size_of}
 use Rattle.atl_world.specs.declared.format.Format.{Format}
 use Rattle.atl_world.specs.declared.format.Format.TheVariants.{First, Second}
 use Rattle.atl_orders.specs.Limits.{last_faction}
-use Rattle.atl_campaign.specs.declared.parts.Parts.{Parts}
-use Rattle.atl_campaign.specs.declared.parts.StoredCampaignRow.{StoredCampaignRow}
-use Rattle.atl_campaign.specs.declared.parts.StoredHas.{StoredHas}
-use Rattle.atl_campaign.specs.declared.parts.StoredMarket.{StoredMarket}
+use Rattle.atl_rows.specs.declared.parts.Parts.{Parts}
+use Rattle.atl_rows.specs.declared.parts.StoredCampaignRow.{StoredCampaignRow}
+use Rattle.atl_rows.specs.declared.parts.StoredHas.{StoredHas}
+use Rattle.atl_rows.specs.declared.parts.StoredMarket.{StoredMarket}
 use Rattle.atl_records.specs.declared.records.Faction.{Faction}
 use Rattle.atl_records.specs.declared.records.Region.{Region}
 use Rattle.atl_records.specs.declared.records.Structure.{Structure}
@@ -50,33 +50,27 @@ use Rattle.atl_campaign.proofs.MarketLaws.{market_known}
 few_numbered : {V : Type 0} (m : FinMap nat_cmp V) (next most : ℕ) → IsNumbered m next → len m ≤ most → Every (λ n v. (1 ≤ n) × (n ≤ most)) m
 few_numbered m next most is few n v there = let range = every-from_each (λ n v. (1 ≤ n) × (n < next)) m (each_numbered m next is) n v there in (range.0, omega (arith, range.1, is.count, few))
 
--- each number of a map is at most `most`, if no number from `next` on has a value, and `next` is at most most + 1
 few_before : {V : Type 0} (m : FinMap nat_cmp V) (next most : ℕ) → ((n : ℕ) → next ≤ n → get m n ≡ None) → next ≤ most + 1 → Every (λ n v. n ≤ most) m
 few_before m next most free few n v there = let low = every_before m next free n v there in omega (arith, low, few)
 
--- the numbers of a map fit 32 bits, if they are at most `most`, and `most` fits 32 bits
 small_enough : {V : Type 0} (m : FinMap nat_cmp V) (most : ℕ) → most ≤ most_u32 → Every (λ n v. n ≤ most) m → Every (λ n v. n ≤ most_u32) m
 small_enough m most few every n v there = let here = every n v there in omega (arith, few, here)
 
 -- ---- one row
 
--- a flag that is written into a row as 0 or 1 is read as the same flag
 flag_back : (b : Bool) → is_set (flag b) ≡ b
 flag_back true = refl
 flag_back false = refl
 
--- a number of at most 16 bits is read as it is
 pub read16 : (n : ℕ) → n ≤ most_u16 → as_u16 (pos n) ≡ n
 read16 n h = min_small n most_u16 h
 
--- a faction is read back from its row, if the row is written for its own number, and this fits 32 bits
 faction_back : (n : ℕ) (f : Faction) → n ≤ most_u32 → f.number ≡ n → faction_of (faction_row n f) ≡ f
 faction_back n f few is =
     let number = written_is_read n few ∙ sym is in
     let gone = flag_back f.gone in
     λ i. record { number = number i; joined_as = f.joined_as; name = f.name; pass = f.pass; gone = gone i }
 
--- a region is read back from its row and the rows of its stocks, if its number, peasants and money fit 32 bits
 region_back : (markets : List StoredMarket) (n : ℕ) (r : Region) → n ≤ most_u32 → r.peasants ≤ most_u32 → r.money ≤ most_u32 → stocks_of n markets ≡ r.stocks → region_of markets (region_row n r) ≡ r
 region_back markets n r few p m stocks =
     let peasants = written_is_read r.peasants p in
@@ -86,16 +80,11 @@ region_back markets n r few p m stocks =
 
 -- a structure's kind fits 16 bits, and its region, owner and how much is done 32
 pub record StructureFits (s : Structure) : Type 0 where
-  -- the number of the structure's kind fits 16 bits
   pub kind : s.kind ≤ most_u16
-  -- the number of the structure's region fits 32 bits
   pub region : s.region ≤ most_u32
-  -- how much of the structure is done fits 32 bits
   pub done : s.done ≤ most_u32
-  -- the number of the structure's owner fits 32 bits
   pub owner : s.owner ≤ most_u32
 
--- a structure is read back from its row, if its numbers fit (StructureFits)
 structure_back : (n : ℕ) (s : Structure) → StructureFits s → structure_of (structure_row n s) ≡ s
 structure_back n s h =
     let kind = read16 s.kind h.kind in
@@ -106,18 +95,12 @@ structure_back n s h =
 
 -- a unit's faction, region, structure, men and money fit 32 bits
 pub record UnitFits (u : Unit) : Type 0 where
-  -- the number of the unit's faction fits 32 bits
   pub faction : u.faction ≤ most_u32
-  -- the number of the unit's region fits 32 bits
   pub region : u.region ≤ most_u32
-  -- the number of the unit's structure fits 32 bits
   pub structure : u.structure ≤ most_u32
-  -- the number of the unit's men fits 32 bits
   pub men : u.holding.men ≤ most_u32
-  -- the unit's money fits 32 bits
   pub money : u.holding.money ≤ most_u32
 
--- a unit is read back from its row and the rows of its items and days, if its numbers fit 32 bits (`UnitFits`)
 unit_back : (has : List StoredHas) (n : ℕ) (u : Unit) → n ≤ most_u32 → UnitFits u → things_had n 0 has ≡ u.holding.items → things_had n 1 has ≡ u.holding.days → unit_of has (unit_row n u) ≡ u
 unit_back has n u few h items days =
     let faction = written_is_read u.faction h.faction in
@@ -133,15 +116,12 @@ unit_back has n u few h items days =
 -- ---- a table with a key of one number
 
 module _ {V R : Type 0} (row : ℕ → V → R) (key : R → ℤ) (value : R → V) (keyed : (n : ℕ) (v : V) → key (row n v) ≡ pos n) (m : FinMap nat_cmp V) (few : Every (λ n v. n ≤ most_u32) m) (rows : List R) (h : IsPermutation (rows_by row (entries m)) rows) where
-  -- if number n is below k, the rows that `row` makes for n and for k have different keys
   apart : (n k : ℕ) (v u : V) → n < k → is_same_key (one_key (key (row n v))) (one_key (key (row k u))) ≡ false
   apart n k v u l = ap (λ z. is_same_key (one_key z) (one_key (key (row k u)))) (keyed n v) ∙ ap (λ z. is_same_key (one_key (pos n)) (one_key z)) (keyed k u) ∙ apart_numbers n k l
 
-  -- the rows that `row` makes of the numbers and values of the map `m`, in any order, have distinct keys
   pub table_keys : HaveDistinctKeys (λ r. one_key (key r)) rows
   table_keys = keys_permuted (λ r. one_key (key r)) (rows_by row (entries m)) rows h (rows_apart row (λ a b. is_same_key (one_key (key a)) (one_key (key b))) apart (entries m) (entries_rise m))
 
-  -- the keys of the rows that `row` makes of the map `m`, in any order, fit 32 bits, so they are read as they are
   whole : AllByRecursion (λ r. FitsU32 (key r)) rows
   whole = rows_so row (λ r. FitsU32 (key r)) m rows h (λ n v is. subst FitsU32 (sym (keyed n v)) (written_fits_u32 n (few n v is)))
 
@@ -153,28 +133,23 @@ module _ {V R : Type 0} (row : ℕ → V → R) (key : R → ℤ) (value : R →
 
 -- ---- the campaign's own row
 
--- a list of length 1 whose every row is x is the list of x alone
 list_of_one_row : {R : Type 0} (x : R) (rows : List R) → length rows ≡ 1 → AllByRecursion (λ r. r ≡ x) rows → rows ≡ x ∷ []
 list_of_one_row x [] l all = absurd (omega (arith, l))
 list_of_one_row x (r ∷ []) l all = ap (λ s. s ∷ []) all.0
 list_of_one_row x (r ∷ s ∷ rows) l all = absurd (omega (arith, l))
 
--- if `rows` are the list of x alone in some order, they are that list
 pub only_row : {R : Type 0} (x : R) (rows : List R) → IsPermutation (x ∷ []) rows → rows ≡ x ∷ []
 only_row x rows h = list_of_one_row x rows (length_permutation (x ∷ []) rows h) (each_permuted (λ r. r ≡ x) (x ∷ []) rows h (refl, tt))
 
--- if `rows` are the empty list in some order, they are the empty list
 pub none_listed : {R : Type 0} (rows : List R) → IsPermutation [] rows → rows ≡ []
 none_listed [] h = refl
 none_listed (r ∷ rows) h = let count = length_permutation [] (r ∷ rows) h in absurd (omega (arith, count))
 
 -- ---- what is so of a good campaign's numbers
 
--- a unit's faction, region, structure, men and money fit 32 bits (UnitFits), if they are within their limits
 unit_small_enough : (u : Unit) → u.faction ≤ last_faction → u.region ≤ last_region → u.structure ≤ most_structures → u.holding.men ≤ men_limit → u.holding.money ≤ holding_limit → UnitFits u
 unit_small_enough u f r s m y = record { faction = omega (arith, f); region = omega (arith, r); structure = omega (arith, s); men = omega (arith, m); money = omega (arith, y) }
 
--- a structure's kind fits 16 bits, and its other numbers 32 (StructureFits), if they are within their limits
 structure_small_enough : (w : WorldValue) → IsWorld w → (s : Structure) → s.kind < length w.kinds → s.region ≤ last_region → s.done ≤ size_of w s.kind → s.owner ≤ last_unit → StructureFits s
 structure_small_enough w world s k r d o =
     let kinds = world.few_kinds in
@@ -197,35 +172,27 @@ goods_fit w world u items skills amounts men days (suc s) l i a is =
     (omega (arith, few, at), range.0, omega (arith, range.1, men))
 
 module _ (w : WorldValue) (world : IsWorld w) (c : CampaignValue) (good : IsGood w c) where
-  -- the factions of a good campaign have numbers from 1 to last_faction
   pub few_factions : Every (λ n f. (1 ≤ n) × (n ≤ last_faction)) c.factions
   few_factions = few_numbered c.factions c.next_faction last_faction good.sound.steady.next.factions good.sound.steady.numbers.few_factions
 
-  -- the structures of a good campaign have numbers from 1 to most_structures
   pub few_structures : Every (λ n s. (1 ≤ n) × (n ≤ most_structures)) c.structures
   few_structures = few_numbered c.structures c.next_structure most_structures good.sound.steady.next.structures good.sound.steady.numbers.few_structures
 
-  -- the units of a good campaign have numbers up to last_unit
   pub few_units : Every (λ n u. n ≤ last_unit) c.units
   few_units = few_before c.units c.next_unit last_unit good.sound.steady.next.units good.sound.steady.numbers.next_unit_most
 
-  -- the number of each region of a good campaign is at most last_region
   pub region_small : (n : ℕ) → HasValue c.regions n → n ≤ last_region
   region_small n there = let known = (good.sound.steady.known.regions n).0 there in (world.regions n known.0 known.1).number_most
 
-  -- the number of each faction of a good campaign is at most last_faction
   pub faction_small : (n : ℕ) → HasValue c.factions n → n ≤ last_faction
   faction_small n there = (few_factions n there.0 there.1).1
 
-  -- the number of each unit of a good campaign is at most last_unit
   pub unit_small : (n : ℕ) → HasValue c.units n → n ≤ last_unit
   unit_small n there = few_units n there.0 there.1
 
-  -- the number of each structure of a good campaign is at most most_structures
   pub structure_small : (n : ℕ) → HasValue c.structures n → n ≤ most_structures
   structure_small n there = (few_structures n there.0 there.1).1
 
-  -- the numbers in every unit of a good campaign fit 32 bits (UnitFits)
   unit_fits : Every (λ n u. UnitFits u) c.units
   unit_fits n u is =
       let placed = good.sound.steady.known.units n u is in
@@ -237,33 +204,27 @@ module _ (w : WorldValue) (world : IsWorld w) (c : CampaignValue) (good : IsGood
       let money : u.holding.money ≤ holding_limit = holding.money in
       unit_small_enough u faction region structure men money
 
-  -- the kind of every structure of a good campaign fits 16 bits, and its other numbers 32 (StructureFits)
   pub structure_fits : Every (λ n s. StructureFits s) c.structures
   structure_fits n s is =
       let built = good.sound.steady.known.structures n s is in
       let done = (good.sound.steady.numbers.structures n s is).1 in
       structure_small_enough w world s built.kind (region_small s.region built.region) done (none_or_below c.units s.owner last_unit few_units built.owner)
 
-  -- in a good campaign the numbers of every unit's items and skills fit 32 bits, and each amount is from 1 to most_u32
   goods_few : Every (λ n u. (s : ℕ) → s < 2 → Every (λ i a. (i ≤ most_u32) × (1 ≤ a) × (a ≤ most_u32)) (goods_of s u)) c.units
   goods_few n u is =
       let placed = good.sound.steady.known.units n u is in
       let holding = (good.sound.steady.numbers.units n u is).1 in
       goods_fit w world u placed.items placed.skills holding.items holding.men (good.sound.steady.days n u is)
 
-  -- in a good campaign the numbers of units, items and skills fit 32 bits, and each amount of an item or of days is
-  -- from 1 to most_u32 (`AreHad`)
   pub had : AreHad c.units
   had = record { numbers = small_enough c.units last_unit (omega arith) few_units; goods = goods_few }
 
-  -- the number of an item for which a region has a market fits 32 bits
   item_small : (n i : ℕ) → is_some (market_of w n i) ≡ true → i ≤ most_u32
   item_small n i named =
       let few = world.few_items in
       let below = market_known w world n i named in
       omega (arith, few, below)
 
-  -- in a good campaign the numbers of regions and items in stock fit 32 bits, and stocks are 1 to most_u32 (AreStocked)
   pub stocked : AreStocked c.regions
   stocked = record {
     numbers = λ n r is. let most = region_small n (r, is) in omega (arith, most);
@@ -274,138 +235,110 @@ module _ (w : WorldValue) (world : IsWorld w) (c : CampaignValue) (good : IsGood
   }
 
   module _ (f : Format) (fits : Fits f c) (p : Parts) (rows : AreRowsOf f c p) where
-    -- the rows of `campaign` are a permutation of a list of one row, the campaign row of the good campaign
     head_listed : IsPermutation (campaign_row f c ∷ []) p.campaign
     unfolding rows_of
     head_listed = rows.campaign
 
-    -- the rows of `faction` are those of the good campaign's factions, in any order
     pub factions_listed : IsPermutation (rows_by faction_row (entries c.factions)) p.factions
     unfolding rows_of
     factions_listed = rows.factions
 
-    -- the rows of `region` are those of the good campaign's regions, in any order
     pub regions_listed : IsPermutation (rows_by region_row (entries c.regions)) p.regions
     unfolding rows_of
     regions_listed = rows.regions
 
-    -- the rows of `unit` are those of the good campaign's units, in any order
     pub units_listed : IsPermutation (rows_by unit_row (entries c.units)) p.units
     unfolding rows_of
     units_listed = rows.units
 
-    -- the rows of `has` are those of the goods of the good campaign's units, in any order
     pub has_listed : IsPermutation (has_rows (entries c.units)) p.has
     unfolding rows_of
     has_listed = rows.has
 
-    -- the rows of `structure` are those of the good campaign's structures, in any order
     pub structures_listed : IsPermutation (rows_by structure_row (entries c.structures)) p.structures
     unfolding rows_of
     structures_listed = rows.structures
 
-    -- the rows of `mail` are those of the good campaign's mail, in any order
     pub mail_listed : IsPermutation (rows_by mail_row (entries c.mail)) p.mail
     unfolding rows_of
     mail_listed = rows.mail
 
-    -- the rows of `report` are those of the good campaign's reports, in any order
     pub reports_listed : IsPermutation (rows_by report_row (entries c.reports)) p.reports
     unfolding rows_of
     reports_listed = rows.reports
 
-    -- the rows of `books` are those of the good campaign's books, in any order
     pub books_listed : IsPermutation (books_rows c.books) p.books
     unfolding rows_of
     books_listed = rows.books
 
-    -- the rows of `market` are those of the good campaign's stocks, in the first format none, in any order
     pub markets_listed : IsPermutation (market_rows f (entries c.regions)) p.markets
     unfolding rows_of
     markets_listed = rows.markets
 
-    -- the table `campaign` has just one row, the campaign row of the good campaign
     pub its_head : p.campaign ≡ campaign_row f c ∷ []
     its_head = only_row (campaign_row f c) p.campaign head_listed
 
-    -- the campaign row read from a good campaign's rows is that campaign's
     pub head_said : campaign_row_of p ≡ campaign_row f c
     head_said = ap (λ hs. slice_index_or hs 0 no_campaign_row) its_head
 
-    -- the numbers of a good campaign's factions fit 32 bits
     pub factions_whole : Every (λ n f. n ≤ most_u32) c.factions
     factions_whole n f is = let most : n ≤ last_faction = (few_factions n f is).1 in omega (arith, most)
 
-    -- the numbers of a good campaign's regions fit 32 bits
     pub regions_whole : Every (λ n r. n ≤ most_u32) c.regions
     regions_whole n r is = let most : n ≤ last_region = region_small n (r, is) in omega (arith, most)
 
-    -- the numbers of a good campaign's structures fit 32 bits
     pub structures_whole : Every (λ n s. n ≤ most_u32) c.structures
     structures_whole n s is = let most : n ≤ most_structures = (few_structures n s is).1 in omega (arith, most)
 
-    -- the numbers of the factions of a good campaign's mail fit 32 bits
     pub mail_whole : Every (λ n text. n ≤ most_u32) c.mail
     mail_whole n text is = let most : n ≤ last_faction = faction_small n (good.sound.steady.known.posts.mail n text is) in omega (arith, most)
 
-    -- the numbers of the factions of a good campaign's reports fit 32 bits
     pub reports_whole : Every (λ n text. n ≤ most_u32) c.reports
     reports_whole n text is = let most : n ≤ last_faction = faction_small n (good.sound.steady.known.posts.reports n text is) in omega (arith, most)
 
-    -- the factions read from a good campaign's rows are that campaign's
     factions_said : by_number (λ r. as_u32 r.number) faction_of p.factions ≡ c.factions
     factions_said = table_back faction_row (λ r. r.number) faction_of (λ n f. refl) c.factions factions_whole p.factions factions_listed (λ n f is. faction_back n f (factions_whole n f is) (good.sound.steady.numbers.factions n f is))
 
-    -- an amount up to most_amount fits 32 bits
     amount_small : (n : ℕ) → n ≤ most_amount → n ≤ most_u32
     amount_small n h = omega (arith, h)
 
-    -- if P holds of the row of every listed stock of a good campaign, it holds of each of its rows of `market`
     pub each_market : (P : StoredMarket → Type 0) → Every (λ n r. Every (λ i a. P (market_row n i a)) r.stocks) c.regions → AllByRecursion P p.markets
     each_market P h = elim f as (λ g. IsPermutation (market_rows g (entries c.regions)) p.markets → AllByRecursion P p.markets) [
       | First ↦ λ listed. subst (AllByRecursion P) (sym (none_listed p.markets listed)) tt
       | Second ↦ λ listed. each_permuted P (market_rows Second (entries c.regions)) p.markets listed (stocks_each c.regions P (λ n r there i a is some. h n r there i a is))
     ] markets_listed
 
-    -- the empty list of rows has distinct keys
     no_keys : HaveDistinctKeys market_key []
     unfolding IsDistinct
     no_keys = tt
 
-    -- the rows of `market` of a good campaign have distinct keys
     pub markets_keyed : HaveDistinctKeys market_key p.markets
     markets_keyed = elim f as (λ g. IsPermutation (market_rows g (entries c.regions)) p.markets → HaveDistinctKeys market_key p.markets) [
       | First ↦ λ listed. subst (HaveDistinctKeys market_key) (sym (none_listed p.markets listed)) no_keys
       | Second ↦ λ listed. market_keys c.regions stocked p.markets listed
     ] markets_listed
 
-    -- the stocks read for a region from a good campaign's rows of `market` are those that the region has
     stocks_said : Every (λ n r. stocks_of n p.markets ≡ r.stocks) c.regions
     stocks_said n r is = elim f as (λ g. Fits g c → IsPermutation (market_rows g (entries c.regions)) p.markets → stocks_of n p.markets ≡ r.stocks) [
       | First ↦ λ bare listed. ap (stocks_of n) (none_listed p.markets listed) ∙ sym (bare.stocks n r is)
       | Second ↦ λ _ listed. stocks_back c.regions stocked p.markets listed n r is
     ] fits markets_listed
 
-    -- the regions read from a good campaign's rows are that campaign's
     regions_said : by_number (λ r. as_u32 r.number) (region_of p.markets) p.regions ≡ c.regions
     regions_said =
         table_back region_row (λ r. r.number) (region_of p.markets) (λ n r. refl) c.regions regions_whole p.regions regions_listed (λ n r is.
         let range = good.sound.steady.numbers.regions n r is in
         region_back p.markets n r (regions_whole n r is) (amount_small r.peasants range.peasants) (amount_small r.money range.money) (stocks_said n r is))
 
-    -- the structures read from a good campaign's rows are that campaign's
     structures_said : by_number (λ r. as_u32 r.number) structure_of p.structures ≡ c.structures
     structures_said = table_back structure_row (λ r. r.number) structure_of (λ n s. refl) c.structures structures_whole p.structures structures_listed (λ n s is. structure_back n s (structure_fits n s is))
 
-    -- the mail read from a good campaign's rows is that campaign's
     mail_said : by_number (λ r. as_u32 r.faction) (λ r. r.text) p.mail ≡ c.mail
     mail_said = table_back mail_row (λ r. r.faction) (λ r. r.text) (λ n text. refl) c.mail mail_whole p.mail mail_listed (λ n text is. refl)
 
-    -- the reports read from a good campaign's rows are that campaign's
     reports_said : by_number (λ r. as_u32 r.faction) (λ r. r.text) p.reports ≡ c.reports
     reports_said = table_back report_row (λ r. r.faction) (λ r. r.text) (λ n text. refl) c.reports reports_whole p.reports reports_listed (λ n text is. refl)
 
-    -- the units read from a good campaign's rows are that campaign's
     units_said : by_number (λ r. as_u32 r.number) (unit_of p.has) p.units ≡ c.units
     units_said =
         table_back unit_row (λ r. r.number) (unit_of p.has) (λ n u. refl) c.units had.numbers p.units units_listed (λ n u is.
@@ -415,31 +348,24 @@ module _ (w : WorldValue) (world : IsWorld w) (c : CampaignValue) (good : IsGood
     pub few_things : thing_count w ≤ 4294967294
     few_things = let few = world.few_items in omega (arith, few)
 
-    -- the books read from a good campaign's rows are that campaign's
     books_said : with_books_rows p.books (no_amounts (thing_count w)) ≡ c.books
     books_said = books_back (thing_count w) few_things c.books good.sound.steady.numbers.books p.books books_listed
 
-    -- the month read from a good campaign's rows is that campaign's
     pub month_said : as_u32 (campaign_row_of p).month ≡ c.month
     month_said = let most : c.month ≤ last_month = good.sound.steady.numbers.month in ap (λ (h : StoredCampaignRow). as_u32 h.month) head_said ∙ written_is_read c.month (omega (arith, most))
 
-    -- the next faction number of a good campaign is at most last_faction + 1
     pub faction_next : c.next_faction ≤ last_faction + 1
     faction_next = let count : c.next_faction ≡ len c.factions + 1 = good.sound.steady.next.factions.count in let few : len c.factions ≤ last_faction = good.sound.steady.numbers.few_factions in omega (arith, count, few)
 
-    -- the next structure number of a good campaign is at most most_structures + 1
     pub structure_next : c.next_structure ≤ most_structures + 1
     structure_next = let count : c.next_structure ≡ len c.structures + 1 = good.sound.steady.next.structures.count in let few : len c.structures ≤ most_structures = good.sound.steady.numbers.few_structures in omega (arith, count, few)
 
-    -- the next faction number read from a good campaign's rows is that campaign's
     next_faction_said : as_u32 (campaign_row_of p).next_faction ≡ c.next_faction
     next_faction_said = ap (λ (h : StoredCampaignRow). as_u32 h.next_faction) head_said ∙ written_is_read c.next_faction (omega (arith, faction_next))
 
-    -- the next unit number read from a good campaign's rows is that campaign's
     next_unit_said : as_u32 (campaign_row_of p).next_unit ≡ c.next_unit
     next_unit_said = let most : c.next_unit ≤ last_unit + 1 = good.sound.steady.numbers.next_unit_most in ap (λ (h : StoredCampaignRow). as_u32 h.next_unit) head_said ∙ written_is_read c.next_unit (omega (arith, most))
 
-    -- the next structure number read from a good campaign's rows is that campaign's
     next_structure_said : as_u32 (campaign_row_of p).next_structure ≡ c.next_structure
     next_structure_said = ap (λ (h : StoredCampaignRow). as_u32 h.next_structure) head_said ∙ written_is_read c.next_structure (omega (arith, structure_next))
 

@@ -24,9 +24,9 @@ use Rattle.atl_state.specs.declared.checking.CheckFault.{CheckFault}
 use Rattle.atl_state.specs.declared.checking.CheckFault.TheVariants.{Damaged, Memory}
 use Rattle.atl_state.specs.declared.checking.Rule.{Rule}
 use Rattle.atl_state.specs.declared.checking.Rule.TheVariants.{OneRow, Ranges, Names, Known, Next, Days, Gone, Owners, Water, Guards, Books, Mail}
-use Rattle.atl_campaign.specs.declared.parts.Parts.{Parts}
-use Rattle.atl_campaign.specs.declared.parts.StoredCampaignRow.{StoredCampaignRow}
-use Rattle.atl_campaign.specs.declared.parts.StoredFaction.{StoredFaction}
+use Rattle.atl_rows.specs.declared.parts.Parts.{Parts}
+use Rattle.atl_rows.specs.declared.parts.StoredCampaignRow.{StoredCampaignRow}
+use Rattle.atl_rows.specs.declared.parts.StoredFaction.{StoredFaction}
 use Rattle.atl_records.specs.declared.records.Faction.{Faction}
 use Rattle.atl_records.specs.Books.{amount_in, entry_index, thing_index, IsWithin}
 use Rattle.atl_state.specs.Checking.{KeepsRule, IsWithoutMarkets, Fits, Checks, GivesBack}
@@ -54,72 +54,57 @@ use Rattle.atl_campaign.proofs.KeyLaws.{IsDistinct-map}
 
 -- ---- tests that pass
 
--- a number in a range passes the test is_from
 from_true : (low high n : ℕ) → low ≤ n → n ≤ high → is_from low high (pos n) ≡ true
 from_true low high n l h = let least : nat_le low n ≡ true = grind (arith, nat_tests) in let most : nat_le n high ≡ true = grind (arith, nat_tests) in ap (λ b. b && nat_le n high) least ∙ most
 
--- if a and b are true, `a && b` is true
 and_true : (a b : Bool) → a ≡ true → b ≡ true → (a && b) ≡ true
 and_true a b h k = ap (λ x. x && b) h ∙ k
 
--- a number at most another passes the test nat_le
 le_true : (m n : ℕ) → m ≤ n → nat_le m n ≡ true
 le_true m n h = grind (arith, nat_tests)
 
--- a number below another passes the test nat_lt
 lt_true : (m n : ℕ) → m < n → nat_lt m n ≡ true
 lt_true m n h = grind (arith, nat_tests)
 
--- a flag's number is 0 or 1
 flag_in_range : (b : Bool) → is_from 0 1 (flag b) ≡ true
 flag_in_range true = refl
 flag_in_range false = refl
 
--- an amount within a bound passes the test is_within
 within_true : (bound : ℕ) (z : ℤ) → IsWithin bound z → is_within bound z ≡ true
 within_true bound (pos n) h = let most : n ≤ bound = omega (arith, ints, h.most) in le_true n bound most
 within_true bound (negsuc n) h = let most : suc n ≤ bound = omega (arith, ints, h.least) in le_true (suc n) bound most
 
 -- ---- names that differ
 
--- whether two texts compare equal
 abbrev same_text : List ℕ → List ℕ → Bool
 same_text a b = eq_by_cmp (slice_cmp nat_cmp) a b
 
--- different texts do not compare equal
 text_apart : (a b : List ℕ) → a ≢ b → same_text a b ≡ false
 text_apart a b h = elim (same_text a b) as (λ t. same_text a b ≡ t → same_text a b ≡ false) [ true ↦ λ e. absurd (h ((bytes_eq-Decides a b).0 (sym (is_eq-slice_cmp a b) ∙ e))) | false ↦ λ e. e ] refl
 
--- a faction's joined name compares unequal to those in the rows of listed factions, if all of these have other names
 others_named : (f : Faction) (es : List (ℕ × Faction)) → EachEntry (λ n g. f.joined_as ≢ g.joined_as) es → AllByRecursion (λ (r : StoredFaction). same_text f.joined_as r.joined_as ≡ false) (rows_by faction_row es)
 others_named f [] h = tt
 others_named f (e ∷ es) h = (text_apart f.joined_as e.1.joined_as h.0, others_named f es h.1)
 
--- the rows of factions whose joined names differ have joined names that do not compare equal
 named_apart : (es : List (ℕ × Faction)) → JoinedNamesDiffer es → IsDistinct (λ (a b : StoredFaction). same_text a.joined_as b.joined_as) (rows_by faction_row es)
 unfolding IsDistinct
 named_apart [] h = tt
 named_apart (e ∷ es) h = (others_named e.1 es h.0, named_apart es h.1)
 
--- whether two texts compare equal does not depend on their order
 text_symm : (a b : List ℕ) → same_text a b ≡ same_text b a
 text_symm = (eq_by_cmp_equiv nat_list_cmp_total).symm
 
--- a list of one row, the campaign row of a campaign c in the format f, passes is_one_campaign_row
 head_true : (f : Format) (c : CampaignValue) → is_one_campaign_row f (campaign_row f c ∷ []) ≡ true
 head_true First c = refl
 head_true Second c = refl
 
 module _ (f : Format) (w : WorldValue) (world : IsWorld w) (c : CampaignValue) (good : IsGood w c) (fits : Fits f c) (p : Parts) (rows : AreRowsOf f c p) where
-  -- the campaign assembled from a good campaign's rows is that campaign
   back : campaign_of w p ≡ c
   back = row.state_back w world c good f fits p rows
 
-  -- the rows of a good campaign have one campaign row, with the id 1 and the number of the format
   one_row : is_one_campaign_row f p.campaign ≡ true
   one_row = ap (is_one_campaign_row f) (row.its_head w world c good f fits p rows) ∙ head_true f c
 
-  -- a good campaign has no rows of `market` in the first format
   of_format : are_of_format f p.markets ≡ true
   of_format = elim f as (λ g. IsPermutation (market_rows g (entries c.regions)) p.markets → are_of_format g p.markets ≡ true) [
     | First ↦ λ listed. ap (are_of_format First) (row.none_listed p.markets listed)
@@ -128,7 +113,6 @@ module _ (f : Format) (w : WorldValue) (world : IsWorld w) (c : CampaignValue) (
 
   -- ---- ranges
 
-  -- in each table but `campaign` the rows of a good campaign have distinct keys
   keys : HaveDistinctKeysByTable p
   keys = record {
     factions = row.table_keys faction_row (λ r. r.number) faction_of (λ n f. refl) c.factions (row.factions_whole w world c good f fits p rows) p.factions (row.factions_listed w world c good f fits p rows);
@@ -142,15 +126,12 @@ module _ (f : Format) (w : WorldValue) (world : IsWorld w) (c : CampaignValue) (
     markets = row.markets_keyed w world c good f fits p rows;
   }
 
-  -- there are as many rows of `faction` as the good campaign has factions
   faction_count : length p.factions ≡ len c.factions
   faction_count = count_rows faction_row c.factions p.factions (row.factions_listed w world c good f fits p rows)
 
-  -- a number equal to one that is at most `most` passes the test nat_le against `most`
   fewer : (m n most : ℕ) → m ≡ n → n ≤ most → nat_le m most ≡ true
   fewer m n most e h = le_true m most (omega (arith, e, h))
 
-  -- a good campaign has not too many rows of `faction`, `region`, `unit` and `structure` (are_few)
   few : are_few p ≡ true
   few =
       let factions = fewer (length p.factions) (len c.factions) last_faction faction_count good.sound.steady.numbers.few_factions in
@@ -159,15 +140,12 @@ module _ (f : Format) (w : WorldValue) (world : IsWorld w) (c : CampaignValue) (
       let structures = fewer (length p.structures) (len c.structures) most_structures (count_rows structure_row c.structures p.structures (row.structures_listed w world c good f fits p rows)) good.sound.steady.numbers.few_structures in
       and_true _ _ (and_true _ _ (and_true _ _ factions regions) units) structures
 
-  -- a number that is one more than another is at least 1
   at_least_one : (n m : ℕ) → n ≡ m + 1 → 1 ≤ n
   at_least_one n m e = omega (arith, e)
 
-  -- each number is at least 0
   none_less : (n : ℕ) → 0 ≤ n
   none_less n = omega arith
 
-  -- the campaign row of a good campaign has month and next numbers in their ranges (campaign_row_in_range)
   head_ranges : campaign_row_in_range (campaign_row_of p) ≡ true
   head_ranges =
       ap campaign_row_in_range (row.head_said w world c good f fits p rows)
@@ -176,19 +154,16 @@ module _ (f : Format) (w : WorldValue) (world : IsWorld w) (c : CampaignValue) (
       (from_true 1 (last_unit + 1) c.next_unit good.sound.steady.numbers.next_unit_least good.sound.steady.numbers.next_unit_most))
       (from_true 1 (most_structures + 1) c.next_structure (at_least_one c.next_structure (len c.structures) good.sound.steady.next.structures.count) (row.structure_next w world c good f fits p rows))
 
-  -- each row of `faction` of a good campaign is in its ranges (faction_in_range)
   faction_ranges : list_all faction_in_range p.factions ≡ true
   faction_ranges =
       rows_pass faction_row faction_in_range c.factions p.factions (row.factions_listed w world c good f fits p rows) (λ n f is.
       let range = row.few_factions w world c good n f is in and_true _ _ (from_true 1 last_faction n range.0 range.1) (flag_in_range f.gone))
 
-  -- each row of `region` of a good campaign is in its ranges (region_in_range)
   region_ranges : list_all region_in_range p.regions ≡ true
   region_ranges =
       rows_pass region_row region_in_range c.regions p.regions (row.regions_listed w world c good f fits p rows) (λ n r is.
       let range = good.sound.steady.numbers.regions n r is in and_true _ _ (from_true 0 most_amount r.peasants (none_less r.peasants) range.peasants) (from_true 0 most_amount r.money (none_less r.money) range.money))
 
-  -- each row of `unit` of a good campaign is in its ranges (unit_in_range)
   unit_ranges : list_all unit_in_range p.units ≡ true
   unit_ranges =
       rows_pass unit_row unit_in_range c.units p.units (row.units_listed w world c good f fits p rows) (λ n u is.
@@ -196,19 +171,16 @@ module _ (f : Format) (w : WorldValue) (world : IsWorld w) (c : CampaignValue) (
       and_true _ _ (and_true _ _ (and_true _ _ (from_true 1 last_unit n range.0 (row.few_units w world c good n u is)) (from_true 1 men_limit u.holding.men (good.sound.men n u is) range.1.men))
       (from_true 0 holding_limit u.holding.money (none_less u.holding.money) range.1.money)) (flag_in_range u.holding.guard))
 
-  -- each row of `has` of a good campaign is in its ranges (has_in_range)
   has_ranges : list_all has_in_range p.has ≡ true
   has_ranges =
       all_pass has_in_range (λ r. has_in_range r ≡ true) (λ r e. e) p.has (each_permuted (λ r. has_in_range r ≡ true) (has_rows (entries c.units)) p.has (row.has_listed w world c good f fits p rows)
       (has_each c.units (λ r. has_in_range r ≡ true) (λ n u there s l i a is some. in_range n s i a l (λ item. (good.sound.steady.numbers.units n u there).1.items i a (subst (λ k. get (goods_of k u) i ≡ Some a) item is)))))
     where
-      -- a row of `has` is in range, if its sort is 0 or 1, and an item's amount is from 1 to holding_limit
       in_range : (n s i a : ℕ) → s < 2 → (s ≡ 0 → (1 ≤ a) × (a ≤ holding_limit)) → has_in_range (has_row n s i a) ≡ true
       in_range n zero i a l h = let range = h refl in from_true 1 holding_limit a range.0 range.1
       in_range n (suc zero) i a l h = refl
       in_range n (suc (suc s)) i a l h = absurd (omega (arith, l))
 
-  -- each row of `structure` of a good campaign is in its ranges (structure_in_range)
   structure_ranges : list_all (structure_in_range w) p.structures ≡ true
   structure_ranges =
       rows_pass structure_row (structure_in_range w) c.structures p.structures (row.structures_listed w world c good f fits p rows) (λ n s is.
@@ -217,12 +189,10 @@ module _ (f : Format) (w : WorldValue) (world : IsWorld w) (c : CampaignValue) (
       let kind = row.read16 s.kind (row.structure_fits w world c good n s is).kind in
       and_true _ _ (from_true 1 most_structures n range.0 range.1) (ap (λ k. is_from 1 (size_of w k) (pos s.done)) kind ∙ from_true 1 (size_of w s.kind) s.done done.0 done.1))
 
-  -- the bound on amounts of the books that rows give (books_bound) is that of their campaign (amount_bound)
   bound_said : books_bound p ≡ amount_bound c
   bound_said =
       ap (λ m. most_in_month * (m + 1) + most_in_joining * length p.factions) (row.month_said w world c good f fits p rows) ∙ ap (λ n. most_in_month * (c.month + 1) + most_in_joining * n) faction_count
 
-  -- no amount of a row of `books` is 0, and all are within the campaign's bound (amount_bound)
   amounts_in_range : list_all (books_in_range (amount_bound c)) p.books ≡ true
   amounts_in_range =
       all_pass (books_in_range (amount_bound c)) (λ r. books_in_range (amount_bound c) r ≡ true) (λ r e. e) p.books
@@ -231,11 +201,9 @@ module _ (f : Format) (w : WorldValue) (world : IsWorld w) (c : CampaignValue) (
       let some = nonzero_fails_is_zero z (good.sound.steady.numbers.books.listed e t z is).1 in
       and_true _ _ (not_from_false (is_zero z) some) (within_true (amount_bound c) z (subst (IsWithin (amount_bound c)) (listed_amount_is_amount_in c.books e t z is) (good.sound.amounts e t))))))
 
-  -- no amount of a row of `books` is 0, and all are within the bound read from the rows (books_bound)
   book_ranges : list_all (books_in_range (books_bound p)) p.books ≡ true
   book_ranges = ap (λ bound. list_all (books_in_range bound) p.books) bound_said ∙ amounts_in_range
 
-  -- each row of `market` of a good campaign has a stock in its range (market_in_range)
   market_ranges : list_all (market_in_range w) p.markets ≡ true
   market_ranges =
       all_pass (market_in_range w) (λ m. market_in_range w m ≡ true) (λ m e. e) p.markets (row.each_market w world c good f fits p rows (λ m. market_in_range w m ≡ true) (λ n r there i a is.
@@ -266,13 +234,11 @@ module _ (f : Format) (w : WorldValue) (world : IsWorld w) (c : CampaignValue) (
 
   -- ---- what rows say of other rows
 
-  -- each row of `has` of a good campaign is of a unit that is there
   of_units : list_all (is_of_unit c) p.has ≡ true
   of_units =
       all_pass (is_of_unit c) (λ r. is_of_unit c r ≡ true) (λ r e. e) p.has (each_permuted (λ r. is_of_unit c r ≡ true) (has_rows (entries c.units)) p.has (row.has_listed w world c good f fits p rows)
       (has_each c.units (λ r. is_of_unit c r ≡ true) (λ n u there s l i a is some. ap (λ k. is_some (get c.units k)) (written_is_read n ((row.had w world c good).numbers n u there)) ∙ ap is_some there)))
 
-  -- each row of `market` of a good campaign is of a market of the world
   of_markets : list_all (is_of_market w) p.markets ≡ true
   of_markets =
       all_pass (is_of_market w) (λ m. is_of_market w m ≡ true) (λ m e. e) p.markets (row.each_market w world c good f fits p rows (λ m. is_of_market w m ≡ true) (λ n r there i a is.
@@ -283,24 +249,20 @@ module _ (f : Format) (w : WorldValue) (world : IsWorld w) (c : CampaignValue) (
   entry_few : (e : BooksEntry) (t : Thing) → amount_in c.books e t ≢ pos 0 → entry_index e < entries_in f
   entry_few e t some = elim f as (λ g. Fits g c → entry_index e < entries_in g) [ First ↦ λ bare. early bare | Second ↦ λ _. entry_small e ] fits
     where
-      -- in a campaign without stocks and amounts of markets, an entry with an amount not 0 is one of the first format
       early : IsWithoutMarkets c → entry_index e < first_entry_count
       early bare = elim (cases_lt (entry_index e) first_entry_count) [ inl few ↦ few | inr late ↦ absurd (some (bare.entries e t late)) ]
 
-  -- the number of an entry of the format passes the test is_entry_in
   entry_true : (e : ℕ) → e < entries_in f → e < entry_count → is_entry_in f (as_u32 (pos (e + 1))) ≡ true
   entry_true e few small =
       let least : nat_le 1 (e + 1) ≡ true = le_true 1 (e + 1) (omega arith) in
       ap (is_entry_in f) (written_is_read (e + 1) (omega arith)) ∙ and_true _ _ least (le_true (e + 1) (entries_in f) (omega (arith, few)))
 
-  -- the number of a thing of the world, as it is read from a row, is below how many things the world has
   thing_true : (t : ℕ) → t < thing_count w → nat_lt (as_u32 (pos t)) (thing_count w) ≡ true
   thing_true t inside =
       let few = row.few_things w world c good f fits p rows in
       let read = written_is_read t (omega (arith, few)) in
       lt_true (as_u32 (pos t)) (thing_count w) (omega (arith, read))
 
-  -- each row of `books` of a good campaign is of an entry of the format and a thing of the world
   of_books : list_all (is_booked f w) p.books ≡ true
   of_books =
       all_pass (is_booked f w) (λ r. is_booked f w r ≡ true) (λ r e. e) p.books (each_permuted (λ r. is_booked f w r ≡ true) (books_rows c.books) p.books (row.books_listed w world c good f fits p rows)
@@ -309,7 +271,6 @@ module _ (f : Format) (w : WorldValue) (world : IsWorld w) (c : CampaignValue) (
       let few = entry_few e t (λ none. some (sym (listed_amount_is_amount_in c.books e t z is) ∙ none)) in
       and_true _ _ (entry_true (entry_index e) few (entry_small e)) (thing_true (thing_index t) inside))))
 
-  -- if P holds of a good campaign, it holds of the campaign assembled from its rows
   said : (P : CampaignValue → Type 0) → P c → P (campaign_of w p)
   said P h = subst P (sym back) h
 

@@ -20,28 +20,23 @@ use Rattle.atl_records.proofs.EveryLaws.{none_some, passes-listed}
 
 -- ---- a number that is listed
 
--- a number is in a list of numbers
 abbrev IsListed : ℕ → List ℕ → Type 0
 IsListed n [] = ⊥
 IsListed n (m ∷ ms) = (n ≡ m) ⊎ IsListed n ms
 
--- a number in a list is at some index of it
 position_of : (n : ℕ) (ns : List ℕ) → IsListed n ns → (i : ℕ) × (i < length ns) × (get_or ns i 0 ≡ n)
 position_of n [] h = absurd h
 position_of n (m ∷ ms) (inl same) = (0, omega arith, sym same)
 position_of n (m ∷ ms) (inr h) = let (i, l, is) = position_of n ms h in (suc i, omega (arith, l), is)
 
 module _ {V : Type 0} (p : V → Bool) where
-  -- the numbers of the entries whose values pass the test p
   abbrev chosen : List (ℕ × V) → List ℕ
   chosen es = map (λ e. e.0) (filter (λ e. p e.1) es)
 
-  -- a number in a list is still in it when k is put in front (if b is true), or nothing is (if b is false)
   still_in : (b : Bool) (n k : ℕ) (ns : List ℕ) → IsListed n ns → IsListed n (cond b (k ∷ ns) ns)
   still_in true n k ns h = inr h
   still_in false n k ns h = h
 
-  -- if a value is found in entries and passes the test, its number is among those that pass (`chosen`)
   chosen_in : (es : List (ℕ × V)) (n : ℕ) (v : V) → find nat_cmp n es ≡ Some v → p v ≡ true → IsListed n (chosen es)
   chosen_in [] n v is h = none_some v is
   chosen_in (e ∷ es) n v is h =
@@ -51,21 +46,17 @@ module _ {V : Type 0} (p : V → Bool) where
         | Greater ↦ λ _ is. still_in (p e.1) n e.0 (chosen es) (chosen_in es n v is h)
       ] refl is)
 
-  -- a number whose value passes the test is in the list that numbers_where gives
   listed : (m : FinMap nat_cmp V) (n : ℕ) (v : V) → get m n ≡ Some v → p v ≡ true → IsListed n (numbers_where p m)
   listed m n v is h = chosen_in (entries m) n v (sym (get-entries m n) ∙ is) h
 
-  -- a number in the list that numbers_where gives has a value that passes the test
   of_listed : (m : FinMap nat_cmp V) (n : ℕ) → IsListed n (numbers_where p m) → (v : V) × (get m n ≡ Some v) × (p v ≡ true)
   of_listed m n h = let (i, l, is) = position_of n (numbers_where p m) h in subst (λ k. (v : V) × (get m k ≡ Some v) × (p v ≡ true)) is (passes-listed p m i 0 l)
 
 -- ---- the faction that guards a region, its holder
 
--- the numbers x and y are equal, if Some x and Some y are
 same_value : (x y : ℕ) → Some x ≡ Some y → x ≡ y
 same_value x y e = cc
 
--- the test `agree` of two options is true, if their values, where both have one, are equal
 agree_true : (a b : Option ℕ) → ((x y : ℕ) → a ≡ Some x → b ≡ Some y → x ≡ y) → agree a b ≡ true
 agree_true None b h = refl
 agree_true (Some x) None h = refl
@@ -78,7 +69,6 @@ module _ (faction : ℕ → Option ℕ) where
   like_holder x (m ∷ ms) h n y (inl same) is = (Decides-eqb y x).0 (ap (λ o. agree o (Some x)) (sym (ap faction (sym same) ∙ is)) ∙ (and_parts _ _ h).0)
   like_holder x (m ∷ ms) h n y (inr mine) is = like_holder x ms (and_parts _ _ h).1 n y mine is
 
-  -- any two numbers of a list that have a faction have the same faction
   abbrev Alike : List ℕ → Type 0
   Alike ns = (n k x y : ℕ) → IsListed n ns → IsListed k ns → faction n ≡ Some x → faction k ≡ Some y → x ≡ y
 
@@ -88,12 +78,10 @@ module _ (faction : ℕ → Option ℕ) where
   first_holds m z ms first h n x (inl same) is = same_value x z (sym is ∙ ap faction same ∙ first)
   first_holds m z ms first h n x (inr mine) is = like_holder z ms h n x mine is
 
-  -- if a list's first number has no faction, each number of the list that has one is in the rest
   not_first : (m : ℕ) (ms : List ℕ) → faction m ≡ None → (n x : ℕ) → IsListed n (m ∷ ms) → faction n ≡ Some x → IsListed n ms
   not_first m ms none n x (inl same) is = none_some x (sym none ∙ ap faction (sym same) ∙ is)
   not_first m ms none n x (inr mine) is = mine
 
-  -- if a list passes one_holder, all its numbers that have a faction have the same faction (Alike)
   alike : (ns : List ℕ) → one_holder faction None ns ≡ true → Alike ns
   alike [] h n k x y a b is js = absurd a
   alike (m ∷ ms) h n k x y a b is js =
@@ -122,16 +110,13 @@ module _ (faction : ℕ → Option ℕ) where
 
 -- ---- the guards of all regions
 
--- guard_of gives the faction of a unit that guards
 guard_of_guarding_unit : (c : CampaignValue) (n : ℕ) (u : Unit) → get c.units n ≡ Some u → guards u ≡ true → guard_of c n ≡ Some u.faction
 guard_of_guarding_unit c n u is on = ap (option_and_then (λ (v : Unit). cond (guards v) (Some v.faction) None)) is ∙ ap (λ b. cond b (Some u.faction) None) on
 
--- if `cond b (Some f) None` is Some x, b is true and f is x
 cond_some_means_true : (b : Bool) (f x : ℕ) → cond b (Some f) None ≡ Some x → (b ≡ true) × (f ≡ x)
 cond_some_means_true true f x e = (refl, same_value f x e)
 cond_some_means_true false f x e = none_some x e
 
--- if guard_of gives x for a unit, the unit guards and is of faction x
 guard_means_unit_guards : (c : CampaignValue) (n x : ℕ) (u : Unit) → get c.units n ≡ Some u → guard_of c n ≡ Some x → (guards u ≡ true) × (u.faction ≡ x)
 guard_means_unit_guards c n x u is e = cond_some_means_true (guards u) u.faction x (sym (ap (option_and_then (λ (v : Unit). cond (guards v) (Some v.faction) None)) is) ∙ e)
 
@@ -149,11 +134,9 @@ guards_are_of_one_faction c placed held n u is m v there on also same =
     alike (guard_of c) (numbers_in_region r c.units) (held r x known) n m u.faction v.faction (listed (λ (w : Unit). w.region == r) c.units n u is (here.1 refl)) (listed (λ (w : Unit). w.region == r) c.units m v there (others.1 (sym same)))
     (guard_of_guarding_unit c n u is on) (guard_of_guarding_unit c m v there also)
 
--- the guards in each region's list are of one faction, if those of each region are
 pub lists_are_held_by_one : (c : CampaignValue) → AreOfOneFaction guards c → Every (λ r x. IsHeldByOne c r) c.regions
 lists_are_held_by_one c one r x known = hold (guard_of c) None (numbers_in_region r c.units) alike_here (λ n y z mine is e. none_some z e)
   where
-    -- the guards in the list of region r are of one faction
     alike_here : Alike (guard_of c) (numbers_in_region r c.units)
     alike_here n k y z a b is js =
         let (u, there, here) = of_listed (λ (w : Unit). w.region == r) c.units n a in

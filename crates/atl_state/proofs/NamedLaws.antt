@@ -12,11 +12,11 @@ use Rattle.atl_world.specs.Names.{name_ok, pass_ok}
 use Rattle.atl_world.specs.Worlds.{WorldValue}
 use Rattle.atl_world.specs.declared.format.Format.{Format}
 use Rattle.atl_records.specs.Limits.{most_in_joining, most_in_month}
-use Rattle.atl_campaign.specs.declared.parts.Parts.{Parts}
-use Rattle.atl_campaign.specs.declared.parts.StoredFaction.{StoredFaction}
-use Rattle.atl_campaign.specs.declared.parts.StoredUnit.{StoredUnit}
-use Rattle.atl_campaign.specs.declared.parts.StoredStructure.{StoredStructure}
-use Rattle.atl_campaign.specs.declared.parts.StoredBooks.{StoredBooks}
+use Rattle.atl_rows.specs.declared.parts.Parts.{Parts}
+use Rattle.atl_rows.specs.declared.parts.StoredFaction.{StoredFaction}
+use Rattle.atl_rows.specs.declared.parts.StoredUnit.{StoredUnit}
+use Rattle.atl_rows.specs.declared.parts.StoredStructure.{StoredStructure}
+use Rattle.atl_rows.specs.declared.parts.StoredBooks.{StoredBooks}
 use Rattle.atl_records.specs.declared.records.Faction.{Faction}
 use Rattle.atl_records.specs.declared.books.BooksEntry.{BooksEntry}
 use Rattle.atl_records.specs.declared.books.Thing.{Thing}
@@ -34,24 +34,19 @@ use Rattle.atl_state.proofs.SaidLaws.{RowsKeep, factions_apart, all_booked, rang
 
 -- ---- joined names
 
--- whether two texts compare equal
 abbrev same_text : List ℕ → List ℕ → Bool
 same_text a b = eq_by_cmp (slice_cmp nat_cmp) a b
 
--- a text compares equal to itself
 text_itself : (a : List ℕ) → same_text a a ≡ true
 text_itself a = (eq_by_cmp_equiv nat_list_cmp_total).refl a
 
--- the factions f and g are equal, if Some f and Some g are
 some_same : (f g : Faction) → Some f ≡ Some g → f ≡ g
 some_same f g e = cc
 
 module _ (m : FinMap nat_cmp Faction) where
-  -- the number of a faction's row, as it is read
   abbrev number : StoredFaction → ℕ
   number r = as_u32 r.number
 
-  -- the map `m` of factions has, under the number of a row, the faction that is read from the row
   abbrev Found : StoredFaction → Type 0
   Found r = get m (number r) ≡ Some (faction_of r)
 
@@ -60,14 +55,12 @@ module _ (m : FinMap nat_cmp Faction) where
   its_name : (r : StoredFaction) (n : ℕ) (f : Faction) → Found r → number r ≡ n → get m n ≡ Some f → r.joined_as ≡ f.joined_as
   its_name r n f found e is = ap (λ (x : Faction). x.joined_as) (some_same (faction_of r) f (sym found ∙ ap (get m) e ∙ is))
 
-  -- a name that differs from the joined names of all rows differs from that of each faction read from one of the rows
   later_differs : (name : List ℕ) (rows : List StoredFaction) (n : ℕ) (f : Faction) → AllByRecursion (λ y. same_text name y ≡ false) (map (λ r. r.joined_as) rows) → AllByRecursion Found rows → HasNumber number rows n → get m n ≡ Some f
       → same_text name f.joined_as ≡ false
   later_differs name [] n f d all there is = absurd there
   later_differs name (r ∷ rows) n f d all (inl e) is = ap (same_text name) (sym (its_name r n f all.0 e is)) ∙ d.0
   later_differs name (r ∷ rows) n f d all (inr there) is = later_differs name rows n f d.1 all.1 there is
 
-  -- equal texts do not compare as different: both together are impossible
   clash : (a b : List ℕ) → a ≡ b → same_text a b ≡ false → ⊥
   clash a b e d = false≢true (sym (ap (same_text a) e ∙ d) ∙ text_itself a)
 
@@ -83,21 +76,17 @@ module _ (m : FinMap nat_cmp Faction) where
 
 -- ---- amounts
 
--- an amount that passes the test is_within is from -bound to bound (IsWithin)
 passing_is_within : (bound : ℕ) (z : ℤ) → is_within bound z ≡ true → IsWithin bound z
 passing_is_within bound (pos n) h = let most : n ≤ bound = from_le n bound h in record { most = omega (arith, ints); least = omega (arith, ints) }
 passing_is_within bound (negsuc n) h = let most : suc n ≤ bound = from_le (suc n) bound h in record { most = omega (arith, ints); least = omega (arith, ints) }
 
--- each amount of the books is from -bound to bound (IsWithin)
 abbrev AreAllWithin : ℕ → BooksValue → Type 0
 AreAllWithin bound books = (e : BooksEntry) (t : Thing) → IsWithin bound (amount_in books e t)
 
--- if the amounts of books and an amount z are from -bound to bound, so are those of the books once z is set
 within-with_amount : (bound : ℕ) (books : BooksValue) (e : BooksEntry) (t : Thing) (z : ℤ) → IsWithin bound z → AreAllWithin bound books → AreAllWithin bound (with_amount books e t z)
 within-with_amount bound books e t z here old f u =
     subst (IsWithin bound) (sym (amount-with_amount books e t z f u)) (elim (eq_by_cmp account_cmp (f, u) (e, t)) as (λ b. IsWithin bound (cond b z (amount_in books f u))) [ true ↦ here | false ↦ old f u ])
 
--- if the amounts of books and of rows are from -bound to bound, so are those of the books once the rows are put in
 within-put : (things bound : ℕ) (rows : List StoredBooks) (books : BooksValue) → AreBooks things books → AllByRecursion (IsBooked things) rows → AllByRecursion (λ r. IsWithin bound r.amount) rows → AreAllWithin bound books → AreAllWithin bound (with_books_rows rows books)
 within-put things bound [] books are booked here old = old
 within-put things bound (r ∷ rows) books are booked here old =
@@ -105,12 +94,10 @@ within-put things bound (r ∷ rows) books are booked here old =
     subst (λ b. AreAllWithin bound (with_books_rows rows b)) (sym (with_booked_row things books r are booked.0))
     (within-put things bound rows (with_amount books a.0 a.1 r.amount) (AreBooks-with_amount books a.0 a.1 r.amount things are (account_there things r booked.0)) booked.1 here.1 (within-with_amount bound books a.0 a.1 r.amount here.0 old))
 
--- the amounts of books that were just made (`no_amounts`), which are 0, are from -bound to bound for each bound
 within-no_amounts : (things bound : ℕ) → AreAllWithin bound (no_amounts things)
 within-no_amounts things bound e t = subst (IsWithin bound) (sym (amount-no_amounts things e t)) (record { most = omega (arith, ints); least = omega (arith, ints) })
 
 module _ (f : Format) (w : WorldValue) (p : Parts) (k : RowsKeep f w p) where
-  -- the factions assembled from the rows
   factions : FinMap nat_cmp Faction
   factions = by_number (λ r. as_u32 r.number) faction_of p.factions
 
@@ -136,20 +123,16 @@ module _ (f : Format) (w : WorldValue) (p : Parts) (k : RowsKeep f w p) where
         structures = by_number-every (λ r. as_u32 r.number) structure_of (λ n s. name_ok s.name ≡ true) (λ r. name_ok r.name) (λ r e. e) p.structures outer.1;
       }
 
-  -- the bound on amounts of the books of the campaign assembled from rows (`amount_bound`) is that of the rows
-  -- (`books_bound`)
   same_bound : amount_bound (campaign_of w p) ≡ books_bound p
   unfolding campaign_of
   same_bound = ap (λ n. most_in_month * (as_u32 (campaign_row_of p).month + 1) + most_in_joining * n) (same_count (λ r. as_u32 r.number) faction_of p.factions (factions_apart f w p k))
 
-  -- the amounts of the books assembled from rows are within the bound that the rows give (`books_bound`)
   below : AreAllWithin (books_bound p) (with_books_rows p.books (no_amounts (thing_count w)))
   below =
       within-put (thing_count w) (books_bound p) p.books (no_amounts (thing_count w)) (AreBooks-no_amounts (thing_count w)) (all_booked f w p k)
       (each_passes (books_in_range (books_bound p)) (λ r. IsWithin (books_bound p) r.amount) (λ r h. passing_is_within (books_bound p) r.amount (and_parts (not (is_zero r.amount)) (is_within (books_bound p) r.amount) h).1) p.books (ranges f w p k).books)
       (within-no_amounts (thing_count w) (books_bound p))
 
-  -- the amounts of the books of the campaign assembled from rows are within their bound (`amount_bound`)
   pub AreAmountsWithin-said : AreAmountsWithin (campaign_of w p)
   unfolding campaign_of
   AreAmountsWithin-said e t = subst (λ bound. IsWithin bound (amount_in (with_books_rows p.books (no_amounts (thing_count w))) e t)) (sym same_bound) (below e t)

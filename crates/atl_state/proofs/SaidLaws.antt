@@ -19,15 +19,15 @@ use Rattle.atl_world.specs.declared.world.Market.{Market}
 use Rattle.atl_world.specs.declared.world.RegionPlan.{RegionPlan}
 use Rattle.atl_world.specs.ByNumber.{market_of, size_of}
 use Rattle.atl_orders.specs.Limits.{last_faction}
-use Rattle.atl_campaign.specs.declared.parts.Parts.{Parts}
-use Rattle.atl_campaign.specs.declared.parts.StoredCampaignRow.{StoredCampaignRow}
-use Rattle.atl_campaign.specs.declared.parts.StoredFaction.{StoredFaction}
-use Rattle.atl_campaign.specs.declared.parts.StoredRegion.{StoredRegion}
-use Rattle.atl_campaign.specs.declared.parts.StoredUnit.{StoredUnit}
-use Rattle.atl_campaign.specs.declared.parts.StoredHas.{StoredHas}
-use Rattle.atl_campaign.specs.declared.parts.StoredStructure.{StoredStructure}
-use Rattle.atl_campaign.specs.declared.parts.StoredBooks.{StoredBooks}
-use Rattle.atl_campaign.specs.declared.parts.StoredMarket.{StoredMarket}
+use Rattle.atl_rows.specs.declared.parts.Parts.{Parts}
+use Rattle.atl_rows.specs.declared.parts.StoredCampaignRow.{StoredCampaignRow}
+use Rattle.atl_rows.specs.declared.parts.StoredFaction.{StoredFaction}
+use Rattle.atl_rows.specs.declared.parts.StoredRegion.{StoredRegion}
+use Rattle.atl_rows.specs.declared.parts.StoredUnit.{StoredUnit}
+use Rattle.atl_rows.specs.declared.parts.StoredHas.{StoredHas}
+use Rattle.atl_rows.specs.declared.parts.StoredStructure.{StoredStructure}
+use Rattle.atl_rows.specs.declared.parts.StoredBooks.{StoredBooks}
+use Rattle.atl_rows.specs.declared.parts.StoredMarket.{StoredMarket}
 use Rattle.atl_records.specs.declared.records.Region.{Region}
 use Rattle.atl_records.specs.declared.records.Unit.{Unit}
 use Rattle.atl_records.specs.Books.{no_amounts}
@@ -51,7 +51,6 @@ use Rattle.atl_campaign.proofs.MapOfRowsLaws.{HaveDistinctNumbers, HasNumber, Ha
 
 -- ---- numbers that are read as they are
 
--- if the minimum of n and m is below m, it is n
 min_less : (n m : ℕ) → min n m < m → min n m ≡ n
 min_less n m h = grind arith
 
@@ -60,29 +59,24 @@ pub whole_below : (z : ℤ) → as_u32 z < most_u32 → FitsU32 z
 whole_below (pos n) h = ap pos (sym (min_less n most_u32 h))
 whole_below (negsuc n) h = absurd (omega arith)
 
--- if reading a row's number as one of 16 bits gives less than most_u16, the number is read as it is
 whole16 : (z : ℤ) → as_u16 z < most_u16 → z ≡ pos (as_u16 z)
 whole16 (pos n) h = ap pos (sym (min_less n most_u16 h))
 whole16 (negsuc n) h = absurd (omega arith)
 
--- if a row's number for a flag is 0 or 1, writing the flag that is read from it gives this number again
 flag_whole : (z : ℤ) → is_from 0 1 z ≡ true → flag (is_set z) ≡ z
 flag_whole (pos zero) h = refl
 flag_whole (pos (suc zero)) h = refl
 flag_whole (pos (suc (suc n))) h = let most = from_le (suc (suc n)) 1 (and_parts (nat_le 0 (suc (suc n))) (nat_le (suc (suc n)) 1) h).1 in absurd (omega arith)
 flag_whole (negsuc n) h = absurd (false≢true h)
 
--- if two keys of one number each differ, and both numbers fit 32 bits (IsWhole), different numbers are read
 pub one_apart : (x y : ℤ) → FitsU32 x → FitsU32 y → is_same_key (one_key x) (one_key y) ≡ false → as_u32 y ≢ as_u32 x
 one_apart x y a b d e =
     let one : x ≡ y = a ∙ ap pos (sym e) ∙ sym b in
     false≢true (sym (ap (λ z. is_same_key (one_key x) (one_key z)) one ∙ d) ∙ ties_itself (one_key x))
 
--- a number that has a value in a map is at most `most`, if all numbers of the map are
 pub there_below : {V : Type 0} (m : FinMap nat_cmp V) (n most : ℕ) → Every (λ k v. k ≤ most) m → HasValue m n → n ≤ most
 there_below m n most every there = every n there.0 there.1
 
--- 0, or a number that has a value in a map, is at most `most`, if all numbers of the map are
 pub none_or_below : {V : Type 0} (m : FinMap nat_cmp V) (n most : ℕ) → Every (λ k v. k ≤ most) m → (n ≢ 0 → HasValue m n) → n ≤ most
 none_or_below m zero most every there = omega arith
 none_or_below m (suc n) most every there = there_below m (suc n) most every (there (λ e. absurd (omega arith)))
@@ -91,7 +85,6 @@ none_or_below m (suc n) most every there = there_below m (suc n) most every (the
 
 -- rows keep the rules by which they are just the rows of the campaign assembled from them (`campaign_of`)
 pub record RowsKeep (f : Format) (w : WorldValue) (p : Parts) : Type 0 where
-  -- the world keeps the rules of worlds (`IsWorld`)
   pub world : IsWorld w
   -- rule 1: there is exactly one campaign row, with the id 1 and the number of the format
   pub one : is_one_campaign_row f p.campaign ≡ true
@@ -112,16 +105,13 @@ pub record RowsKeep (f : Format) (w : WorldValue) (p : Parts) : Type 0 where
 
 -- ---- the campaign's own row
 
--- a number of a row in the range from k to k is k
 range_of_one_number : (k : ℕ) (z : ℤ) → k ≤ most_u32 → is_from k k z ≡ true → z ≡ pos k
 range_of_one_number k z few h = let range = from_range k k z few h in let n : as_u32 z ≡ k = omega (arith, range.1, range.2) in range.0 ∙ ap pos n
 
--- the number of a format fits 32 bits
 small_format : (f : Format) → format_number f ≤ most_u32
 small_format First = omega arith
 small_format Second = omega arith
 
--- the campaign row that is written for the numbers and the pass text read from a campaign row
 abbrev head_as_read : Format → StoredCampaignRow → StoredCampaignRow
 head_as_read f h = record { id = pos 1; format = pos (format_number f); month = pos (as_u32 h.month); next_faction = pos (as_u32 h.next_faction); next_unit = pos (as_u32 h.next_unit); next_structure = pos (as_u32 h.next_structure); pass = h.pass }
 
@@ -142,35 +132,28 @@ one_head f (h ∷ other ∷ rows) e r = absurd (false≢true e)
 
 -- ---- lists of facts
 
--- each row keeps all conditions P n, one for every number n, if each of these conditions holds of all rows
 all_forall : {R : Type 0} (P : ℕ → R → Type 0) (rows : List R) → ((n : ℕ) → AllByRecursion (P n) rows) → AllByRecursion (λ r. (n : ℕ) → P n r) rows
 all_forall P [] h = tt
 all_forall P (r ∷ rows) h = (λ n. (h n).0, all_forall P rows (λ n. (h n).1))
 
--- an option of which is_some is true is Some of a value
 some_there : {V : Type 0} (o : Option V) → is_some o ≡ true → (v : V) × (o ≡ Some v)
 some_there None h = absurd (false≢true h)
 some_there (Some v) h = (v, refl)
 
--- if `b || c` is true, b or c is true
 or_cases : (b c : Bool) → (b || c) ≡ true → (b ≡ true) ⊎ (c ≡ true)
 or_cases true c h = inl refl
 or_cases false c h = inr h
 
--- a number of a row that fits 32 bits (IsWhole), and is read as at least 1, is not 0
 whole_not_zero : (z : ℤ) → FitsU32 z → 1 ≤ as_u32 z → is_zero z ≡ false
 whole_not_zero (pos n) whole h = let apart : n ≢ 0 = λ e. let zero_read : as_u32 (pos n) ≡ 0 = ap (λ m. as_u32 (pos m)) e in omega arith in grind (arith, nat_tests)
 whole_not_zero (negsuc n) whole h = refl
 
--- a row of `has` passes the test (is_of_unit_and_sort) of being of the unit and of the sort (items or skills) that it
--- names
 is_of_itself : (h : StoredHas) → is_of_unit_and_sort (as_u32 h.unit) (as_u32 h.sort) h ≡ true
 is_of_itself h =
     let unit : (as_u32 h.unit == as_u32 h.unit) ≡ true = grind (arith, nat_tests) in
     let sort : (as_u32 h.sort == as_u32 h.sort) ≡ true = grind (arith, nat_tests) in
     ap (λ b. b && (as_u32 h.sort == as_u32 h.sort)) unit ∙ sort
 
--- the size that an option gives (its kind's, or most_size for None) is at most most_size, if its kind's is
 size_small : (o : Option Kind) → ((x : Kind) → o ≡ Some x → x.size ≤ most_size) → option_map_or (λ (x : Kind). x.size) o most_size ≤ most_size
 size_small None h = omega arith
 size_small (Some x) h = h x refl
@@ -181,81 +164,65 @@ small_size w world kind = size_small (slice_get w.kinds kind) (λ x is. (world.k
 
 -- ---- markets
 
--- if looking up region n, and then item i in it, finds a market, that region and that market are in the map
 market_there : (regions : FinMap nat_cmp RegionPlan) (i : ℕ) (n : ℕ) (o : Option RegionPlan) → get regions n ≡ o → is_some (option_and_then (λ (q : RegionPlan). get q.markets i) o) ≡ true → (q : RegionPlan) × (m : Market) × (get regions n ≡ Some q) × (get q.markets i ≡ Some m)
 market_there regions i n None is e = absurd (false≢true e)
 market_there regions i n (Some q) is e = let found = some_there (get q.markets i) e in (q, found.0, is, found.1)
 
--- the limit that an option gives (its market's, or most_amount for None) is at most most_amount, if its market's is
 limit_small : (o : Option Market) → ((m : Market) → o ≡ Some m → m.limit ≤ most_amount) → option_map_or (λ (m : Market). m.limit) o most_amount ≤ most_amount
 limit_small None h = omega arith
 limit_small (Some m) h = h m refl
 
--- the limit of each market of the world is at most most_amount, which is also given where there is no market
 pub small_limit : (w : WorldValue) → IsWorld w → (n i : ℕ) → stock_limit w n i ≤ most_amount
 small_limit w world n i = limit_small (market_of w n i) (λ m is. of_market (market_there w.regions i n (get w.regions n) refl (ap is_some is)) m is)
   where
-    -- if Some a and Some b are equal, the markets a and b are
     some_same : (a b : Market) → Some a ≡ Some b → a ≡ b
     some_same a b e = cc
 
-    -- the market found for region n and item i has a limit of at most most_amount
     of_market : (found : (q : RegionPlan) × (m : Market) × (get w.regions n ≡ Some q) × (get q.markets i ≡ Some m)) (m : Market) → market_of w n i ≡ Some m → m.limit ≤ most_amount
     of_market found m is =
         let there = ap (option_and_then (λ (q : RegionPlan). get q.markets i)) found.2 in
         let one = some_same found.1 m (sym found.3 ∙ sym there ∙ is) in
         subst (λ (x : Market). x.limit ≤ most_amount) one ((world.regions n found.0 found.2).markets i found.1 found.3).limit
 
--- a list of 0 rows is empty
 no_rows : {R : Type 0} (rows : List R) → (length rows == 0) ≡ true → rows ≡ []
 no_rows [] h = refl
 no_rows (r ∷ rows) h = absurd (grind (arith, nat_tests))
 
 module _ (f : Format) (w : WorldValue) (p : Parts) (k : RowsKeep f w p) where
-  -- the campaign row and all rows of the other tables, but for mail and reports, pass the test of their ranges
   pub ranges : NumberRanges w p
   ranges = number_ranges w p k.range.numbers
 
   -- ---- factions
-  -- the number in a faction's row in range fits 32 bits (IsWhole), and is at most last_faction
   faction_number : (r : StoredFaction) → faction_in_range r ≡ true → (FitsU32 r.number) × (as_u32 r.number ≤ last_faction)
   faction_number r h = let range = from_range 1 last_faction r.number (omega arith) (and_parts (is_from 1 last_faction r.number) (is_from 0 1 r.gone) h).0 in (range.0, range.2)
 
-  -- no two rows of `faction` have the same number
   pub factions_apart : HaveDistinctNumbers (λ r. as_u32 r.number) p.factions
   factions_apart = HaveDistinctNumbers-keys faction_key (λ r. as_u32 r.number) is_same_key (λ r. FitsU32 r.number) (λ r s. one_apart r.number s.number) p.factions (each_passes faction_in_range (λ r. FitsU32 r.number) (λ r h. (faction_number r h).0) p.factions ranges.factions) k.range.keys.factions
 
-  -- the numbers of the factions assembled from the rows are at most last_faction
   few_factions : Every (λ n f. n ≤ last_faction) (by_number (λ r. as_u32 r.number) faction_of p.factions)
   few_factions = by_number-every (λ r. as_u32 r.number) faction_of (λ n f. n ≤ last_faction) faction_in_range (λ r h. (faction_number r h).1) p.factions ranges.factions
 
-  -- the faction read from a row in range is written as that row
   same_faction : (r : StoredFaction) → faction_in_range r ≡ true → faction_row (as_u32 r.number) (faction_of r) ≡ r
   same_faction r h =
       let gone = flag_whole r.gone (and_parts (is_from 1 last_faction r.number) (is_from 0 1 r.gone) h).1 in
       λ i. record { number = sym (faction_number r h).0 i; joined_as = r.joined_as; name = r.name; pass = r.pass; gone = gone i }
 
-  -- the factions assembled from the rows are written as just the rows of `faction`, in some order
   factions_said : IsPermutation (rows_by faction_row (entries (by_number (λ r. as_u32 r.number) faction_of p.factions))) p.factions
   factions_said = rows_order (λ r. as_u32 r.number) faction_of faction_row p.factions factions_apart (each_passes faction_in_range (λ r. faction_row (as_u32 r.number) (faction_of r) ≡ r) same_faction p.factions ranges.factions)
 
   -- ---- regions
-  -- the numbers of the regions assembled from the rows are at most last_region
   few_regions : (n : ℕ) → HasValue (by_number (λ r. as_u32 r.number) (region_of p.markets) p.regions) n → n ≤ last_region
   unfolding campaign_of
   few_regions n there = let known = (k.known.regions n).0 there in (k.world.regions n known.0 known.1).number_most
 
-  -- the numbers in the rows of `region` fit 32 bits, so they are read as they are (IsWhole)
   regions_whole : AllByRecursion (λ r. FitsU32 r.number) p.regions
   regions_whole =
       each_follows (λ r. HasValue (by_number (λ r. as_u32 r.number) (region_of p.markets) p.regions) (as_u32 r.number)) (λ r. FitsU32 r.number) (λ r there. let few = few_regions (as_u32 r.number) there in whole_below r.number (omega arith)) p.regions
       (rows_there (λ r. as_u32 r.number) (region_of p.markets) p.regions)
 
-  -- no two rows of `region` have the same number
   regions_apart : HaveDistinctNumbers (λ r. as_u32 r.number) p.regions
   regions_apart = HaveDistinctNumbers-keys region_key (λ r. as_u32 r.number) is_same_key (λ r. FitsU32 r.number) (λ r s. one_apart r.number s.number) p.regions regions_whole k.range.keys.regions
 
-  -- the region read from a row in range is written as that row
   same_region : (r : StoredRegion) → FitsU32 r.number → region_in_range r ≡ true → region_row (as_u32 r.number) (region_of p.markets r) ≡ r
   same_region r number h =
       let parts = and_parts (is_from 0 most_amount r.peasants) (is_from 0 most_amount r.money) h in
@@ -263,41 +230,33 @@ module _ (f : Format) (w : WorldValue) (p : Parts) (k : RowsKeep f w p) where
       let money = (from_range 0 most_amount r.money (omega arith) parts.1).0 in
       λ i. record { number = sym number i; peasants = sym peasants i; money = sym money i }
 
-  -- the regions assembled from the rows are written as just the rows of `region`, in some order
   regions_said : IsPermutation (rows_by region_row (entries (by_number (λ r. as_u32 r.number) (region_of p.markets) p.regions))) p.regions
   regions_said =
       rows_order (λ r. as_u32 r.number) (region_of p.markets) region_row p.regions regions_apart
       (each_follows_from_two (λ r. FitsU32 r.number) (λ r. region_in_range r ≡ true) (λ r. region_row (as_u32 r.number) (region_of p.markets r) ≡ r) same_region p.regions regions_whole (each_passes region_in_range (λ r. region_in_range r ≡ true) (λ r h. h) p.regions ranges.regions))
 
   -- ---- units and structures: their numbers
-  -- the number in a unit's row in range fits 32 bits (IsWhole), and is at most last_unit
   unit_number : (r : StoredUnit) → unit_in_range r ≡ true → (FitsU32 r.number) × (as_u32 r.number ≤ last_unit)
   unit_number r h = let range = from_range 1 last_unit r.number (omega arith) (unit_ranges r h).number in (range.0, range.2)
 
-  -- no two rows of `unit` have the same number
   units_apart : HaveDistinctNumbers (λ r. as_u32 r.number) p.units
   units_apart = HaveDistinctNumbers-keys unit_key (λ r. as_u32 r.number) is_same_key (λ r. FitsU32 r.number) (λ r s. one_apart r.number s.number) p.units (each_passes unit_in_range (λ r. FitsU32 r.number) (λ r h. (unit_number r h).0) p.units ranges.units) k.range.keys.units
 
-  -- the numbers of the units assembled from the rows are at most last_unit
   few_units : Every (λ n u. n ≤ last_unit) (by_number (λ r. as_u32 r.number) (unit_of p.has) p.units)
   few_units = by_number-every (λ r. as_u32 r.number) (unit_of p.has) (λ n u. n ≤ last_unit) unit_in_range (λ r h. (unit_number r h).1) p.units ranges.units
 
-  -- the number in a structure's row in range fits 32 bits (IsWhole), and is at most most_structures
   structure_number : (r : StoredStructure) → structure_in_range w r ≡ true → (FitsU32 r.number) × (as_u32 r.number ≤ most_structures)
   structure_number r h = let range = from_range 1 most_structures r.number (omega arith) (and_parts (is_from 1 most_structures r.number) (is_from 1 (size_of w (as_u16 r.kind)) r.done) h).0 in (range.0, range.2)
 
-  -- no two rows of `structure` have the same number
   structures_apart : HaveDistinctNumbers (λ r. as_u32 r.number) p.structures
   structures_apart =
       HaveDistinctNumbers-keys structure_key (λ r. as_u32 r.number) is_same_key (λ r. FitsU32 r.number) (λ r s. one_apart r.number s.number) p.structures (each_passes (structure_in_range w) (λ r. FitsU32 r.number) (λ r h. (structure_number r h).0) p.structures ranges.structures)
       k.range.keys.structures
 
-  -- the numbers of the structures assembled from the rows are at most most_structures
   few_structures : Every (λ n s. n ≤ most_structures) (by_number (λ r. as_u32 r.number) structure_of p.structures)
   few_structures = by_number-every (λ r. as_u32 r.number) structure_of (λ n s. n ≤ most_structures) (structure_in_range w) (λ r h. (structure_number r h).1) p.structures ranges.structures
 
   -- ---- units
-  -- the unit read from a row in range, if it is placed as rule 4 says (IsPlaced), is written as that row
   same_unit : (r : StoredUnit) → unit_in_range r ≡ true → IsPlaced w (campaign_of w p) (unit_of p.has r) → unit_row (as_u32 r.number) (unit_of p.has r) ≡ r
   unfolding campaign_of
   same_unit r h placed =
@@ -313,19 +272,16 @@ module _ (f : Format) (w : WorldValue) (p : Parts) (k : RowsKeep f w p) where
       let guard = flag_whole r.guard parts.guard in
       λ i. record { number = sym (unit_number r h).0 i; faction = sym faction i; name = r.name; region = sym region i; structure = sym structure i; men = sym men i; money = sym money i; guard = guard i }
 
-  -- all that each row of `unit` names exists, and the unit's structure, unless 0, is in the unit's region (IsPlaced)
   units_placed : AllByRecursion (λ r. IsPlaced w (campaign_of w p) (unit_of p.has r)) p.units
   unfolding campaign_of
   units_placed = each_row (λ r. as_u32 r.number) (unit_of p.has) (λ n u. IsPlaced w (campaign_of w p) u) p.units units_apart k.known.units
 
-  -- the units assembled from the rows are written as just the rows of `unit`, in some order
   units_said : IsPermutation (rows_by unit_row (entries (by_number (λ r. as_u32 r.number) (unit_of p.has) p.units))) p.units
   units_said =
       rows_order (λ r. as_u32 r.number) (unit_of p.has) unit_row p.units units_apart
       (each_follows_from_two (λ r. unit_in_range r ≡ true) (λ r. IsPlaced w (campaign_of w p) (unit_of p.has r)) (λ r. unit_row (as_u32 r.number) (unit_of p.has r) ≡ r) same_unit p.units (each_passes unit_in_range (λ r. unit_in_range r ≡ true) (λ r h. h) p.units ranges.units) units_placed)
 
   -- ---- structures
-  -- the structure read from a row in range, if all that it names exists, is written as that row
   same_structure : (r : StoredStructure) → structure_in_range w r ≡ true → IsBuilt w (campaign_of w p) (structure_of r) → structure_row (as_u32 r.number) (structure_of r) ≡ r
   unfolding campaign_of
   same_structure r h built =
@@ -340,12 +296,10 @@ module _ (f : Format) (w : WorldValue) (p : Parts) (k : RowsKeep f w p) where
       let done = (from_range 1 (size_of w (as_u16 r.kind)) r.done (omega arith) (and_parts (is_from 1 most_structures r.number) (is_from 1 (size_of w (as_u16 r.kind)) r.done) h).1).0 in
       λ i. record { number = sym (structure_number r h).0 i; kind = sym kind i; name = r.name; region = sym region i; done = sym done i; owner = sym owner i }
 
-  -- all that each row of `structure` names exists
   structures_built : AllByRecursion (λ r. IsBuilt w (campaign_of w p) (structure_of r)) p.structures
   unfolding campaign_of
   structures_built = each_row (λ r. as_u32 r.number) structure_of (λ n s. IsBuilt w (campaign_of w p) s) p.structures structures_apart k.known.structures
 
-  -- the structures assembled from the rows are written as just the rows of `structure`, in some order
   structures_said : IsPermutation (rows_by structure_row (entries (by_number (λ r. as_u32 r.number) structure_of p.structures))) p.structures
   structures_said =
       rows_order (λ r. as_u32 r.number) structure_of structure_row p.structures structures_apart
@@ -353,7 +307,6 @@ module _ (f : Format) (w : WorldValue) (p : Parts) (k : RowsKeep f w p) where
       (each_passes (structure_in_range w) (λ r. structure_in_range w r ≡ true) (λ r h. h) p.structures ranges.structures) structures_built)
 
   -- ---- mail and reports
-  -- the faction numbers in the rows of `mail` fit 32 bits, so they are read as they are (IsWhole)
   mail_whole : AllByRecursion (λ r. FitsU32 r.faction) p.mail
   unfolding campaign_of
   mail_whole =
@@ -361,14 +314,12 @@ module _ (f : Format) (w : WorldValue) (p : Parts) (k : RowsKeep f w p) where
       (λ r there. let few = there_below (by_number (λ r. as_u32 r.number) faction_of p.factions) (as_u32 r.faction) last_faction few_factions (k.known.posts.mail (as_u32 r.faction) there.0 there.1) in whole_below r.faction (omega arith)) p.mail
       (rows_there (λ r. as_u32 r.faction) (λ r. r.text) p.mail)
 
-  -- the mail assembled from the rows is written as just the rows of `mail`, in some order
   mail_said : IsPermutation (rows_by mail_row (entries (by_number (λ r. as_u32 r.faction) (λ r. r.text) p.mail))) p.mail
   mail_said =
       rows_order (λ r. as_u32 r.faction) (λ r. r.text) mail_row p.mail
       (HaveDistinctNumbers-keys mail_key (λ r. as_u32 r.faction) is_same_key (λ r. FitsU32 r.faction) (λ r s. one_apart r.faction s.faction) p.mail mail_whole k.range.keys.mail)
       (each_follows (λ r. FitsU32 r.faction) (λ r. mail_row (as_u32 r.faction) r.text ≡ r) (λ r whole. λ i. record { faction = sym whole i; text = r.text }) p.mail mail_whole)
 
-  -- the faction numbers in the rows of `report` fit 32 bits, so they are read as they are (IsWhole)
   reports_whole : AllByRecursion (λ r. FitsU32 r.faction) p.reports
   unfolding campaign_of
   reports_whole =
@@ -376,7 +327,6 @@ module _ (f : Format) (w : WorldValue) (p : Parts) (k : RowsKeep f w p) where
       (λ r there. let few = there_below (by_number (λ r. as_u32 r.number) faction_of p.factions) (as_u32 r.faction) last_faction few_factions (k.known.posts.reports (as_u32 r.faction) there.0 there.1) in whole_below r.faction (omega arith)) p.reports
       (rows_there (λ r. as_u32 r.faction) (λ r. r.text) p.reports)
 
-  -- the reports assembled from the rows are written as just the rows of `report`, in some order
   reports_said : IsPermutation (rows_by report_row (entries (by_number (λ r. as_u32 r.faction) (λ r. r.text) p.reports))) p.reports
   reports_said =
       rows_order (λ r. as_u32 r.faction) (λ r. r.text) report_row p.reports
@@ -384,7 +334,6 @@ module _ (f : Format) (w : WorldValue) (p : Parts) (k : RowsKeep f w p) where
       (each_follows (λ r. FitsU32 r.faction) (λ r. report_row (as_u32 r.faction) r.text ≡ r) (λ r whole. λ i. record { faction = sym whole i; text = r.text }) p.reports reports_whole)
 
   -- ---- what units have
-  -- the units assembled from the rows
   abbrev units : FinMap nat_cmp Unit
   units = by_number (λ r. as_u32 r.number) (unit_of p.has) p.units
 
@@ -392,7 +341,6 @@ module _ (f : Format) (w : WorldValue) (p : Parts) (k : RowsKeep f w p) where
   abbrev SortOf : StoredHas → Type 0
   SortOf h = (as_u32 h.sort ≡ 1) ⊎ ((as_u32 h.sort ≡ 0) × (is_from 1 holding_limit h.amount ≡ true))
 
-  -- a row of `has` in range has a sort of 32 bits, and is of skills, or of items with an amount in range (SortOf)
   sort_of : (h : StoredHas) → has_in_range h ≡ true → FitsU32 h.sort × SortOf h
   sort_of h e =
       elim (or_cases (is_from 1 1 h.sort) (is_from 0 0 h.sort && is_from 1 holding_limit h.amount) e) [
@@ -403,15 +351,12 @@ module _ (f : Format) (w : WorldValue) (p : Parts) (k : RowsKeep f w p) where
             (range.0, inr (omega (arith, range.1, range.2), parts.1))
       ]
 
-  -- the items of a unit assembled from rows are those that the rows of `has` say it has
   their_items : Every (λ n u. u.holding.items ≡ things_had n 0 p.has) units
   their_items = by_number-every (λ r. as_u32 r.number) (unit_of p.has) (λ n u. u.holding.items ≡ things_had n 0 p.has) unit_in_range (λ r h. refl) p.units ranges.units
 
-  -- the days of study of a unit assembled from rows are those that the rows of `has` say it has
   their_days : Every (λ n u. u.holding.days ≡ things_had n 1 p.has) units
   their_days = by_number-every (λ r. as_u32 r.number) (unit_of p.has) (λ n u. u.holding.days ≡ things_had n 1 p.has) unit_in_range (λ r h. refl) p.units ranges.units
 
-  -- the men of each unit assembled from the rows are at most men_limit
   their_men : Every (λ n u. u.holding.men ≤ men_limit) units
   their_men = by_number-every (λ r. as_u32 r.number) (unit_of p.has) (λ n u. u.holding.men ≤ men_limit) unit_in_range (λ r h. (in_range 1 men_limit most_u32 r.men (omega arith) (unit_ranges r h).men).1) p.units ranges.units
 
@@ -419,17 +364,14 @@ module _ (f : Format) (w : WorldValue) (p : Parts) (k : RowsKeep f w p) where
   abbrev ThingThere : ℕ → ℕ → StoredHas → Type 0
   ThingThere n sort h = HasValue (things_had n sort p.has) (as_u32 h.thing)
 
-  -- the item or skill of each row of `has` is among what all rows of `has` of its sort (items or skills) give its unit
   things_there : AllByRecursion (λ h. (n : ℕ) → (sort : ℕ) → is_of_unit_and_sort n sort h ≡ true → ThingThere n sort h) p.has
   things_there = all_forall (λ n h. (sort : ℕ) → is_of_unit_and_sort n sort h ≡ true → ThingThere n sort h) p.has (λ n. all_forall (λ sort h. is_of_unit_and_sort n sort h ≡ true → ThingThere n sort h) p.has (λ sort.
       unkept (is_of_unit_and_sort n sort) (ThingThere n sort) p.has (rows_there (λ h. as_u32 h.thing) (λ h. as_u32 h.amount) (filter (is_of_unit_and_sort n sort) p.has))))
 
-  -- the unit of each row of `has` exists
   held_units : AllByRecursion (λ h. HasValue units (as_u32 h.unit)) p.has
   unfolding campaign_of
   held_units = each_passes (is_of_unit (campaign_of w p)) (λ h. HasValue units (as_u32 h.unit)) (λ h e. some_there (get units (as_u32 h.unit)) e) p.has k.held
 
-  -- the number of an item or skill that a unit assembled from the rows has is below most_u32
   few_things : (n sort thing : ℕ) → HasValue units n → (sort ≡ 1) ⊎ (sort ≡ 0) → HasValue (things_had n sort p.has) thing → thing < most_u32
   unfolding campaign_of
   few_things n sort thing there (inl skill) (v, is) =
@@ -445,7 +387,6 @@ module _ (f : Format) (w : WorldValue) (p : Parts) (k : RowsKeep f w p) where
       let below = placed.items thing v at in
       omega arith
 
-  -- the sort of a row of `has` in range (SortOf) is 1 (skills) or 0 (items)
   either_sort : (h : StoredHas) → SortOf h → (as_u32 h.sort ≡ 1) ⊎ (as_u32 h.sort ≡ 0)
   either_sort h (inl skill) = inl skill
   either_sort h (inr item) = inr item.0
@@ -459,29 +400,22 @@ module _ (f : Format) (w : WorldValue) (p : Parts) (k : RowsKeep f w p) where
       let thing_few = few_things (as_u32 h.unit) (as_u32 h.sort) (as_u32 h.thing) there (either_sort h sort.1) (thing (as_u32 h.unit) (as_u32 h.sort) (is_of_itself h)) in
       record { unit = whole_below h.unit (omega arith); sort = sort.0; thing = whole_below h.thing thing_few }
 
-  -- the unit of a row of `has` exists, and the row is in range
   abbrev Placed : StoredHas → Type 0
   Placed h = (HasValue units (as_u32 h.unit)) × (has_in_range h ≡ true)
 
-  -- the unit of each row of `has` exists, and each row is in range (Placed)
   all_placed : AllByRecursion Placed p.has
   all_placed = each_follows_from_two (λ h. HasValue units (as_u32 h.unit)) (λ h. has_in_range h ≡ true) Placed (λ h a b. (a, b)) p.has held_units (each_passes has_in_range (λ h. has_in_range h ≡ true) (λ h e. e) p.has ranges.has)
 
-  -- the unit, sort and thing of each row of `has` fit 32 bits (HasWholeKey)
   all_keyed : AllByRecursion KeyFitsU32 p.has
   all_keyed = each_follows_from_two Placed (λ h. (n : ℕ) → (sort : ℕ) → is_of_unit_and_sort n sort h ≡ true → ThingThere n sort h) KeyFitsU32 keyed p.has all_placed things_there
 
-  -- the amount of a row of `has` is found under its item or skill among what all rows of this sort give unit n
   abbrev IsFound : ℕ → ℕ → StoredHas → Type 0
   IsFound n sort h = get (things_had n sort p.has) (as_u32 h.thing) ≡ Some (as_u32 h.amount)
 
-  -- the amount of each row of `has` is found under its item or skill among what all rows of its sort give its unit
   all_found : AllByRecursion (λ h. (n : ℕ) → (sort : ℕ) → is_of_unit_and_sort n sort h ≡ true → IsFound n sort h) p.has
   all_found = all_forall (λ n h. (sort : ℕ) → is_of_unit_and_sort n sort h ≡ true → IsFound n sort h) p.has (λ n. all_forall (λ sort h. is_of_unit_and_sort n sort h ≡ true → IsFound n sort h) p.has (λ sort.
       unkept (is_of_unit_and_sort n sort) (IsFound n sort) p.has (rows_found (λ h. as_u32 h.thing) (λ h. as_u32 h.amount) (filter (is_of_unit_and_sort n sort) p.has) (things_apart n sort p.has all_keyed k.range.keys.has))))
 
-  -- The amount of a row of `has` fits 32 bits and isn't 0, if the row's unit exists, the row is in range (SortOf), and
-  -- its amount is found (IsFound).
   exact_of : (h : StoredHas) → HasValue units (as_u32 h.unit) → SortOf h → ((n : ℕ) → (sort : ℕ) → is_of_unit_and_sort n sort h ≡ true → IsFound n sort h) → FitsU32 h.amount × (is_zero h.amount ≡ false)
   unfolding campaign_of
   exact_of h there (inl skill) found =
@@ -495,7 +429,6 @@ module _ (f : Format) (w : WorldValue) (p : Parts) (k : RowsKeep f w p) where
       let range = from_range 1 holding_limit h.amount (omega arith) item.1 in
       (range.0, whole_not_zero h.amount range.0 range.1)
 
-  -- the unit of a row of `has` exists, the row is in range (Placed), and its key fits 32 bits (HasWholeKey)
   abbrev KeyedPlaced : StoredHas → Type 0
   KeyedPlaced h = KeyFitsU32 h × Placed h
 
@@ -504,30 +437,23 @@ module _ (f : Format) (w : WorldValue) (p : Parts) (k : RowsKeep f w p) where
   exact : (h : StoredHas) → KeyedPlaced h → ((n : ℕ) → (sort : ℕ) → is_of_unit_and_sort n sort h ≡ true → IsFound n sort h) → IsExactGoods h
   exact h (keys, (there, range)) found = let amount = exact_of h there (sort_of h range).1 found in record { keys = keys; amount = amount.0; some = amount.1 }
 
-  -- the unit, sort, thing and amount of each row of `has` fit 32 bits, and the amount is not 0 (IsExactGoods)
   all_exact : AllByRecursion IsExactGoods p.has
   all_exact = each_follows_from_two KeyedPlaced (λ h. (n : ℕ) → (sort : ℕ) → is_of_unit_and_sort n sort h ≡ true → IsFound n sort h) IsExactGoods exact p.has (each_follows_from_two KeyFitsU32 Placed KeyedPlaced (λ h a b. (a, b)) p.has all_keyed all_placed) all_found
 
-  -- a row of `has` in range is of a unit that has a row, and of sort 0 (items) or 1 (skills)
   of_units : (h : StoredHas) → Placed h → IsOfUnits p.units h
   of_units h (there, range) = (row_of (λ r. as_u32 r.number) (unit_of p.has) p.units (as_u32 h.unit) there, turned h (sort_of h range).1)
     where
-      -- a row of `has` in range (SortOf) is of sort 0 (items) or 1 (skills)
       turned : (h : StoredHas) → SortOf h → (as_u32 h.sort ≡ 0) ⊎ (as_u32 h.sort ≡ 1)
       turned h (inl skill) = inr skill
       turned h (inr item) = inl item.0
 
-  -- the goods of the units assembled from the rows are written as just the rows of `has`, in some order
   has_said : IsPermutation (has_rows (entries units)) p.has
   has_said = has_rows_are_rewritten p.has p.units units_apart (each_follows Placed (IsOfUnits p.units) of_units p.has all_placed) all_exact k.range.keys.has
 
   -- ---- what regions have in stock
-  -- the regions assembled from the rows
   abbrev regions : FinMap nat_cmp Region
   regions = by_number (λ r. as_u32 r.number) (region_of p.markets) p.regions
 
-  -- a row of `market` that is of a market of the world, with its stock in range, is exact (IsExactGoods): region, item and
-  -- stock fit 32 bits, and the stock is not 0
   exact_market : (m : StoredMarket) → is_of_market w m ≡ true → market_in_range w m ≡ true → market.IsExactMarket m
   exact_market m named range =
       let found = market_there w.regions (as_u32 m.item) (as_u32 m.region) (get w.regions (as_u32 m.region)) refl named in
@@ -539,13 +465,11 @@ module _ (f : Format) (w : WorldValue) (p : Parts) (k : RowsKeep f w p) where
       let stock = from_range 1 (stock_limit w (as_u32 m.region) (as_u32 m.item)) m.stock (omega (arith, limit_few)) range in
       record { keys = record { region = whole_below m.region (omega arith); item = whole_below m.item (omega arith) }; stock = stock.0; some = whole_not_zero m.stock stock.0 stock.1 }
 
-  -- the region, item and stock of each row of `market` fit 32 bits, and the stock is not 0 (IsExactGoods)
   exact_markets : AllByRecursion market.IsExactMarket p.markets
   exact_markets =
       each_follows_from_two (λ m. is_of_market w m ≡ true) (λ m. market_in_range w m ≡ true) market.IsExactMarket exact_market p.markets (each_passes (is_of_market w) (λ m. is_of_market w m ≡ true) (λ m e. e) p.markets k.stocked)
       (each_passes (market_in_range w) (λ m. market_in_range w m ≡ true) (λ m e. e) p.markets ranges.markets)
 
-  -- the region of each row of `market` has a row of `region`
   markets_of_regions : AllByRecursion (λ m. HasNumber (λ r. as_u32 r.number) p.regions (as_u32 m.region)) p.markets
   unfolding campaign_of
   markets_of_regions =
@@ -553,12 +477,9 @@ module _ (f : Format) (w : WorldValue) (p : Parts) (k : RowsKeep f w p) where
       let found = market_there w.regions (as_u32 m.item) (as_u32 m.region) (get w.regions (as_u32 m.region)) refl e in
       row_of (λ r. as_u32 r.number) (region_of p.markets) p.regions (as_u32 m.region) ((k.known.regions (as_u32 m.region)).1 (found.0, found.2))) p.markets k.stocked
 
-  -- the first format has no rows of `market`
   pub none_in_first : f ≡ First → p.markets ≡ []
   none_in_first is = no_rows p.markets (ap (λ g. are_of_format g p.markets) (sym is) ∙ k.format)
 
-  -- the stocks assembled from the rows are written as just the rows of `market`, in some order; in the first format
-  -- there are none
   markets_said : IsPermutation (market_rows f (entries regions)) p.markets
   markets_said = elim f as (λ g. f ≡ g → IsPermutation (market_rows g (entries regions)) p.markets) [
     | First ↦ λ is. subst (λ rows. IsPermutation [] rows) (sym (none_in_first is)) (IsPermutation-refl [])
@@ -567,16 +488,13 @@ module _ (f : Format) (w : WorldValue) (p : Parts) (k : RowsKeep f w p) where
 
   -- ---- the books
 
-  -- if the test nat_lt of m and n is true, m is below n
   below_of : (m n : ℕ) → nat_lt m n ≡ true → m < n
   below_of m n h = grind (arith, nat_tests)
 
-  -- the books have at most entry_count entries in each format
   few_entries : (g : Format) → entries_in g ≤ entry_count
   few_entries First = omega arith
   few_entries Second = omega arith
 
-  -- the number of an entry of the format is from 1 to entry_count
   an_entry : (n : ℕ) → is_entry_in f n ≡ true → (1 ≤ n) × (n ≤ entry_count)
   an_entry n h =
       let parts = and_parts (nat_le 1 n) (nat_le n (entries_in f)) h in
@@ -584,7 +502,6 @@ module _ (f : Format) (w : WorldValue) (p : Parts) (k : RowsKeep f w p) where
       let most = few_entries f in
       (from_le 1 n parts.0, omega (arith, few, most))
 
-  -- a row of `books` that keeps the rules is read as an amount, not 0, of one of the world's things (IsBooked)
   its_account : (r : StoredBooks) → is_booked f w r ≡ true → books_in_range (books_bound p) r ≡ true → IsBooked (thing_count w) r
   its_account r h range =
       let parts = and_parts (is_entry_in f (as_u32 r.entry)) (nat_lt (as_u32 r.thing) (thing_count w)) h in
@@ -595,13 +512,11 @@ module _ (f : Format) (w : WorldValue) (p : Parts) (k : RowsKeep f w p) where
       let some = failing_is_nonzero r.amount (not-true (is_zero r.amount) (and_parts (not (is_zero r.amount)) (is_within (books_bound p) r.amount) range).0) in
       booked_row (thing_count w) r (whole_below r.entry (omega arith)) (whole_below r.thing (omega arith)) entry.0 entry.1 there some
 
-  -- each row of `books` is read as an amount, not 0, of one of the world's things (IsBooked)
   pub all_booked : AllByRecursion (IsBooked (thing_count w)) p.books
   all_booked =
       each_follows_from_two (λ r. is_booked f w r ≡ true) (λ r. books_in_range (books_bound p) r ≡ true) (IsBooked (thing_count w)) its_account p.books (each_passes (is_booked f w) (λ r. is_booked f w r ≡ true) (λ r h. h) p.books k.booked)
       (each_passes (books_in_range (books_bound p)) (λ r. books_in_range (books_bound p) r ≡ true) (λ r h. h) p.books ranges.books)
 
-  -- the books assembled from the rows are written as just the rows of `books`, in some order
   pub books_said : IsPermutation (books_rows (with_books_rows p.books (no_amounts (thing_count w)))) p.books
   books_said =
       assembled_books_have_rows (thing_count w) p.books all_booked k.range.keys.books

@@ -6,8 +6,8 @@ use Rattle.std.specs.List.Sorted.{IsPermutation}
 use Rattle.std.specs.FinMap.{entries}
 use Rattle.std.proofs.lemmas.List.Sorted.{IsPermutation-sym, IsPermutation-trans}
 use Rattle.atl_world.specs.declared.format.Format.TheVariants.{Second}
-use Rattle.atl_campaign.specs.declared.parts.StoredMarket.{StoredMarket}
-use Rattle.atl_campaign.specs.declared.parts.StoredRegion.{StoredRegion}
+use Rattle.atl_rows.specs.declared.parts.StoredMarket.{StoredMarket}
+use Rattle.atl_rows.specs.declared.parts.StoredRegion.{StoredRegion}
 use Rattle.atl_records.specs.declared.records.Region.{Region}
 use Rattle.atl_campaign.specs.FromRows.{as_u32, stocks_of, region_of, by_number}
 use Rattle.atl_campaign.specs.RowRules.{Key, market_key}
@@ -20,52 +20,39 @@ use Rattle.atl_campaign.proofs.MapOfRowsLaws.{HaveDistinctNumbers, HasNumber, ea
 
 -- the region and the item of a row of `market` fit 32 bits, so both are read as they are
 pub record HasWholeKey (m : StoredMarket) : Type 0 where
-  -- the number of the row's region fits 32 bits
   pub region : FitsU32 m.region
-  -- the number of the row's item fits 32 bits
   pub item : FitsU32 m.item
 
 -- the region, the item and the stock of a row of `market` fit 32 bits, and the stock is not 0
 pub record IsExactMarket (m : StoredMarket) : Type 0 where
-  -- the region and the item of the row fit 32 bits
   pub keys : HasWholeKey m
-  -- the stock of the row fits 32 bits
   pub stock : FitsU32 m.stock
-  -- the stock of the row is not 0
   pub some : is_zero m.stock ≡ false
 
--- the item's number in a row of `market`, as it is read
 abbrev item_of : StoredMarket → ℕ
 item_of m = as_u32 m.item
 
--- the stock in a row of `market`, as it is read
 abbrev stock_of : StoredMarket → ℕ
 stock_of m = as_u32 m.stock
 
--- whether a row of `market` is of region n
 abbrev pub is_row_of_region : ℕ → StoredMarket → Bool
 is_row_of_region n m = as_u32 m.region == n
 
--- a row of `market` is of region n, and its region and item fit 32 bits (HasWholeKey)
 abbrev IsStockIn : ℕ → StoredMarket → Type 0
 IsStockIn n m = HasWholeKey m × (is_row_of_region n m ≡ true)
 
--- a row of `market` that is of region n (IsStockIn) has n as its region
 its_region : (n : ℕ) (m : StoredMarket) → IsStockIn n m → m.region ≡ pos n
 its_region n m (keys, of) = keys.region ∙ ap pos (is_same (as_u32 m.region) n of)
 
--- a row of region n is the row that is written for n and the item and stock read from it, if its stock fits 32 bits
 same_row : (n : ℕ) (m : StoredMarket) → IsStockIn n m → FitsU32 m.stock → market_row n (item_of m) (stock_of m) ≡ m
 same_row n m here stock = λ i. record { region = sym (its_region n m here) i; item = sym here.0.item i; stock = sym stock i }
 
--- rows of `market` of one region and item have the same key
 same_key : (n : ℕ) (m k : StoredMarket) → IsStockIn n m → IsStockIn n k → item_of m ≡ item_of k → ◌≡◌ {A = Key} (market_key k) (market_key m)
 same_key n m k a b e =
     let region = its_region n k b ∙ sym (its_region n m a) in
     let item = b.0.item ∙ sym (ap pos e) ∙ sym a.0.item in
     λ i. (region i, item i, pos 0)
 
--- no two rows of region n are of one item, if the keys of all rows differ and fit 32 bits
 pub items_apart : (n : ℕ) (markets : List StoredMarket) → AllByRecursion HasWholeKey markets → IsDistinct is_same_key (map market_key markets) → HaveDistinctNumbers item_of (filter (is_row_of_region n) markets)
 items_apart n = group.things_apart market_key is_same_key ties_itself item_of (is_row_of_region n) HasWholeKey (same_key n)
 
@@ -76,7 +63,6 @@ stocks_are_written_as_rows n markets all d =
     lines_order item_of stock_of (market_row n) (λ m. not (is_zero m.stock)) (filter (is_row_of_region n) markets) (items_apart n markets (each_follows IsExactMarket HasWholeKey (λ m one. one.keys) markets all) d)
     (each_follows (λ m. IsExactMarket m × (is_row_of_region n m ≡ true)) (λ m. (market_row n (item_of m) (stock_of m) ≡ m) × (not (is_zero m.stock) ≡ true)) (λ m here. (same_row n m (here.0.keys, here.1) here.0.stock, ap not here.0.some)) (filter (is_row_of_region n) markets) (group.all_mine market_key is_same_key ties_itself item_of (is_row_of_region n) IsExactMarket markets all))
 
--- the rows of `market` that are written for a region's stocks
 abbrev region_lines : ℕ × Region → List StoredMarket
 region_lines e = stock_rows e.0 (entries e.1.stocks)
 

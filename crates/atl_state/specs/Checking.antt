@@ -10,7 +10,7 @@ use Rattle.atl_state.specs.declared.checking.CheckFault.{CheckFault}
 use Rattle.atl_state.specs.declared.checking.CheckFault.TheVariants.{Damaged, Memory}
 use Rattle.atl_state.specs.declared.checking.Rule.{Rule}
 use Rattle.atl_state.specs.declared.checking.Rule.TheVariants.{OneRow, Ranges, Names, Known, Next, Days, Gone, Owners, Water, Guards, Books, Mail}
-use Rattle.atl_campaign.specs.declared.parts.Parts.{Parts}
+use Rattle.atl_rows.specs.declared.parts.Parts.{Parts}
 use Rattle.atl_records.specs.Books.{amount_in, entry_index}
 use Rattle.atl_campaign.specs.FromRows.{campaign_of}
 use Rattle.atl_campaign.specs.Good.{AreKnown, AreNumbered, AreDays, GoneHaveNone, UnitlessAreGone, AreOwned, AreAfloat, AreOfOneFaction, guards, HasValidMail, AreReported, HasNoStocks, IsGood}
@@ -60,16 +60,12 @@ KeepsRulesBelow f w p n = (r : Rule) → rule_number r < n → KeepsRule f w p r
 
 -- the rows break rule r, and keep all rules before it
 pub record IsFirstBroken (f : Format) (w : WorldValue) (p : Parts) (r : Rule) : Type 0 where
-  -- the rows keep all rules whose numbers are below that of r
   pub before : KeepsRulesBelow f w p (rule_number r)
-  -- the rows break rule r
   pub broken : ¬ KeepsRule f w p r
 
 -- a campaign uses no markets: nothing is in stock, and no amount is booked under the entries of markets
 pub record IsWithoutMarkets (c : CampaignValue) : Type 0 where
-  -- no region has anything in stock
   pub stocks : HasNoStocks c
-  -- no amount is booked under the entries of markets
   pub entries : (e : BooksEntry) (t : Thing) → first_entry_count ≤ entry_index e → amount_in c.books e t ≡ pos 0
 
 -- the tables of the format can hold the campaign: the first format if it uses no markets (`IsWithoutMarkets`), the
@@ -80,13 +76,9 @@ Fits Second c = ⊤
 
 -- c is a good campaign that has exactly the rows p, fits the format, and has nothing marked
 pub record IsChecked (f : Format) (w : WorldValue) (p : Parts) (c : MarkedCampaign) : Type 0 where
-  -- the rows are those of the campaign in the format
   pub rows : AreRowsOf f c.value p
-  -- the format can hold the campaign
   pub fits : Fits f c.value
-  -- the campaign is good: all rules of specs/Good of atl_campaign hold of it (`IsGood`)
   pub good : IsGood w c.value
-  -- nothing of the campaign is marked
   pub marks : c.marks ≡ no_marks
 
 -- what `check_as` may answer: a good campaign with just these rows, the first rule that they break, or Memory

@@ -58,7 +58,6 @@ pub enum Rule {
     Mail = 12,
 }
 
-/// Gives a rule its number.
 impl Rule {
     /// The rule's number, from 1 to 12.
     pub fn number(self) -> u8
@@ -79,7 +78,6 @@ pub enum CheckFault {
 
 /// Shows a fault as `Damaged` with the rule's number, such as `Damaged 11`, or as `Memory`.
 impl fmt::Display for CheckFault {
-    /// Writes `Damaged` with the rule's number, or `Memory`.
     fn fmt<W: fmt::Write>(&self, f: &mut fmt::Formatter<W>) -> fmt::Result {
         match self {
             CheckFault::Damaged(rule) => write!(f, "Damaged {}", rule.number()),
@@ -88,7 +86,6 @@ impl fmt::Display for CheckFault {
     }
 }
 
-/// As an `Error`, a `CheckFault` is shown by `Display`.
 impl Error for CheckFault {}
 
 /// Whether rows keep rule 1: one campaign row of the format, and in the first no market rows.
@@ -121,7 +118,6 @@ fn check_rows(alloc: Global, world: &World, parts: &Parts, format: Format) -> Re
     }
 }
 
-/// Whether all rows of `has` are of units that the campaign has.
 fn are_of_units(parts: &Parts, campaign: &Campaign) -> bool
     ensures { result ≡ list_all (is_of_unit campaign.now.value) parts.now.has }
 {
@@ -132,7 +128,6 @@ fn are_of_units(parts: &Parts, campaign: &Campaign) -> bool
         .all(|row| campaign.unit(as_u32(row.unit)).is_some())
 }
 
-/// How many entries the books of a format have: in the first all but those of markets.
 fn entries_in(format: Format) -> usize
     ensures { result ≡ entries_in format }
 {
@@ -142,7 +137,6 @@ fn entries_in(format: Format) -> usize
     }
 }
 
-/// Whether a row of `books` is of an entry of the format and of a thing of the world.
 fn is_booked(format: Format, world: &World, row: &StoredBooks) -> bool
     ensures { result ≡ is_booked format world.now row.now }
 {
@@ -151,7 +145,6 @@ fn is_booked(format: Format, world: &World, row: &StoredBooks) -> bool
     1 <= entry && entry <= entries_in(format) && (as_u32(row.thing) as usize) < things
 }
 
-/// Whether all rows of `books` are of entries of the format and of things of the world.
 fn are_booked(format: Format, world: &World, parts: &Parts) -> bool
     ensures { result ≡ list_all (is_booked format world.now) parts.now.books }
 {
@@ -162,8 +155,6 @@ fn are_booked(format: Format, world: &World, parts: &Parts) -> bool
         .all(|row| is_booked(format, world, row))
 }
 
-/// Whether all rows of `has` are of units that the campaign has, and all rows of `market` of
-/// markets of the world.
 fn are_goods_known(world: &World, parts: &Parts, campaign: &Campaign) -> bool
     ensures { IsTrue result ↔
         (IsTrue (list_all (is_of_unit campaign.now.value) parts.now.has)

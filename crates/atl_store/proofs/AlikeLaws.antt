@@ -22,7 +22,7 @@ use Rattle.atl_campaign.proofs.ReadBackLaws.{equal_by_values}
 use Rattle.atl_records.proofs.AccountLaws.{same_account}
 use Rattle.atl_records.proofs.BookLaws.{same_books}
 use Rattle.atl_store.specs.OneCampaign.{HoldsOneCampaign}
-use Rattle.atl_sql.specs.Rows.{RowsOf, HasRowsOf, BooksRowsOf, MarketRowsOf, Holds, row_of_campaign, row_of_faction, row_of_region, row_of_unit, row_of_structure, things_of}
+use Rattle.atl_store.specs.Rows.{RowsOf, HasRowsOf, BooksRowsOf, MarketRowsOf, Holds, row_of_campaign, row_of_faction, row_of_region, row_of_unit, row_of_structure, things_of}
 use Rattle.atl_sql.specs.Sets.{HasExactly}
 use Rattle.atl_sql.specs.Tables.{Own, Factions, Regions, Units, Goods, Structures, Mail, Reports, Books, Markets}
 use Rattle.atl_sql.specs.Shown.{flag, mail_row, report_row, has_row, books_row, market_row}
@@ -40,12 +40,9 @@ abbrev Determines : {V : Type 0} → (ℕ → V → Row) → FinMap nat_cmp V �
 Determines {V} line m k = (n p : ℕ) (v u : V) → get m n ≡ Some v → get k p ≡ Some u → line n v ≡ line p u → (n ≡ p) × (v ≡ u)
 
 module _ {V : Type 0} (line : ℕ → V → Row) (rows : List Row) where
-  -- the row of each entry of map `m` is a row of map `k`, if one table has exactly the rows of each map
   other_line : (m k : FinMap nat_cmp V) → HasExactly rows (RowsOf line m) → HasExactly rows (RowsOf line k) → (n : ℕ) (v : V) → get m n ≡ Some v → RowsOf line k (line n v)
   other_line m k a b n v is = (b (line n v)).0 ((a (line n v)).1 (n, v, is, refl))
 
-  -- each entry of map `m` is an entry of map `k`, if one table has exactly the rows of each, and rows determine entries
-  -- (`Determines`)
   one_way : (m k : FinMap nat_cmp V) → Determines line m k → HasExactly rows (RowsOf line m) → HasExactly rows (RowsOf line k) → Every (λ n v. get k n ≡ Some v) m
   one_way m k says a b n v is =
       let (p, u, there, same) = other_line m k a b n v is in
@@ -56,14 +53,12 @@ module _ {V : Type 0} (line : ℕ → V → Row) (rows : List Row) where
   same_values : (m k : FinMap nat_cmp V) → Determines line m k → Determines line k m → HasExactly rows (RowsOf line m) → HasExactly rows (RowsOf line k) → m ≡ k
   same_values m k there back a b = equal_by_values m k (one_way m k there a b) (one_way k m back b a)
 
--- two booleans are equal, if rows show them as equal flags, such as `gone`
 flag_determines_boolean : (a b : Bool) → flag a ≡ flag b → a ≡ b
 flag_determines_boolean true true is = refl
 flag_determines_boolean true false is = cc
 flag_determines_boolean false true is = cc
 flag_determines_boolean false false is = refl
 
--- factions with equal rows have equal numbers and are equal (`Determines`), if each is stored under its own number
 faction_rows_determine : (m k : FinMap nat_cmp Faction) → Every (λ n f. f.number ≡ n) m → Every (λ n f. f.number ≡ n) k → Determines row_of_faction m k
 faction_rows_determine m k a b n p f g is there same =
     let at : n ≡ p = cc in
@@ -74,7 +69,6 @@ faction_rows_determine m k a b n p f g is there same =
     let gone : f.gone ≡ g.gone = flag_determines_boolean f.gone g.gone (cc) in
     (at, λ i. record { number = number i; joined_as = joined i; name = name i; pass = pass i; gone = gone i })
 
--- structures with equal rows have equal numbers and are equal (`Determines`)
 structure_rows_determine : (m k : FinMap nat_cmp Structure) → Determines row_of_structure m k
 structure_rows_determine m k n p s t is there same =
     let kind : s.kind ≡ t.kind = cc in
@@ -84,28 +78,22 @@ structure_rows_determine m k n p s t is there same =
     let owner : s.owner ≡ t.owner = cc in
     (cc, λ i. record { kind = kind i; name = name i; region = region i; done = done i; owner = owner i })
 
--- mailings with equal rows are of the same faction and have the same text (`Determines`)
 mail_rows_determine : (m k : FinMap nat_cmp (List ℕ)) → Determines mail_row m k
 mail_rows_determine m k n p s t is there same = (cc, cc)
 
--- reports with equal rows are of the same faction and have the same text (`Determines`)
 report_rows_determine : (m k : FinMap nat_cmp (List ℕ)) → Determines report_row m k
 report_rows_determine m k n p s t is there same = (cc, cc)
 
 -- ---- units, with what they have
 
--- No unit of the map has an item or skill whose amount is 0.
 abbrev HaveNoZero : FinMap nat_cmp Unit → Type 0
 HaveNoZero units = Every (λ n u. (sort : ThingKind) → Every (λ thing amount. amount ≢ 0) (things_of sort u.holding)) units
 
--- no unit of a good campaign has an item or skill whose amount is 0 (`HaveNoZero`)
 have_no_zero : (w : WorldValue) (c : CampaignValue) → IsGood w c → HaveNoZero c.units
 have_no_zero w c good n u is Item thing amount there = let range = (good.sound.steady.numbers.units n u is).1.items thing amount there in λ none. omega (arith, range.0, none)
 have_no_zero w c good n u is Skill thing amount there = let range = good.sound.steady.days n u is thing amount there in λ none. omega (arith, range.0, none)
 
 module _ (rows : List Row) (m k : FinMap nat_cmp Unit) (a : HasExactly rows (HasRowsOf m)) (b : HasExactly rows (HasRowsOf k)) where
-  -- each item or skill of unit `n` of map `m` has the same amount in map `k`, if one table `has` has the rows of each
-  -- map, and no amount in `m` is 0
   things_there : HaveNoZero m → (n : ℕ) (u v : Unit) → get m n ≡ Some u → get k n ≡ Some v → (sort : ThingKind) → Every (λ thing amount. get (things_of sort v.holding) thing ≡ Some amount) (things_of sort u.holding)
   things_there some n u v is there sort thing amount has =
       let row = has_row n (sort_number sort) thing amount in
@@ -119,8 +107,6 @@ module _ (rows : List Row) (m k : FinMap nat_cmp Unit) (a : HasExactly rows (Has
       left ∙ got ∙ sym (ap Some count)
 
 module _ (rows goods : List Row) (m k : FinMap nat_cmp Unit) (a : HasExactly rows (RowsOf row_of_unit m)) (b : HasExactly rows (RowsOf row_of_unit k)) (h : HasExactly goods (HasRowsOf m)) (j : HasExactly goods (HasRowsOf k)) (some : HaveNoZero m) (more : HaveNoZero k) where
-  -- each unit of map `m` is a unit of map `k`, if the tables `unit` and `has` have exactly the rows of each map, and no
-  -- amount is 0
   units_there : Every (λ n u. get k n ≡ Some u) m
   units_there n u is =
       let (p, v, there, same) = other_line row_of_unit rows m k a b n u is in
@@ -146,17 +132,13 @@ module _ (rows goods : List Row) (m k : FinMap nat_cmp Unit) (a : HasExactly row
 
 -- ---- regions, with what is in stock
 
--- No region of the map has a stock of 0.
 abbrev HaveNoZeroStock : FinMap nat_cmp Region → Type 0
 HaveNoZeroStock regions = Every (λ n r. Every (λ item stock. stock ≢ 0) r.stocks) regions
 
--- no region of a good campaign has a stock of 0 (`HaveNoZeroStock`)
 have_no_zero_stock : (w : WorldValue) (c : CampaignValue) → IsGood w c → HaveNoZeroStock c.regions
 have_no_zero_stock w c good n r is item stock there = let range = (good.sound.steady.numbers.regions n r is).stocks item stock there in λ none. omega (arith, range.0, none)
 
 module _ (rows : List Row) (m k : FinMap nat_cmp Region) (a : HasExactly rows (MarketRowsOf m)) (b : HasExactly rows (MarketRowsOf k)) where
-  -- each stock of region `n` of map `m` is the same in map `k`, if one table `market` has exactly the rows of each map,
-  -- and no stock in `m` is 0
   stocks_there : HaveNoZeroStock m → (n : ℕ) (r s : Region) → get m n ≡ Some r → get k n ≡ Some s → Every (λ item stock. get s.stocks item ≡ Some stock) r.stocks
   stocks_there some n r s is there item stock has =
       let row = market_row n item stock in
@@ -169,8 +151,6 @@ module _ (rows : List Row) (m k : FinMap nat_cmp Region) (a : HasExactly rows (M
       left ∙ got ∙ sym (ap Some count)
 
 module _ (rows stocks : List Row) (m k : FinMap nat_cmp Region) (a : HasExactly rows (RowsOf row_of_region m)) (b : HasExactly rows (RowsOf row_of_region k)) (h : HasExactly stocks (MarketRowsOf m)) (j : HasExactly stocks (MarketRowsOf k)) (some : HaveNoZeroStock m) (more : HaveNoZeroStock k) where
-  -- each region of map `m` is a region of map `k`, if the tables `region` and `market` have exactly the rows of each
-  -- map, and no stock is 0
   regions_there : Every (λ n r. get k n ≡ Some r) m
   regions_there n r is =
       let (p, s, there, same) = other_line row_of_region rows m k a b n r is in
@@ -184,14 +164,12 @@ module _ (rows stocks : List Row) (m k : FinMap nat_cmp Region) (a : HasExactly 
 
 -- ---- books
 
--- for `same_amount`: an amount is 0, or it isn't
 none_or_some : (z : ℤ) → (z ≡ pos 0) ⊎ (z ≢ pos 0)
 none_or_some (pos zero) = inl refl
 none_or_some (pos (suc n)) = inr (λ is. cc)
 none_or_some (negsuc n) = inr (λ is. cc)
 
 module _ (rows : List Row) (m k : BooksValue) (a : HasExactly rows (BooksRowsOf m)) (b : HasExactly rows (BooksRowsOf k)) where
-  -- an amount that is not 0 in books `m` is the same in books `k`, if one table `books` has exactly the rows of each
   amount_there : (e : BooksEntry) (t : Thing) → amount_in m e t ≢ pos 0 → amount_in m e t ≡ amount_in k e t
   amount_there e t some =
       let (f, u, apart, same) = (b (books_row (entry_index e + 1) (thing_index t) (amount_in m e t))).0 ((a _).1 (e, t, some, refl)) in
@@ -203,7 +181,6 @@ module _ (rows : List Row) (m k : BooksValue) (a : HasExactly rows (BooksRowsOf 
       amount ∙ sym there
 
 module _ (things : ℕ) (rows : List Row) (m k : BooksValue) (g : AreBooks things m) (h : AreBooks things k) (a : HasExactly rows (BooksRowsOf m)) (b : HasExactly rows (BooksRowsOf k)) where
-  -- each amount is the same in books `m` and in books `k`, if one table `books` has exactly the rows of each
   same_amount : (e : BooksEntry) (t : Thing) → amount_in m e t ≡ amount_in k e t
   same_amount e t =
       elim (none_or_some (amount_in m e t)) [
@@ -214,22 +191,18 @@ module _ (things : ℕ) (rows : List Row) (m k : BooksValue) (g : AreBooks thing
         ]
       ]
 
-  -- books `m` and books `k` with equally many things are equal, if one table `books` has exactly the rows of each
   one_books : m ≡ k
   one_books = same_books things m k g h same_amount
 
 -- ---- the whole
 
 module _ (db : Trees) (one other : List ℕ) (c d : CampaignValue) (h : Holds db one c) (j : Holds db other d) where
-  -- two campaigns whose rows one database holds, each with its world text, have equal campaign rows
   one_row : row_of_campaign one c ≡ row_of_campaign other d
   one_row = (j.rows Own (row_of_campaign one c)).0 ((h.rows Own (row_of_campaign one c)).1 refl)
 
-  -- two world texts whose rows one database holds are equal
   pub one_text : one ≡ other
   one_text = let own = one_row in cc
 
--- two world texts, and two good campaigns of one world, whose rows one database holds are equal (`HoldsOneCampaign`)
 pub holds_one : HoldsOneCampaign
 holds_one w db one other c d good sound h j =
     let own : row_of_campaign one c ≡ row_of_campaign other d = one_row db one other c d h j in

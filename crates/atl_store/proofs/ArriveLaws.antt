@@ -19,7 +19,7 @@ use Rattle.atl_sql.specs.declared.rows.has.ThingKind.{ThingKind}
 use Rattle.atl_sql.specs.Sets.{Set, HasExactly, put}
 use Rattle.atl_sql.specs.Tables.{Books, books_table}
 use Rattle.atl_sql.specs.Shown.{int, books_key, books_row}
-use Rattle.atl_sql.specs.Rows.{RowsOf, HasRowsOf, BooksRowsOf, things_of}
+use Rattle.atl_store.specs.Rows.{RowsOf, HasRowsOf, BooksRowsOf, things_of}
 use Rattle.atl_store.specs.GroupedRows.{amount_lines}
 use Rattle.atl_store.specs.Arriving.{rows_with_amount, WritesAmount}
 use Rattle.atl_sql.specs.Statements.{deletion, upsert}
@@ -31,7 +31,6 @@ use Rattle.atl_sql.specs.Inside.{Puts, Drops}
 
 -- ---- one entry more in a map
 
--- for `get_others`: if two numbers aren't equal, comparing them (`nat_cmp`) doesn't give Equal
 other : (k n : ℕ) → k ≢ n → is_eq (nat_cmp k n) ≡ false
 other k n apart = elim (nat_cmp k n) as (λ o. nat_cmp k n ≡ o → is_eq o ≡ false) [
   | Less ↦ λ _. refl
@@ -40,23 +39,18 @@ other k n apart = elim (nat_cmp k n) as (λ o. nat_cmp k n ≡ o → is_eq o ≡
 ] refl
 
 module _ {V : Type 0} where
-  -- for `put_rows` and `no_goods`: equal `Some`s, as two look-ups of one number, have equal values
   some_is : (a b : V) → Some a ≡ Some b → a ≡ b
   some_is a b e = cc
 
-  -- for `no_goods`: None, which a look-up gave, is not equal to the `Some` of a value
   nothing_is : (v : V) → None ≡ Some v → ⊥
   nothing_is v e = cc
 
-  -- a map gives the inserted value under the inserted number
   pub get_inserted : (m : FinMap nat_cmp V) (n : ℕ) (v : V) → get (insert m n v) n ≡ Some v
   get_inserted m n v = get-insert nat_cmp_total m n v n ∙ ap (λ b. cond b (Some v) (get m n)) (ap is_eq (tied_itself nat_cmp_total n))
 
-  -- inserting a number leaves what the map gives under each other number
   pub get_others : (m : FinMap nat_cmp V) (n : ℕ) (v : V) (k : ℕ) → k ≢ n → get (insert m n v) k ≡ get m k
   get_others m n v k apart = get-insert nat_cmp_total m n v k ∙ ap (λ b. cond b (Some v) (get m k)) (other k n apart)
 
--- putting an entry's row into a table of a map's rows gives the rows of the map with the entry inserted
 pub put_rows : {V : Type 0} (line : ℕ → V → Row) (numbered : (n : ℕ) (v : V) → take 1 (line n v) ≡ int n ∷ []) (rows news : List Row) (m : FinMap nat_cmp V) (n : ℕ) (v : V) → HasExactly rows (RowsOf line m) → HasExactly news (put 1 (line n v) (Has rows)) → HasExactly news (RowsOf line (insert m n v))
 put_rows line numbered rows news m n v was made r = (
   λ there. elim ((made r).0 there) [
@@ -95,7 +89,6 @@ no_goods rows units n u fresh bare was r = (
 -- ---- one amount of the books
 
 module _ (c : CampaignValue) (e : BooksEntry) (t : Thing) where
-  -- the row of `books` with the campaign's amount of entry `e` and thing `t`
   abbrev row : Row
   row = books_row (entry_index e + 1) (thing_index t) (amount_in c.books e t)
 
@@ -126,16 +119,12 @@ module _ (c : CampaignValue) (e : BooksEntry) (t : Thing) where
     ],
   )
     where
-      -- for `written_amount_changes_books`: two amounts of the books with different keys differ in their entry or in
-      -- their thing
       apart : (f : BooksEntry) (u : Thing) → ◌≢◌ {A = Row} (books_key (entry_index f + 1) (thing_index u)) (books_key (entry_index e + 1) (thing_index t)) → (entry_index f ≢ entry_index e) ⊎ (thing_index u ≢ thing_index t)
       apart f u differs = elim (cases_eq (entry_index f) (entry_index e)) [
         | inl entries ↦ inr (λ things. differs (ap (λ k. books_key (k + 1) (thing_index u)) entries ∙ ap (books_key (entry_index e + 1)) things))
         | inr entries ↦ inl entries
       ]
 
-      -- for `written_amount_changes_books`: a row of `B` of another entry or thing than `e` and `t` was among the rows
-      -- `S` of `A`, and has another key
       kept_row : (f : BooksEntry) (u : Thing) → amount_in B f u ≢ pos 0 → r ≡ books_row (entry_index f + 1) (thing_index u) (amount_in B f u) → (entry_index f ≢ entry_index e) ⊎ (thing_index u ≢ thing_index t)
           → S r × (take 2 r ≢ books_key (entry_index e + 1) (thing_index t))
       kept_row f u some is far = (
@@ -147,16 +136,12 @@ module _ (c : CampaignValue) (e : BooksEntry) (t : Thing) where
 
 -- the statements that write an amount of the books (`OfAmount`)
 module _ (c : CampaignValue) (e : BooksEntry) (t : Thing) (n k : ℕ) (entry : n ≡ entry_index e + 1) (thing : k ≡ thing_index t) where
-  -- the upsert of the row of a booked amount other than 0 is the statement that writes the amount (`OfAmount`)
   pub amount_put : (z : ℤ) → z ≡ amount_in c.books e t → z ≢ pos 0 → OfAmount c e t (upsert books_table 2) (books_row n k z)
   amount_put z amount some = rw (entry, thing, amount) (puts_amount (λ zero. some (amount ∙ zero)))
 
-  -- the DELETE of the row of a booked amount that is 0 is the statement that writes the amount (`OfAmount`)
   pub amount_taken : amount_in c.books e t ≡ pos 0 → OfAmount c e t (deletion books_table 2) (books_key n k)
   amount_taken zero = rw (entry, thing) (drops_amount zero)
 
--- the statements that write an amount of the books (`OfAmount`) are among those that a write of changes may run
--- (`OfChange`)
 pub amount_changes : (c : CampaignValue) (e : BooksEntry) (t : Thing) (sql : List ℕ) (params : Row) → OfAmount c e t sql params → OfChange c sql params
 amount_changes c e t sql params (puts_amount some) = changes_row (puts_row Books (λ own. (e, t, some, refl)))
 amount_changes c e t sql params (drops_amount zero) = drops_row Books (
@@ -169,7 +154,6 @@ amount_changes c e t sql params (drops_amount zero) = drops_row Books (
 
 -- an amount is written: its row is put, or deleted if the amount is 0
 module _ (c : CampaignValue) (e : BooksEntry) (t : Thing) (n k : ℕ) (entry : n ≡ entry_index e + 1) (thing : k ≡ thing_index t) (old new : Database) where
-  -- putting the row of an amount of the books that is not 0 writes the amount (`WritesAmount`)
   pub put_writes_amount : (z : ℤ) → z ≡ amount_in c.books e t → z ≢ pos 0 → Puts books_table 2 (books_row n k z) old new → WritesAmount c e t old new
   put_writes_amount z amount some did =
       let lines : amount_lines c e t ≡ books_row n k z ∷ [] = amount_is c e t n k z entry thing amount some in
@@ -182,7 +166,6 @@ module _ (c : CampaignValue) (e : BooksEntry) (t : Thing) (n k : ℕ) (entry : n
         others = did.others;
       }
 
-  -- deleting the row of an amount of the books that is 0 writes the amount (`WritesAmount`)
   pub drop_writes_amount : amount_in c.books e t ≡ pos 0 → Drops books_table 2 (books_key n k) old new → WritesAmount c e t old new
   drop_writes_amount none did =
       let keys : books_key n k ≡ books_key (entry_index e + 1) (thing_index t) = rw (entry, thing) refl in

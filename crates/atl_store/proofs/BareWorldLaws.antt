@@ -13,14 +13,12 @@ use Rattle.atl_records.specs.Every.{HasValue}
 use Rattle.atl_campaign.specs.Good.{HasNoStocks, IsGood}
 use Rattle.atl_records.specs.declared.records.Region.{Region}
 
--- a region of a campaign with nothing in stock has no stock of any item
 nothing_in_stock : (c : CampaignValue) → HasNoStocks c → (n : ℕ) (r : Region) → get c.regions n ≡ Some r → (i amount : ℕ) → ¬ (get r.stocks i ≡ Some amount)
 nothing_in_stock c bare n r is i amount there = let e = sym (get-empty {X = ℕ} nat_cmp i) ∙ ap (λ (m : FinMap nat_cmp ℕ). get m i) (sym (bare n r is)) ∙ there in absurd cc
 
 -- ---- in a world with other regions
 
 module _ (v : WorldValue) (regions : FinMap nat_cmp RegionPlan) (c : CampaignValue) (bare : HasNoStocks c) where
-  -- the world `v` with `regions` in place of its own regions
   abbrev changed_world : WorldValue
   changed_world = record v { regions = regions }
 
@@ -77,35 +75,27 @@ module _ (v : WorldValue) (regions : FinMap nat_cmp RegionPlan) (c : CampaignVal
 -- ---- in a world without markets
 
 module _ (w : WorldValue) where
-  -- a world without its markets has the same land regions as the world
   land_same : (n : ℕ) → is_land_at (without_markets w) n ≡ is_land_at w n
   land_same n = ap (λ o. option_map_or (is_land w.terrains) o false) (get-mapped without_market w.regions n) ∙ by_plan (get w.regions n)
     where
-      -- for `land_same`: the plan `o` of a region, if there is one, is of land exactly if it is so without its market
       by_plan : (o : Option RegionPlan) → option_map_or (is_land w.terrains) (option_map without_market o) false ≡ option_map_or (is_land w.terrains) o false
       by_plan None = refl
       by_plan (Some p) = refl
 
-  -- each region of a world is a region of the world without its markets
   stays_without_markets : (n : ℕ) → HasValue w.regions n → HasValue (without_markets w).regions n
   stays_without_markets n (p, there) = (without_market p, get-mapped without_market w.regions n ∙ ap (option_map without_market) there)
 
-  -- each region of a world without its markets is a region of the world
   is_of_world : (n : ℕ) → HasValue (without_markets w).regions n → HasValue w.regions n
   is_of_world n (p, there) = by_plan (get w.regions n) refl (sym (get-mapped without_market w.regions n) ∙ there)
     where
-      -- for `is_of_world`: if the look-up `o` of region `n`, with the market taken out, gives a plan, the region is
-      -- there
       by_plan : (o : Option RegionPlan) → get w.regions n ≡ o → option_map without_market o ≡ Some p → HasValue w.regions n
       by_plan None is e = absurd cc
       by_plan (Some q) is e = (q, is)
 
   module _ (c : CampaignValue) (bare : HasNoStocks c) where
-    -- a campaign with nothing in stock that is good in a world is good in that world without its markets
     without_good : IsGood w c → IsGood (without_markets w) c
     without_good good = good_with w (without_markets w).regions c bare land_same stays_without_markets is_of_world good
 
-    -- a campaign with nothing in stock that is good in the world without its markets is good in the world with them
     with_good : IsGood (without_markets w) c → IsGood w c
     with_good good = good_with (without_markets w) w.regions c bare (λ n. sym (land_same n)) is_of_world stays_without_markets good
 

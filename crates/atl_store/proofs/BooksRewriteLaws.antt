@@ -20,11 +20,11 @@ use Rattle.atl_records.specs.declared.books.Thing.{Thing}
 use Rattle.atl_records.proofs.AccountLaws.{same_account}
 use Rattle.atl_sql.specs.Tables.{books_table}
 use Rattle.atl_sql.specs.Shown.{int, books_key, books_row}
-use Rattle.atl_sql.specs.Rows.{BooksRowsOf}
+use Rattle.atl_store.specs.Rows.{BooksRowsOf}
 use Rattle.atl_store.specs.GroupedRows.{amount_lines}
 use Rattle.atl_store.specs.Arriving.{WritesAmount}
 use Rattle.atl_sql.specs.Inside.{DoesInside, HasTables}
-use Rattle.atl_sql.specs.Marked.{entry_and_thing_pass, amount_marked, is_marked_amount}
+use Rattle.atl_store.specs.Marked.{entry_and_thing_pass, amount_marked, is_marked_amount}
 use Rattle.atl_store.specs.Rewriting.{RewritesAmounts, RewritesBooks, equals_number, is_among, is_of_marked_amount}
 use Rattle.atl_store.proofs.HasTableLaws.{optional_has, has_optional}
 use Rattle.atl_store.proofs.LedgerLaws.{books_key_determines_numbers, differs_zero, is_differing}
@@ -33,32 +33,26 @@ use Rattle.atl_store.proofs.WholeLaws.{inside_weaker}
 
 -- ---- a row that begins with an entry and a thing
 
--- a row passes the test "`f` or `g`" of its entry and thing exactly if it passes `f` or passes `g`
 accounts_either : (f g : ℕ → ℕ → Bool) (r : Row) → entry_and_thing_pass (λ e t. f e t || g e t) r ≡ (entry_and_thing_pass f r || entry_and_thing_pass g r)
 accounts_either f g (Int (pos (suc e)) ∷ Int (pos t) ∷ row) = refl
 accounts_either f g row = refl
 
--- two tests with equal results for each entry and thing choose the same rows of `books`
 accounts_same : (f g : ℕ → ℕ → Bool) → ((e t : ℕ) → f e t ≡ g e t) → (r : Row) → entry_and_thing_pass f r ≡ entry_and_thing_pass g r
 accounts_same f g same r = ap (λ (h : ℕ → ℕ → Bool). entry_and_thing_pass h r) (λ i e t. same e t i)
 
--- a test of entry and thing that is always false chooses no row of `books`
 accounts_none : (f : ℕ → ℕ → Bool) → ((e t : ℕ) → f e t ≡ false) → (r : Row) → entry_and_thing_pass f r ≡ false
 accounts_none f never (Int (pos (suc e)) ∷ Int (pos t) ∷ row) = never e t
 accounts_none f never row = refl
 
 -- ---- tests of entries and of things
 
--- for `next_thing`: `p` and (`a` or `b`) and `c` hold exactly if `p` and `a` and `c` do, or `p` and `b` and `c`
 and_or : (p a b c : Bool) → (p && ((a || b) && c)) ≡ ((p && (a && c)) || (p && (b && c)))
 and_or p a b c = ap (λ q. p && q) (and-or_distrib_right a b c) ∙ and-or_distrib_left p (a && c) (b && c)
 
 module _ (marks : FinSet nat_cmp) where
-  -- whether the amount is marked whose entry has index `e` and whose thing has index `t`
   abbrev is_marked_at : ℕ → ℕ → Bool
   is_marked_at e t = contains marks (entry_count * t + e)
 
-  -- a row of a marked amount has an entry in `e ∷ es` exactly if its entry is `e` or is in `es`
   pub next_entry : (e : ℕ) (es : List ℕ) (things : ℕ → Bool) (r : Row)
       → is_of_marked_amount marks (is_among (e ∷ es)) things r ≡ (is_of_marked_amount marks (equals_number e) things r || is_of_marked_amount marks (is_among es) things r)
   next_entry e es things r =
@@ -66,7 +60,6 @@ module _ (marks : FinSet nat_cmp) where
       let rest : ℕ → ℕ → Bool = λ k t. is_among es k && (things t && is_marked_at k t) in
       accounts_same (λ k t. is_among (e ∷ es) k && (things t && is_marked_at k t)) (λ k t. one k t || rest k t) (λ k t. and-or_distrib_right (equals_number e k) (is_among es k) (things t && is_marked_at k t)) r ∙ accounts_either one rest r
 
-  -- a row of a marked amount has a thing in `t ∷ ts` exactly if its thing is `t` or is in `ts`
   pub next_thing : (entries : ℕ → Bool) (t : ℕ) (ts : List ℕ) (r : Row)
       → is_of_marked_amount marks entries (is_among (t ∷ ts)) r ≡ (is_of_marked_amount marks entries (equals_number t) r || is_of_marked_amount marks entries (is_among ts) r)
   next_thing entries t ts r =
@@ -74,17 +67,14 @@ module _ (marks : FinSet nat_cmp) where
       let rest : ℕ → ℕ → Bool = λ e k. entries e && (is_among ts k && is_marked_at e k) in
       accounts_same (λ e k. entries e && (is_among (t ∷ ts) k && is_marked_at e k)) (λ e k. one e k || rest e k) (λ e k. and_or (entries e) (equals_number t k) (is_among ts k) (is_marked_at e k)) r ∙ accounts_either one rest r
 
-  -- if the list of entries `es` is empty, no row is of a marked amount of these entries
   pub no_entry : (es : List ℕ) (things : ℕ → Bool) → es ≡ [] → (r : Row) → is_of_marked_amount marks (is_among es) things r ≡ false
   no_entry es things none r = ap (λ l. is_of_marked_amount marks (is_among l) things r) none ∙ accounts_none (λ e t. false) (λ e t. refl) r
 
-  -- if the list of things `ts` is empty, no row is of a marked amount of these things
   pub no_thing : (entries : ℕ → Bool) (ts : List ℕ) → ts ≡ [] → (r : Row) → is_of_marked_amount marks entries (is_among ts) r ≡ false
   no_thing entries ts none r = ap (λ l. is_of_marked_amount marks entries (is_among l) r) none ∙ accounts_none (λ e t. entries e && false) (λ e t. and-false (entries e)) r
 
   -- ---- all entries and all things
 
-  -- a number within a range is among the numbers of the range
   in_range : (from count i : ℕ) → from ≤ i → i < from + count → is_among (range_with_len from count) i ≡ true
   in_range from zero i least most = absurd (omega (arith, least, most))
   in_range from (suc count) i least most = elim (cases_Bool (eq_by_cmp nat_cmp i from)) [
@@ -94,32 +84,26 @@ module _ (marks : FinSet nat_cmp) where
         ap (λ b. b || is_among (range_with_len (from + 1) count) i) later ∙ in_range (from + 1) count i (past from i least apart) (omega (arith, most))
   ]
     where
-      -- for `in_range`: a number that is at least `m` and isn't `m` is at least `m + 1`
       past : (m n : ℕ) → m ≤ n → n ≢ m → m + 1 ≤ n
       past m n least apart = grind (arith, least, apart)
 
-  -- a number above a range is not among the numbers of the range
   beyond : (from count i : ℕ) → from + count ≤ i → is_among (range_with_len from count) i ≡ false
   beyond from zero i past = refl
   beyond from (suc count) i past =
       ap (λ b. b || is_among (range_with_len (from + 1) count) i) (false_from_ne_true (eq_by_cmp nat_cmp i from) (λ is. absurd (omega (arith, past, equal_by_order i from is)))) ∙ beyond (from + 1) count i (omega (arith, past))
 
-  -- a number is among the first `count` numbers exactly if it is below `count`
   among_first : (count e : ℕ) → is_among (range_with_len 0 count) e ≡ nat_le (suc e) count
   among_first count e = elim (cases_lt e count) [
     | inl less ↦ in_range 0 count e (omega arith) (omega (arith, less)) ∙ sym (counted less)
     | inr past ↦ beyond 0 count e (omega (arith, past)) ∙ sym (uncounted past)
   ]
     where
-      -- for `among_first`: an index `e` below `count` passes the test for that (`nat_le`)
       counted : e < count → nat_le (suc e) count ≡ true
       counted less = grind (arith, nat_tests, less)
 
-      -- for `among_first`: an index `e` that isn't below `count` fails the test for that (`nat_le`)
       uncounted : count ≤ e → nat_le (suc e) count ≡ false
       uncounted past = grind (arith, nat_tests, past)
 
-  -- a number is an entry's index exactly if it is below the count of entries
   each_entry : (e : ℕ) → is_among (map entry_index all_entries) e ≡ nat_le (suc e) entry_count
   each_entry e = among_first entry_count e
 
@@ -128,13 +112,9 @@ module _ (marks : FinSet nat_cmp) where
       → is_of_marked_amount marks (is_among (map entry_index all_entries)) (is_among (range_with_len 0 things)) r ≡ amount_marked marks r
   all_amounts things few r = accounts_same (λ e t. is_among (map entry_index all_entries) e && (is_among (range_with_len 0 things) t && is_marked_at e t)) (is_marked_amount marks) same r
     where
-      -- for `all_amounts`: if an amount's number, `entry_count * t + e`, is below `entry_count * n`, the index `t` of
-      -- its thing is below `n`
       inside : (e t n : ℕ) → entry_count * t + e < entry_count * n → t < n
       inside e t n h = omega (arith, h)
 
-      -- for `all_amounts`: `is_marked_amount` chooses `e` and `t` exactly if `e` is an entry's index, `t` is below
-      -- `things`, and their amount is marked
       same : (e t : ℕ)
           → (is_among (map entry_index all_entries) e && (is_among (range_with_len 0 things) t && is_marked_at e t)) ≡ is_marked_amount marks e t
       same e t = elim (cases_Bool (is_marked_at e t)) [
@@ -151,11 +131,9 @@ module _ (c : MarkedCampaign) (e : BooksEntry) (t : Thing) where
   abbrev is_here : Row → Bool
   is_here r = is_of_marked_amount c.marks.books (equals_number (entry_index e)) (equals_number (thing_index t)) r
 
-  -- the row of `books` with the campaign's amount of entry `e` and thing `t`
   abbrev row : Row
   row = books_row (entry_index e + 1) (thing_index t) (amount_in c.value.books e t)
 
-  -- the row of an amount other than 0 whose entry and thing have the indexes of `e` and `t` is the row of `e` and `t`
   same_place : (f : BooksEntry) (u : Thing) → amount_in c.value.books f u ≢ pos 0 → entry_index f ≡ entry_index e → thing_index u ≡ thing_index t
       → (r : Row) → r ≡ books_row (entry_index f + 1) (thing_index u) (amount_in c.value.books f u) → Has (amount_lines c.value e t) r
   same_place f u some entries things r is =
@@ -164,14 +142,12 @@ module _ (c : MarkedCampaign) (e : BooksEntry) (t : Thing) where
       let row_is : r ≡ row = is ∙ ap (λ k. books_row (k + 1) (thing_index u) (amount_in books f u)) entries ∙ ap (λ k. books_row (entry_index e + 1) k (amount_in books f u)) things ∙ ap (books_row (entry_index e + 1) (thing_index t)) same in
       subst (Has (amount_lines c.value e t)) (sym row_is) (has_optional (int_eq (amount_in books e t) (pos 0)) row (is_differing (amount_in books e t) (λ none. some (same ∙ none))))
 
-  -- no row of `books` is to be written for entry `e` and thing `t` (`is_here`), if their amount isn't marked
   pub unmarked_none : contains c.marks.books (amount_number e t) ≡ false → (r : Row) → is_here r ≡ false
   unmarked_none unmarked r = accounts_none _ (λ k j. false_from_ne_true _ (λ is.
       let one = and_parts _ _ is in
       let two = and_parts _ _ one.1 in
       true≢false (sym two.1 ∙ ap (λ x. contains c.marks.books (entry_count * x + k)) (equal_by_order j (thing_index t) two.0) ∙ ap (λ x. contains c.marks.books (entry_count * thing_index t + x)) (equal_by_order k (entry_index e) one.0) ∙ unmarked))) r
 
-  -- a row of entry `e` and thing `t`, whose amount is marked (`is_here`), has the key of `e` and `t`
   key_of : (r : Row) → is_here r ≡ true → take 2 r ≡ books_key (entry_index e + 1) (thing_index t)
   key_of (Int (pos (suc index)) ∷ Int (pos thing) ∷ row) is =
       let one = and_parts _ _ is in
@@ -184,7 +160,6 @@ module _ (c : MarkedCampaign) (e : BooksEntry) (t : Thing) where
   key_of row is = absurd (true≢false (sym is))
 
   module _ (marked : contains c.marks.books (amount_number e t) ≡ true) where
-    -- if the amount of entry `e` and thing `t` is marked, a row with their key is one to be written (`is_here`)
     of_key : (r : Row) → take 2 r ≡ books_key (entry_index e + 1) (thing_index t) → is_here r ≡ true
     of_key [] key = absurd cc
     of_key (v ∷ []) key = absurd cc
@@ -195,7 +170,6 @@ module _ (c : MarkedCampaign) (e : BooksEntry) (t : Thing) where
         ap (λ x. is_here (x ∷ w ∷ row)) (first ∙ ap int index) ∙ ap (λ x. is_here (int (suc (entry_index e)) ∷ x ∷ row)) second
         ∙ ap (λ b. b && (equals_number (thing_index t) (thing_index t) && contains c.marks.books (amount_number e t))) (is_itself (entry_index e)) ∙ ap (λ b. b && contains c.marks.books (amount_number e t)) (is_itself (thing_index t)) ∙ marked
 
-    -- writing a marked amount (`WritesAmount`) rewrites the row of its entry and thing and no other (`RewritesAmounts`)
     written_amount_is_rewritten : (old new : Database) → WritesAmount c.value e t old new
         → RewritesAmounts c (equals_number (entry_index e)) (equals_number (thing_index t)) old new
     written_amount_is_rewritten old new did = rewrites_key is_here (λ r. take 2 r ≡ books_key (entry_index e + 1) (thing_index t)) (Has (amount_lines c.value e t)) (BooksRowsOf c.value.books) key_of of_key
@@ -205,7 +179,6 @@ module _ (c : MarkedCampaign) (e : BooksEntry) (t : Thing) where
         same_place of.0 of.1 of.2 (omega (arith, keys.0)) keys.1 r of.3)
         books_table old new did.rows did.others
 
-    -- inside a transaction, writing a marked amount (`WritesAmount`) rewrites the row of its entry and thing alone
     pub amount_is_rewritten_inside : (old new : State) → DoesInside HasTables (WritesAmount c.value e t) old new
         → DoesInside HasTables (RewritesAmounts c (equals_number (entry_index e)) (equals_number (thing_index t))) old new
     amount_is_rewritten_inside old new did = inside_weaker HasTables (WritesAmount c.value e t) (RewritesAmounts c (equals_number (entry_index e)) (equals_number (thing_index t))) old new (λ has settles. written_amount_is_rewritten old.now new.now settles) did
@@ -213,7 +186,6 @@ module _ (c : MarkedCampaign) (e : BooksEntry) (t : Thing) where
 -- ---- one entry after another, and one thing after another
 
 module _ (c : MarkedCampaign) where
-  -- Whether the table `books` has to hold this row for the campaign.
   abbrev wanted : Row → Type 0
   wanted r = BooksRowsOf c.value.books r
 
@@ -222,14 +194,12 @@ module _ (c : MarkedCampaign) where
   abbrev pub RemainingEntries : (ℕ → Bool) → List BooksEntry → List BooksEntry → Database → Database → Type 0
   RemainingEntries things rest all old new = Remaining books_table wanted (λ r. is_of_marked_amount c.marks.books (is_among (map entry_index rest)) things r) (λ r. is_of_marked_amount c.marks.books (is_among (map entry_index all)) things r) old new
 
-  -- once the marked amounts of the first entry left to rewrite are rewritten, only the entries `rest` after it are left
   pub one_less_entry : (things : ℕ → Bool) (x : BooksEntry) (now rest all : List BooksEntry) → now ≡ x ∷ rest → (old mid new : State)
       → DoesInside HasTables (RemainingEntries things now all) old mid → DoesInside HasTables (RewritesAmounts c (equals_number (entry_index x)) things) mid new
       → DoesInside HasTables (RemainingEntries things rest all) old new
   one_less_entry things x now rest all is = one_less_remaining books_table wanted (λ r. is_of_marked_amount c.marks.books (equals_number (entry_index x)) things r) (λ r. is_of_marked_amount c.marks.books (is_among (map entry_index now)) things r) (λ r. is_of_marked_amount c.marks.books (is_among (map entry_index rest)) things r) (λ r. is_of_marked_amount c.marks.books (is_among (map entry_index all)) things r)
       (λ r. ap (λ es. is_of_marked_amount c.marks.books (is_among (map entry_index es)) things r) is ∙ next_entry c.marks.books (entry_index x) (map entry_index rest) things r)
 
-  -- when no entry is left to rewrite, the marked amounts of all entries of `all` are rewritten
   pub entries_rewritten : (things : ℕ → Bool) (rest all : List BooksEntry) → rest ≡ [] → (old new : State)
       → DoesInside HasTables (RemainingEntries things rest all) old new
       → DoesInside HasTables (RewritesAmounts c (is_among (map entry_index all)) things) old new
@@ -241,7 +211,6 @@ module _ (c : MarkedCampaign) where
   abbrev pub RemainingThings : List ℕ → List ℕ → Database → Database → Type 0
   RemainingThings rest all old new = Remaining books_table wanted (λ r. is_of_marked_amount c.marks.books (is_among (map entry_index all_entries)) (is_among rest) r) (λ r. is_of_marked_amount c.marks.books (is_among (map entry_index all_entries)) (is_among all) r) old new
 
-  -- once the marked amounts of the first thing left to rewrite are rewritten, only the things `rest` after it are left
   pub one_less_thing : (t : ℕ) (now rest all : List ℕ) → now ≡ t ∷ rest → (old mid new : State) → DoesInside HasTables (RemainingThings now all) old mid
       → DoesInside HasTables (RewritesAmounts c (is_among (map entry_index all_entries)) (equals_number t)) mid new
       → DoesInside HasTables (RemainingThings rest all) old new

@@ -27,8 +27,8 @@ use Rattle.atl_sql.specs.Sets.{HasExactly, rows_in}
 use Rattle.atl_sql.specs.Tables.{Part, Own, Factions, Regions, Units, Goods, Structures, Mail, Reports, Books, Markets, table_of}
 use Rattle.atl_sql.specs.Shown.{CampaignRowValue, campaign_row, has_row, mail_row, report_row, books_row}
 use Rattle.atl_sql.specs.Written.{sort_number}
-use Rattle.atl_sql.specs.Rows.{RowsOf, HasRowsOf, BooksRowsOf, MarketRowsOf, rows_for, campaign_row_of, row_of_campaign, row_of_faction, row_of_region, row_of_unit, row_of_structure, things_under, amount_under, Holds}
-use Rattle.atl_sql.specs.Marked.{begins_marked, has_thing, goods_marked, stocks_marked, amount_marked, is_marked}
+use Rattle.atl_store.specs.Rows.{RowsOf, HasRowsOf, BooksRowsOf, MarketRowsOf, rows_for, campaign_row_of, row_of_campaign, row_of_faction, row_of_region, row_of_unit, row_of_structure, things_under, amount_under, Holds}
+use Rattle.atl_store.specs.Marked.{begins_marked, has_thing, goods_marked, stocks_marked, amount_marked, is_marked}
 use Rattle.atl_store.specs.Changing.{IfElse, rows_after_rewrite, campaign_row_after, HasUnmarked, WritesChanges, HoldsUnmarked}
 use Rattle.atl_store.specs.Rewriting.{marked_things}
 use Rattle.atl_store.proofs.HasTableLaws.{row_has_amount, amount_has_row}
@@ -41,17 +41,14 @@ use Rattle.atl_store.proofs.MarketLaws.{row_has_stock, stock_has_row}
 all_held : (is_marked : Row → Bool) (After : Row → Type 0) (old new : List Row) → ((r : Row) → is_marked r ≡ false → Has old r ↔ After r) → HasExactly new (rows_after_rewrite is_marked After (Has old)) → HasExactly new After
 all_held is_marked After old new rest now r = (λ there. written_is_wanted (is_marked r) refl ((now r).0 there), λ of. (now r).1 (wanted_is_written (is_marked r) refl of))
   where
-    -- for `all_held`: a row that the rewrite puts (it is marked) or keeps (it isn't) is a wanted row (`After`)
     written_is_wanted : (b : Bool) → is_marked r ≡ b → IfElse b (After r) (Has old r) → After r
     written_is_wanted true is h = h
     written_is_wanted false is h = (rest r is).0 h
 
-    -- for `all_held`: a wanted row (`After`) is one that the rewrite puts (if it is marked) or keeps (if not)
     wanted_is_written : (b : Bool) → is_marked r ≡ b → After r → IfElse b (After r) (Has old r)
     wanted_is_written true is of = of
     wanted_is_written false is of = (rest r is).1 of
 
--- a table with the rows `Before` has the unmarked rows of `After`, if both sets have the same unmarked rows
 unmarked_rows_agree : (is_marked : Row → Bool) (Before After : Row → Type 0) (old : List Row) → ((r : Row) → is_marked r ≡ false → Before r → After r) → ((r : Row) → is_marked r ≡ false → After r → Before r) → HasExactly old Before
     → (r : Row) → is_marked r ≡ false → Has old r ↔ After r
 unmarked_rows_agree is_marked Before After old ahead back was r is = (λ there. ahead r is ((was r).0 there), λ of. (was r).1 (back r is of))
@@ -63,28 +60,21 @@ module _ {V : Type 0} (line : ℕ → V → Row) (marks : FinSet nat_cmp) (heads
   abbrev pub Follows : FinMap nat_cmp V → FinMap nat_cmp V → Type 0
   Follows one other = (n : ℕ) (v : V) → contains marks n ≡ false → get one n ≡ Some v → (w : V) × (get other n ≡ Some w) × (line n w ≡ line n v)
 
-  -- the number of an unmarked row is not marked
   unmarked_row_has_unmarked_number : (n : ℕ) (v : V) (r : Row) → r ≡ line n v → begins_marked marks r ≡ false → contains marks n ≡ false
   unmarked_row_has_unmarked_number n v r is not_marked = sym (heads n v) ∙ ap (begins_marked marks) (sym is) ∙ not_marked
 
-  -- an unmarked row of one map is a row of the other, if the other has the same rows under unmarked numbers (`Follows`)
   follow : (one other : FinMap nat_cmp V) (r : Row) → begins_marked marks r ≡ false → Follows one other → RowsOf line one r → RowsOf line other r
   follow one other r not_marked follows of = let found = follows of.0 of.1 (unmarked_row_has_unmarked_number of.0 of.1 r of.3 not_marked) of.2 in (of.0, found.0, found.1, of.3 ∙ sym found.2)
 
-  -- a table with the rows of map `before` has the unmarked rows of `after`, if both maps have the same unmarked rows
-  -- (`Follows`)
   rest_numbered : (before after : FinMap nat_cmp V) (old : List Row) → Follows before after → Follows after before → HasExactly old (RowsOf line before) → (r : Row) → begins_marked marks r ≡ false → Has old r ↔ RowsOf line after r
   rest_numbered before after old ahead back = unmarked_rows_agree (begins_marked marks) (RowsOf line before) (RowsOf line after) old (λ r is. follow before after r is ahead) (λ r is. follow after before r is back)
 
-  -- if maps differ only under marked numbers, each unmarked number of `before` has in `after` the same row (`Follows`)
   same_follows : (before after : FinMap nat_cmp V) → SameBut marks before after → Follows before after
   same_follows before after same n v not_marked there = (v, same n not_marked ∙ there, refl)
 
-  -- if maps differ only under marked numbers, each unmarked number of `after` has in `before` the same row (`Follows`)
   same_followed : (before after : FinMap nat_cmp V) → SameBut marks before after → Follows after before
   same_followed before after same n v not_marked there = (v, sym (same n not_marked) ∙ there, refl)
 
-  -- a table with the rows of map `before` has the unmarked rows of `after`, if both differ only under marked numbers
   rest_same : (before after : FinMap nat_cmp V) (old : List Row) → SameBut marks before after → HasExactly old (RowsOf line before) → (r : Row) → begins_marked marks r ≡ false → Has old r ↔ RowsOf line after r
   rest_same before after old same = rest_numbered before after old (same_follows before after same) (same_followed before after same)
 
@@ -106,17 +96,14 @@ bare_same n o (Some w) v same there = (w, refl, let e : without_goods w ≡ with
 
 -- ---- goods
 
--- the row of a unit's item or skill in `has` is marked exactly if the item or skill is
 goods_row_marked : (marks : Marks) (n : ℕ) (sort : ThingKind) (thing amount : ℕ) → goods_marked marks (has_row n (sort_number sort) thing amount) ≡ is_thing_marked marks.goods (marked_things marks sort) n thing
 goods_row_marked marks n Item thing amount = or-false (is_thing_marked marks.goods marks.items n thing)
 goods_row_marked marks n Skill thing amount = ap (λ b. b || has_thing marks.skills n thing) (or-false (contains marks.goods n))
 
--- items and skills that aren't marked have the amounts that they had before, if the marks cover all changes
 goods_same : (m : Marks) (before after : CampaignValue) → Covers m before after → (sort : ThingKind) → SameThings m.goods (marked_things m sort) (things_under sort) before.units after.units
 goods_same m before after covers Item = covers.items
 goods_same m before after covers Skill = covers.days
 
--- an unmarked row of `has` of one campaign is one of the other, if the two differ only in marked items and skills
 goods_follow : (one other : FinMap nat_cmp Unit) (marks : Marks) (r : Row) → ((sort : ThingKind) → SameThings marks.goods (marked_things marks sort) (things_under sort) one other) → goods_marked marks r ≡ false → HasRowsOf one r → HasRowsOf other r
 goods_follow one other marks r same not_marked of =
     let had = row_has_amount one r of in
@@ -126,7 +113,6 @@ goods_follow one other marks r same not_marked of =
 
 -- ---- stocks
 
--- an unmarked row of `market` of one campaign is one of the other, if the two differ only in marked stocks
 stocks_follow : (one other : FinMap nat_cmp Region) (marks : Marks) (r : Row) → ((n item : ℕ) → is_thing_marked marks.stocks marks.stock_items n item ≡ false → stock_in other n item ≡ stock_in one n item) → stocks_marked marks r ≡ false → MarketRowsOf one r → MarketRowsOf other r
 stocks_follow one other marks r same not_marked of =
     let had = row_has_stock one r of in
@@ -135,20 +121,16 @@ stocks_follow one other marks r same not_marked of =
 
 -- ---- amounts
 
--- the row of an entry and a thing in `books` is marked exactly if their amount is
 amount_row_marked : (marks : FinSet nat_cmp) (e : BooksEntry) (t : Thing) (amount : ℤ) → amount_marked marks (books_row (entry_index e + 1) (thing_index t) amount) ≡ contains marks (amount_number e t)
 amount_row_marked marks e t amount =
     ap (λ number. amount_marked marks (books_row number (thing_index t) amount)) (next (entry_index e)) ∙ ap (λ (b : Bool). b && contains marks (amount_number e t)) (there (entry_index e) (entry_small e))
   where
-    -- for `amount_row_marked`: a number plus 1 is its successor
     next : (n : ℕ) → n + 1 ≡ suc n
     next n = omega arith
 
-    -- for `amount_row_marked`: an index below the count of entries passes the test for an entry's index
     there : (n : ℕ) → n < entry_count → nat_le (suc n) entry_count ≡ true
     there n small = grind (arith, nat_tests, small)
 
--- an unmarked row of `books` of one campaign is one of the other, if the two differ only in marked amounts
 amounts_follow : (one other : BooksValue) (marks : FinSet nat_cmp) (r : Row) → ((e : BooksEntry) (t : Thing) → contains marks (amount_number e t) ≡ false → amount_in other e t ≡ amount_in one e t) → amount_marked marks r ≡ false → BooksRowsOf one r → BooksRowsOf other r
 amounts_follow one other marks r same not_marked of =
     let is = same of.0 of.1 (sym (amount_row_marked marks of.0 of.1 (amount_in one of.0 of.1)) ∙ ap (amount_marked marks) (sym of.3) ∙ not_marked) in
@@ -156,7 +138,6 @@ amounts_follow one other marks r same not_marked of =
 
 -- ---- the campaign's own row
 
--- what a campaign row says, from its month, pass text, and next numbers of a faction, a unit and a structure
 abbrev head_in : ℕ × (List ℕ × (ℕ × (ℕ × ℕ))) → CampaignRowValue
 head_in row = record { month = row.0; pass = row.1.0; next_faction = row.1.1.0; next_unit = row.1.1.1.0; next_structure = row.1.1.1.1 }
 
@@ -177,11 +158,9 @@ unmarked_held c old new changes text rest =
           (subst (λ (h : CampaignRowValue). HasExactly (rows_in (table_of part) new.trees) (rows_after_rewrite (is_marked c.marks part) (rows_for (campaign_row h text) c.value part) (Has (rows_in (table_of part) old.trees)))) rest.head (did.rows part));
     }
 
--- tables of the campaign before hold the unmarked rows of the one after, if the marks cover all changes
 pub covers_unmarked : (c : MarkedCampaign) (db : Trees) (text : List ℕ) (before : CampaignValue) → Covers c.marks before c.value → Holds db text before → HoldsUnmarked db text c
 covers_unmarked c db text before covers held = record { before = campaign_row_of before; campaign = held.rows Own; head = head_held c.marks.row before c.value covers.row; rest = rest }
   where
-    -- for `covers_unmarked`: in each part's table the unmarked rows are those of the campaign after
     rest : (part : Part) → HasUnmarked (table_of part) (is_marked c.marks part) (rows_for (row_of_campaign text c.value) c.value part) db
     rest Own = λ r is. absurd (true≢false is)
     rest Factions = rest_same row_of_faction c.marks.factions (λ n v. refl) before.factions c.value.factions _ covers.factions (held.rows Factions)
@@ -205,7 +184,5 @@ covers_unmarked c db text before covers held = record { before = campaign_row_of
         unmarked_rows_agree (stocks_marked c.marks) (MarketRowsOf before.regions) (MarketRowsOf c.value.regions) _ (λ r is. stocks_follow before.regions c.value.regions c.marks r covers.stocks is)
         (λ r is. stocks_follow c.value.regions before.regions c.marks r (λ n item not_marked. sym (covers.stocks n item not_marked)) is) (held.rows Markets)
 
--- tables that hold the campaign before hold the one after once all marked rows are written, if the marks cover all
--- changes
 pub changes_held : (c : MarkedCampaign) (old new : Database) → WritesChanges c old new → (text : List ℕ) (before : CampaignValue) → Covers c.marks before c.value → Holds old.trees text before → Holds new.trees text c.value
 changes_held c old new changes text before covers held = unmarked_held c old new changes text (covers_unmarked c old.trees text before covers held)

@@ -26,24 +26,19 @@ module _ (sql : List ℕ) (old new : State) (plain : IsPlain (understood old.now
   pub commits_none : Survives old new (CommitsShowing sql [] old) → Survives old new (λ _. ⊥)
   commits_none = survives_weaker old new _ _ (λ _ db. never_commits sql [] old db plain)
 
-  -- a query that shows rows leaves the connection unchanged (`IsUnchanged`)
   pub shown_unchanged : (rows : List Row) → Shown sql [] old new rows → IsUnchanged old new
   unfolding Shown
   shown_unchanged rows h = (subst (ShowsRows old new sql h.0 _ rows) (subst IsPlain h.1.is plain).0 h.2).3
 
-  -- an unchanged connection has its tables as they were
   unchanged_stays : IsUnchanged old new → TablesStay old new
   unchanged_stays h = record { was_open = λ _. h.0.was_open; same = λ _. (h.0.now_is, h.0.committed_is) }
 
-  -- a rollback leaves the tables as they were, if the disk is clean and all was committed (`IsCommitted`)
   rolled_stays : IsCommitted old → HasCleanDisk old → IsRolledBack old new → TablesStay old new
   rolled_stays settled clean h = record { was_open = h.was_open; same = λ up. let back = h.undone up in (back.0 ∙ sym (settled clean (h.was_open up)), back.1) }
 
-  -- a query that shows rows leaves the tables as they were
   pub shown_stays : (rows : List Row) → Shown sql [] old new rows → TablesStay old new
   shown_stays rows h = unchanged_stays (shown_unchanged rows h)
 
-  -- a query that is refused leaves the tables as they were, if the disk is clean and all was committed (`IsCommitted`)
   pub refused_stays : IsCommitted old → HasCleanDisk old → (e : Error) → FailsToQuery sql [] old new e → TablesStay old new
   unfolding FailsToQuery IsNotRun
   refused_stays settled clean e (inl (inl h)) = unchanged_stays h.1
@@ -52,12 +47,10 @@ module _ (sql : List ℕ) (old new : State) (plain : IsPlain (understood old.now
 
 -- the SELECT of the campaign row is refused when it is asked a second time
 module _ (f : Format) {S : Type 0} (g : Ghosts S) (old during : Held S) (begins : HasTablesOf f old.schema) (e : Error) (failed : FailsToQuery (selection campaign_table 1) [] (state g old) (state g during) e) where
-  -- the fault of confirming is Memory if the SELECT was refused for lack of memory, else Store
   error_of : (memory : Bool) → is_memory e ≡ memory → FailsToConfirm g old f (cond memory load.Memory load.Store)
   error_of true is = (begins, (during, e, failed, is))
   error_of false is = inr (begins, (during, e, failed, is))
 
-  -- if the campaign row can't be read a second time, confirming fails with the fault of the SELECT's error
   pub unconfirmed : {A : Type 0} (r : Result A LoadFault) → IsErrAnd r (λ says. says ≡ load_fault e) → IfErr r (FailsToConfirm g old f)
   unconfirmed (Ok a) says = tt
   unconfirmed (Err fault) says = subst (FailsToConfirm g old f) (sym says) (error_of (is_memory e) refl)

@@ -13,36 +13,30 @@ use Rattle.sqlite_rules.specs.Lists.{Has}
 use Rattle.sqlite_rules.proofs.ListLemmas.{has_either, has_left, has_right}
 use Rattle.atl_sql.specs.Sets.{Set, HasExactly, put, puts}
 use Rattle.atl_sql.specs.Shown.{int}
-use Rattle.atl_sql.specs.Rows.{RowsOf, rows_in_order}
+use Rattle.atl_store.specs.Rows.{RowsOf, rows_in_order}
 use Rattle.atl_store.specs.GroupedRows.{DifferInKey}
 use Rattle.atl_sql.proofs.ListLaws.{has_map, map_has}
 
 -- ---- an entry is in the list exactly where the map has it
 
--- no number is less than itself
 pub not_less_itself : (n : ℕ) → is_lt (nat_cmp n n) ≡ false
 not_less_itself n = ap is_lt (tied_itself nat_cmp_total n)
 
--- a number that is less than another is not equal to it
 pub less_apart : (m n : ℕ) → is_lt (nat_cmp m n) ≡ true → m ≢ n
 less_apart m n less same = true≢false (sym less ∙ ap (λ k. is_lt (nat_cmp m k)) (sym same) ∙ not_less_itself m)
 
 module _ {V : Type 0} where
-  -- for `get_has`: equal `Some`s have equal values
   same_some : (a b : V) → Some a ≡ Some b → a ≡ b
   same_some a b e = cc
 
-  -- for `get_has`: None, as a look-up in no entries gives, is not equal to the `Some` of a value
   nothing_there : (v : V) → None ≡ Some v → ⊥
   nothing_there v e = cc
 
-  -- a number that is less than all numbers of a list of entries (`below_all`) is less than that of each entry
   pub below_has : (k : ℕ) (es : List (ℕ × V)) (x : ℕ × V) → below_all nat_cmp k es ≡ true → Has es x → is_lt (nat_cmp k x.0) ≡ true
   below_has k [] x below there = absurd there
   below_has k (e ∷ es) x below (inl same) = ap (λ (y : ℕ × V). is_lt (nat_cmp k y.0)) same ∙ (and_parts _ _ below).0
   below_has k (e ∷ es) x below (inr later) = below_has k es x (and_parts _ _ below).1 later
 
-  -- a value that a look-up finds in a list of entries is in the list, with its number
   get_has : (es : List (ℕ × V)) (n : ℕ) (v : V) → find nat_cmp n es ≡ Some v → Has es (n, v)
   get_has [] n v got = absurd (nothing_there v got)
   get_has (e ∷ es) n v got = elim (nat_cmp n e.0) as (λ o. nat_cmp n e.0 ≡ o → cond (is_eq o) (Some e.1) (find nat_cmp n es) ≡ Some v → Has (e ∷ es) (n, v)) [
@@ -54,7 +48,6 @@ module _ {V : Type 0} where
     | Greater ↦ λ _ h. inr (get_has es n v h)
   ] refl got
 
-  -- an entry of a sorted list is found under its number
   has_get : (es : List (ℕ × V)) (n : ℕ) (v : V) → is_sorted nat_cmp es ≡ true → Has es (n, v) → find nat_cmp n es ≡ Some v
   has_get [] n v sorted there = absurd there
   has_get (e ∷ es) n v sorted (inl same) =
@@ -70,21 +63,17 @@ module _ {V : Type 0} where
       ] refl in
       ap (λ b. cond b (Some e.1) (find nat_cmp n es)) other ∙ has_get es n v (and_parts _ _ sorted).1 later
 
-  -- a value that a map gives under a number is in the map's list of entries
   pub got_entry : (m : FinMap nat_cmp V) (n : ℕ) (v : V) → get m n ≡ Some v → Has (entries m) (n, v)
   got_entry m n v got = get_has (entries m) n v (sym (get-entries m n) ∙ got)
 
-  -- a map gives the value of an entry of its list under the entry's number
   pub entry_got : (m : FinMap nat_cmp V) (n : ℕ) (v : V) → Has (entries m) (n, v) → get m n ≡ Some v
   entry_got m n v there = get-entries m n ∙ has_get (entries m) n v (is_true _ (entries_sorted m)) there
 
-  -- the entries of a map are sorted by number
   pub in_order : (m : FinMap nat_cmp V) → is_sorted nat_cmp (entries m) ≡ true
   in_order m = is_true _ (entries_sorted m)
 
 -- ---- lists made of lists
 
--- each element of the list that `flat_map` joins is in the list that `f` gives for some element of `xs`
 pub flat_has : {X Y : Type 0} (f : X → List Y) (xs : List X) (r : Y) → Has (flat_map f xs) r → (x : X) × Has xs x × Has (f x) r
 flat_has f [] r there = absurd there
 flat_has f (x ∷ xs) r there = elim (has_either (f x) (flat_map f xs) r there) [
@@ -92,7 +81,6 @@ flat_has f (x ∷ xs) r there = elim (has_either (f x) (flat_map f xs) r there) 
   | inr more ↦ let found = flat_has f xs r more in (found.0, inr found.1, found.2)
 ]
 
--- each element of a list that `f` gives for an element of `xs` is in the list that `flat_map` joins
 pub has_flat : {X Y : Type 0} (f : X → List Y) (xs : List X) (x : X) (r : Y) → Has xs x → Has (f x) r → Has (flat_map f xs) r
 has_flat f [] x r there here = absurd there
 has_flat f (y ∷ xs) x r (inl same) here = has_left (f y) (flat_map f xs) r (subst (λ z. Has (f z) r) same here)
@@ -112,7 +100,6 @@ puts_has key (x ∷ xs) S apart free r =
       λ h. later.1 (elim h [ inl (inl same) ↦ inr (inl same) | inl (inr there) ↦ inl there | inr was ↦ inr (inr (was, free r was x (inl refl))) ]),
     )
 
--- an empty table has exactly the put rows, once rows with different keys are put
 pub empty_table_has_put_rows : (key : ℕ) (rows news old : List Row) → old ≡ [] → DifferInKey key news → HasExactly rows (puts key news (Has old)) → HasExactly rows (Has news)
 empty_table_has_put_rows key rows news old none apart made r =
     let empty : (s : Row) → Has old s → ⊥ = λ s there. subst (λ l. Has l s) none there in
@@ -121,7 +108,6 @@ empty_table_has_put_rows key rows news old none apart made r =
       λ there. (made r).1 (all.1 (inl there)),
     )
 
--- all rows of `xs` and `ys` have different keys, if those of each list have, and no key of `xs` is one of `ys`
 pub apart_append : (key : ℕ) (xs ys : List Row) → DifferInKey key xs → DifferInKey key ys → ((x y : Row) → Has xs x → Has ys y → take key x ≢ take key y) → DifferInKey key (xs ++ ys)
 apart_append key [] ys one two cross = two
 apart_append key (x ∷ xs) ys one two cross = (
@@ -131,18 +117,15 @@ apart_append key (x ∷ xs) ys one two cross = (
 
 -- ---- one row for each entry
 
--- two keys of one number each are equal only if the numbers are
 pub same_number : (m n : ℕ) → ◌≡◌ {A = Row} (int m ∷ []) (int n ∷ []) → m ≡ n
 same_number m n e = cc
 
--- each row that `line` gives for an entry of the map is a row of the map (`RowsOf`)
 pub lines_rows : {V : Type 0} (line : ℕ → V → Row) (m : FinMap nat_cmp V) (es : List (ℕ × V)) → es ≡ entries m → (r : Row) → Has (rows_in_order line es) r → RowsOf line m r
 lines_rows {V} line m es same r there =
     let x = map_has (λ (x : ℕ × V). line x.0 x.1) es r there in
     (x.0.0, x.0.1, entry_got m x.0.0 x.0.1 (subst (λ (l : List (ℕ × V)). Has l x.0) same x.1), x.2)
 
 module _ {V : Type 0} (line : ℕ → V → Row) (numbered : (n : ℕ) (v : V) → take 1 (line n v) ≡ int n ∷ []) where
-  -- the rows that `line` gives for sorted entries have different keys
   lines_apart : (es : List (ℕ × V)) → is_sorted nat_cmp es ≡ true → DifferInKey 1 (rows_in_order line es)
   lines_apart [] sorted = tt
   lines_apart (e ∷ es) sorted = (

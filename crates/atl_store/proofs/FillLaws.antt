@@ -11,7 +11,7 @@ use Rattle.atl_campaign.specs.Campaign.{CampaignValue}
 use Rattle.atl_sql.specs.Sets.{HasExactly, put, puts, rows_in}
 use Rattle.atl_sql.specs.Tables.{Part, Own, Books, table_of, all_parts, campaign_table, books_table}
 use Rattle.atl_sql.specs.Shown.{int}
-use Rattle.atl_sql.specs.Rows.{campaign_row_of, row_of_campaign, RowsOf, rows_for, rows_in_order}
+use Rattle.atl_store.specs.Rows.{campaign_row_of, row_of_campaign, RowsOf, rows_for, rows_in_order}
 use Rattle.atl_store.specs.GroupedRows.{AreGroups, groups_of, things_lines}
 use Rattle.atl_sql.specs.PutsCampaignRow.{PutsCampaignRow}
 use Rattle.atl_sql.specs.Making.{AreEmpty}
@@ -25,7 +25,6 @@ use Rattle.atl_records.specs.Books.{AreBooks}
 use Rattle.atl_store.proofs.LedgerLaws.{books_filled}
 use Rattle.atl_store.proofs.WholeLaws.{inside_then, inside_weaker}
 
--- an empty table into which one row is put has exactly this row
 empty_table_has_put_row : (rows old : List Row) (row : Row) → old ≡ [] → HasExactly rows (put 1 row (Has old)) → HasExactly rows (λ r. r ≡ row)
 empty_table_has_put_row rows old row none made r = (
   λ there. elim ((made r).0 there) [ inl same ↦ same | inr was ↦ absurd (subst (λ l. Has l r) none was.0) ],
@@ -35,11 +34,9 @@ empty_table_has_put_row rows old row none made r = (
 module _ (c : CampaignValue) where
   -- ---- one table
 
-  -- putting the campaign row fills the table `campaign`, if it was empty
   pub own_filled : (text : List ℕ) (old new : Database) → PutsCampaignRow (campaign_row_of c) text old new → FillsWithOwn text c (Own ∷ []) old new
   own_filled text old new did none = one_changed (Fills c (row_of_campaign text c)) Own _ old new (did.first none) (λ rows empty. empty_table_has_put_row _ _ (row_of_campaign text c) empty rows)
 
-  -- putting the rows of all entries of a map fills a table that has one row for each number, if it was empty
   pub numbered_filled : {V : Type 0} (part : Part) (line : ℕ → V → Row) → ((n : ℕ) (v : V) → take 1 (line n v) ≡ int n ∷ []) → (m : FinMap nat_cmp V) → ((own : Row) (rows : List Row) → HasExactly rows (RowsOf line m) → HasExactly rows (rows_for own c part)) → (es : List (ℕ × V))
       → es ≡ entries m → (old new : Database) → PutsRows (table_of part) 1 (rows_in_order line es) old new → FillsParts c (part ∷ []) old new
   numbered_filled {V} part line numbered m are es same old new did own = one_changed (Fills c own) part _ old new did (λ made none.
@@ -47,7 +44,6 @@ module _ (c : CampaignValue) where
       let now = rows_in (table_of part) new.trees in
       are own now (rows_filled line numbered now was m none (subst (λ (l : List (ℕ × V)). HasExactly now (puts 1 (rows_in_order line l) (Has was))) same made)))
 
-  -- putting the groups of rows of all units, or of all regions, fills the part's table, if it was empty
   pub groups_fill : {V : Type 0} (part : Part) (lines : ℕ → V → List Row) (more : ℕ) (m : FinMap nat_cmp V) → ((own : Row) → AreGroups lines (suc more) m (rows_for own c part)) → (es : List (ℕ × V)) → es ≡ entries m → (old new : Database)
       → PutsRows (table_of part) (suc more) (groups_of lines es) old new → FillsParts c (part ∷ []) old new
   groups_fill {V} part lines more m are es same old new did own = one_changed (Fills c own) part _ old new did (λ made none.
@@ -55,8 +51,6 @@ module _ (c : CampaignValue) where
       let now = rows_in (table_of part) new.trees in
       groups_filled lines more m (rows_for own c part) (are own) now was none (subst (λ (l : List (ℕ × V)). HasExactly now (puts (suc more) (groups_of lines l) (Has was))) same made))
 
-  -- putting the rows of all amounts of the books fills the table `books`, if it was empty and each listed amount is of
-  -- one of the books' things
   pub books_fill : AreBooks c.books.things c.books → (old new : Database) → PutsRows books_table 2 (things_lines c (range_with_len 0 c.books.things)) old new → FillsParts c (Books ∷ []) old new
   books_fill are old new did own = one_changed (Fills c own) Books _ old new did (λ made none. books_filled c are (rows_in books_table new.trees) (rows_in books_table old.trees) none made)
 

@@ -26,50 +26,40 @@ use Rattle.atl_sql.proofs.ListLaws.{has_map}
 use Rattle.atl_sql.proofs.PartLaws.{is_among, not_among}
 use Rattle.atl_store.proofs.PartsLaws.{every_part}
 
--- a connection on which a query showed rows was open before the query
 shows_open : (old new : State) (sql : List ℕ) (c : _) (row : Row) (rows : List Row) (what : Option Returning) → ShowsRows old new sql c row rows what → IsTrue old.is_open
 shows_open old new sql c row rows None h = h.3.0.was_open
 shows_open old new sql c row rows (Some what) h = h.1.shown.was_open
 
--- a connection on which a query without parameters showed rows (`Shown`) was open before the query
 pub shown_open : (sql : List ℕ) (old new : State) (rows : List Row) → Shown sql [] old new rows → IsTrue old.is_open
 unfolding Shown
 shown_open sql old new rows h = shows_open old new sql h.0 _ rows h.0.returning h.2
 
--- for `fails_one`: the fault Store is not OtherType
 not_store : read.Store ≢ read.OtherType
 not_store is = cc
 
--- for `fails_one`: the fault Refused is not OtherType
 not_refused : read.Refused ≢ read.OtherType
 not_refused is = cc
 
--- for `fails_one`: the fault Store is not Memory
 store_no_memory : read.Store ≢ read.Memory
 store_no_memory is = cc
 
--- for `fails_one`: the fault Refused is not Memory
 refused_no_memory : read.Refused ≢ read.Memory
 refused_no_memory is = cc
 
--- doing nothing commits nothing: a crash then leaves only what it could have left before (`Survives`)
 survives_start : (s : State) → Survives s s (λ _. ⊥)
 survives_start s = record { clean = omega arith; shield = λ k. k; counts = omega arith; limit = refl; closes = λ clean up. inl up; crash = λ clean db may. inl may }
 
--- what is true of the elements of two lists is true of those of both joined
 each_of_both : {X : Type 0} (P : X → Type 0) (xs ys : List X) → ((x : X) → Has xs x → P x) → ((x : X) → Has ys x → P x) → (x : X) → Has (xs ++ ys) x → P x
 each_of_both P xs ys first second x there = elim (has_either xs ys x there) [
   | inl one ↦ first x one
   | inr one ↦ second x one
 ]
 
--- what is true of one element is true of each element of the list with this element alone
 each_of_one : {X : Type 0} (P : X → Type 0) (x : X) → P x → (y : X) → Has (x ∷ []) y → P y
 each_of_one P x p y (inl same) = subst P (sym same) p
 each_of_one P x p y (inr none) = absurd none
 
 module _ {S : Type 0} (g : Ghosts S) where
-  -- doing nothing outside a transaction leaves the tables as they were (`AfterReads`)
   pub leaves_none : (old : Held S) → old.in_transaction ≡ false → AfterReads g old old
   leaves_none old idle = record {
     stays = λ _. record { was_open = λ up. up; same = λ up. (refl, refl) };
@@ -77,7 +67,6 @@ module _ {S : Type 0} (g : Ghosts S) where
     idle = idle;
   }
 
-  -- two calls that each leave the tables as they were leave them so together (`AfterReads`)
   pub leaves_then : (old mid new : Held S) → AfterReads g old mid → AfterReads g mid new → AfterReads g old new
   leaves_then old mid new one two = record {
     stays = λ clean.
@@ -91,7 +80,6 @@ module _ {S : Type 0} (g : Ghosts S) where
     idle = two.idle;
   }
 
-  -- a connection on which all is committed (`IsCommitted`) stays so after reads
   pub settled_then : (old new : Held S) → IsCommitted (state g old) → AfterReads g old new → IsCommitted (state g new)
   settled_then old new settled leaves clean up =
       let stays = leaves.stays clean in
@@ -109,15 +97,12 @@ module _ {S : Type 0} (g : Ghosts S) where
   -- ---- one table
 
   module _ {A : Type 0} (sql : List ℕ) (forms : List Form) (shown : A → Row) (part : Part) (old new : Held S) (settled : IsCommitted (state g old)) (idle : old.in_transaction ≡ false) where
-    -- the list of one SELECT, with the forms of its columns
     abbrev this_select : List (List ℕ × List Form)
     this_select = (sql, forms) ∷ []
 
-    -- the rows that a SELECT showed (`Selects`) are those that it shows of the tables of `old` (`SelectShows`)
     shows_rows : (rows : List Row) → Selects g sql old rows → SelectShows g old sql rows
     shows_rows rows says = record { before = says.0; during = says.1; same = says.2.same; shown = says.3 }
 
-    -- a connection whose SELECT showed rows was open
     selects_open : (rows : List Row) → Selects g sql old rows → IsTrue (state g old).is_open
     selects_open rows says = says.2.was_open (shown_open sql _ _ rows says.3)
 
@@ -141,7 +126,6 @@ module _ {S : Type 0} (g : Ghosts S) where
     found_one (Err read.Store) reads gives clean = tt
     found_one (Err read.Refused) reads gives clean = tt
 
-    -- on a clean disk, if the read of one table gave no fault, the connection was open before it
     open_one : {Z : Type 0} (r : Result (Vec A Z) ReadFault) → ReadsRows g sql old forms shown r new → HasCleanDisk (state g new) → IfOk (rows_or_none r) (λ _. IsTrue (state g old).is_open)
     open_one (Ok all) reads clean = let says = reads.rows clean in selects_open says.0 says.1
     open_one (Err read.OtherType) reads clean = let says = reads.other clean refl in selects_open says.0 says.1
@@ -149,16 +133,13 @@ module _ {S : Type 0} (g : Ghosts S) where
     open_one (Err read.Store) reads clean = tt
     open_one (Err read.Refused) reads clean = tt
 
-    -- if a SELECT is refused, one of the list with this SELECT alone is refused
     refuses : (fault : ReadFault) → RefusesToSelect g sql old fault → RefusesOne g old this_select fault
     refuses fault refused = record { select = (sql, forms); one = inl refl; before = old; leaves = leaves_none old idle; refused = refused }
 
-    -- if a SELECT is refused for lack of memory, or is answered, reading its table may return Memory
     may_lack_memory : RefusesToSelect g sql old read.Memory ⊎ ((rows : List Row) × Selects g sql old rows) → FailsToRead g old this_select Memory
     may_lack_memory (inl refused) = inl (refuses read.Memory refused)
     may_lack_memory (inr says) = inr (record { select = (sql, forms); one = inl refl; before = old; leaves = leaves_none old idle; rows = says.0; answered = says.1 })
 
-    -- on a clean disk, a fault of reading one table is one that reading by its SELECT alone may return (`FailsToRead`)
     fails_one : {Z : Type 0} (r : Result (Vec A Z) ReadFault) → ReadsRows g sql old forms shown r new → HasCleanDisk (state g new) → IfErr (rows_or_none r) (FailsToRead g old this_select)
     fails_one (Ok all) reads clean = tt
     fails_one (Err read.OtherType) reads clean = tt
@@ -183,16 +164,12 @@ module _ {S : Type 0} (g : Ghosts S) where
   -- ---- two stages, of which the second begins where the first ended
 
   module _ (old mid : Held S) (same : (state g mid).now ≡ (state g old).now) where
-    -- rows that a SELECT shows of the tables of `mid` it shows of those of `old`, which are equal
     shows_then : (sql : List ℕ) (rows : List Row) → SelectShows g mid sql rows → SelectShows g old sql rows
     shows_then sql rows says = record { before = says.before; during = says.during; same = says.same ∙ same; shown = says.shown }
 
-    -- if SELECTs each show rows of the tables of `mid`, they each show rows of those of `old`, which are equal
     all_show_then : (selects : List (List ℕ × List Form)) → AllSelectsShow g mid selects → AllSelectsShow g old selects
     all_show_then selects all select one = let says = all select one in (says.0, shows_then select.0 says.0 says.1)
 
-    -- what SELECTs found with `P` in the tables of `mid`, they found with `Q` in the equal tables of `old`, if `P`
-    -- implies `Q`
     found_then : {A : Type 0} (selects : List (List ℕ × List Form)) (P Q : A → Type 0) (o : Option A) → ((a : A) → P a → Q a) → FoundBySelects g mid selects P o → FoundBySelects g old selects Q o
     found_then selects P Q (Some a) weaker found = (λ select one. let says = found.0 select one in (says.0, shows_then select.0 says.0 says.1, says.2), weaker a found.1)
     found_then selects P Q None weaker found = record {
@@ -204,7 +181,6 @@ module _ {S : Type 0} (g : Ghosts S) where
       other = found.other;
     }
 
-  -- a SELECT that is refused after the reads up to `mid` is refused in all the reads from `old` on (`RefusesOne`)
   refuses_then : (old mid : Held S) → AfterReads g old mid → (selects : List (List ℕ × List Form)) (fault : ReadFault) → RefusesOne g mid selects fault → RefusesOne g old selects fault
   refuses_then old mid first selects fault refused = record {
     select = refused.select;
@@ -214,7 +190,6 @@ module _ {S : Type 0} (g : Ghosts S) where
     refused = refused.refused;
   }
 
-  -- a SELECT that is answered after the reads up to `mid` is answered in all the reads from `old` on (`AnswersOne`)
   answers_then : (old mid : Held S) → AfterReads g old mid → (selects : List (List ℕ × List Form)) → AnswersOne g mid selects → AnswersOne g old selects
   answers_then old mid first selects answers = record {
     select = answers.select;
@@ -225,7 +200,6 @@ module _ {S : Type 0} (g : Ghosts S) where
     answered = answers.answered;
   }
 
-  -- a fault of the reads after those up to `mid` is a fault of all the reads from `old` on (`FailsToRead`)
   pub fails_then : (old mid : Held S) → AfterReads g old mid → (selects : List (List ℕ × List Form)) (fault : LoadFault) → FailsToRead g mid selects fault → FailsToRead g old selects fault
   fails_then old mid first selects Store (inl refused) = inl (refuses_then old mid first selects read.Store refused)
   fails_then old mid first selects Store (inr refused) = inr (refuses_then old mid first selects read.Refused refused)
@@ -236,15 +210,12 @@ module _ {S : Type 0} (g : Ghosts S) where
   fails_then old mid first selects Memory (inr answers) = inr (answers_then old mid first selects answers)
 
   module _ (old : Held S) (few more : List (List ℕ × List Form)) (within : (select : List ℕ × List Form) → Has few select → Has more select) where
-    -- if one of the SELECTs `few` is refused, so is one of `more`, which has all of them
     refuses_within : (fault : ReadFault) → RefusesOne g old few fault → RefusesOne g old more fault
     refuses_within fault refused = record { select = refused.select; one = within refused.select refused.one; before = refused.before; leaves = refused.leaves; refused = refused.refused }
 
-    -- if one of the SELECTs `few` is answered, so is one of `more`, which has all of them
     answers_within : AnswersOne g old few → AnswersOne g old more
     answers_within answers = record { select = answers.select; one = within answers.select answers.one; before = answers.before; leaves = answers.leaves; rows = answers.rows; answered = answers.answered }
 
-    -- a fault of reading by the SELECTs `few` is one of reading by `more`, which has all of them
     fails_within : (fault : LoadFault) → FailsToRead g old few fault → FailsToRead g old more fault
     fails_within Store (inl refused) = inl (refuses_within read.Store refused)
     fails_within Store (inr refused) = inr (refuses_within read.Refused refused)
@@ -254,15 +225,12 @@ module _ {S : Type 0} (g : Ghosts S) where
     fails_within Memory (inl refused) = inl (refuses_within read.Memory refused)
     fails_within Memory (inr answers) = inr (answers_within answers)
 
-    -- if `few` show a value of another type, so do `more`, which has all of them, if each of `more` shows rows
     other_within : AllSelectsShow g old more → HasOtherType g old few → HasOtherType g old more
     other_within all other = record { all = all; select = other.select; one = within other.select other.one; rows = other.rows; shows = other.shows; other = other.other }
 
-  -- SELECTs that each showed rows with values of their columns' forms each showed rows (`AllSelectsShow`)
   typed_shows : (old : Held S) (selects : List (List ℕ × List Form)) → AllSelectsShowTyped g old selects → AllSelectsShow g old selects
   typed_shows old selects typed select one = let says = typed select one in (says.0, says.1)
 
-  -- what two reads on one connection found is found by all their SELECTs together
   found_both : {A B : Type 0} (xs ys : List (List ℕ × List Form)) (P : A → Type 0) (Q : B → Type 0) (old : Held S) (a : Option A) (b : Option B) → FoundBySelects g old xs P a → FoundBySelects g old ys Q b → FoundBySelects g old (xs ++ ys) (λ x. P x.0 × Q x.1) (option_zip a b)
   found_both xs ys P Q old (Some a) (Some b) p q = (each_of_both (λ s. (rows : List Row) × SelectShows g old s.0 rows × AreTyped s.1 rows) xs ys p.0 q.0, (p.1, q.1))
   found_both xs ys P Q old (Some a) None p q = other_within old ys (xs ++ ys) (has_right xs ys) (each_of_both (λ s. (rows : List Row) × SelectShows g old s.0 rows) xs ys (typed_shows old xs p.0) q.all) q
@@ -278,17 +246,14 @@ module _ {S : Type 0} (g : Ghosts S) where
       let same = ((before.stays (omega (arith, reads.leaves.survives.clean, clean))).same up).0 in
       found_then old mid same selects P Q o (weaker same) (subst (λ r. IfOk r (FoundBySelects g mid selects P)) was (reads.found clean))
 
-  -- if `P` holds of what a read gave, and implies `Q`, then `Q` holds of it (`ReadsSome`)
   reads_as : {A : Type 0} (selects : List (List ℕ × List Form)) (P Q : A → Type 0) (old new : Held S) (r : Result (Option A) LoadFault) → ((a : A) → P a → Q a) → ReadsSome g old selects P r new → ReadsSome g old selects Q r new
   reads_as {A} selects P Q old new r weaker reads = record { was_open = reads.was_open; found = λ clean. found r (reads.found clean); fails = reads.fails; leaves = reads.leaves }
     where
-      -- for `reads_as`: since `P` implies `Q`, `Q` holds too of what SELECTs found, if `P` does (`FoundBySelects`)
       found : (r : Result (Option A) LoadFault) → IfOk r (FoundBySelects g old selects P) → IfOk r (FoundBySelects g old selects Q)
       found (Ok (Some a)) h = (h.0, weaker a h.1)
       found (Ok None) h = h
       found (Err fault) h = tt
 
-  -- if the reads of the tables are in two stages, a fault of the first stage is a fault of both together
   pub first_fails : {A B : Type 0} (xs ys : List (List ℕ × List Form)) (P : A → Type 0) (Q : B → Type 0) (old new : Held S) (fault : LoadFault) (one : Result (Option A) LoadFault) (r : Result (Option B) LoadFault)
       → ReadsSome g old xs P one new → one ≡ Err fault → IsErrAnd r (λ says. says ≡ fault) → ReadsSome g old (xs ++ ys) Q r new
   first_fails xs ys P Q old new fault one (Ok o) first was says = absurd says
@@ -302,7 +267,6 @@ module _ {S : Type 0} (g : Ghosts S) where
   -- the second stage begins at `mid`, where the first ended
   module _ {A B : Type 0} (xs ys : List (List ℕ × List Form)) (P : A → Type 0) (Q : B → Type 0) (old mid new : Held S) (one : Result (Option A) LoadFault) (two : Result (Option B) LoadFault)
       (first : ReadsSome g old xs P one mid) (second : ReadsSome g mid ys Q two new) (a : Option A) (was_first : one ≡ Ok a) where
-    -- if the reads of the tables are in two stages, a fault of the second stage is a fault of both together
     pub second_fails : {C : Type 0} (R : C → Type 0) (fault : LoadFault) (r : Result (Option C) LoadFault) → two ≡ Err fault → IsErrAnd r (λ says. says ≡ fault) → ReadsSome g old (xs ++ ys) R r new
     second_fails R fault (Ok o) was says = absurd says
     second_fails R fault (Err f) was says = record {
@@ -314,7 +278,6 @@ module _ {S : Type 0} (g : Ghosts S) where
       leaves = leaves_then old mid new first.leaves second.leaves;
     }
 
-    -- if both stages of the reads succeed, they are together one read of the tables of both (`ReadsSome`)
     reads_both : (Q2 : B → Type 0) (b : Option B) → two ≡ Ok b → ((state g mid).now ≡ (state g old).now → (b : B) → Q b → Q2 b) → (o : Option (A × B)) → o ≡ option_zip a b → ReadsSome g old (xs ++ ys) (λ x. P x.0 × Q2 x.1) (Ok o) new
     reads_both Q2 b was weaker o is = record {
       was_open = λ clean. subst (λ r. IfOk r (λ _. IsTrue (state g old).is_open)) was_first (first.was_open (clean_mid clean));
@@ -326,7 +289,6 @@ module _ {S : Type 0} (g : Ghosts S) where
       leaves = leaves_then old mid new first.leaves second.leaves;
     }
       where
-        -- for `reads_both`: the disk was clean after the first stage, if it is clean after the second
         clean_mid : HasCleanDisk (state g new) → HasCleanDisk (state g mid)
         clean_mid clean = omega (arith, second.leaves.survives.clean, clean)
 
@@ -341,8 +303,6 @@ module _ {S : Type 0} (g : Ghosts S) where
 
   -- ---- by the format
 
-  -- for `reads_first`: what SELECTs found with `P` (`FoundBySelects`), they found with `Q` once paired with `b`, if `P
-  -- a` implies `Q (a, b)`
   found_with : {A B : Type 0} (old : Held S) (selects : List (List ℕ × List Form)) (P : A → Type 0) (Q : A × B → Type 0) (b : B) → ((a : A) → P a → Q (a, b)) → (o : Option A) → FoundBySelects g old selects P o → FoundBySelects g old selects Q (option_zip o (Some b))
   found_with old selects P Q b weaker (Some a) found = (found.0, weaker a found.1)
   found_with old selects P Q b weaker None found = found
@@ -356,21 +316,16 @@ module _ {S : Type 0} (g : Ghosts S) where
         (λ read there. inr (not_early read.0 (is_there others second_format_parts late read there), none read there));
   }
     where
-      -- for `of_first`: the part of each read is in the list `parts`, if this lists the parts that were read
       is_there : (reads : ReadRows) (parts : List Part) → map (λ read. read.0) reads ≡ parts → (read : Part × List Row) → Has reads read → Has parts read.0
       is_there reads parts same read there = subst (λ l. Has l read.0) same (has_map (λ (read : Part × List Row). read.0) reads read there)
 
-      -- for `not_early`: a truth value whose negation is true is false
       no : (b : Bool) → not b ≡ true → b ≡ false
       no true is = absurd (true≢false (sym is))
       no false is = refl
 
-      -- for `of_first`: a part that only the second format has is none of the first
       not_early : (part : Part) → Has second_format_parts part → ¬ Has (parts_in First) part
       not_early part there = not_among (parts_in First) part (no (is_among (parts_in First) part) (test_has (λ p. not (is_among (parts_in First) p)) second_format_parts part refl there))
 
-  -- a read that found all rows of the first format's parts, and no row of the other parts, is a read of that format
-  -- (`AreOfFormat`)
   pub reads_first : {A B : Type 0} (selects : List (List ℕ × List Form)) (some : A → ReadRows) (others : B → ReadRows) (old new : Held S) (one : Result (Option A) LoadFault) → ReadsSome g old selects (λ a. AreAllRows (state g old).now (some a)) one new
       → (a : Option A) → one ≡ Ok a → (b : B) → AreNone (others b) → ((a : A) → map (λ read. read.0) (some a) ≡ other_parts First) → map (λ read. read.0) (others b) ≡ second_format_parts
       → (o : Option (A × B)) → o ≡ option_zip a (Some b) → ReadsSome g old selects (λ x. AreOfFormat First (state g old).now (some x.0 ++ others x.1)) (Ok o) new
@@ -384,11 +339,9 @@ module _ {S : Type 0} (g : Ghosts S) where
     leaves = first.leaves;
   }
 
-  -- a read that found all rows of the parts read is one of the second format, which has each part (`AreOfFormat`)
   pub reads_second : {A : Type 0} (selects : List (List ℕ × List Form)) (rows : A → ReadRows) (old new : Held S) (r : Result (Option A) LoadFault) → ReadsSome g old selects (λ a. AreAllRows (state g old).now (rows a)) r new → ReadsSome g old selects (λ a. AreOfFormat Second (state g old).now (rows a)) r new
   reads_second selects rows old new r reads = reads_as selects _ _ old new r (λ a are. record { each = λ read there. inl (every_part read.0, are read there) }) reads
 
-  -- if a read by `selects` ended with a fault, each result with this fault is one of reading by them (`ReadsSome`)
   pub fails_as : {A B : Type 0} (selects : List (List ℕ × List Form)) (P : A → Type 0) (Q : B → Type 0) (old new : Held S) (fault : LoadFault) (one : Result (Option A) LoadFault) (r : Result (Option B) LoadFault)
       → ReadsSome g old selects P one new → one ≡ Err fault → IsErrAnd r (λ says. says ≡ fault) → ReadsSome g old selects Q r new
   fails_as selects P Q old new fault one (Ok o) first was says = absurd says
@@ -399,18 +352,15 @@ module _ {S : Type 0} (g : Ghosts S) where
     leaves = first.leaves;
   }
 
-  -- a read of the tables of one format (`is`) is a read of the tables of format `f`, if both formats are equal
   pub reads_by : {A : Type 0} (some others : List (List ℕ × List Form)) (rows : A → ReadRows) (old new : Held S) (r : Result (Option A) LoadFault) (f is : Format) → f ≡ is
       → ReadsSome g old (selects_by is some others) (λ a. AreOfFormat is (state g old).now (rows a)) r new → ReadsSome g old (selects_by f some others) (λ a. AreOfFormat f (state g old).now (rows a)) r new
   reads_by some others rows old new r f is same reads = subst (λ f. ReadsSome g old (selects_by f some others) (λ a. AreOfFormat f (state g old).now (rows a)) r new) (sym same) reads
 
-  -- on a clean disk, rows of a format that reads after `mid` found were also in the tables of `old` (`AreOfFormat`)
   pub format_before : {A : Type 0} (f : Format) (rows : A → ReadRows) (old mid new : Held S) → AfterReads g old mid → (selects : List (List ℕ × List Form)) (r : Result (Option A) LoadFault) → ReadsSome g mid selects (λ a. AreOfFormat f (state g mid).now (rows a)) r new → (o : Option A) → r ≡ Ok o
       → HasCleanDisk (state g new) → FoundBySelects g old selects (λ a. AreOfFormat f (state g old).now (rows a)) o
   format_before f rows old mid new before selects r reads o was clean =
       found_before old mid new before selects (λ a. AreOfFormat f (state g mid).now (rows a)) (λ a. AreOfFormat f (state g old).now (rows a)) r reads o was (λ same a are. subst (λ (db : Database). AreOfFormat f db (rows a)) same are) clean
 
--- no row was read of two lists of parts together (`AreNone`), if none was read of either list
 pub both_none : (some others : ReadRows) → AreNone some → AreNone others → AreNone (some ++ others)
 both_none some others first second = each_of_both (λ read. read.1 ≡ []) some others first second
 
@@ -420,7 +370,6 @@ same_selects : (some others : List (List ℕ × List Form)) → some ≡ other_s
 same_selects some others first second First = first
 same_selects some others first second Second = second
 
--- a read by the SELECTs that `selects_by` gives for a format is a read of all its tables but `campaign`
 pub reads_others : {A S : Type 0} (g : Ghosts S) (some others : List (List ℕ × List Form)) (P : A → Type 0) (old new : Held S) (r : Result (Option A) LoadFault) (f : Format) → some ≡ other_selects First → some ++ others ≡ other_selects Second
     → ReadsSome g old (selects_by f some others) P r new → ReadsSome g old (other_selects f) P r new
 reads_others g some others P old new r f first second reads = subst (λ selects. ReadsSome g old selects P r new) (same_selects some others first second f) reads

@@ -15,21 +15,19 @@ use Rattle.atl_sql.specs.Sets.{Set, HasExactly, puts, rows_in}
 use Rattle.atl_sql.specs.Tables.{Part, key_width_of, table_of}
 use Rattle.atl_sql.specs.Shown.{int}
 use Rattle.atl_store.specs.GroupedRows.{DifferInKey, AreGroups, groups_of}
-use Rattle.atl_sql.specs.Rows.{rows_for}
+use Rattle.atl_store.specs.Rows.{rows_for}
 use Rattle.atl_sql.specs.Statements.{upsert}
 use Rattle.atl_store.specs.OwnStatements.{OfRow, puts_row}
 use Rattle.atl_sql.specs.Inside.{DoesInside, HasTables, DoesBoth, Drops, PutsRows}
-use Rattle.atl_sql.specs.Marked.{first_column_passes}
+use Rattle.atl_store.specs.Marked.{first_column_passes}
 use Rattle.atl_store.specs.Rewriting.{RewritesGroup, equals_number}
 use Rattle.atl_store.proofs.EntryLaws.{apart_append, empty_table_has_put_rows, puts_has, below_has, less_apart, got_entry, entry_got, in_order, same_number, flat_has, has_flat}
 use Rattle.atl_store.proofs.RewriteLaws.{begins_key, key_begins, kept_only, rewrites_key}
 use Rattle.atl_store.proofs.WholeLaws.{inside_then, inside_weaker}
 
--- two rows that are equal in their first `more + 1` columns are equal in the first column
 first_of : (more : ℕ) (a b : Row) → take (suc more) a ≡ take (suc more) b → take 1 a ≡ take 1 b
 first_of more a b same = sym (first a) ∙ ap (take 1) same ∙ first b
   where
-    -- for `first_of`: the first of a row's first `more + 1` columns is the row's first column
     first : (r : Row) → take 1 (take (suc more) r) ≡ take 1 r
     first [] = refl
     first (v ∷ row) = refl
@@ -37,7 +35,6 @@ first_of more a b same = sym (first a) ∙ ap (take 1) same ∙ first b
 module _ {V : Type 0} (lines : ℕ → V → List Row) (more : ℕ) (values : FinMap nat_cmp V) (Wanted : Set) (are : AreGroups lines (suc more) values Wanted) where
   -- ---- put into an empty table
 
-  -- the rows that `lines` gives for all entries have different keys, if the entries are sorted by number
   all_apart : (es : List (ℕ × V)) → is_sorted nat_cmp es ≡ true → DifferInKey (suc more) (groups_of lines es)
   all_apart [] sorted = tt
   all_apart (e ∷ es) sorted =
@@ -47,7 +44,6 @@ module _ {V : Type 0} (lines : ℕ → V → List Row) (more : ℕ) (values : Fi
       let number = same_number e.0 found.0.0 (sym (are.numbered e.0 e.1 x early) ∙ first_of more x y same ∙ are.numbered found.0.0 found.0.1 y found.2) in
       less_apart e.0 found.0.0 (below_has e.0 es found.0 (and_parts _ _ sorted).0 found.1) number)
 
-  -- each row that `lines` gives for an entry of the map is a wanted row
   pub groups_rows : (es : List (ℕ × V)) → es ≡ entries values → (r : Row) → Has (groups_of lines es) r → Wanted r
   groups_rows es same r there =
       let found = flat_has (λ (v : ℕ × V). lines v.0 v.1) es r there in
@@ -64,7 +60,6 @@ module _ {V : Type 0} (lines : ℕ → V → List Row) (more : ℕ) (values : Fi
   -- ---- the rows of one number deleted and put anew
 
   module _ (table : Table) (n : ℕ) where
-    -- a wanted row that begins with the number `n` is one of the rows of the map's value under `n`
     lined_at : (r : Row) → first_column_passes (equals_number n) r ≡ true → Wanted r → (v : V) × (get values n ≡ Some v) × Has (lines n v) r
     lined_at r is of =
         let line = are.lined r of in
@@ -79,7 +74,6 @@ module _ {V : Type 0} (lines : ℕ → V → List Row) (more : ℕ) (values : Fi
         (λ r is of. let line = lined_at r is of in subst (λ u. Has (lines n u) r) (same_Some line.0 v (sym line.1 ∙ there)) line.2)
         table old new rows (λ t listed other. did.others t listed other ∙ dropped.others t listed other)
       where
-        -- for `lines_rewrite`: the table has the rows of the number's value, and the old rows without the number
         rows : (r : Row) → Has (rows_in table new.trees) r ↔ (Has (lines n v) r ⊎ (Has (rows_in table old.trees) r × (take 1 r ≢ int n ∷ [])))
         rows r =
             let all = puts_has (suc more) (lines n v) (Has (rows_in table mid.trees)) (are.apart n v) (λ s was x here same. ((dropped.rows s).0 was).1 (first_of more s x same ∙ are.numbered n v x here)) r in (
@@ -87,13 +81,11 @@ module _ {V : Type 0} (lines : ℕ → V → List Row) (more : ℕ) (values : Fi
               λ h. (did.rows r).1 (all.1 (elim h [ inl here ↦ inl here | inr kept ↦ inr ((dropped.rows r).1 kept) ])),
             )
 
-    -- for `bare_done`, of the databases alone: deleting the rows of a number that the map lacks rewrites them
     bare_rewrite : (old new : Database) → Drops table 1 (int n ∷ []) old new → get values n ≡ None → RewritesGroup table Wanted n old new
     bare_rewrite old new dropped none = rewrites_key (first_column_passes (equals_number n)) (λ r. take 1 r ≡ int n ∷ []) (λ r. ⊥) Wanted (begins_key n) (key_begins n) (λ r never. absurd never)
         (λ r is of. let line = lined_at r is of in none-some line.0 (sym none ∙ line.1))
         table old new (λ r. let so = dropped.rows r in (λ h. inr (so.0 h), λ h. so.1 (kept_only h))) dropped.others
 
-    -- inside a transaction, deleting the rows of a number and putting those of its value rewrites the number's rows
     pub lines_done : (v : V) → get values n ≡ Some v → (old mid new : State) → DoesInside HasTables (Drops table 1 (int n ∷ [])) old mid
         → DoesInside HasTables (PutsRows table (suc more) (lines n v)) mid new → DoesInside HasTables (RewritesGroup table Wanted n) old new
     lines_done v there old mid new one two =
@@ -101,12 +93,10 @@ module _ {V : Type 0} (lines : ℕ → V → List Row) (more : ℕ) (values : Fi
         let puts = PutsRows table (suc more) (lines n v) in
         inside_weaker HasTables (DoesBoth drops puts) (RewritesGroup table Wanted n) old new (λ has did. lines_rewrite old.now did.0 new.now did.1 v there did.2) (inside_then HasTables drops puts old mid new one two)
 
-    -- inside a transaction, deleting the rows of a number that the map lacks rewrites the rows of the number
     pub bare_done : get values n ≡ None → (old new : State) → DoesInside HasTables (Drops table 1 (int n ∷ [])) old new
         → DoesInside HasTables (RewritesGroup table Wanted n) old new
     bare_done none old new did = inside_weaker HasTables (Drops table 1 (int n ∷ [])) (RewritesGroup table Wanted n) old new (λ has drops. bare_rewrite old.now new.now drops none) did
 
--- the upsert of a wanted row puts a row of the campaign (`OfRow`), if each wanted row (`Wanted`) is a row of the part
 pub puts_wanted : (part : Part) (more : ℕ) → key_width_of part ≡ suc more → (Wanted : CampaignValue → Row → Type 0) → ((own : Row) (c : CampaignValue) (r : Row) → Wanted c r → rows_for own c part r) → (c : CampaignValue) (r : Row) → Wanted c r
     → OfRow c (upsert (table_of part) (suc more)) r
 puts_wanted part more key Wanted are c r is = subst (λ k. OfRow c (upsert (table_of part) k) r) key (puts_row part (λ own. are own c r is))

@@ -13,52 +13,44 @@ use Rattle.atl_sql.specs.declared.rows.has.ThingKind.{ThingKind}
 use Rattle.atl_sql.specs.declared.rows.has.ThingKind.TheVariants.{Item, Skill}
 use Rattle.atl_sql.specs.Shown.{int, has_key, has_row}
 use Rattle.atl_sql.specs.Written.{sort_number}
-use Rattle.atl_sql.specs.Rows.{things_of, things_under, amount_under, HasRowsOf}
+use Rattle.atl_store.specs.Rows.{things_of, things_under, amount_under, HasRowsOf}
 use Rattle.atl_store.specs.GroupedRows.{DifferInKey, AreGroups, amount_rows, kind_lines, goods_lines, unit_goods_lines}
 use Rattle.atl_store.proofs.EntryLaws.{apart_append, below_has, less_apart, got_entry, entry_got, in_order, flat_has, has_flat}
 
 -- ---- one amount
 
--- a row in a list that has one row if the flag `b` is false, and else none, is that row, and `b` is false
 pub optional_has : (b : Bool) (row r : Row) → Has (if b then [] else row ∷ []) r → (b ≡ false) × (r ≡ row)
 optional_has true row r there = absurd there
 optional_has false row r (inl same) = (refl, same)
 optional_has false row r (inr none) = absurd none
 
--- a list that has one row if the flag `b` is false, and else none, has that row, if `b` is false
 pub has_optional : (b : Bool) (row : Row) → b ≡ false → Has (if b then [] else row ∷ []) row
 has_optional true row is = absurd (true≢false is)
 has_optional false row is = inl refl
 
--- the rows of a list with at most one row have different keys
 pub optional_apart : (key : ℕ) (b : Bool) (row : Row) → DifferInKey key (if b then [] else row ∷ [])
 optional_apart key true row = tt
 optional_apart key false row = (λ y none. absurd none, tt)
 
--- for `amounts_have`: a number that fails the test for 0 is not 0
 not_zero : (a : ℕ) → (a == 0) ≡ false → a ≢ 0
 not_zero a differs same = grind (arith, nat_tests)
 
--- a number other than 0 fails the test for 0
 pub is_not_zero : (a : ℕ) → a ≢ 0 → (a == 0) ≡ false
 is_not_zero a apart = elim (cases_Bool (a == 0)) [ inl same ↦ absurd (apart (grind (arith, nat_tests))) | inr differs ↦ differs ]
 
 -- ---- the amounts under some numbers
 
 module _ (row : ℕ → ℕ → Row) where
-  -- each row made of a list of amounts (`amount_rows`) is of an entry of the list whose amount is not 0
   pub amounts_have : (es : List (ℕ × ℕ)) (r : Row) → Has (amount_rows row es) r → (e : ℕ × ℕ) × Has es e × (e.1 ≢ 0) × (r ≡ row e.0 e.1)
   amounts_have es r there =
       let found = flat_has (λ (e : ℕ × ℕ). if e.1 == 0 then [] else row e.0 e.1 ∷ []) es r there in
       let line = optional_has (found.0.1 == 0) (row found.0.0 found.0.1) r found.2 in
       (found.0, found.1, not_zero found.0.1 line.0, line.1)
 
-  -- each entry of a list of amounts whose amount is not 0 has its row among those made of the list (`amount_rows`)
   pub have_amount : (es : List (ℕ × ℕ)) (n amount : ℕ) → Has es (n, amount) → amount ≢ 0 → Has (amount_rows row es) (row n amount)
   have_amount es n amount there some =
       has_flat (λ (e : ℕ × ℕ). if e.1 == 0 then [] else row e.0 e.1 ∷ []) es (n, amount) _ there (has_optional (amount == 0) (row n amount) (is_not_zero amount some))
 
-  -- the rows made of a sorted list of amounts have different keys, if rows with equal keys are of equal numbers
   pub amounts_apart : (key : ℕ) → ((m a n b : ℕ) → take key (row m a) ≡ take key (row n b) → m ≡ n) → (es : List (ℕ × ℕ)) → is_sorted nat_cmp es ≡ true → DifferInKey key (amount_rows row es)
   amounts_apart key says [] sorted = tt
   amounts_apart key says (e ∷ es) sorted =
@@ -70,38 +62,31 @@ module _ (row : ℕ → ℕ → Row) where
 
 -- ---- the things of one kind: items or skills
 
--- two keys of `has` are equal only if all three numbers are
 pub three_same : (a b c d e f : ℕ) → ◌≡◌ {A = Row} (has_key a b c) (has_key d e f) → (a ≡ d) × (b ≡ e) × (c ≡ f)
 three_same a b c d e f same = (cc, cc, cc)
 
 module _ (unit : ℕ) (sort : ThingKind) where
-  -- each row of `has` for a unit's items, or for its skills, is of an entry whose amount is not 0
   kind_row_is_of_entry : (es : List (ℕ × ℕ)) (r : Row) → Has (kind_lines unit sort es) r → (e : ℕ × ℕ) × Has es e × (e.1 ≢ 0) × (r ≡ has_row unit (sort_number sort) e.0 e.1)
   kind_row_is_of_entry = amounts_have (has_row unit (sort_number sort))
 
-  -- each entry of a unit's items, or of its skills, has its row of `has`, if the amount is not 0
   entry_has_kind_row : (es : List (ℕ × ℕ)) (thing amount : ℕ) → Has es (thing, amount) → amount ≢ 0 → Has (kind_lines unit sort es) (has_row unit (sort_number sort) thing amount)
   entry_has_kind_row = have_amount (has_row unit (sort_number sort))
 
-  -- the rows of `has` for a unit's items, or for its skills, differ in their keys, if these are sorted by number
   sort_apart : (es : List (ℕ × ℕ)) → is_sorted nat_cmp es ≡ true → DifferInKey 3 (kind_lines unit sort es)
   sort_apart = amounts_apart (has_row unit (sort_number sort)) 3 (λ m a n b same. (three_same unit (sort_number sort) m unit (sort_number sort) n same).2)
 
 -- ---- all that one unit has
 
--- each row of `has` of a unit is of one of its items or skills, whose amount is not 0
 pub goods_has : (unit : ℕ) (held : HoldingValue) (r : Row) → Has (goods_lines unit held) r → (sort : ThingKind) × (e : ℕ × ℕ) × Has (entries (things_of sort held)) e × (e.1 ≢ 0) × (r ≡ has_row unit (sort_number sort) e.0 e.1)
 goods_has unit held r there = elim (has_either (kind_lines unit Item (entries held.items)) (kind_lines unit Skill (entries held.days)) r there) [
   | inl item ↦ let e = kind_row_is_of_entry unit Item (entries held.items) r item in (Item, e.0, e.1, e.2, e.3)
   | inr skill ↦ let e = kind_row_is_of_entry unit Skill (entries held.days) r skill in (Skill, e.0, e.1, e.2, e.3)
 ]
 
--- each item or skill of a unit has its row of `has`, if its amount is not 0
 pub has_goods : (unit : ℕ) (held : HoldingValue) (sort : ThingKind) (thing amount : ℕ) → Has (entries (things_of sort held)) (thing, amount) → amount ≢ 0 → Has (goods_lines unit held) (has_row unit (sort_number sort) thing amount)
 has_goods unit held Item thing amount there some = has_left (kind_lines unit Item (entries held.items)) (kind_lines unit Skill (entries held.days)) _ (entry_has_kind_row unit Item (entries held.items) thing amount there some)
 has_goods unit held Skill thing amount there some = has_right (kind_lines unit Item (entries held.items)) (kind_lines unit Skill (entries held.days)) _ (entry_has_kind_row unit Skill (entries held.days) thing amount there some)
 
--- the rows of `has` for the items and skills of a unit have different keys
 pub goods_apart : (unit : ℕ) (held : HoldingValue) → DifferInKey 3 (goods_lines unit held)
 goods_apart unit held =
     apart_append 3 (kind_lines unit Item (entries held.items)) (kind_lines unit Skill (entries held.days)) (sort_apart unit Item (entries held.items) (in_order held.items)) (sort_apart unit Skill (entries held.days) (in_order held.days))
@@ -111,13 +96,11 @@ goods_apart unit held =
     let keys = three_same unit 0 one.0.0 unit 1 two.0.0 (ap (take 3) (sym one.3) ∙ same ∙ ap (take 3) two.3) in
     absurd (omega (arith, keys.1)))
 
--- each row of `has` of a unit begins with the unit's number
 goods_begin : (n : ℕ) (held : HoldingValue) (r : Row) → Has (goods_lines n held) r → take 1 r ≡ int n ∷ []
 goods_begin n held r there = ap (take 1) (goods_has n held r there).4
 
 -- ---- all that all units have
 
--- each row of `has` for a unit of the map is one of the rows for all its units (`HasRowsOf`)
 goods_rows : (units : FinMap nat_cmp Unit) (n : ℕ) (u : Unit) → get units n ≡ Some u → (r : Row) → Has (goods_lines n u.holding) r → HasRowsOf units r
 goods_rows units n u got r there =
     let row = goods_has n u.holding r there in
@@ -139,22 +122,18 @@ goods_grouped units = record {
 
 -- ---- how much a unit has of a thing
 
--- the items, or the skills, of a unit that exists (`things_under`) are those of the unit's holding
 under_unit : (sort : ThingKind) (u : Unit) → things_under sort (Some u) ≡ things_of sort u.holding
 under_unit Item u = refl
 under_unit Skill u = refl
 
--- where there is no unit, the amount of each item and of each skill is 0
 under_none : (sort : ThingKind) (thing : ℕ) → amount_of (things_under sort None) thing ≡ 0
 under_none Item thing = ap (λ (o : Option ℕ). unwrap_or o 0) (get-empty {X = ℕ} nat_cmp thing)
 under_none Skill thing = ap (λ (o : Option ℕ). unwrap_or o 0) (get-empty {X = ℕ} nat_cmp thing)
 
 module _ (units : FinMap nat_cmp Unit) where
-  -- the amount of each thing is 0 for a unit that the map lacks
   pub amount_none : (n : ℕ) (sort : ThingKind) (thing : ℕ) → get units n ≡ None → amount_under units n sort thing ≡ 0
   amount_none n sort thing none = ap (λ o. amount_of (things_under sort o) thing) none ∙ under_none sort thing
 
-  -- the amount of a thing for a unit of the map is the amount in the unit's holding
   pub amount_some : (n : ℕ) (sort : ThingKind) (thing : ℕ) (u : Unit) → get units n ≡ Some u → amount_under units n sort thing ≡ amount_of (things_of sort u.holding) thing
   amount_some n sort thing u there = ap (λ o. amount_of (things_under sort o) thing) there ∙ ap (λ things. amount_of things thing) (under_unit sort u)
 
@@ -168,13 +147,10 @@ module _ (units : FinMap nat_cmp Unit) where
   pub amount_has_row : (n : ℕ) (sort : ThingKind) (thing amount : ℕ) → amount ≡ amount_under units n sort thing → amount ≢ 0 → HasRowsOf units (has_row n (sort_number sort) thing amount)
   amount_has_row n sort thing amount is some = there (get units n) refl
     where
-      -- for `amount_has_row`: an amount other than 0, which a look-up gives with 0 as its default, was found
       got : (o : Option ℕ) → amount ≡ unwrap_or o 0 → o ≡ Some amount
       got None zero = absurd (some zero)
       got (Some x) same = ap Some (sym same)
 
-      -- for `amount_has_row`: if the look-up `o` finds the unit, the amount's row is in `has`; without a unit the
-      -- amount would be 0
       there : (o : Option Unit) → get units n ≡ o → HasRowsOf units (has_row n (sort_number sort) thing amount)
       there None none = absurd (some (is ∙ amount_none n sort thing none))
       there (Some u) found = (n, u, found, sort, thing, amount, got (get (things_of sort u.holding) thing) (is ∙ amount_some n sort thing u found), some, refl)

@@ -25,7 +25,7 @@ use Rattle.atl_sql.specs.declared.rows.has.ThingKind.TheVariants.{Item, Skill}
 use Rattle.atl_sql.specs.Sets.{HasExactly, Set, put, visible_row, rows_in}
 use Rattle.atl_sql.specs.Tables.{Part, Own, Factions, Units, Goods, Mail, Reports, Books, table_of, campaign_table, faction_table, unit_table, has_table, mail_table, report_table, books_table, all_tables}
 use Rattle.atl_sql.specs.Shown.{CampaignRowValue, campaign_row, mail_row, report_row}
-use Rattle.atl_sql.specs.Rows.{campaign_row_of, row_of_campaign, row_of_faction, row_of_unit, RowsOf, HasRowsOf, rows_for, things_of, Holds}
+use Rattle.atl_store.specs.Rows.{campaign_row_of, row_of_campaign, row_of_faction, row_of_unit, RowsOf, HasRowsOf, rows_for, things_of, Holds}
 use Rattle.atl_sql.specs.PutsCampaignRow.{PutsCampaignRow}
 use Rattle.atl_sql.specs.Inside.{DoesInside, HasTables, DoesBoth, Puts}
 use Rattle.atl_store.specs.Keeps.{IsJoining}
@@ -37,7 +37,6 @@ use Rattle.atl_store.proofs.WholeLaws.{inside_then, inside_weaker}
 
 -- ---- one booking changes one amount
 
--- booking an amount leaves the amount of each other entry or thing as it is
 others_booked : (books : BooksValue) (e : BooksEntry) (t : Thing) (n : ℤ) (f : BooksEntry) (u : Thing) → (entry_index f ≢ entry_index e) ⊎ (thing_index u ≢ thing_index t) → amount_in (after_booking books e t n) f u ≡ amount_in books f u
 others_booked books e t n f u far = other_amount books e t (amount_in books e t +ℤ n) f u (elim far [ inl entries ↦ apart_entries (f, u) (e, t) entries | inr things ↦ apart_things (f, u) (e, t) things ])
 
@@ -46,30 +45,20 @@ others_booked books e t n f u far = other_amount books e t (amount_in books e t 
 -- The campaign `after` is that after a join: `before` with this faction, unit and report, and with money and people
 -- booked.
 record IsArrival (n : ℕ) (f : Faction) (m : ℕ) (u : Unit) (report : List ℕ) (before after : CampaignValue) : Type 0 where
-  -- the join adds the faction `f` under the number `n`
   factions : after.factions ≡ insert before.factions n f
-  -- the join adds the unit `u` under the number `m`
   units : after.units ≡ insert before.units m u
-  -- the faction's report is stored under the number `n`
   reports : after.reports ≡ insert before.reports n report
-  -- before the join no unit had the new unit's number
   fresh : get before.units m ≡ None
-  -- the new unit has no items and no skills
   bare : (sort : ThingKind) → things_of sort u.holding ≡ empty
   -- the books once the money is booked under joining, and not yet the people
   half : BooksValue
-  -- the amount of money under joining is in `half` what it is after the join
   money : amount_in half Joining Money ≡ amount_in after.books Joining Money
-  -- every amount but that of money under joining is in `half` what it was before the join
   first : (e : BooksEntry) (t : Thing) → (entry_index e ≢ 1) ⊎ (thing_index t ≢ 0) → amount_in half e t ≡ amount_in before.books e t
-  -- every amount but that of people under joining is after the join what it is in `half`
   second : (e : BooksEntry) (t : Thing) → (entry_index e ≢ 1) ⊎ (thing_index t ≢ 1) → amount_in after.books e t ≡ amount_in half e t
 
--- what a map has under the inserted number is what was inserted
 found_is : {V : Type 0} (m after : FinMap nat_cmp V) (n k : ℕ) (v w : V) → after ≡ insert m n v → k ≡ n → get after k ≡ Some w → v ≡ w
 found_is {V} m after n k v w is same got = same_Some v w (sym (get_inserted m n v) ∙ ap (λ (x : FinMap nat_cmp V). get x n) (sym is) ∙ ap (get after) (sym same) ∙ got)
 
--- a join after which the first report is stored adds faction, unit and report, and books two amounts (`IsArrival`)
 arrives : (n : ℕ) (f : Faction) (m : ℕ) (u : Unit) (report : List ℕ) (before after : CampaignValue) → HasArrivalWith after n f m u report → IsJoining before n after → IsArrival n f m u report before after
 unfolding after_join
 arrives n f m u report before after found joining =
@@ -102,14 +91,12 @@ arrives n f m u report before after found joining =
       second = λ e t far. ap (λ (b : BooksValue). amount_in b e t) books ∙ others_booked half Joining People (pos 1) e t far;
     }
   where
-    -- for `arrives`: the first unit of a faction has no items and no skills
     nothing : (sort : ThingKind) → things_of sort (first_unit joining.0 joining.3 before).holding ≡ empty
     nothing Item = refl
     nothing Skill = refl
 
 -- ---- the statements of a joining
 
--- a table `campaign` with one row has only the new campaign row once the new one is put
 put_replaces_campaign_row : (rows news : List Row) (text : List ℕ) (before after : CampaignRowValue) → HasExactly rows (λ r. r ≡ campaign_row before text) → HasExactly news (put 1 (campaign_row after text) (Has rows)) → HasExactly news (λ r. r ≡ campaign_row after text)
 put_replaces_campaign_row rows news text before after was made r = (
   λ there. elim ((made r).0 there) [ inl same ↦ same | inr kept ↦ absurd (kept.1 (ap (take 1) ((was r).0 kept.0))) ],
@@ -129,7 +116,6 @@ PutsReportAndAmounts n report after = DoesBoth (Puts report_table 1 (report_row 
 middle_step_changes_rows : (t : Table) (F : List Row → Set) (a b c d : Database) → b.trees t.tree ≡ a.trees t.tree → d.trees t.tree ≡ c.trees t.tree → HasExactly (rows_in t c.trees) (F (rows_in t b.trees)) → HasExactly (rows_in t d.trees) (F (rows_in t a.trees))
 middle_step_changes_rows t F a b c d first last is = subst (λ rows. HasExactly rows (F (rows_in t a.trees))) (sym (ap (map (visible_row t)) last)) (subst (λ rows. HasExactly (rows_in t c.trees) (F rows)) (ap (map (visible_row t)) first) is)
 
--- if a table has the rows `S`, writing an amount into it makes them the rows `S` with this amount (`rows_with_amount`)
 amount_is_written_on_rows : (c : CampaignValue) (e : BooksEntry) (t : Thing) (rows news : List Row) (S : Set) → HasExactly rows S → HasExactly news (rows_with_amount c e t (Has rows)) → HasExactly news (rows_with_amount c e t S)
 amount_is_written_on_rows c e t rows news S was is r = (
   λ there. elim ((is r).0 there) [ inl new ↦ inl new | inr kept ↦ inr ((was r).0 kept.0, kept.1) ],
@@ -137,7 +123,6 @@ amount_is_written_on_rows c e t rows news S was is r = (
 )
 
 module _ (n : ℕ) (f : Faction) (m : ℕ) (u : Unit) (report : List ℕ) (after : CampaignValue) (found : HasArrivalWith after n f m u report) where
-  -- `PutsNewcomer` and then `PutsReportAndAmounts` are together the write of a join (`WritesJoin`)
   joins : (world : List ℕ) (a b d : Database) → PutsNewcomer n f m u after world a b → PutsReportAndAmounts n report after b d → WritesJoin n after a d
   joins world a b d enrolls reports before text was =
       let x = enrolls.0 in
@@ -179,24 +164,19 @@ module _ (n : ℕ) (f : Faction) (m : ℕ) (u : Unit) (report : List ℕ) (after
             (λ e. free (inr (inr (inr (inl (same_part part Reports e)))))) (λ e. free (inr (inr (inr (inr (inl (same_part part Books e)))))));
       }
 
-  -- tables that held the campaign before the join hold the one after it
   pub join_held : (a d : Database) → WritesJoin n after a d → (text : List ℕ) (before : CampaignValue) → IsJoining before n after → Holds a.trees text before → Holds d.trees text after
   unfolding after_join
   join_held a d did text before joining holds = record { rows = rows }
     where
-      -- for `join_held`: the join adds the faction, unit and report, and books two amounts (`IsArrival`)
       arrival : IsArrival n f m u report before after
       arrival = arrives n f m u report before after found joining
 
-      -- for `join_held`: the rows of the join are written into the tables, and all other rows stay (`AddsJoin`)
       enters : AddsJoin n after text a d
       enters = did (campaign_row_of before) text (holds.rows Own)
 
-      -- for `join_held`: a part that no statement of a join writes has the rows that it had
       stays : (part : Part) → is_among (Own ∷ Factions ∷ Units ∷ Reports ∷ Books ∷ []) part ≡ false → HasExactly (rows_in (table_of part) d.trees) (rows_for (row_of_campaign text before) before part)
       stays part free = stays_is (table_of part) (rows_for (row_of_campaign text before) before part) a d (enters.others part (not_among (Own ∷ Factions ∷ Units ∷ Reports ∷ Books ∷ []) part free)) (holds.rows part)
 
-      -- for `join_held`: each part's table has the rows of the campaign after the join
       rows : (part : Part) → HasExactly (rows_in (table_of part) d.trees) (rows_for (row_of_campaign text after) after part)
       rows Own = enters.campaign
       rows Factions = subst (λ (x : FinMap nat_cmp Faction). HasExactly (rows_in faction_table d.trees) (RowsOf row_of_faction x)) (sym arrival.factions) (put_rows row_of_faction (λ k v. refl) (rows_in faction_table a.trees) (rows_in faction_table d.trees) before.factions n f (holds.rows Factions) (enters.member f found.faction_is))
@@ -209,7 +189,6 @@ module _ (n : ℕ) (f : Faction) (m : ℕ) (u : Unit) (report : List ℕ) (after
           (λ there. people.0 ((enters.books r).0 there), λ of. (enters.books r).1 (people.1 of))
       rows part = subst (λ (c : CampaignValue). HasExactly (rows_in (table_of part) d.trees) (rows_for (row_of_campaign text c) c part)) (sym joining.7) (stays part refl)
 
--- inside a transaction, the rows of campaign, faction and unit, put one after another, are all put (`PutsNewcomer`)
 pub enrolling_done : (n : ℕ) (f : Faction) (m : ℕ) (u : Unit) (after : CampaignValue) (world : List ℕ) (start one two three : State) → DoesInside HasTables (PutsCampaignRow (campaign_row_of after) world) start one → DoesInside HasTables (Puts faction_table 1 (row_of_faction n f)) one two
     → DoesInside HasTables (Puts unit_table 1 (row_of_unit m u)) two three → DoesInside HasTables (DoesBoth (PutsCampaignRow (campaign_row_of after) world) (DoesBoth (Puts faction_table 1 (row_of_faction n f)) (Puts unit_table 1 (row_of_unit m u)))) start three
 enrolling_done n f m u after world start one two three first second third =
@@ -217,8 +196,6 @@ enrolling_done n f m u after world start one two three first second third =
     let units = Puts unit_table 1 (row_of_unit m u) in
     inside_then HasTables (PutsCampaignRow (campaign_row_of after) world) (DoesBoth factions units) start one three first (inside_then HasTables factions units one two three second third)
 
--- inside a transaction, the report's row and the two amounts, one after another, are all written
--- (`PutsReportAndAmounts`)
 pub reporting_done : (n : ℕ) (report : List ℕ) (after : CampaignValue) (start one two three : State) → DoesInside HasTables (Puts report_table 1 (report_row n report)) start one → DoesInside HasTables (WritesAmount after Joining Money) one two
     → DoesInside HasTables (WritesAmount after Joining People) two three → DoesInside HasTables (DoesBoth (Puts report_table 1 (report_row n report)) (DoesBoth (WritesAmount after Joining Money) (WritesAmount after Joining People))) start three
 reporting_done n report after start one two three first second third =
@@ -226,7 +203,6 @@ reporting_done n report after start one two three first second third =
     let people = WritesAmount after Joining People in
     inside_then HasTables (Puts report_table 1 (report_row n report)) (DoesBoth money people) start one three first (inside_then HasTables money people one two three second third)
 
--- inside a transaction, putting campaign row, faction and unit, then report and amounts, is the write of a join
 pub joining_done : (n : ℕ) (f : Faction) (m : ℕ) (u : Unit) (report : List ℕ) (after : CampaignValue) (world : List ℕ) (start one two : State) → HasArrivalWith after n f m u report
     → DoesInside HasTables (DoesBoth (PutsCampaignRow (campaign_row_of after) world) (DoesBoth (Puts faction_table 1 (row_of_faction n f)) (Puts unit_table 1 (row_of_unit m u)))) start one
     → DoesInside HasTables (DoesBoth (Puts report_table 1 (report_row n report)) (DoesBoth (WritesAmount after Joining Money) (WritesAmount after Joining People))) one two → DoesInside HasTables (WritesJoin n after) start two
@@ -236,11 +212,9 @@ joining_done n f m u report after world start one two found first second =
 
 -- ---- a mailing
 
--- tables that held a campaign hold it with this faction's mailing, once the mailing is written
 pub mail_held : (faction : ℕ) (mail : List ℕ) (a b : Database) → WritesMail faction mail a b → (text : List ℕ) (before : CampaignValue) → Holds a.trees text before → Holds b.trees text (with_mail before faction mail)
 mail_held faction mail a b did text before holds = record { rows = rows }
   where
-    -- for `mail_held`: each part's table has the rows of the campaign with the mailing
     rows : (part : Part) → HasExactly (rows_in (table_of part) b.trees) (rows_for (row_of_campaign text before) (with_mail before faction mail) part)
     rows Mail = put_rows mail_row (λ k v. refl) (rows_in mail_table a.trees) (rows_in mail_table b.trees) before.mail faction mail (holds.rows Mail) did.rows
     rows part = stays_is (table_of part) (rows_for (row_of_campaign text before) before part) a b (did.others (table_of part) (listed part) (λ e. absurd (omega (arith, e)))) (holds.rows part)

@@ -12,19 +12,18 @@ use Rattle.atl_campaign.specs.Marks.{Marks}
 use Rattle.atl_sql.specs.Sets.{Set, HasExactly, rows_in}
 use Rattle.atl_sql.specs.Tables.{Part, Own, Goods, Books, Markets, IsNumberedPart, key_width_of, table_of}
 use Rattle.atl_sql.specs.Shown.{int}
-use Rattle.atl_sql.specs.Rows.{RowsOf, rows_in_order, rows_for}
+use Rattle.atl_store.specs.Rows.{RowsOf, rows_in_order, rows_for}
 use Rattle.atl_sql.specs.Statements.{deletion, upsert}
 use Rattle.atl_store.specs.OwnStatements.{OfRow, OfChange, puts_row, drops_row}
 use Rattle.atl_sql.specs.Inside.{PutsRows}
 use Rattle.atl_store.specs.Filling.{FillsPart}
 use Rattle.atl_store.specs.Changing.{IfElse, rows_after_rewrite}
-use Rattle.atl_sql.specs.Marked.{begins_marked, is_marked}
+use Rattle.atl_store.specs.Marked.{begins_marked, is_marked}
 use Rattle.atl_store.specs.Rewriting.{Becomes, RewritesMarked, RewritesPart}
 use Rattle.atl_store.proofs.EntryLaws.{same_number}
 use Rattle.atl_store.proofs.FillLaws.{numbered_filled}
 use Rattle.atl_store.proofs.TurnLaws.{one_changed}
 
--- the key of a part whose rows have numbers of their own (`IsNumberedPart`) is one column, the first
 pub key_one : (part : Part) → IsNumberedPart part → key_width_of part ≡ 1
 key_one Own is = absurd is
 key_one Goods is = absurd is
@@ -34,12 +33,10 @@ key_one part is = refl
 
 -- ---- chosen rows of two equivalent sets
 
--- if `P` and `Q` are equivalent, a choice between `P` and `W` holds exactly if one between `Q` and `W` does (`IfElse`)
 chosen_as : (b : Bool) (P Q W : Type 0) → (P ↔ Q) → IfElse b P W ↔ IfElse b Q W
 chosen_as true P Q W same = same
 chosen_as false P Q W same = (λ h. h, λ h. h)
 
--- rows rewritten by test `one` and wanted set `P` are those rewritten by an equal test `other` and equivalent set `Q`
 rewritten_as : (one other : Row → Bool) (P Q : Set) → ((r : Row) → one r ≡ other r) → ((r : Row) → P r ↔ Q r) → (after before : List Row) → HasExactly after (rows_after_rewrite one P (Has before)) → HasExactly after (rows_after_rewrite other Q (Has before))
 rewritten_as one other P Q same are after before is r =
     let turned = subst (λ b. IfElse (one r) (P r) (Has before r) ↔ IfElse b (Q r) (Has before r)) (same r) (chosen_as (one r) (P r) (Q r) (Has before r) (are r)) in
@@ -48,12 +45,10 @@ rewritten_as one other P Q same are after before is r =
 -- ---- a part with one row for each number
 
 module _ {V : Type 0} (part : Part) (line : ℕ → V → Row) (values : CampaignValue → FinMap nat_cmp V) (are : (own : Row) (c : CampaignValue) (r : Row) → rows_for own c part r ↔ RowsOf line (values c) r) where
-  -- the upsert of a row of the part is a statement that puts a row of the campaign (`OfRow`)
   pub puts_line : key_width_of part ≡ 1 → (c : CampaignValue) (r : Row) → RowsOf line (values c) r → OfRow c (upsert (table_of part) 1) r
   puts_line key c r is = subst (λ k. OfRow c (upsert (table_of part) k) r) key (puts_row part (λ own. (are own c r).1 is))
 
   module _ (numbered : (n : ℕ) (v : V) → take 1 (line n v) ≡ int n ∷ []) where
-    -- the DELETE of the row of a number that the map lacks is a statement that a write of changes may run (`OfChange`)
     pub drops_none : key_width_of part ≡ 1 → (c : CampaignValue) (n : ℕ) → get (values c) n ≡ None → OfChange c (deletion (table_of part) 1) (int n ∷ [])
     drops_none key c n none = subst (λ k. OfChange c (deletion (table_of part) k) (int n ∷ [])) key (drops_row part (
       sym key,
@@ -67,7 +62,6 @@ module _ {V : Type 0} (part : Part) (line : ℕ → V → Row) (values : Campaig
     pub kept_filled : (c : CampaignValue) (es : List (ℕ × V)) → es ≡ entries (values c) → (old new : Database) → PutsRows (table_of part) 1 (rows_in_order line es) old new → FillsPart c part old new
     kept_filled c = numbered_filled c part line numbered (values c) (λ own rows is r. (λ there. (are own c r).1 ((is r).0 there), λ of. (is r).1 ((are own c r).0 of)))
 
-  -- rewriting the rows of the marked numbers rewrites the part (`RewritesPart`), if these are the part's marked rows
   pub kept_rewritten : (marks : Marks → FinSet nat_cmp) → ((m : Marks) (r : Row) → is_marked m part r ≡ begins_marked (marks m) r) → (c : MarkedCampaign) (old new : Database)
       → RewritesMarked (table_of part) line (values c.value) (marks c.marks) old new → RewritesPart c part old new
   kept_rewritten marks marked c old new did own = one_changed (Becomes c own) part _ old new did (rewritten_as (begins_marked (marks c.marks)) (is_marked c.marks part) (RowsOf line (values c.value)) (rows_for own c.value part)

@@ -17,12 +17,12 @@ use Rattle.sqlite_trees.specs.View.{is_int}
 use Rattle.sqlite_rules.specs.Lists.{Has}
 use Rattle.sqlite_rules.proofs.ListLemmas.{all_from, all_has}
 use Rattle.atl_world.specs.declared.format.Format.TheVariants.{Second}
-use Rattle.atl_campaign.specs.declared.parts.Parts.{Parts}
-use Rattle.atl_campaign.specs.declared.parts.StoredCampaignRow.{StoredCampaignRow}
+use Rattle.atl_rows.specs.declared.parts.Parts.{Parts}
+use Rattle.atl_rows.specs.declared.parts.StoredCampaignRow.{StoredCampaignRow}
 use Rattle.atl_store.specs.Gathering.{HaveDistinctRowids, AllHaveDistinctRowids, HaveDistinctIntegers, IsMadeOf, FailsWithout, ReadRows, without_ids, column_count}
 use Rattle.atl_store.specs.Loading.{shows_rowids, has_row_values, books_values, market_values, other_parts, rows_read}
 use Rattle.atl_sql.specs.Reading.{select_of_part}
-use Rattle.atl_sql.specs.Rows.{rows_in_order}
+use Rattle.atl_store.specs.Rows.{rows_in_order}
 use Rattle.atl_sql.specs.Sets.{AreKeyedByRowid, visible_row, rows_in}
 use Rattle.atl_sql.specs.Shown.{has_stored, books_stored, market_stored}
 use Rattle.atl_sql.specs.Tables.{Part, Own, Goods, Books, Markets, table_of}
@@ -36,36 +36,29 @@ use Rattle.atl_store.proofs.LoadLaws.{keyed_by, keyed_shown}
 -- ---- rows by a number that each of them has in a column
 
 module _ {A : Type 0} (shown : A → Row) (number : A → ℤ) (at : ℕ) (is : (a : A) → column (shown a) at ≡ Int (number a)) where
-  -- the rows shown for `a` and `b` are equal in the column `at` exactly if the numbers of `a` and `b` are equal
   same_test : (a b : A) → is_eq (value_cmp (column (shown a) at) (column (shown b) at)) ≡ int_eq (number a) (number b)
   same_test a b = ap (λ v. is_eq (value_cmp v (column (shown b) at))) (is a) ∙ ap (λ v. is_eq (value_cmp (Int (number a)) v)) (is b) ∙ ap is_eq (value_cmp-Int (number a) (number b))
 
-  -- if the number of `a` differs from those of all of `xs`, its row differs from theirs in the column `at`
   each_apart : (a : A) (xs : List A) → AllByRecursion (λ n. int_eq (number a) n ≡ false) (map number xs) → AllByRecursion (λ r. is_eq (value_cmp (column (shown a) at) (column r at)) ≡ false) (map shown xs)
   each_apart a [] all = tt
   each_apart a (x ∷ xs) all = (same_test a x ∙ all.0, each_apart a xs all.1)
 
-  -- if the numbers of `xs` all differ, their rows all differ in the column `at`
   columns_apart : (xs : List A) → IsDistinct int_eq (map number xs) → IsDistinct (λ a b. is_eq (value_cmp (column a at) (column b at))) (map shown xs)
   unfolding IsDistinct
   columns_apart [] apart = tt
   columns_apart (x ∷ xs) apart = (each_apart x xs apart.0, columns_apart xs apart.1)
 
-  -- the rows of `xs` have integers in the column `at`
   are_ints : (xs : List A) → AllByRecursion (λ r. is_int (column r at) ≡ true) (map shown xs)
   are_ints [] = tt
   are_ints (x ∷ xs) = (ap is_int (is x), are_ints xs)
 
-  -- if the numbers of `xs` all differ, their rows have different integers in the column `at` (`HaveDistinctIntegers`)
   numbers_keys : (xs : List A) → IsDistinct int_eq (map number xs) → HaveDistinctIntegers at (map shown xs)
   numbers_keys xs apart = record { apart = columns_apart xs apart; ints = are_ints xs }
 
-  -- if the row of `a` differs from those of all of `xs` in the column `at`, its number differs from theirs
   each_number_apart : (a : A) (xs : List A) → AllByRecursion (λ r. is_eq (value_cmp (column (shown a) at) (column r at)) ≡ false) (map shown xs) → AllByRecursion (λ n. int_eq (number a) n ≡ false) (map number xs)
   each_number_apart a [] all = tt
   each_number_apart a (x ∷ xs) all = (sym (same_test a x) ∙ all.0, each_number_apart a xs all.1)
 
-  -- if the rows of `xs` all differ in the column `at`, their numbers all differ
   numbers_apart : (xs : List A) → IsDistinct (λ a b. is_eq (value_cmp (column a at) (column b at))) (map shown xs) → IsDistinct int_eq (map number xs)
   unfolding IsDistinct
   numbers_apart [] apart = tt
@@ -73,11 +66,9 @@ module _ {A : Type 0} (shown : A → Row) (number : A → ℤ) (at : ℕ) (is : 
 
 -- ---- rows of the entries of a map, with the numbers in the first column
 
--- for `entries_apart`: two different numbers fail the test for equal integers (`int_eq`)
 differ : (m n : ℕ) → m ≢ n → int_eq (pos m) (pos n) ≡ false
 differ m n apart = elim (cases_Bool (int_eq (pos m) (pos n))) [ inl same ↦ absurd (apart (grind (ints, arith))) | inr differs ↦ differs ]
 
--- the numbers of sorted entries differ
 entries_apart : {V : Type 0} (es : List (ℕ × V)) → is_sorted nat_cmp es ≡ true → IsDistinct int_eq (map (λ (e : ℕ × V). pos e.0) es)
 unfolding IsDistinct
 entries_apart [] sorted = tt
@@ -88,32 +79,26 @@ entries_apart {V} (e ∷ es) sorted = (
   entries_apart es (and_parts _ _ sorted).1,
 )
 
--- rows made of a map's entries, each with the entry's number first, have different numbers in the first column
 pub lines_keys : {V : Type 0} (line : ℕ → V → Row) → ((n : ℕ) (v : V) → column (line n v) 0 ≡ Int (pos n)) → (m : FinMap nat_cmp V) → HaveDistinctIntegers 0 (rows_in_order line (entries m))
 lines_keys {V} line numbered m = numbers_keys (λ (e : ℕ × V). line e.0 e.1) (λ (e : ℕ × V). pos e.0) 0 (λ e. numbered e.0 e.1) (entries m) (entries_apart (entries m) (in_order m))
 
--- a list of one row with an integer in its first column has different integers there (`HaveDistinctIntegers`)
 pub one_keys : (row : Row) (n : ℤ) → column row 0 ≡ Int n → HaveDistinctIntegers 0 (row ∷ [])
 unfolding IsDistinct
 one_keys row n is = record { apart = (tt, tt); ints = (ap is_int is, tt) }
 
 -- ---- the rows of a part, as its listing shows them
 
--- mapping by `f` and then by `g` is mapping by `h`, if `h` does what `f` and then `g` do
 pub mapped_twice : {X Y Z : Type 0} (f : X → Y) (g : Y → Z) (h : X → Z) → ((x : X) → g (f x) ≡ h x) → (xs : List X) → map g (map f xs) ≡ map h xs
 mapped_twice f g h same [] = refl
 mapped_twice f g h same (x ∷ xs) = ap (λ y. y ∷ map g (map f xs)) (same x) ∙ ap (λ ys. h x ∷ ys) (mapped_twice f g h same xs)
 
--- a row of a part's table, as the part's SELECT shows it, with the rowid as the last column
 abbrev placed_row : Part → Row → Row
 placed_row part r = visible_row (table_of part) r ++ rowid r ∷ []
 
--- a row shown with its rowid (`placed_row`) is, without the rowid, the row as its table shows it (`visible_row`)
 cut_row : (part : Part) (r : Row) → take (column_count part) (placed_row part r) ≡ visible_row (table_of part) r
 cut_row Own r = refl
 cut_row part r = refl
 
--- the last column of a row shown with its rowid is the rowid
 row_place : (part : Part) (r : Row) → column (placed_row part r) (column_count part) ≡ rowid r
 row_place Own r = refl
 row_place part r = refl
@@ -127,39 +112,31 @@ shown_by Books = inl (refl, λ db. refl)
 shown_by Markets = inl (refl, λ db. refl)
 shown_by part = inr (refl, λ db. refl, λ r. refl)
 
--- the rows that a part's SELECT shows (its listing) are all rows with their rowids, if the part is shown with rowids
 in_places : (part : Part) → shows_rowids part ≡ true → (db : Trees) → (select_of_part part).in_table db ≡ map (placed_row part) (db (table_of part).tree)
 in_places part is = elim (shown_by part) [ inl positions ↦ positions.1 | inr whole ↦ absurd (true≢false (sym is ∙ whole.0)) ]
 
--- the first column of each row is the rowid, if the part is shown without rowids
 row_number : (part : Part) → shows_rowids part ≡ false → (r : Row) → column (visible_row (table_of part) r) 0 ≡ rowid r
 row_number part is = elim (shown_by part) [ inl positions ↦ absurd (true≢false (sym positions.0 ∙ is)) | inr whole ↦ whole.2 ]
 
--- removing the rowids from the rows of a part that shows them leaves the first columns
 pub cut_places : (part : Part) (rows : List Row) → shows_rowids part ≡ true → without_ids part rows ≡ map (take (column_count part)) rows
 cut_places part rows is = ap (λ b. if b then map (take (column_count part)) rows else rows) is
 
--- removing the rowids from the rows of a part that shows none leaves the rows as they are
 pub cut_nothing : (part : Part) (rows : List Row) → shows_rowids part ≡ false → without_ids part rows ≡ rows
 cut_nothing part rows is = ap (λ b. if b then map (take (column_count part)) rows else rows) is
 
 module _ (part : Part) (db : Trees) (rows : List Row) where
-  -- all rows shown with rowids are, without the rowids, all rows of the table
   without_places : IsPermutation (map (placed_row part) (db (table_of part).tree)) rows → IsPermutation (rows_in (table_of part) db) (map (take (column_count part)) rows)
   without_places same =
       subst (λ l. IsPermutation l (map (take (column_count part)) rows)) (mapped_twice (placed_row part) (take (column_count part)) (visible_row (table_of part)) (cut_row part) (db (table_of part).tree))
       (IsPermutation-map (take (column_count part)) (map (placed_row part) (db (table_of part).tree)) rows same)
 
   module _ (is : shows_rowids part ≡ true) (same : IsPermutation ((select_of_part part).in_table db) rows) where
-    -- the rows that the listing shows are a permutation of all rows with their rowids
     same_placed : IsPermutation (map (placed_row part) (db (table_of part).tree)) rows
     same_placed = subst (λ l. IsPermutation l rows) (in_places part is db) same
 
-    -- if the rowids that are shown are different integers, so are the rowids in the table's tree
     pub places_keyed : HaveDistinctIntegers (column_count part) rows → AreKeyedByRowid (db (table_of part).tree)
     places_keyed keys = keyed_by (placed_row part) (column_count part) (db (table_of part).tree) rows (row_place part) same_placed keys
 
-    -- if the rowids in the table's tree are different integers, so are the rowids that are shown
     pub keyed_places : AreKeyedByRowid (db (table_of part).tree) → HaveDistinctIntegers (column_count part) rows
     keyed_places keyed = keyed_shown (placed_row part) (column_count part) (db (table_of part).tree) rows (row_place part) same_placed keyed
 
@@ -168,7 +145,6 @@ module _ (part : Part) (db : Trees) (rows : List Row) where
   pub numbers_keyed : shows_rowids part ≡ false → IsPermutation (rows_in (table_of part) db) rows → HaveDistinctIntegers 0 rows → AreKeyedByRowid (db (table_of part).tree)
   numbers_keyed is same keys = keyed_by (visible_row (table_of part)) 0 (db (table_of part).tree) rows (row_number part is) same keys
 
-  -- all rows that the listing shows, without their rowids, are all rows of the table
   pub unplaced_all : IsPermutation ((select_of_part part).in_table db) rows → IsPermutation (rows_in (table_of part) db) (without_ids part rows)
   unplaced_all same = elim (shown_by part) [
     | inl positions ↦ subst (IsPermutation (rows_in (table_of part) db)) (sym (cut_places part rows positions.0)) (without_places (same_placed positions.0 same))
@@ -179,34 +155,26 @@ module _ (part : Part) (db : Trees) (rows : List Row) where
 
 -- A row that was read with its rowid is shown as its values and after them the rowid.
 pub record IsPlacedAs {A : Type 0} (part : Part) (stored : RowWithId A → Row) (values : A → Row) : Type 0 where
-  -- the first columns of a row as it is shown are the values of the row that was read
   pub values_are : (s : RowWithId A) → take (column_count part) (stored s) ≡ values s.row
-  -- the column after the values is the rowid of the row that was read
   pub place_is : (s : RowWithId A) → column (stored s) (column_count part) ≡ Int s.rowid
 
 module _ {A : Type 0} {part : Part} {stored : RowWithId A → Row} {values : A → Row} (is : IsPlacedAs part stored values) (placed : List (RowWithId A)) where
-  -- the values of rows read with rowids are the first columns of what was shown
   pub placed_values : map values (map (λ s. s.row) placed) ≡ map (take (column_count part)) (map stored placed)
   placed_values =
       mapped_twice (λ (s : RowWithId A). s.row) values (λ (s : RowWithId A). values s.row) (λ s. refl) placed ∙ sym (mapped_twice stored (take (column_count part)) (λ (s : RowWithId A). values s.row) is.values_are placed)
 
-  -- if the rowids that were read differ, the shown rows have different integers after their values
   pub placed_keys : HaveDistinctRowids placed → HaveDistinctIntegers (column_count part) (map stored placed)
   placed_keys apart = numbers_keys stored (λ s. s.rowid) (column_count part) is.place_is placed apart
 
-  -- if the shown rows have different integers after their values, the rowids that were read differ
   pub placed_apart : HaveDistinctIntegers (column_count part) (map stored placed) → HaveDistinctRowids placed
   placed_apart keys = numbers_apart stored (λ s. s.rowid) (column_count part) is.place_is placed keys.apart
 
--- a row of `has` that was read is shown as its values and after them its rowid
 pub has_placed : IsPlacedAs Goods has_stored has_row_values
 has_placed = record { values_are = λ s. refl; place_is = λ s. refl }
 
--- a row of `books` that was read is shown as its values and after them its rowid
 pub books_placed : IsPlacedAs Books books_stored books_values
 books_placed = record { values_are = λ s. refl; place_is = λ s. refl }
 
--- a row of `market` that was read is shown as its values and after them its rowid
 pub market_placed : IsPlacedAs Markets market_stored market_values
 market_placed = record { values_are = λ s. refl; place_is = λ s. refl }
 
@@ -215,20 +183,15 @@ market_placed = record { values_are = λ s. refl; place_is = λ s. refl }
 -- A part is made of what was read: its rows to be checked are the rows read, without their rowids.
 -- The rowids are integers, no two alike.
 pub record IsMadeAs (p : Parts) (read : Part × List Row) : Type 0 where
-  -- the rows to be checked are those that were read, without their rowids
   pub rows : (text : List ℕ) → rows_read text p read.0 ≡ without_ids read.0 read.1
-  -- if the part is shown with rowids, these are integers, no two alike
   pub apart : shows_rowids read.0 ≡ true → HaveDistinctIntegers (column_count read.0) read.1
 
--- a part that is shown without rowids is made of what was read (`IsMadeAs`), if `p` has its rows as they were read
 pub made_whole : {p : Parts} {rows : List Row} (part : Part) → shows_rowids part ≡ false → ((text : List ℕ) → rows_read text p part ≡ rows) → IsMadeAs p (part, rows)
 made_whole {p} {rows} part free are = record {
   rows = λ text. are text ∙ sym (cut_nothing part rows free);
   apart = λ placed. absurd (true≢false (sym placed ∙ free));
 }
 
--- a part that is shown with rowids is made of what was read (`IsMadeAs`), if `p` has its rows without the rowids, and
--- the rowids differ
 pub made_placed : {p : Parts} {A : Type 0} {part : Part} {stored : RowWithId A → Row} {values : A → Row} → IsPlacedAs part stored values → shows_rowids part ≡ true → (placed : List (RowWithId A))
     → ((text : List ℕ) → rows_read text p part ≡ map values (map (λ s. s.row) placed)) → HaveDistinctRowids placed → IsMadeAs p (part, map stored placed)
 made_placed {p} {A} {part} {stored} {values} is has placed are apart = record {
@@ -253,7 +216,6 @@ pub part_fault_is_of_all : {A B : Type 0} {part : Part} {stored : RowWithId A �
 part_fault_is_of_all is has placed reads there fault lacks (Ok b) says = tt
 part_fault_is_of_all {A} {B} {part} {stored} is has placed reads there fault lacks (Err f) says = subst (FailsWithout (AllHaveDistinctRowids reads)) (sym says) (all fault lacks)
   where
-    -- for `part_fault_is_of_all`: each fault of testing the rowids of this part is one of testing those of all parts
     all : (fault : LoadFault) → FailsWithout (HaveDistinctRowids placed) fault → FailsWithout (AllHaveDistinctRowids reads) fault
     all Store lacks = λ apart. lacks (placed_apart is placed (apart.each (part, map stored placed) there has))
     all (Damaged rule) lacks = lacks

@@ -18,35 +18,30 @@ use Rattle.atl_records.proofs.BookLaws.{none_past}
 use Rattle.atl_records.proofs.EveryEntryLaws.{entry_there}
 use Rattle.atl_sql.specs.Sets.{HasExactly, puts}
 use Rattle.atl_sql.specs.Shown.{books_key, books_row}
-use Rattle.atl_sql.specs.Rows.{BooksRowsOf}
+use Rattle.atl_store.specs.Rows.{BooksRowsOf}
 use Rattle.atl_store.specs.GroupedRows.{DifferInKey, amount_lines, entries_lines, things_lines}
 use Rattle.atl_store.proofs.EntryLaws.{apart_append, empty_table_has_put_rows, flat_has, has_flat}
 use Rattle.atl_store.proofs.HasTableLaws.{optional_has, has_optional, optional_apart}
 
 -- ---- entries by their indexes
 
--- for `every_entry`: the element at an index of a list is in the list
 has_at : {X : Type 0} (xs : List X) (k : ℕ) (x : X) → slice_get xs k ≡ Some x → Has xs x
 has_at [] k x is = absurd (none-some x is)
 has_at (y ∷ ys) zero x is = inl (sym (same_Some y x is))
 has_at (y ∷ ys) (suc k) x is = inr (has_at ys k x is)
 
--- each entry is in the list of all entries
 pub every_entry : (e : BooksEntry) → Has all_entries e
 every_entry e = has_at all_entries (entry_index e) e (entry_there e)
 
--- whether each entry of a list has a greater index than the one before it
 abbrev are_sorted : List BooksEntry → Bool
 are_sorted [] = true
 are_sorted (e ∷ es) = list_all (λ f. nat_lt (entry_index e) (entry_index f)) es && are_sorted es
 
 -- ---- the amounts of one thing
 
--- a number that fails the test for 0 is not 0
 pub differs_zero : (z : ℤ) → int_eq z (pos 0) ≡ false → z ≢ pos 0
 differs_zero z differs same = grind (ints, arith)
 
--- a number that is not 0 fails the test for 0
 pub is_differing : (z : ℤ) → z ≢ pos 0 → int_eq z (pos 0) ≡ false
 is_differing z apart = elim (cases_Bool (int_eq z (pos 0))) [ inl same ↦ absurd (apart (grind (ints, arith))) | inr differs ↦ differs ]
 
@@ -59,19 +54,16 @@ amount_is c entry thing e t z entry_is thing_is amount some =
     ap (λ (zero : Bool). if zero then [] else books_row index (thing_index thing) value ∷ []) (is_differing value (λ zero. some (amount ∙ zero)))
     ∙ ap (λ n. books_row n (thing_index thing) value ∷ []) (sym entry_is) ∙ ap (λ n. books_row e n value ∷ []) (sym thing_is) ∙ ap (λ n. books_row e t n ∷ []) (sym amount)
 
--- two keys of `books` are equal only if both numbers are
 pub books_key_determines_numbers : (a b c d : ℕ) → ◌≡◌ {A = Row} (books_key a b) (books_key c d) → (a ≡ c) × (b ≡ d)
 books_key_determines_numbers a b c d same = (cc, cc)
 
 -- ---- indexes within bounds
 
--- for `things_apart`: a number in the list `range_with_len from count` is at least `from` and below from + count
 pub range_has : (from count i : ℕ) → Has (range_with_len from count) i → (from ≤ i) × (i < from + count)
 range_has from zero i there = absurd there
 range_has from (suc count) i (inl same) = (omega (arith, same), omega (arith, same))
 range_has from (suc count) i (inr later) = let h = range_has (from + 1) count i later in (omega (arith, h.0), omega (arith, h.1))
 
--- an index within the bounds of a range is in the range
 pub has_range : (from count i : ℕ) → from ≤ i → i < from + count → Has (range_with_len from count) i
 has_range from zero i least most = absurd (omega (arith, least, most))
 has_range from (suc count) i least most = elim (cases_lt from i) [
@@ -79,7 +71,6 @@ has_range from (suc count) i least most = elim (cases_lt from i) [
   | inr here ↦ inl (omega (arith, least, here))
 ]
 
--- an amount that is not 0 is of a thing that the books have
 amount_is_of_known_thing : (books : BooksValue) → AreBooks books.things books → (e : BooksEntry) (t : Thing) → amount_in books e t ≢ pos 0 → thing_index t < books.things
 amount_is_of_known_thing books are e t some = elim (cases_lt (thing_index t) books.things) [
   | inl inside ↦ inside
@@ -89,22 +80,18 @@ amount_is_of_known_thing books are e t some = elim (cases_lt (thing_index t) boo
 -- ---- the rows of all amounts
 
 module _ (c : CampaignValue) where
-  -- the row of `books` with the campaign's amount of an entry and a thing
   abbrev row_at : BooksEntry → Thing → Row
   row_at e t = books_row (entry_index e + 1) (thing_index t) (amount_in c.books e t)
 
-  -- each row made for a thing and a list of entries is of one of these entries, with an amount that is not 0
   entries_has : (t : Thing) (es : List BooksEntry) (r : Row) → Has (entries_lines c t es) r → (e : BooksEntry) × Has es e × (amount_in c.books e t ≢ pos 0) × (r ≡ row_at e t)
   entries_has t es r there =
       let found = flat_has (λ e. amount_lines c e t) es r there in
       let row = optional_has (int_eq (amount_in c.books found.0 t) (pos 0)) (row_at found.0 t) r found.2 in
       (found.0, found.1, differs_zero (amount_in c.books found.0 t) row.0, row.1)
 
-  -- a thing has a row for each entry of the list `es` under which its amount is not 0
   has_entries : (t : Thing) (es : List BooksEntry) (e : BooksEntry) → Has es e → amount_in c.books e t ≢ pos 0 → Has (entries_lines c t es) (row_at e t)
   has_entries t es e there some = has_flat (λ e. amount_lines c e t) es e (row_at e t) there (has_optional (int_eq (amount_in c.books e t) (pos 0)) (row_at e t) (is_differing (amount_in c.books e t) some))
 
-  -- the rows made for one thing have different keys, if the entries are sorted by index
   entries_apart : (t : Thing) (es : List BooksEntry) → are_sorted es ≡ true → DifferInKey 2 (entries_lines c t es)
   entries_apart t [] rising = tt
   entries_apart t (e ∷ es) rising =
@@ -118,7 +105,6 @@ module _ (c : CampaignValue) where
 
   -- ---- all things
 
-  -- the rows made for all things of a range have different keys
   things_apart : (from count : ℕ) → DifferInKey 2 (things_lines c (range_with_len from count))
   things_apart from zero = tt
   things_apart from (suc count) =
@@ -131,7 +117,6 @@ module _ (c : CampaignValue) where
       let indices : from ≡ found.0 = sym (index_of_thing_at from) ∙ keys.1 ∙ index_of_thing_at found.0 in
       absurd (omega (arith, indices, (range_has (from + 1) count found.0 found.1).0)))
 
-  -- each row that is made for the things numbered `indices` is a row of `books` for the campaign
   pub things_rows : (indices : List ℕ) (r : Row) → Has (things_lines c indices) r → BooksRowsOf c.books r
   things_rows indices r there =
       let found = flat_has (λ index. entries_lines c (thing_at index) all_entries) indices r there in

@@ -23,13 +23,13 @@ use Rattle.atl_state.specs.declared.checking.CheckFault.{CheckFault}
 use Rattle.atl_state.specs.declared.checking.CheckFault.TheVariants as check
 use Rattle.atl_state.specs.declared.checking.Rule.{Rule}
 use Rattle.atl_state.specs.declared.checking.Rule.TheVariants.{OneRow, Ranges, Names, Known, Next, Days, Gone, Owners, Water, Guards, Books, Mail}
-use Rattle.atl_campaign.specs.declared.parts.Parts.{Parts}
-use Rattle.atl_campaign.specs.declared.parts.StoredCampaignRow.{StoredCampaignRow}
+use Rattle.atl_rows.specs.declared.parts.Parts.{Parts}
+use Rattle.atl_rows.specs.declared.parts.StoredCampaignRow.{StoredCampaignRow}
 use Rattle.atl_store.specs.Faults.{fault_of_check}
 use Rattle.atl_store.specs.Gathering.{IsCommitted, FailsWithout, FoundBySelects, FailsToRead, FailsToConfirm, ReadRows, AreOfFormat, AllHaveDistinctRowids, HaveDistinctIntegers, without_ids, column_count, OwnRead, IsMadeOf, ReadsSome, GathersAll, IsConfirmed, IsLoaded}
 use Rattle.atl_store.specs.Keeps.{Keeps, Stores}
 use Rattle.atl_store.specs.Loading.{HaveRows, rows_read, own_stored, KeepsOneRow, BreaksRule, MayReturnDamaged, RefusesToLoadIn, KeepsIn, LoadsIn, Loads, LeavesAlone, AfterReads, AreMade, AllSelectsShowTyped, MayReturnMemory, FailedMeanwhile, RefusesAgain, shows_rowids, tables_with_rowids, other_parts, other_selects}
-use Rattle.atl_sql.specs.Rows.{HoldsIn}
+use Rattle.atl_store.specs.Rows.{HoldsIn}
 use Rattle.atl_sql.specs.Statements.{selection}
 use Rattle.atl_sql.specs.Reading.{select_of_part}
 use Rattle.atl_sql.specs.Sets.{AreKeyedByRowid, rows_in}
@@ -46,7 +46,6 @@ use Rattle.atl_sql.proofs.SelectLaws.{has_first}
 use Rattle.atl_store.proofs.WorldTextLaws.{kept_text_is}
 
 module _ (f : Format) {S : Type 0} (g : Ghosts S) where
-  -- a campaign row that was read (`OwnRead`) keeps the first rule (`KeepsOneRow`)
   pub own_kept : (old : Held S) (own : StoredCampaign) (w : WorldValue) → OwnRead g old f own w → KeepsOneRow f g old
   own_kept old own w read = record {
     rows = read.rows;
@@ -59,20 +58,16 @@ module _ (f : Format) {S : Type 0} (g : Ghosts S) where
 
 -- ---- the parts
 
--- a part that is shown with rowids is one of the parts other than the campaign row
 not_own : (part : Part) → shows_rowids part ≡ true → Has (other_parts Second) part
 not_own part is = elim (every_part part) [ inl own ↦ absurd (true≢false (sym is ∙ ap shows_rowids own)) | inr other ↦ other ]
 
--- the campaign row is a part of each format
 has_own : (f : Format) → Has (parts_in f) Own
 has_own First = inl refl
 has_own Second = inl refl
 
--- each part but the campaign row is among the parts that were read
 read_of : (reads : ReadRows) → map (λ read. read.0) reads ≡ other_parts Second → (part : Part) → Has (other_parts Second) part → (read : Part × List Row) × Has reads read × (part ≡ read.0)
 read_of reads parts part there = map_has (λ (read : Part × List Row). read.0) reads part (subst (λ l. Has l part) (sym parts) there)
 
--- for `none_read`: removing the rowids from no rows leaves no rows
 nothing_unplaced : (part : Part) → without_ids part [] ≡ []
 nothing_unplaced part = elim (cases_Bool (shows_rowids part)) [
   | inl is ↦ cut_places part [] is
@@ -81,7 +76,6 @@ nothing_unplaced part = elim (cases_Bool (shows_rowids part)) [
 
 -- ---- the rows, as they were read
 
--- the earliest format that has a part of the first format (`since`) is the first format
 since_first : (part : Part) → Has (parts_in First) part → (select_of_part part).since ≡ First
 since_first part there = all_has (λ p. (select_of_part p).since ≡ First) (parts_in First) part (refl, (refl, (refl, (refl, (refl, (refl, (refl, (refl, (refl, tt))))))))) there
 
@@ -91,21 +85,17 @@ has_since : (f : Format) (schema : Schema) → HasTablesOf f schema → (part : 
 has_since First schema has part there = subst (λ since. HasTablesOf since schema) (sym (since_first part there)) has
 has_since Second schema has part there = under (select_of_part part).since
   where
-    -- for `has_since`: a schema with the tables of the second format has those of each format
     under : (since : Format) → HasTablesOf since schema
     under First = has_first Second schema has
     under Second = has
 
 module _ (f : Format) {S : Type 0} (g : Ghosts S) (old : Held S) (reads : ReadRows) (are : AreOfFormat f (state g old).now reads) where
-  -- the trees of the connection before the reads
   abbrev db : Trees
   db = (state g old).now.trees
 
-  -- all rows of a part's table were read, if the format has the part and the schema has the format's tables
   all_of : (read : Part × List Row) → Has reads read → Has (parts_in f) read.0 → HasTablesOf f old.schema → IsPermutation ((select_of_part read.0).in_table db) read.1
   all_of read there has begins = elim (are.each read there) [ inl all ↦ all.1 (has_since f old.schema begins read.0 has) | inr none ↦ absurd (none.0 has) ]
 
-  -- if the rowids that were read are different integers, so are those of the tables, if the schema is the format's
   all_keyed : map (λ read. read.0) reads ≡ other_parts Second → AllHaveDistinctRowids reads → HasTablesOf f old.schema → (table : Table) → Has (tables_with_rowids f) table → AreKeyedByRowid (db table.tree)
   all_keyed parts apart begins table there =
       let part = map_has table_of (filter shows_rowids (parts_in f)) table there in
@@ -114,7 +104,6 @@ module _ (f : Format) {S : Type 0} (g : Ghosts S) (old : Held S) (reads : ReadRo
       subst (λ (t : Table). AreKeyedByRowid (db t.tree)) (sym (part.2 ∙ ap table_of read.2))
       (places_keyed read.0.0 db read.0.1 (subst (λ p. shows_rowids p ≡ true) read.2 kept.1) (all_of read.0 read.1 (subst (Has (parts_in f)) read.2 kept.0) begins) (apart.each read.0 read.1 (subst (λ p. shows_rowids p ≡ true) read.2 kept.1)))
 
-  -- the rowids that were read are different integers, if the tables are made as the format has them (`AreMade`)
   all_apart : AreMade f g old → AllHaveDistinctRowids reads
   unfolding IsDistinct
   all_apart made = record {
@@ -126,7 +115,6 @@ module _ (f : Format) {S : Type 0} (g : Ghosts S) (old : Held S) (reads : ReadRo
 
   -- the rows that are put together for the check are all rows of the tables
   module _ (head : StoredCampaignRow) (p : Parts) (made : IsMadeOf head reads p) where
-    -- no row was read of a part that the format lacks
     none_read : (text : List ℕ) (part : Part) → ¬ Has (parts_in f) part → rows_read text p part ≡ []
     none_read text part lacks = elim (every_part part) [
       | inl own ↦ absurd (lacks (subst (Has (parts_in f)) (sym own) (has_own f)))
@@ -138,7 +126,6 @@ module _ (f : Format) {S : Type 0} (g : Ghosts S) (old : Held S) (reads : ReadRo
           ]
     ]
 
-    -- if the schema is the format's, and `campaign` has just the row `head`, a part's table has the part's rows in `p`
     rows_of_part : (text : List ℕ) → HasTablesOf f old.schema → IsPermutation (rows_in campaign_table db) (own_stored text head ∷ []) → (part : Part) → Has (parts_in f) part → IsPermutation (rows_in (table_of part) db) (rows_read text p part)
     rows_of_part text begins own part there = elim (every_part part) [
       | inl is ↦ subst (λ q. IsPermutation (rows_in (table_of q) db) (rows_read text p q)) (sym is) (subst (λ rows. IsPermutation (rows_in campaign_table db) (map (own_stored text) rows)) (sym made.campaign) own)
@@ -148,7 +135,6 @@ module _ (f : Format) {S : Type 0} (g : Ghosts S) (old : Held S) (reads : ReadRo
           (subst (IsPermutation (rows_in (table_of read.0.0) db)) (sym (made.rows text read.0 read.1)) (unplaced_all read.0.0 db read.0.1 (all_of read.0 read.1 (subst (Has (parts_in f)) read.2 there) begins)))
     ]
 
-    -- if the schema is the format's, and `campaign` has just the row `head`, the tables have just the rows in `p`
     have_rows : (text : List ℕ) → HasTablesOf f old.schema → IsPermutation (rows_in campaign_table db) (own_stored text head ∷ []) → HaveRows f db text p
     have_rows text begins own = record { rows = rows_of_part text begins own; none = none_read text }
 
@@ -168,13 +154,9 @@ module _ (f : Format) {S : Type 0} (g : Ghosts S) where
 
   -- ---- what the check of the rows refuses
 
-  -- the tables break a rule (`BreaksRule`), if it is the first that the gathered rows break, and the schema is the
-  -- format's
   breaks : (old : Held S) (w : WorldValue) (p : Parts) → GathersAll f g old w p → HasTablesOf f old.schema → (rule : Rule) → IsFirstBroken f w p rule → BreaksRule f g old rule
   breaks old w p all begins rule first = record { made = record { begins = begins; keyed = all.keyed begins }; world = w; text = all.text; is_world = all.world; parts = p; rows = all.rows begins; first = first }
 
-  -- Damaged with a rule may be returned, if it is the first rule that the gathered rows break, and the schema is the
-  -- format's
   damaged_may_be_returned : (old : Held S) (w : WorldValue) (p : Parts) → GathersAll f g old w p → HasTablesOf f old.schema → (rule : Rule) → IsFirstBroken f w p rule → MayReturnDamaged f g old rule
   damaged_may_be_returned old w p all begins OneRow first = absurd (first.broken all.first)
   damaged_may_be_returned old w p all begins Ranges first = inr (breaks old w p all begins Ranges first)
@@ -189,7 +171,6 @@ module _ (f : Format) {S : Type 0} (g : Ghosts S) where
   damaged_may_be_returned old w p all begins Books first = breaks old w p all begins Books first
   damaged_may_be_returned old w p all begins Mail first = breaks old w p all begins Mail first
 
-  -- Memory may be returned, if the campaign row keeps the first rule and the connection is in no transaction
   may_return_memory : (old : Held S) → old.in_transaction ≡ false → KeepsOneRow f g old → MayReturnMemory g old
   may_return_memory old idle kept = (idle, inr (kept.rows, kept.selects))
 
@@ -201,12 +182,9 @@ module _ (f : Format) {S : Type 0} (g : Ghosts S) where
 
   -- ---- what else refuses the load after the first rule holds
 
-  -- outside a transaction, if the campaign row keeps the first rule, a fault of reading the other tables refuses the
-  -- load
   pub unread_refuses : (old mid : Held S) → old.in_transaction ≡ false → KeepsOneRow f g old → AfterReads g old mid → (fault : LoadFault) → FailsToRead g mid (other_selects f) fault → RefusesToLoadIn f g old fault
   unread_refuses old mid idle kept first fault fails = refused fault (fails_then g old mid first (other_selects f) fault fails)
     where
-      -- for `unread_refuses`: each fault that reading the tables but `campaign` may return refuses the load
       refused : (fault : LoadFault) → FailsToRead g old (other_selects f) fault → RefusesToLoadIn f g old fault
       refused Store fails = inr (inr (kept, inl fails))
       refused (Damaged rule) fails = absurd fails
@@ -216,11 +194,9 @@ module _ (f : Format) {S : Type 0} (g : Ghosts S) where
 
   -- the tables are tested on a connection after reads, with a clean disk
   module _ (old mid : Held S) (kept : KeepsOneRow f g old) (first : AfterReads g old mid) (clean : HasCleanDisk (state g mid)) where
-    -- the connection was open when the campaign row was read
     was_open : IsTrue (state g old).is_open
     was_open = kept.selects.2.was_open (shown_open (selection campaign_table 1) _ _ kept.rows kept.selects.3)
 
-    -- if the connection is shut after the reads, the disk failed meanwhile
     shut_failed : (state g mid).is_open ≡ false → FailedMeanwhile g old
     shut_failed shut = record {
       after = mid;
@@ -250,23 +226,18 @@ module _ (f : Format) {S : Type 0} (g : Ghosts S) where
 -- what was read of the other tables after the campaign row was read
 module _ (f : Format) {S : Type 0} (g : Ghosts S) {A : Type 0} (rows : A → ReadRows) (old mid new : Held S) (own : StoredCampaign) (w : WorldValue) (row : OwnRead g old f own w) (before : AfterReads g old mid) (r : Result (Option A) LoadFault)
     (reads : ReadsSome g mid (other_selects f) (λ a. AreOfFormat f (state g mid).now (rows a)) r new) (o : Option A) (was : r ≡ Ok o) (clean : HasCleanDisk (state g new)) where
-  -- what was read of all tables but `campaign` was in them already before `campaign` was read (`FoundBySelects`)
   found : (says : Option A) → o ≡ says → FoundBySelects g old (other_selects f) (λ a. AreOfFormat f (state g old).now (rows a)) says
   found says is = subst (FoundBySelects g old (other_selects f) (λ a. AreOfFormat f (state g old).now (rows a))) is (format_before g f rows old mid new before (other_selects f) r reads o was clean)
 
-  -- if `p` is put together of what was read (`IsMadeOf`), all tables were read into it (`GathersAll`)
   pub gathered_with : (a : A) → o ≡ Some a → (p : Parts) (head : StoredCampaignRow) → head ≡ own.head → IsMadeOf head (rows a) p → GathersAll f g old w p
   gathered_with a is p head same made = let all = found (Some a) is in gathered_of f g old own w (rows a) p row all.0 all.1 head same made
 
-  -- a value of another type than its column in a table but `campaign` refuses the load with Damaged, rule Ranges
   pub mistyped_refuses : o ≡ None → RefusesToLoadIn f g old (Damaged Ranges)
   mistyped_refuses is = inl (own_kept f g old own w row, found None is)
 
-  -- outside a transaction, a fault of putting the rows together, which tests that rowids differ, refuses the load
   pub unmade_refuses : old.in_transaction ≡ false → (a : A) → o ≡ Some a → (fault : LoadFault) → FailsWithout (AllHaveDistinctRowids (rows a)) fault → RefusesToLoadIn f g old fault
   unmade_refuses idle a is fault = refused fault
     where
-      -- for `unmade_refuses`: each fault of testing the rowids refuses the load
       refused : (fault : LoadFault) → FailsWithout (AllHaveDistinctRowids (rows a)) fault → RefusesToLoadIn f g old fault
       refused Store lacks = let all = found (Some a) is in inr (inr (own_kept f g old own w row, inr (all.0, inl (λ made. lacks (all_apart f g old (rows a) all.1 made)))))
       refused (Damaged rule) lacks = absurd lacks
@@ -275,19 +246,16 @@ module _ (f : Format) {S : Type 0} (g : Ghosts S) {A : Type 0} (rows : A → Rea
       refused Memory lacks = may_return_memory f g old idle (own_kept f g old own w row)
 
 module _ {S : Type 0} (g : Ghosts S) where
-  -- if a result is an error with this fault, what holds of the fault (`P`) holds of the result's error
   pub holds_of_error : {A : Type 0} (P : LoadFault → Type 0) (fault : LoadFault) (r : Result A LoadFault) → IsErrAnd r (λ says. says ≡ fault) → P fault → IfErr r P
   holds_of_error P fault (Ok a) says p = tt
   holds_of_error P fault (Err f) says p = subst P (sym says) p
 
   -- ---- the whole
 
-  -- if the test for autocommit is true, the connection is in no transaction
   pub is_idle : (auto inside : Bool) → auto ≡ not inside → IsTrue auto → inside ≡ false
   is_idle auto true is said = absurd (let k = sym is ∙ said in cc)
   is_idle auto false is said = refl
 
-  -- tables that are confirmed after some reads are confirmed from before these reads, if the disk is clean
   pub confirmed_before : (f : Format) (old mid new : Held S) → AfterReads g old mid → AfterReads g mid new → HasCleanDisk (state g mid) → HasCleanDisk (state g new) → IsConfirmed f (state g mid) (state g new) → IsConfirmed f (state g old) (state g new)
   confirmed_before f old mid new one two clean_mid clean confirmed =
       let up = (two.stays clean).was_open confirmed.is_open in
@@ -298,7 +266,6 @@ module _ {S : Type 0} (g : Ghosts S) where
         sound = subst (λ (d : Database). IsSound d.schema d.trees) same confirmed.sound;
       }
 
-  -- reads outside a transaction (`AfterReads`) change nothing of the connection (`LeavesAlone`)
   pub leaves_alone : (old new : Held S) → old.in_transaction ≡ false → AfterReads g old new → LeavesAlone g old new
   leaves_alone old new idle leaves = record {
     unchanged = λ clean. record {
@@ -312,7 +279,6 @@ module _ {S : Type 0} (g : Ghosts S) where
 -- ---- the campaign that the tables hold
 
 module _ (f : Format) {S : Type 0} (g : Ghosts S) (old new : Held S) (w : WorldValue) (c : MarkedCampaign) (loaded : IsLoaded f g old new w c) (leaves : AfterReads g old new) (settled : IsCommitted (state g old)) where
-  -- if the disk is clean, the tables hold the loaded campaign in this format (`KeepsIn`)
   new_is_there : (clean : HasCleanDisk (state g new)) → KeepsIn f (state g new) (loaded.gathered clean).text c.value
   new_is_there clean =
       let all = loaded.gathered clean in
@@ -333,7 +299,6 @@ module _ (f : Format) {S : Type 0} (g : Ghosts S) (old new : Held S) (w : WorldV
         rows = subst (λ (d : Database). HoldsIn f d.trees all.text c.value) (sym same.0) (rows_hold f db all.text loaded.parts c.value rows loaded.checked.rows _ loaded.checked.good.sound.steady.numbers.books);
       }
 
-  -- a campaign loaded in a format is good and unmarked, and the tables hold it with a text of its world (`LoadsIn`)
   pub loads_in : LoadsIn f g old new w c
   loads_in = record {
     world = λ clean. subst (λ t. world_of_text f t ≡ Ok w) (sym (kept_text_is f (state g new) (loaded.gathered clean).text c.value (new_is_there clean))) (loaded.gathered clean).world;
@@ -344,7 +309,6 @@ module _ (f : Format) {S : Type 0} (g : Ghosts S) (old new : Held S) (w : WorldV
   }
 
 module _ {S : Type 0} (g : Ghosts S) (old new : Held S) where
-  -- a connection whose tables hold a campaign in the second format keeps it, if a crash leaves what was committed
   keeps_second : (text : List ℕ) (c : CampaignValue) → ((db : Trees) → IsTrue (state g new).is_open → (state g new).may_leave db → db ≡ (state g new).committed.trees) → KeepsIn Second (state g new) text c → Keeps (state g new) text c
   keeps_second text c store keeps =
       let sound : IsSoundDatabase (state g new).now.schema (state g new).now.trees = record { keyed = keeps.keyed; listed = keeps.listed } in
@@ -358,7 +322,6 @@ module _ {S : Type 0} (g : Ghosts S) (old new : Held S) where
         crash = λ db may. subst (λ t. Stores t text c) (sym (store db keeps.is_open may ∙ ap (λ (d : Database). d.trees) keeps.settled)) (record { schema = (state g new).now.schema; begins = keeps.begins; sound = sound; rows = rows });
       }
 
-  -- a campaign loaded in the second format is good, and the connection keeps it with a text of its world (`Loads`)
   pub loads : ((db : Trees) → IsTrue (state g new).is_open → (state g new).may_leave db → db ≡ (state g new).committed.trees) → (w : WorldValue) (c : MarkedCampaign) → LoadsIn Second g old new w c → Loads g old new w c
   loads store w c loaded = record {
     world = loaded.world;

@@ -14,17 +14,16 @@ use Rattle.atl_campaign.specs.Campaign.{CampaignValue}
 use Rattle.atl_sql.specs.Shown.{int, market_key, market_row}
 use Rattle.atl_sql.specs.Tables.{market_table}
 use Rattle.atl_sql.specs.Inside.{DoesInside, HasTables, Puts, Drops}
-use Rattle.atl_sql.specs.Marked.{region_and_item_pass}
+use Rattle.atl_store.specs.Marked.{region_and_item_pass}
 use Rattle.atl_store.specs.Rewriting.{FindsByNumbers, RewritesChosenStocks, is_owner_and_thing}
 use Rattle.atl_store.proofs.RewriteLaws.{equal_by_order, is_itself, rewrites_key, kept_only}
 use Rattle.atl_store.proofs.WholeLaws.{inside_weaker}
-use Rattle.atl_sql.specs.Rows.{MarketRowsOf}
+use Rattle.atl_store.specs.Rows.{MarketRowsOf}
 use Rattle.atl_store.specs.GroupedRows.{AreGroups, region_stock_lines}
 use Rattle.atl_store.proofs.EntryLaws.{got_entry, entry_got, in_order}
 use Rattle.atl_store.proofs.HasTableLaws.{amounts_have, have_amount, amounts_apart}
 use Rattle.sqlite.specs.Order.{Row}
 
--- two rows of one region with the same key are of the same item
 one_item : (region m a n b : ℕ) → ◌≡◌ {A = Row} (take 2 (market_row region m a)) (take 2 (market_row region n b)) → m ≡ n
 one_item region m a n b same = cc
 
@@ -47,27 +46,21 @@ stocks_grouped regions = record {
 -- ---- how much of an item a region has in stock
 
 module _ (regions : FinMap nat_cmp Region) where
-  -- the stock of an item in a region; 0 if there is no region
   abbrev in_stock : ℕ → Option Region → ℕ
   in_stock item o = option_map_or (λ r. amount_of r.stocks item) o 0
 
-  -- each row of `market` gives the stock, which is not 0, of an item of its region
   pub row_has_stock : (r : Row) → MarketRowsOf regions r → (n : ℕ) × (item : ℕ) × (stock_in regions n item ≢ 0) × (r ≡ market_row n item (stock_in regions n item))
   row_has_stock r of =
       let amount : stock_in regions of.0 of.3 ≡ of.4 = ap (in_stock of.3) of.2 ∙ ap (λ (o : Option ℕ). unwrap_or o 0) of.5 in
       (of.0, of.3, λ none. of.6 (sym amount ∙ none), of.7 ∙ ap (market_row of.0 of.3) (sym amount))
 
-  -- each stock that is not 0 has a row of `market`, with its region and item
   pub stock_has_row : (n item amount : ℕ) → amount ≡ stock_in regions n item → amount ≢ 0 → MarketRowsOf regions (market_row n item amount)
   stock_has_row n item amount is some = there (get regions n) refl
     where
-      -- for `stock_has_row`: a stock other than 0, which a look-up gives with 0 as its default, was found
       got : (o : Option ℕ) → amount ≡ unwrap_or o 0 → o ≡ Some amount
       got None zero = absurd (some zero)
       got (Some x) same = ap Some (sym same)
 
-      -- for `stock_has_row`: if the look-up `o` finds the region, the stock's row is in `market`; without a region the
-      -- stock would be 0
       there : (o : Option Region) → get regions n ≡ o → MarketRowsOf regions (market_row n item amount)
       there None none = absurd (some (is ∙ ap (in_stock item) none))
       there (Some region) found = (n, region, found, item, amount, got (get region.stocks item) (is ∙ ap (in_stock item) found), some, refl)
@@ -79,33 +72,27 @@ module _ (regions : FinMap nat_cmp Region) where
 pub finds_stocks : FindsByNumbers region_and_item_pass
 finds_stocks = record { either = either; none = none }
   where
-    -- for `finds_stocks`: the test "`f` or `g`" finds a row of `market` exactly if `f` or `g` finds it
     either : (f g : ℕ → ℕ → Bool) (r : Row) → region_and_item_pass (λ n t. f n t || g n t) r ≡ (region_and_item_pass f r || region_and_item_pass g r)
     either f g (Int (pos region) ∷ Int (pos item) ∷ row) = refl
     either f g row = refl
 
-    -- for `finds_stocks`: a test that is always false finds no row of `market`
     none : (r : Row) → region_and_item_pass (λ n t. false) r ≡ false
     none (Int (pos region) ∷ Int (pos item) ∷ row) = refl
     none row = refl
 
--- two keys of `market` are equal only if both numbers are
 pub market_key_determines_numbers : (a b c d : ℕ) → ◌≡◌ {A = Row} (market_key a b) (market_key c d) → (a ≡ c) × (b ≡ d)
 market_key_determines_numbers a b c d same = (cc, cc)
 
 module _ (region item : ℕ) where
-  -- whether a row of `market` is that of the region `region` and the item `item`
   abbrev is_here : Row → Bool
   is_here r = region_and_item_pass (is_owner_and_thing region item) r
 
-  -- a row of this region and item has the key of the region and the item
   key_of : (r : Row) → is_here r ≡ true → take 2 r ≡ market_key region item
   key_of (Int (pos n) ∷ Int (pos t) ∷ row) is =
       let both = and_parts _ _ is in
       ap (λ k. market_key k t) (equal_by_order n region both.0) ∙ ap (market_key region) (equal_by_order t item both.1)
   key_of row is = absurd (true≢false (sym is))
 
-  -- a row with the key of the region and the item is of this region and this item
   of_key : (r : Row) → take 2 r ≡ market_key region item → is_here r ≡ true
   of_key [] key = absurd cc
   of_key (u ∷ []) key = absurd cc
@@ -115,11 +102,9 @@ module _ (region item : ℕ) where
       ap (λ x. is_here (x ∷ v ∷ row)) first ∙ ap (λ x. is_here (int region ∷ x ∷ row)) second ∙ and_from _ _ (is_itself region) (is_itself item)
 
   module _ (c : CampaignValue) (stock : ℕ) (is : stock ≡ stock_in c.regions region item) where
-    -- the row of `market` of the region `region` and the item `item`, with the stock `stock`
     abbrev row : Row
     row = market_row region item stock
 
-    -- a row of this region and item among the campaign's rows is that of the stock, which isn't 0
     wanted_here : (r : Row) → is_here r ≡ true → MarketRowsOf c.regions r → (stock ≢ 0) × (r ≡ row)
     wanted_here r here of =
         let had = row_has_stock c.regions r of in
@@ -128,11 +113,9 @@ module _ (region item : ℕ) where
         let says : Determines region item = subst (λ n. Determines n item) keys.0 (subst (Determines had.0) keys.1 (had.2, had.3)) in
         (λ none. says.0 (sym is ∙ none), says.1 ∙ ap (market_row region item) (sym is))
 
-    -- if the stock of this region and item is 0, no row of the campaign has their key
     pub no_stock : stock ≡ 0 → (r : Row) → MarketRowsOf c.regions r → take 2 r ≢ market_key region item
     no_stock none r of key = (wanted_here r (of_key r key) of).0 none
 
-    -- putting the row of a stock that isn't 0 rewrites that stock
     pub stock_put : stock ≢ 0 → (old new : State) → DoesInside HasTables (Puts market_table 2 row) old new → DoesInside HasTables (RewritesChosenStocks c (is_owner_and_thing region item)) old new
     stock_put some old new did = inside_weaker HasTables (Puts market_table 2 row) (RewritesChosenStocks c (is_owner_and_thing region item)) old new
         (λ has puts. rewrites_key is_here (λ r. take 2 r ≡ market_key region item) (λ r. r ≡ row) (MarketRowsOf c.regions) key_of of_key
@@ -141,7 +124,6 @@ module _ (region item : ℕ) where
         market_table old.now new.now puts.rows puts.others)
         did
 
-    -- deleting the row of a stock that is 0 rewrites that stock
     pub stock_dropped : stock ≡ 0 → (old new : State) → DoesInside HasTables (Drops market_table 2 (market_key region item)) old new → DoesInside HasTables (RewritesChosenStocks c (is_owner_and_thing region item)) old new
     stock_dropped none old new did = inside_weaker HasTables (Drops market_table 2 (market_key region item)) (RewritesChosenStocks c (is_owner_and_thing region item)) old new
         (λ has drops. rewrites_key is_here (λ r. take 2 r ≡ market_key region item) (λ r. ⊥) (MarketRowsOf c.regions) key_of of_key (λ r never. absurd never)

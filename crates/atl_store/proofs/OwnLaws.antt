@@ -10,7 +10,7 @@ use Rattle.atl_world.specs.Worlds.{WorldValue}
 use Rattle.atl_tables.specs.World.{world_of_text}
 use Rattle.atl_world.specs.declared.format.Format.{Format}
 use Rattle.atl_state.specs.declared.checking.Rule.TheVariants.{OneRow, Ranges, Names, Known, Next, Days, Gone, Owners, Water, Guards, Books, Mail}
-use Rattle.atl_campaign.specs.declared.parts.StoredCampaignRow.{StoredCampaignRow}
+use Rattle.atl_rows.specs.declared.parts.StoredCampaignRow.{StoredCampaignRow}
 use Rattle.atl_store.specs.Gathering.{campaign_row_fault, IsOwnRow, Judges, JudgesOwn, JudgesRows, JudgesFormat, OwnRead}
 use Rattle.atl_store.specs.Loading.{own_stored, AreOwnRow, RefusesToLoadIn}
 use Rattle.atl_sql.specs.Reading.{Selects, RefusesToSelect}
@@ -29,7 +29,6 @@ use Rattle.atl_sql.proofs.RowsLaws.{asked_rows}
 use Rattle.atl_sql.proofs.SelectLaws.{reads_part}
 use Rattle.atl_sql.proofs.SelectingLaws.{never_other}
 
--- a list that mapping by `f` turns into a list of one element has one element
 pub one_mapped : {A B : Type 0} (f : A → B) (xs : List A) (y : B) → map f xs ≡ y ∷ [] → (x : A) × (xs ≡ x ∷ []) × (f x ≡ y)
 one_mapped f [] y is = absurd (let k = is in cc)
 one_mapped f (x ∷ []) y is = (x, refl, let k = is in cc)
@@ -37,19 +36,15 @@ one_mapped f (x ∷ z ∷ xs) y is = absurd (let k = is in cc)
 
 -- a row as it was read equals a row with this world text
 module _ (own : StoredCampaign) (h : StoredCampaignRow) (text : List ℕ) (is : campaign_stored own ≡ own_stored text h) where
-  -- the row `own`, as it was read, has in each column the value of the row that shows `h` and this world text
   same_column : (n : ℕ) → column (campaign_stored own) n ≡ column (own_stored text h) n
   same_column n = ap (λ r. column r n) is
 
-  -- the row `own`, as it was read, has the id of `h`, since both are shown as equal rows
   pub same_id : own.head.id ≡ h.id
   same_id = let e = same_column 0 in cc
 
-  -- the row `own`, as it was read, has the format of `h`, since both are shown as equal rows
   pub same_format : own.head.format ≡ h.format
   same_format = let e = same_column 1 in cc
 
-  -- the row `own`, as it was read, has the world text `text`, since it is shown as a row with this text
   pub same_text : string_bytes own.world ≡ text
   same_text = let e = same_column 7 in cc
 
@@ -68,13 +63,11 @@ own_read f items rows h text w shown own =
       },
     )
 
--- the values of a row that keeps the first rule (`AreOwnRow`) are of their columns' types
 pub own_typed : (f : Format) (rows : List Row) (h : StoredCampaignRow) (text : List ℕ) (w : WorldValue) → AreOwnRow f rows h text w → AreTyped campaign_forms rows
 own_typed f rows h text w own row there =
     let one = one_mapped (first_columns (length campaign_forms)) rows (own_stored text h) own.shown in
     typed row (found row there one.0 one.1 ∙ one.2)
   where
-    -- for `own_typed`: a row of a list that has only the row `r` has the first columns of `r`
     found : (row : Row) → Has rows row → (r : Row) → rows ≡ r ∷ []
         → first_columns (length campaign_forms) row ≡ first_columns (length campaign_forms) r
     found row there r is = elim (subst (λ l. Has l row) is there) [
@@ -82,13 +75,10 @@ own_typed f rows h text w own row there =
       | inr none ↦ absurd none
     ]
 
-    -- for `own_typed`: a row that begins as a campaign row with a UTF-8 text has values of its columns' types
     typed : (row : Row) → first_columns (length campaign_forms) row ≡ own_stored text h → IsTyped campaign_forms row
     typed row is =
         let at = λ (n : ℕ). ap (λ (r : Row). column r n) is in
         ((h.id, at 0), ((h.format, at 1), ((h.month, at 2), ((h.next_faction, at 3), ((h.next_unit, at 4), ((h.next_structure, at 5), ((h.pass, at 6), ((text, at 7, own.utf8), tt))))))))
-
--- ---- the rows that are shown
 
 -- what is true of Ok, of Memory and of Damaged by the first rule is true of any judged result (`Judges`)
 judged_as : (Is : StoredCampaign × WorldValue → Type 0) (Nothing : Type 0) (P : Result (StoredCampaign × WorldValue) LoadFault → Type 0) → ((both : StoredCampaign × WorldValue) → Is both → P (Ok both)) → P (Err Memory) → (Nothing → P (Err (Damaged OneRow)))
@@ -112,14 +102,12 @@ judged_as Is Nothing P read lacks broken (Err (Damaged Books)) judged = absurd j
 judged_as Is Nothing P read lacks broken (Err (Damaged Mail)) judged = absurd judged
 
 module _ (f : Format) where
-  -- if the rows were parsed, the result of checking them is one of judging the rows that SQL shows (`JudgesRows`)
   pub judged_rows : (items : List StoredCampaign) (rows : List Row) (r : Result (StoredCampaign × WorldValue) LoadFault)
       → map campaign_stored items ≡ map (first_columns (length campaign_forms)) rows → JudgesOwn f items r → JudgesRows f rows r
   judged_rows items rows r shown =
       judged_as (λ both. IsOwnRow f items both.0 both.1) ((own : StoredCampaign) (w : WorldValue) → ¬ IsOwnRow f items own w) (JudgesRows f rows) (λ both own. record { shown = sym shown ∙ ap (map campaign_stored) own.only; id = own.id; format = own.format; utf8 = IsUtf8-string_bytes both.0.world; world = own.world }) tt
       (λ none h text w own. let was = own_read f items rows h text w shown own in none was.0 w was.1) r
 
-  -- if the rows weren't parsed (a value of another type, or no memory), the fault is one of judging them (`JudgesRows`)
   pub unread_rows : (rows : List Row) (fault : ReadFault) → (fault ≡ read.OtherType → ¬ AreTyped campaign_forms rows)
       → ((fault ≡ read.OtherType → ⊥) → fault ≡ read.Memory) → JudgesRows f rows (Err (campaign_row_fault fault))
   unread_rows rows read.OtherType other which = λ h text w own. other refl (own_typed f rows h text w own)
@@ -128,25 +116,21 @@ module _ (f : Format) where
   unread_rows rows read.Refused other which = absurd (let e = which (λ e. cc) in cc)
 
 module _ (f : Format) {S : Type 0} (g : Ghosts S) (old : Held S) where
-  -- a fault of judging the rows of `campaign` (`JudgesFormat`) refuses the load, outside a transaction
   pub refuses_own : old.in_transaction ≡ false → (rows : List Row) (r : Result (StoredCampaign × WorldValue) LoadFault) → JudgesFormat f rows r → Selects g (selection campaign_table 1) old rows
       → IfErr r (RefusesToLoadIn f g old)
   refuses_own idle rows r (inl other) says = subst (λ answer. IfErr answer (RefusesToLoadIn f g old)) (sym other.1) (rows, says, other.0)
   refuses_own idle rows r (inr judged) says =
       judged_as (λ both. AreOwnRow f rows both.0.head (string_bytes both.0.world) both.1) ((h : StoredCampaignRow) (text : List ℕ) (w : WorldValue) → ¬ AreOwnRow f rows h text w) (λ answer. IfErr answer (RefusesToLoadIn f g old)) (λ both own. tt) (idle, inr (rows, says)) (λ none. record { rows = rows; selects = says; broken = none; of_format = judged.0 }) r judged.1
 
-  -- if judging the shown rows by the first rule gives Ok, the campaign row was read (`OwnRead`)
   rows_own : (rows : List Row) (r : Result (StoredCampaign × WorldValue) LoadFault) → JudgesRows f rows r → Selects g (selection campaign_table 1) old rows → IfOk r (λ both. OwnRead g old f both.0 both.1)
   rows_own rows (Err fault) judged says = tt
   rows_own rows (Ok both) judged says = record { rows = rows; selects = says; row = judged; table = λ begins. subst (IsPermutation (rows_in campaign_table (state g old).now.trees)) judged.shown (asked_rows First (selection campaign_table 1) (rows_in campaign_table) 8 (reads_part Own 8 refl) (state g old) (state g says.0) (state g says.1) rows says.2 says.3 begins) }
 
-  -- if judging the rows gives Ok, the campaign row and its world were read (`OwnRead`)
   pub own_is : (rows : List Row) (r : Result (StoredCampaign × WorldValue) LoadFault) → JudgesFormat f rows r → Selects g (selection campaign_table 1) old rows
       → IfOk r (λ both. OwnRead g old f both.0 both.1)
   own_is rows r (inl other) says = subst (λ answer. IfOk answer (λ both. OwnRead g old f both.0 both.1)) (sym other.1) tt
   own_is rows r (inr judged) says = rows_own rows r judged.1 says
 
-  -- if the SELECT of the campaign row is refused, its fault refuses the load, outside a transaction
   pub unasked_own : old.in_transaction ≡ false → (fault : ReadFault) → RefusesToSelect g (selection campaign_table 1) old fault → RefusesToLoadIn f g old (campaign_row_fault fault)
   unasked_own idle read.Store refused = inr (inl refused)
   unasked_own idle read.Memory refused = (idle, inl refused)

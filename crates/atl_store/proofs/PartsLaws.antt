@@ -24,11 +24,11 @@ use Rattle.atl_state.specs.declared.checking.Rule.TheVariants.{OneRow}
 use Rattle.atl_campaign.specs.Rows.{rows_by, rows_of, amount_rows, is_zero, AreRowsOf}
 use Rattle.atl_campaign.specs.Rows as made
 use Rattle.atl_campaign.specs.Campaign.{CampaignValue}
-use Rattle.atl_campaign.specs.declared.parts.Parts.{Parts}
-use Rattle.atl_campaign.specs.declared.parts.StoredBooks.{StoredBooks}
-use Rattle.atl_campaign.specs.declared.parts.StoredHas.{StoredHas}
-use Rattle.atl_campaign.specs.declared.parts.StoredCampaignRow.{StoredCampaignRow}
-use Rattle.atl_campaign.specs.declared.parts.StoredMarket.{StoredMarket}
+use Rattle.atl_rows.specs.declared.parts.Parts.{Parts}
+use Rattle.atl_rows.specs.declared.parts.StoredBooks.{StoredBooks}
+use Rattle.atl_rows.specs.declared.parts.StoredHas.{StoredHas}
+use Rattle.atl_rows.specs.declared.parts.StoredCampaignRow.{StoredCampaignRow}
+use Rattle.atl_rows.specs.declared.parts.StoredMarket.{StoredMarket}
 use Rattle.atl_records.specs.declared.records.Faction.{Faction}
 use Rattle.atl_records.specs.declared.records.Region.{Region}
 use Rattle.atl_records.specs.declared.records.Unit.{Unit}
@@ -38,7 +38,7 @@ use Rattle.atl_sql.specs.declared.rows.has.ThingKind.{ThingKind}
 use Rattle.atl_sql.specs.declared.rows.has.ThingKind.TheVariants.{Item, Skill}
 use Rattle.atl_store.specs.Gathering.{HaveDistinctIntegers}
 use Rattle.atl_store.specs.Loading.{HaveRows, rows_read, own_stored, has_row_values, books_values, market_values, shows_rowids, tables_with_rowids}
-use Rattle.atl_sql.specs.Rows.{RowsOf, rows_in_order, HasRowsOf, BooksRowsOf, MarketRowsOf, rows_for, Holds, HoldsIn, campaign_row_of, row_of_faction, row_of_region, row_of_unit, row_of_structure, things_of}
+use Rattle.atl_store.specs.Rows.{RowsOf, rows_in_order, HasRowsOf, BooksRowsOf, MarketRowsOf, rows_for, Holds, HoldsIn, campaign_row_of, row_of_faction, row_of_region, row_of_unit, row_of_structure, things_of}
 use Rattle.atl_sql.specs.Sets.{HasExactly, AreKeyedByRowid, rows_in}
 use Rattle.atl_sql.specs.Shown.{flag, campaign_row_in, mail_row, report_row, faction_stored, region_stored, unit_stored, structure_stored, mail_stored, report_stored}
 use Rattle.atl_sql.specs.Tables.{Part, Own, Factions, Regions, Units, Goods, Structures, Mail, Reports, Books, Markets, table_of, all_parts, parts_in}
@@ -53,11 +53,9 @@ use Rattle.atl_sql.proofs.PartLaws.{all_among, is_among, not_among}
 -- ---- rows of a table, rows that were read of it, and rows that are made of a campaign
 
 module _ {A : Type 0} (shown : A → Row) (rows : List Row) (read made : List A) (in_table : IsPermutation rows (map shown read)) (of_them : IsPermutation made read) where
-  -- if the rows made of the campaign (`made`) are those that were read of a table, its rows show them in some order
   rows_made : IsPermutation rows (map shown made)
   rows_made = IsPermutation-trans rows (map shown read) (map shown made) in_table (IsPermutation-sym (map shown made) (map shown read) (IsPermutation-map shown made read of_them))
 
-  -- a row is in the table exactly if it shows a row that is made of the campaign
   are_made : HasExactly rows (λ r. (a : A) × Has made a × (r ≡ shown a))
   are_made r = (
     λ there. map_has shown made r (has_permuted rows (map shown made) r rows_made there),
@@ -66,7 +64,6 @@ module _ {A : Type 0} (shown : A → Row) (rows : List Row) (read made : List A)
 
 -- ---- the tables by number
 
--- The rows, in some order, have different integers in the first column.
 abbrev HasKeys : List Row → Type 0
 HasKeys rows = (shown : List Row) × IsPermutation rows shown × HaveDistinctIntegers 0 shown
 
@@ -75,38 +72,31 @@ table_has_rows_of_map : {A V : Type 0} {Q : Type 0} (shown : A → Row) (row : �
     → (rows : List Row) (read : List A) (m : FinMap nat_cmp V) → IsPermutation rows (map shown read) → IsPermutation (rows_by row (entries m)) read → HasExactly rows (RowsOf line m) × (Q → HasKeys rows)
 table_has_rows_of_map {A} {V} shown row line same numbered rows read m in_table of_them = (held, λ _. (lines, is, lines_keys line numbered m))
   where
-    -- for `table_has_rows_of_map`: the campaign's rows for the entries of the map
     lines : List Row
     lines = rows_in_order line (entries m)
 
-    -- for `table_has_rows_of_map`: the table's rows are the campaign's rows for the entries, in some order
     is : IsPermutation rows lines
     is = subst (IsPermutation rows) (mapped_twice (λ (e : ℕ × V). row e.0 e.1) shown (λ (e : ℕ × V). line e.0 e.1) (λ e. same e.0 e.1) (entries m)) (rows_made shown rows read (rows_by row (entries m)) in_table of_them)
 
-    -- for `table_has_rows_of_map`: the table has exactly the map's rows
     held : HasExactly rows (RowsOf line m)
     held r = (
       λ there. let e = map_has (λ (e : ℕ × V). line e.0 e.1) (entries m) r (has_permuted rows lines r is there) in (e.0.0, e.0.1, entry_got m e.0.0 e.0.1 e.1, e.2),
       λ of. has_permuted lines rows r (IsPermutation-sym rows lines is) (subst (Has lines) (sym of.3) (has_map (λ (e : ℕ × V). line e.0 e.1) (entries m) (of.0, of.1) (got_entry m of.0 of.1 of.2))),
     )
 
--- a flag as the code stores it in a column, 0 or 1, is the flag as the definitions of rows have it
 stored_flag_is_flag : (b : Bool) → Int (made.flag b) ≡ flag b
 stored_flag_is_flag true = refl
 stored_flag_is_flag false = refl
 
--- the row made of a faction is shown as the campaign's row of the faction
 faction_row_is_line : (n : ℕ) (f : Faction) → faction_stored (made.faction_row n f) ≡ row_of_faction n f
 faction_row_is_line n f = ap (λ v. Int (pos n) ∷ Text f.joined_as ∷ Text f.name ∷ Text f.pass ∷ v ∷ []) (stored_flag_is_flag f.gone)
 
--- the row made of a unit is shown as the campaign's row of the unit
 unit_row_is_line : (n : ℕ) (u : Unit) → unit_stored (made.unit_row n u) ≡ row_of_unit n u
 unit_row_is_line n u =
     ap (λ v. Int (pos n) ∷ Int (pos u.faction) ∷ Text u.holding.name ∷ Int (pos u.region) ∷ Int (pos u.structure) ∷ Int (pos u.holding.men) ∷ Int (pos u.holding.money) ∷ v ∷ []) (stored_flag_is_flag u.holding.guard)
 
 -- ---- the campaign's own row
 
--- the table `campaign` has exactly the campaign's row, if the row that was read of it is made of the campaign
 own_held : {Q : Type 0} (f : Format) (text : List ℕ) (c : CampaignValue) (rows : List Row) (read : List StoredCampaignRow) → IsPermutation rows (map (own_stored text) read) → IsPermutation (made.campaign_row f c ∷ []) read → HasExactly rows (λ r. r ≡ campaign_row_in f (campaign_row_of c) text) × (Q → HasKeys rows)
 own_held f text c rows read in_table of_them = (
   λ r.
@@ -120,45 +110,37 @@ own_held f text c rows read in_table of_them = (
 -- ---- amounts that are not 0
 
 module _ {R : Type 0} (amount : R → ℤ) (row : ℕ → ℕ → R) (is : (thing count : ℕ) → amount (row thing count) ≡ pos count) where
-  -- each row made of a list of amounts (`amount_rows`) is of an entry of the list whose amount is not 0
   amount_row_is_of_entry : (es : List (ℕ × ℕ)) (s : R) → Has (amount_rows amount row es) s → (e : ℕ × ℕ) × Has es e × (e.1 ≢ 0) × (s ≡ row e.0 e.1)
   amount_row_is_of_entry es s there =
       let kept = has_filtered (λ r. not (is_zero (amount r))) (rows_by row es) s there in
       let e = map_has (λ (e : ℕ × ℕ). row e.0 e.1) es s kept.0 in
       (e.0, e.1, λ zero. true≢false (sym kept.1 ∙ ap (λ r. not (is_zero (amount r))) e.2 ∙ ap (λ z. not (is_zero z)) (is e.0.0 e.0.1) ∙ ap (λ a. not (a == 0)) zero), e.2)
 
-  -- each entry of a list of amounts whose amount is not 0 has its row among those made of the list (`amount_rows`)
   entry_has_amount_row : (es : List (ℕ × ℕ)) (thing count : ℕ) → Has es (thing, count) → count ≢ 0 → Has (amount_rows amount row es) (row thing count)
   entry_has_amount_row es thing count there some =
       has_kept (λ r. not (is_zero (amount r))) (rows_by row es) (row thing count) (has_map (λ (e : ℕ × ℕ). row e.0 e.1) es (thing, count) there) (ap (λ z. not (is_zero z)) (is thing count) ∙ ap not (is_not_zero count some))
 
 -- ---- what units have
 
--- each row made of a unit's items, or of its skills, is of an entry whose amount is not 0
 kind_row_is_of_entry : (n sort : ℕ) (es : List (ℕ × ℕ)) (s : StoredHas) → Has (made.rows_of_sort n sort es) s → (e : ℕ × ℕ) × Has es e × (e.1 ≢ 0) × (s ≡ made.has_row n sort e.0 e.1)
 kind_row_is_of_entry n sort = amount_row_is_of_entry (λ (r : StoredHas). r.amount) (made.has_row n sort) (λ thing count. refl)
 
--- a row is made of each entry of a unit's items, or of its skills, whose amount is not 0
 entry_has_kind_row : (n sort : ℕ) (es : List (ℕ × ℕ)) (thing amount : ℕ) → Has es (thing, amount) → amount ≢ 0 → Has (made.rows_of_sort n sort es) (made.has_row n sort thing amount)
 entry_has_kind_row n sort = entry_has_amount_row (λ (r : StoredHas). r.amount) (made.has_row n sort) (λ thing count. refl)
 
--- each row made of a unit's goods is of an item or skill whose amount is not 0
 goods_row_is_of_entry : (n : ℕ) (held : HoldingValue) (s : StoredHas) → Has (made.held_rows n held) s → (sort : ThingKind) × (e : ℕ × ℕ) × Has (entries (things_of sort held)) e × (e.1 ≢ 0) × (s ≡ made.has_row n (sort_number sort) e.0 e.1)
 goods_row_is_of_entry n held s there = elim (has_either (made.rows_of_sort n 0 (entries held.items)) (made.rows_of_sort n 1 (entries held.days)) s there) [
   | inl item ↦ let e = kind_row_is_of_entry n 0 (entries held.items) s item in (Item, e.0, e.1, e.2, e.3)
   | inr skill ↦ let e = kind_row_is_of_entry n 1 (entries held.days) s skill in (Skill, e.0, e.1, e.2, e.3)
 ]
 
--- a row is made of each item or skill of a unit whose amount is not 0
 entry_has_goods_row : (n : ℕ) (held : HoldingValue) (sort : ThingKind) (thing amount : ℕ) → Has (entries (things_of sort held)) (thing, amount) → amount ≢ 0 → Has (made.held_rows n held) (made.has_row n (sort_number sort) thing amount)
 entry_has_goods_row n held Item thing amount there some = has_left (made.rows_of_sort n 0 (entries held.items)) (made.rows_of_sort n 1 (entries held.days)) _ (entry_has_kind_row n 0 (entries held.items) thing amount there some)
 entry_has_goods_row n held Skill thing amount there some = has_right (made.rows_of_sort n 0 (entries held.items)) (made.rows_of_sort n 1 (entries held.days)) _ (entry_has_kind_row n 1 (entries held.days) thing amount there some)
 
--- the row made of an item or skill of a unit, whose amount is not 0, is a row of `has` for the campaign
 row_of_goods : (units : FinMap nat_cmp Unit) (r : Row) (n : ℕ) (unit : Unit) → Has (entries units) (n, unit) → (a : StoredHas) → r ≡ has_row_values a → (sort : ThingKind) (e : ℕ × ℕ) → Has (entries (things_of sort unit.holding)) e → e.1 ≢ 0 → a ≡ made.has_row n (sort_number sort) e.0 e.1 → HasRowsOf units r
 row_of_goods units r n unit there a is sort e has some made_is = (n, unit, entry_got units n unit there, sort, e.0, e.1, entry_got (things_of sort unit.holding) e.0 e.1 has, some, is ∙ ap has_row_values made_is)
 
--- the table `has` has exactly the rows of what the units have, if the rows that were read of it are made of the units
 goods_held : (rows : List Row) (read : List StoredHas) (units : FinMap nat_cmp Unit) → IsPermutation rows (map has_row_values read) → IsPermutation (made.has_rows (entries units)) read → HasExactly rows (HasRowsOf units)
 goods_held rows read units in_table of_them r =
     let is = are_made has_row_values rows read (made.has_rows (entries units)) in_table of_them r in (
@@ -176,7 +158,6 @@ goods_held rows read units in_table of_them r =
 
 -- ---- the stocks
 
--- the table `market` has exactly the rows of the regions' stocks, if the rows that were read are made of the regions
 stocks_held : (rows : List Row) (read : List StoredMarket) (regions : FinMap nat_cmp Region) → IsPermutation rows (map market_values read) → IsPermutation (made.market_rows Second (entries regions)) read → HasExactly rows (MarketRowsOf regions)
 stocks_held rows read regions in_table of_them r =
     let is = are_made market_values rows read (made.market_rows Second (entries regions)) in_table of_them r in (
@@ -203,22 +184,18 @@ stocks_held rows read regions in_table of_them r =
 
 -- ---- the books
 
--- for `books_held`: what is true of each element of a list is true of an element that the list has
 each_of : {A : Type 0} (P : A → Type 0) (xs : List A) (x : A) → AllByRecursion P xs → Has xs x → P x
 each_of P [] x all there = absurd there
 each_of P (y ∷ xs) x all (inl same) = subst P (sym same) all.0
 each_of P (y ∷ xs) x all (inr later) = each_of P xs x all.1 later
 
--- for `books_held`: if each element of `ys` is in `xs`, then all of `ys` are, in the form of `AllByRecursion`
 all_has : {A : Type 0} (xs ys : List A) → ((x : A) → Has ys x → Has xs x) → AllByRecursion (Has xs) ys
 all_has xs [] within = tt
 all_has xs (y ∷ ys) within = (within y (inl refl), all_has xs ys (λ x there. within x (inr there)))
 
--- the row of `books` that is made of an amount and of its entry and thing (`Account`)
 abbrev made_line : Account × ℤ → StoredBooks
 made_line x = made.books_row x.0.0 x.0.1 x.1
 
--- the table `books` has exactly the rows of the amounts, if the rows read are made of the books, of `things` things
 books_held : (things : ℕ) (books : BooksValue) → AreBooks things books → (rows : List Row) (read : List StoredBooks) → IsPermutation rows (map books_values read) → IsPermutation (made.books_rows books) read → HasExactly rows (BooksRowsOf books)
 books_held things books are rows read in_table of_them r =
     let m = books.amounts in
@@ -239,11 +216,9 @@ books_held things books are rows read in_table of_them r =
 
 -- ---- all tables
 
--- each part is in the list of all parts
 pub every_part : (part : Part) → Has all_parts part
 every_part = all_among all_parts refl
 
--- a format that has a part which the first format lacks is the second format
 second_by_late_part : (f : Format) (part : Part) → is_among (parts_in First) part ≡ false → Has (parts_in f) part → f ≡ Second
 second_by_late_part First part late there = absurd (not_among (parts_in First) part late there)
 second_by_late_part Second part late there = refl
@@ -268,7 +243,6 @@ module _ (f : Format) (db : Trees) (text : List ℕ) (p : Parts) (c : CampaignVa
   pub rows_hold : HoldsIn f db text c
   rows_hold = record { rows = λ part there. (by_part part there).0 }
 
-  -- the rowids of each table are different integers, if those of the tables without an INTEGER PRIMARY KEY are
   pub rows_keyed : ((table : Table) → Has (tables_with_rowids f) table → AreKeyedByRowid (db table.tree)) → (table : Table) → Has (map table_of (parts_in f)) table → AreKeyedByRowid (db table.tree)
   rows_keyed placed table there =
       let part = map_has table_of (parts_in f) table there in
@@ -277,27 +251,22 @@ module _ (f : Format) (db : Trees) (text : List ℕ) (p : Parts) (c : CampaignVa
         | inr is ↦ let keys = (by_part part.0 part.1).1 is in numbers_keyed part.0 db keys.0 is keys.1 keys.2
       ])
 
--- tables that hold a campaign in the second format (`HoldsIn`) hold it (`Holds`)
 pub holds_all : (db : Trees) (text : List ℕ) (c : CampaignValue) → HoldsIn Second db text c → Holds db text c
 holds_all db text c holds = record { rows = λ part. holds.rows part (every_part part) }
 
 -- ---- the first rule
 
--- one campaign row with id 1 and this format fulfils the first rule
 one_head : (f : Format) (h : StoredCampaignRow) (rows : List StoredCampaignRow) → h.id ≡ pos 1 → h.format ≡ pos (format_number f) → rows ≡ h ∷ [] → IsTrue (is_one_campaign_row f rows)
 one_head First h rows id format is = rw (is, id, format) refl
 one_head Second h rows id format is = rw (is, id, format) refl
 
--- no stock was read in the first format, if no row was read of parts that the format lacks
 no_markets : (f : Format) (p : Parts) → ((text : List ℕ) (part : Part) → ¬ Has (parts_in f) part → rows_read text p part ≡ []) → IsTrue (are_of_format f p.markets)
 no_markets First p none = nothing p.markets (none [] Markets (not_among (parts_in First) Markets refl))
   where
-    -- for `no_markets`: if the list of stocks shows no row it is empty, as the first format requires
     nothing : (rows : List StoredMarket) → map market_values rows ≡ [] → IsTrue (are_of_format First rows)
     nothing [] is = refl
     nothing (row ∷ rows) is = absurd (let k = is in cc)
 no_markets Second p none = refl
 
--- the first rule holds of a row with id 1 and this format, if no row was read of a part that the format lacks
 pub keeps_one_row : (f : Format) (w : WorldValue) (p : Parts) (h : StoredCampaignRow) → h.id ≡ pos 1 → h.format ≡ pos (format_number f) → p.campaign ≡ h ∷ [] → ((text : List ℕ) (part : Part) → ¬ Has (parts_in f) part → rows_read text p part ≡ []) → KeepsRule f w p OneRow
 keeps_one_row f w p h id format is none = (one_head f h p.campaign id format is, no_markets f p none)

@@ -12,7 +12,6 @@ use Rattle.atl_sql.specs.Tables.{HasAll}
 use Rattle.atl_store.proofs.SchemaTableLaws.{one_schema}
 
 module _ {S : Type 0} (g : Ghosts S) where
-  -- a connection just opened to a file that stores a campaign keeps it, if a crash leaves only what was committed
   pub keeps_stored : (new : Held S) → Opens (state g new) → IsLive (state g new) → ((db : Trees) → (state g new).may_leave db → db ≡ (state g new).committed.trees) → (text : List ℕ) (c : CampaignValue) → Stores (state g new).now.trees text c → Keeps (state g new) text c
   keeps_stored new opens live settled text c stores =
       let listed = (live opens.is_open).0 in
@@ -27,7 +26,6 @@ module _ {S : Type 0} (g : Ghosts S) where
       }
 
   module _ (old new : Held S) (reopens : Reopens g old new) where
-    -- a campaign that was held before the crash is held by the connection that is opened again
     pub kept_again : (text : List ℕ) (c : CampaignValue) → HoldsCampaign g old text c → HoldsCampaign g new text c
     kept_again text c holds clean = reopens.keeps clean text c ((holds (reopens.clean clean)).crash (state g new).now.trees (reopens.found clean))
 

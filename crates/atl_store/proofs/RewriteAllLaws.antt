@@ -9,10 +9,10 @@ use Rattle.atl_campaign.specs.Campaign.{MarkedCampaign}
 use Rattle.atl_sql.specs.Sets.{rows_in}
 use Rattle.atl_sql.specs.Tables.{Part, Own, table_of, all_parts, campaign_table}
 use Rattle.atl_sql.specs.Shown.{campaign_row}
-use Rattle.atl_sql.specs.Rows.{campaign_row_of, rows_for}
+use Rattle.atl_store.specs.Rows.{campaign_row_of, rows_for}
 use Rattle.atl_sql.specs.PutsCampaignRow.{PutsCampaignRow}
 use Rattle.atl_sql.specs.Inside.{DoesInside, HasTables, Alters}
-use Rattle.atl_sql.specs.Marked.{is_marked}
+use Rattle.atl_store.specs.Marked.{is_marked}
 use Rattle.atl_store.specs.Changing.{campaign_row_after, own_after, WritesChanges}
 use Rattle.atl_store.specs.Rewriting.{Becomes, Rewrites, RewritesCampaignRow, RewritesParts, RewritesWithOwn}
 use Rattle.atl_sql.proofs.CarryLaws.{carries_none}
@@ -33,16 +33,13 @@ module _ (c : MarkedCampaign) where
         others = puts.others;
       })
     where
-      -- for `head_put`: each row of `campaign`, put or kept, is the campaign's row
       only : (r : Row) → (r ≡ campaign_row (campaign_row_of c.value) text) ⊎ (Has (rows_in campaign_table old.trees) r × (take 1 r ≢ take 1 (campaign_row (campaign_row_of c.value) text))) → r ≡ campaign_row (campaign_row_of c.value) text
       only r (inl same) = same
       only r (inr kept) = absurd (kept.1 (ap (take 1) ((was r).0 kept.0)))
 
-  -- putting the campaign row rewrites it (`RewritesCampaignRow`), if it is marked
   pub head_done : c.marks.row ≡ true → (old new : State) → DoesInside HasTables (PutsCampaignRow (campaign_row_of c.value) []) old new → DoesInside HasTables (RewritesCampaignRow c) old new
   head_done is old new did = inside_weaker HasTables (PutsCampaignRow (campaign_row_of c.value) []) (RewritesCampaignRow c) old new (λ has puts. head_put true is refl old.now new.now puts) did
 
-  -- doing nothing rewrites the campaign row (`RewritesCampaignRow`), if it is not marked
   pub head_left : c.marks.row ≡ false → (s : State) → DoesInside HasTables (RewritesCampaignRow c) s s
   head_left is s = (
     refl,
@@ -56,7 +53,6 @@ module _ (c : MarkedCampaign) where
 -- ---- one table after another
 
 module _ (c : MarkedCampaign) where
-  -- writing the campaign row (`RewritesCampaignRow`) rewrites the part `Own` and leaves every other table
   pub own_rewritten : (old new : Database) → RewritesCampaignRow c old new → RewritesWithOwn c (Own ∷ []) old new
   own_rewritten old new did before text was = one_changed (Becomes c (own_after c before text)) Own _ old new (did before text was) (λ rows. rows)
 
@@ -65,12 +61,10 @@ module _ (c : MarkedCampaign) where
       → Rewrites (table_of part) (is_marked c.marks part) (rows_for [] c.value part) old new → RewritesParts c (part ∷ []) old new
   part_rewritten part any old new did own = one_changed (Becomes c own) part _ old new did (any own _ _)
 
-  -- rewriting some parts, the campaign row among them, and then others rewrites all, if no part is in both lists
   pub own_then_rewritten : (ps qs : List Part) → are_apart ps qs ≡ true → (old mid new : Database) → RewritesWithOwn c ps old mid → RewritesParts c qs mid new → RewritesWithOwn c (ps ++ qs) old new
   own_then_rewritten ps qs apart old mid new first second before text was = let own = own_after c before text in both_changed (Becomes c own) ps qs apart old mid new (first before text was) (second own)
 
   -- ---- the whole
 
-  -- with the marked rows of all parts rewritten, all changes are written (`WritesChanges`)
   pub all_rewritten : (parts : List Part) → list_all (is_among parts) all_parts ≡ true → (old new : Database) → RewritesWithOwn c parts old new → WritesChanges c old new
   all_rewritten parts all old new did before text was = record { rows = λ part. (did before text was).done part (all_among parts all part) }

@@ -17,9 +17,9 @@ use Rattle.sqlite_value.specs.declared.value.Value.TheVariants.{Int}
 use Rattle.atl_sql.specs.Sets.{Set, rows_in}
 use Rattle.atl_sql.specs.Tables.{all_tables}
 use Rattle.atl_sql.specs.Shown.{int}
-use Rattle.atl_sql.specs.Rows.{RowsOf}
+use Rattle.atl_store.specs.Rows.{RowsOf}
 use Rattle.atl_sql.specs.Inside.{DoesInside, HasTables, Puts, Drops}
-use Rattle.atl_sql.specs.Marked.{first_column_passes, begins_marked}
+use Rattle.atl_store.specs.Marked.{first_column_passes, begins_marked}
 use Rattle.atl_store.specs.Changing.{IfElse}
 use Rattle.atl_store.specs.Rewriting.{Rewrites, RewritesNumber, equals_number, is_among}
 use Rattle.atl_sql.proofs.CarryLaws.{carries_then, carries_none}
@@ -39,13 +39,10 @@ chosen_step false false W M N same = same
 -- The rows that `rest` chooses are left to rewrite: once they are rewritten, all rows that `all` chooses are.
 -- The other tables are unchanged.
 pub record Remaining (table : Table) (Wanted : Set) (rest all : Row → Bool) (old now : Database) : Type 0 where
-  -- once the rows that `rest` chooses are the wanted ones, all that `all` chooses are
   pub rows : (r : Row) → IfElse (rest r) (Wanted r) (Has (rows_in table now.trees) r) ↔ IfElse (all r) (Wanted r) (Has (rows_in table old.trees) r)
-  -- every table but `table` is unchanged
   pub others : (t : Table) → Has all_tables t → t.tree ≢ table.tree → now.trees t.tree ≡ old.trees t.tree
 
 module _ (table : Table) (Wanted : Set) where
-  -- before any step all rows that `all` chooses are left to rewrite: `rest` chooses the same rows
   pub all_remaining : (rest all : Row → Bool) → ((r : Row) → rest r ≡ all r) → (s : State) → DoesInside HasTables (Remaining table Wanted rest all) s s
   all_remaining rest all same s = (
     refl,
@@ -84,7 +81,6 @@ module _ (table : Table) (Wanted : Set) where
         },
   )
 
-  -- once `rest` chooses no row any more, the rows that `goal` chooses, as `all` does, are rewritten (`Rewrites`)
   pub all_rewritten : (rest all goal : Row → Bool) → ((r : Row) → rest r ≡ false) → ((r : Row) → all r ≡ goal r) → (old new : State)
       → DoesInside HasTables (Remaining table Wanted rest all) old new → DoesInside HasTables (Rewrites table goal Wanted) old new
   all_rewritten rest all goal none is old new did = (
@@ -104,7 +100,6 @@ module _ (table : Table) (Wanted : Set) where
         },
   )
 
-  -- rewriting the rows of one test and then those of another rewrites the rows that pass either
   pub both_rewritten : (p q : Row → Bool) (old mid new : Database) → Rewrites table p Wanted old mid → Rewrites table q Wanted mid new → Rewrites table (λ r. p r || q r) Wanted old new
   both_rewritten p q old mid new one two = record {
     rows = λ r.
@@ -113,13 +108,11 @@ module _ (table : Table) (Wanted : Set) where
     others = λ t listed other. two.others t listed other ∙ one.others t listed other;
   }
 
-  -- doing nothing rewrites the rows of a test that chooses no row
   pub none_chosen : (step : Row → Bool) → ((r : Row) → step r ≡ false) → (s : State) → DoesInside HasTables (Rewrites table step Wanted) s s
   none_chosen step none s = all_rewritten step step step none (λ r. refl) s s (all_remaining step step (λ r. refl) s)
 
 -- ---- numbers
 
--- two numbers that are equal by the order of numbers are equal
 pub equal_by_order : (k n : ℕ) → eq_by_cmp nat_cmp k n ≡ true → k ≡ n
 equal_by_order k n is = elim (nat_cmp k n) as (λ o. nat_cmp k n ≡ o → is_eq o ≡ true → k ≡ n) [
   | Less ↦ λ _ never. absurd (true≢false (sym never))
@@ -127,43 +120,35 @@ equal_by_order k n is = elim (nat_cmp k n) as (λ o. nat_cmp k n ≡ o → is_eq
   | Greater ↦ λ _ never. absurd (true≢false (sym never))
 ] refl is
 
--- each number is equal to itself by the order of numbers
 pub is_itself : (n : ℕ) → eq_by_cmp nat_cmp n n ≡ true
 is_itself n = ap is_eq (tied_itself nat_cmp_total n)
 
 -- ---- a row that begins with a number
 
--- a row passes the test "`f` or `g`" of its number exactly if it passes `f` or passes `g`
 begins_either : (f g : ℕ → Bool) (r : Row) → first_column_passes (λ n. f n || g n) r ≡ (first_column_passes f r || first_column_passes g r)
 begins_either f g (Int (pos n) ∷ row) = refl
 begins_either f g row = refl
 
--- no row passes a test of its number that is always false
 begins_none : (r : Row) → first_column_passes (λ n. false) r ≡ false
 begins_none (Int (pos n) ∷ row) = refl
 begins_none row = refl
 
--- a row that passes the test for a number has the number as its first column
 pub begins_key : (n : ℕ) (r : Row) → first_column_passes (equals_number n) r ≡ true → take 1 r ≡ int n ∷ []
 begins_key n (Int (pos k) ∷ row) is = ap (λ k. int k ∷ []) (equal_by_order k n is)
 begins_key n row is = absurd (true≢false (sym is))
 
--- a row with a number as its first column passes the test for the number
 pub key_begins : (n : ℕ) (r : Row) → take 1 r ≡ int n ∷ [] → first_column_passes (equals_number n) r ≡ true
 key_begins n [] key = absurd cc
 key_begins n (v ∷ row) key =
     let value : v ≡ int n = cc in
     ap (λ x. first_column_passes (equals_number n) (x ∷ row)) value ∙ is_itself n
 
--- a row begins with one of the numbers `n ∷ ns` exactly if it begins with `n` or with one of `ns`
 next_number : (n : ℕ) (ns : List ℕ) (r : Row) → first_column_passes (is_among (n ∷ ns)) r ≡ (first_column_passes (equals_number n) r || first_column_passes (is_among ns) r)
 next_number n ns r = begins_either (equals_number n) (is_among ns) r
 
--- if the list `ns` is empty, no row begins with one of its numbers
 no_number : (ns : List ℕ) → ns ≡ [] → (r : Row) → first_column_passes (is_among ns) r ≡ false
 no_number ns none r = ap (λ l. first_column_passes (is_among l) r) none ∙ begins_none r
 
--- a row begins with one of the listed numbers of a set exactly if it begins with a number of the set
 listed_numbers_are_of_set : (marks : FinSet nat_cmp) (ns : List ℕ) → from_list ns ≡ marks → (r : Row) → first_column_passes (is_among ns) r ≡ begins_marked marks r
 listed_numbers_are_of_set marks ns all r = ap (λ (f : ℕ → Bool). first_column_passes f r) (λ i n. (sym (contains-from_list nat_cmp_total ns n) ∙ ap (λ s. contains s n) all) i)
 
@@ -174,12 +159,10 @@ module _ (table : Table) (Wanted : Set) where
   abbrev pub RemainingNumbers : List ℕ → List ℕ → Database → Database → Type 0
   RemainingNumbers rest all = Remaining table Wanted (λ r. first_column_passes (is_among rest) r) (λ r. first_column_passes (is_among all) r)
 
-  -- once the rows of the first number left to rewrite are rewritten, only the numbers `rest` after it are left
   pub one_less_number : (n : ℕ) (now rest all : List ℕ) → now ≡ n ∷ rest → (old mid new : State) → DoesInside HasTables (RemainingNumbers now all) old mid
       → DoesInside HasTables (Rewrites table (first_column_passes (equals_number n)) Wanted) mid new → DoesInside HasTables (RemainingNumbers rest all) old new
   one_less_number n now rest all is = one_less_remaining table Wanted (λ r. first_column_passes (equals_number n) r) (λ r. first_column_passes (is_among now) r) (λ r. first_column_passes (is_among rest) r) (λ r. first_column_passes (is_among all) r) (λ r. ap (λ ns. first_column_passes (is_among ns) r) is ∙ next_number n rest r)
 
-  -- when no number is left to rewrite, the rows of all numbers of the set are rewritten (`Rewrites`)
   pub numbers_rewritten : (marks : FinSet nat_cmp) (rest all : List ℕ) → rest ≡ [] → from_list all ≡ marks → (old new : State)
       → DoesInside HasTables (RemainingNumbers rest all) old new → DoesInside HasTables (Rewrites table (begins_marked marks) Wanted) old new
   numbers_rewritten marks rest all none is = all_rewritten table Wanted (λ r. first_column_passes (is_among rest) r) (λ r. first_column_passes (is_among all) r) (λ r. begins_marked marks r) (no_number rest none) (listed_numbers_are_of_set marks all is)
@@ -193,12 +176,10 @@ module _ (p : Row → Bool) (Key New Wanted : Set) (found : (r : Row) → p r �
   in_place : (Were : Type 0) (r : Row) → (New r ⊎ (Were × ¬ Key r)) ↔ IfElse (p r) (Wanted r) Were
   in_place Were r = (ahead, back (p r) refl)
     where
-      -- for `in_place`: a row that is new, or old without the key, is wanted if `p` finds it, and old if not
       ahead : New r ⊎ (Were × ¬ Key r) → IfElse (p r) (Wanted r) Were
       ahead (inl new) = let is = news r new in subst (λ b. IfElse b (Wanted r) Were) (sym (finds r is.0)) is.1
       ahead (inr kept) = subst (λ b. IfElse b (Wanted r) Were) (sym (false_from_ne_true (p r) (λ is. kept.1 (found r is)))) kept.0
 
-      -- for `in_place`: a row that is wanted if `p` finds it, and old if not, is new, or old without the key
       back : (b : Bool) → p r ≡ b → IfElse b (Wanted r) Were → New r ⊎ (Were × ¬ Key r)
       back true is wanted = inl (olds r is wanted)
       back false is was = inr (was, λ key. true≢false (sym (finds r key) ∙ is))
@@ -218,13 +199,11 @@ kept_only (inr kept) = kept
 -- ---- a row that is put or deleted
 
 module _ {V : Type 0} (table : Table) (line : ℕ → V → Row) (numbered : (n : ℕ) (v : V) → take 1 (line n v) ≡ int n ∷ []) (values : FinMap nat_cmp V) (n : ℕ) where
-  -- a wanted row with the number `n` is the row of the map's value under `n`
   wanted_at : (r : Row) → first_column_passes (equals_number n) r ≡ true → RowsOf line values r → (v : V) × (get values n ≡ Some v) × (r ≡ line n v)
   wanted_at r is of =
       let number : of.0 ≡ n = same_number of.0 n (sym (numbered of.0 of.1) ∙ ap (take 1) (sym of.3) ∙ begins_key n r is) in
       (of.1, ap (get values) (sym number) ∙ of.2, of.3 ∙ ap (λ k. line k of.1) number)
 
-  -- for `put_done`, of the databases alone: putting the row of a number that the map has rewrites its row
   put_rewrites : (old new : Database) (v : V) → get values n ≡ Some v → Puts table 1 (line n v) old new → RewritesNumber table line values n old new
   put_rewrites old new v there did = rewrites_key (first_column_passes (equals_number n)) (λ r. take 1 r ≡ take 1 (line n v)) (λ r. r ≡ line n v) (RowsOf line values)
       (λ r is. begins_key n r is ∙ sym (numbered n v))
@@ -233,18 +212,15 @@ module _ {V : Type 0} (table : Table) (line : ℕ → V → Row) (numbered : (n 
       (λ r is of. let w = wanted_at r is of in w.2 ∙ ap (line n) (same_Some w.0 v (sym w.1 ∙ there)))
       table old new did.rows did.others
 
-  -- for `drop_done`, of the databases alone: deleting the row of a number that the map lacks rewrites its row
   drop_rewrites : (old new : Database) → get values n ≡ None → Drops table 1 (int n ∷ []) old new → RewritesNumber table line values n old new
   drop_rewrites old new none did = rewrites_key (first_column_passes (equals_number n)) (λ r. take 1 r ≡ int n ∷ []) (λ r. ⊥) (RowsOf line values) (begins_key n) (key_begins n) (λ r never. absurd never)
       (λ r is of. let w = wanted_at r is of in none-some w.0 (sym none ∙ w.1))
       table old new (λ r. let so = did.rows r in (λ h. inr (so.0 h), λ h. so.1 (kept_only h))) did.others
 
-  -- inside a transaction, putting the row of a number that the map has rewrites the row of the number
   pub put_done : (v : V) → get values n ≡ Some v → (old new : State) → DoesInside HasTables (Puts table 1 (line n v)) old new
       → DoesInside HasTables (RewritesNumber table line values n) old new
   put_done v there old new did = inside_weaker HasTables (Puts table 1 (line n v)) (RewritesNumber table line values n) old new (λ has puts. put_rewrites old.now new.now v there puts) did
 
-  -- inside a transaction, deleting the row of a number that the map lacks rewrites the row of the number
   pub drop_done : get values n ≡ None → (old new : State) → DoesInside HasTables (Drops table 1 (int n ∷ [])) old new
       → DoesInside HasTables (RewritesNumber table line values n) old new
   drop_done none old new did = inside_weaker HasTables (Drops table 1 (int n ∷ [])) (RewritesNumber table line values n) old new (λ has drops. drop_rewrites old.now new.now none drops) did

@@ -18,19 +18,16 @@ use Rattle.sqlite_value.specs.Order.{Row, column}
 use Rattle.sqlite_value.specs.declared.value.Value.{Value}
 use Rattle.sqlite_value.specs.declared.value.Value.TheVariants.{Null, Int, Real, Text, Blob}
 
--- two trees that a row of the schema table shows as the same root page are equal
 same_tree : (m n : ℕ) → Int (pos (m + 1)) ≡ Int (pos (n + 1)) → m ≡ n
 same_tree m n is = let next : m + 1 ≡ n + 1 = cc in omega (arith, next)
 
 -- ---- tables
 
--- two tables of the same tree that one CREATE text defines are equal
 one_made : (sql : List ℕ) (a b : Table) → a.tree ≡ b.tree → DefinesTable sql a → DefinesTable sql b → a ≡ b
 one_made sql a b tree (made, given, is) (other, says, same) =
     let both : made ≡ other = let e = sym given ∙ says in cc in
     is ∙ ap (λ (t : Table). record t { tree = a.tree }) both ∙ ap (λ n. record other { tree = n }) tree ∙ sym same
 
--- two tables that one row of the schema table lists are equal
 one_table : (row : Row) (a b : Table) → IsTableRow row a → IsTableRow row b → a ≡ b
 one_table row a b one two =
     let tree : a.tree ≡ b.tree = same_tree a.tree b.tree (sym one.described.id ∙ two.described.id) in
@@ -51,7 +48,6 @@ one_list R (r ∷ rows) (x ∷ xs) (y ∷ ys) same one two =
 
 -- ---- indexes
 
--- two numbers below 65536 are equal, if the decimal texts of the numbers one above them are
 decimal_text_determines_number : (m n : ℕ) → m < 65536 → n < 65536 → decimal (m + 1) ≡ decimal (n + 1) → m ≡ n
 decimal_text_determines_number m n small low is =
     let first = (decimal_is_IsNumeral (m + 1) (omega (arith, small))).1 in
@@ -59,26 +55,22 @@ decimal_text_determines_number m n small low is =
     let next : m + 1 ≡ n + 1 = sym first ∙ ap (digits_value 10) is ∙ second in
     omega (arith, next)
 
--- two automatic indexes of a table with the same name have the same number at the end of the name
 same_made : (table : Table) (k l : ℕ) (a b : Index) → a.name ≡ b.name → a.name ≡ codes "sqlite_autoindex_" ++ (table.name ++ (codes "_" ++ decimal (k + 1)))
     → b.name ≡ codes "sqlite_autoindex_" ++ (table.name ++ (codes "_" ++ decimal (l + 1))) → decimal (k + 1) ≡ decimal (l + 1)
 same_made table k l a b name first second =
     append_cancel_left (codes "_") _ _ (append_cancel_left table.name _ _ (append_cancel_left (codes "sqlite_autoindex_") _ _ (sym first ∙ name ∙ second)))
 
--- two automatic indexes of a table with the same tree and name are equal
 one_automatic : (table : Table) (a b : Index) → a.tree ≡ b.tree → a.name ≡ b.name → IsDefined table a Null → IsDefined table b Null → a ≡ b
 one_automatic table a b tree name (k, key, at, is, small) (l, other, position, same, low) =
     let number : k ≡ l = decimal_text_determines_number k l small low (same_made table k l a b name (ap (λ (i : Index). i.name) is) (ap (λ (i : Index). i.name) same)) in
     let keys : key ≡ other = let e : Some key ≡ Some other = sym at ∙ ap (slice_get table.uniques) number ∙ position in cc in
     is ∙ ap (λ n. automatic table n key a.tree) number ∙ ap (λ k. automatic table l k a.tree) keys ∙ ap (automatic table l other) tree ∙ sym same
 
--- two indexes of the same tree and name that one CREATE INDEX text defines are equal
 one_stated : (table : Table) (sql : List ℕ) (a b : Index) → a.tree ≡ b.tree → IsDefined table a (Text sql) → IsDefined table b (Text sql) → a ≡ b
 one_stated table sql a b tree (made, given, is) (other, says, same) =
     let both : made ≡ other = let e = sym given ∙ says in cc in
     is ∙ ap (λ (i : Index). record i { tree = a.tree; table = table.tree }) both ∙ ap (λ n. record other { tree = n; table = table.tree }) tree ∙ sym same
 
--- two indexes of a table with the same tree, name and definition are equal
 one_defined : (table : Table) (a b : Index) (v : Value) → a.tree ≡ b.tree → a.name ≡ b.name → IsDefined table a v → IsDefined table b v → a ≡ b
 one_defined table a b Null tree name one two = one_automatic table a b tree name one two
 one_defined table a b (Int n) tree name one two = absurd one
@@ -97,7 +89,6 @@ one_index tables apart row a b one two =
 
 -- ---- views
 
--- if rows of the schema table list no views, each list of views that they list is empty
 no_views : (rows : List Row) (none views : List View) → none ≡ [] → AllZip IsViewRow rows none → AllZip IsViewRow rows views → views ≡ []
 no_views [] none [] is one two = refl
 no_views [] none (v ∷ views) is one two = absurd two

@@ -13,19 +13,17 @@ use Rattle.sqlite.specs.Table.{Table}
 use Rattle.atl_campaign.specs.Marks.{MarkedThings}
 use Rattle.atl_sql.specs.Sets.{Set}
 use Rattle.atl_sql.specs.Inside.{DoesInside, HasTables}
-use Rattle.atl_sql.specs.Marked.{has_thing}
+use Rattle.atl_store.specs.Marked.{has_thing}
 use Rattle.atl_store.specs.Rewriting.{FindsByNumbers, Rewrites, equals_number, is_among, is_owner_and_thing, is_owner_and_listed}
 use Rattle.atl_store.proofs.EntryLaws.{in_order}
 use Rattle.atl_store.proofs.RewriteLaws.{Remaining, one_less_remaining, all_rewritten, equal_by_order}
 
 -- ---- the entries of a map
 
--- a number is among the keys of the entries exactly if a look-up finds it
 listed_key : {V : Type 0} (es : List (ℕ × V)) (t : ℕ) → is_among (map (λ e. e.0) es) t ≡ is_some (find nat_cmp t es)
 listed_key [] t = refl
 listed_key (e ∷ es) t = elim (eq_by_cmp nat_cmp t e.0) as (λ b. (b || is_among (map (λ x. x.0) es) t) ≡ is_some (cond b (Some e.1) (find nat_cmp t es))) [ true ↦ refl | false ↦ listed_key es t ]
 
--- for `not_listed`: a number that is less than another is not that number
 differs : (k n : ℕ) → is_lt (nat_cmp k n) ≡ true → equals_number n k ≡ false
 differs k n less = elim (nat_cmp k n) as (λ o. is_lt o ≡ true → is_eq o ≡ false) [
   | Less ↦ λ _. refl
@@ -42,12 +40,10 @@ module _ {V : Type 0} where
   abbrev pub is_listed : List (ℕ × FinMap nat_cmp V) → ℕ → ℕ → Bool
   is_listed es n t = list_any (λ e. is_owner_and_listed e.0 e.1 n t) es
 
-  -- no thing is listed for an owner whose number is below those of all owners of the list
   not_listed : (es : List (ℕ × FinMap nat_cmp V)) (n t : ℕ) → below_all nat_cmp n es ≡ true → is_listed es n t ≡ false
   not_listed [] n t below = refl
   not_listed (e ∷ es) n t below = ap (λ b. b && is_some (get e.1 t) || is_listed es n t) (differs n e.0 (and_parts _ _ below).0) ∙ not_listed es n t (and_parts _ _ below).1
 
-  -- in a list sorted by owner, a thing is listed for an owner exactly if the map under the owner has it
   listed_thing : (es : List (ℕ × FinMap nat_cmp V)) (n t : ℕ) → is_sorted nat_cmp es ≡ true → is_listed es n t ≡ is_some (get (unwrap_or (find nat_cmp n es) empty) t)
   listed_thing [] n t sorted = sym (ap is_some (get-empty {X = V} nat_cmp t))
   listed_thing (e ∷ es) n t sorted = elim (cases_Bool (eq_by_cmp nat_cmp n e.0)) [
@@ -70,42 +66,34 @@ module _ (table : Table) (Wanted : Set) (finds : (ℕ → ℕ → Bool) → Row 
   RewritesFound found = Rewrites table (λ r. finds found r) Wanted
 
   module _ (by_numbers : FindsByNumbers finds) where
-    -- two tests with equal results for all numbers find the same rows
     finds_same : (f g : ℕ → ℕ → Bool) → ((n t : ℕ) → f n t ≡ g n t) → (r : Row) → finds f r ≡ finds g r
     finds_same f g same r = ap (λ (h : ℕ → ℕ → Bool). finds h r) (λ i n t. same n t i)
 
-    -- no row is found by a test that no number passes
     finds_none : (f : ℕ → ℕ → Bool) → ((n t : ℕ) → f n t ≡ false) → (r : Row) → finds f r ≡ false
     finds_none f never r = finds_same f (λ n t. false) never r ∙ by_numbers.none r
 
-    -- where `rest` is "`step` or `next`": after the amounts that `step` chooses, only those that `next` chooses are
-    -- left to rewrite
     one_less_amount : (step rest next all : ℕ → ℕ → Bool) → ((n t : ℕ) → rest n t ≡ (step n t || next n t)) → (old mid new : State)
         → DoesInside HasTables (RemainingSingles rest all) old mid → DoesInside HasTables (RewritesFound step) mid new → DoesInside HasTables (RemainingSingles next all) old new
     one_less_amount step rest next all parts = one_less_remaining table Wanted (λ r. finds step r) (λ r. finds rest r) (λ r. finds next r) (λ r. finds all r)
         (λ r. finds_same rest (λ n t. step n t || next n t) parts r ∙ by_numbers.either step next r)
 
-    -- once `rest` chooses no amount any more, the amounts that `goal` chooses, as `all` does, are rewritten
     none_remaining : (rest all goal : ℕ → ℕ → Bool) → ((n t : ℕ) → rest n t ≡ false) → ((n t : ℕ) → all n t ≡ goal n t) → (old new : State)
         → DoesInside HasTables (RemainingSingles rest all) old new → DoesInside HasTables (RewritesFound goal) old new
     none_remaining rest all goal none same = all_rewritten table Wanted (λ r. finds rest r) (λ r. finds all r) (λ r. finds goal r) (finds_none rest none) (finds_same all goal same)
 
     module _ {V : Type 0} where
-      -- once the first of an owner's amounts that are left is rewritten, only the amounts `rest` after it are left
       pub one_less_single : (owner : ℕ) (x : ℕ × V) (now rest all : List (ℕ × V)) → now ≡ x ∷ rest → (old mid new : State)
           → DoesInside HasTables (RemainingSingles (is_key owner now) (is_key owner all)) old mid → DoesInside HasTables (RewritesFound (is_owner_and_thing owner x.0)) mid new
           → DoesInside HasTables (RemainingSingles (is_key owner rest) (is_key owner all)) old new
       one_less_single owner x now rest all is = one_less_amount (is_owner_and_thing owner x.0) (is_key owner now) (is_key owner rest) (is_key owner all)
           (λ n t. ap (λ es. is_key owner es n t) is ∙ and-or_distrib_left (equals_number owner n) (equals_number x.0 t) (is_among (map (λ e. e.0) rest) t))
 
-      -- when no amount is left to rewrite, all listed amounts of the owner are rewritten
       pub singles_rewritten : (owner : ℕ) (numbers : FinMap nat_cmp V) (rest all : List (ℕ × V)) → rest ≡ [] → all ≡ entries numbers → (old new : State)
           → DoesInside HasTables (RemainingSingles (is_key owner rest) (is_key owner all)) old new → DoesInside HasTables (RewritesFound (is_owner_and_listed owner numbers)) old new
       singles_rewritten owner numbers rest all none is = none_remaining (is_key owner rest) (is_key owner all) (is_owner_and_listed owner numbers)
           (λ n t. ap (λ es. is_key owner es n t) none ∙ and-false (equals_number owner n))
           (λ n t. ap (λ es. is_key owner es n t) is ∙ ap (λ b. equals_number owner n && b) (listed_key (entries numbers) t ∙ ap is_some (sym (get-entries numbers t))))
 
-      -- once the amounts of the first owner left to rewrite are rewritten, only the owners `rest` after it are left
       pub one_less_owner : (x : ℕ × FinMap nat_cmp V) (now rest all : List (ℕ × FinMap nat_cmp V)) → now ≡ x ∷ rest → (old mid new : State)
           → DoesInside HasTables (RemainingSingles (is_listed now) (is_listed all)) old mid → DoesInside HasTables (RewritesFound (is_owner_and_listed x.0 x.1)) mid new
           → DoesInside HasTables (RemainingSingles (is_listed rest) (is_listed all)) old new

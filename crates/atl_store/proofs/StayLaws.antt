@@ -9,7 +9,7 @@ use Rattle.atl_sql.specs.Making.{has_campaign}
 use Rattle.sqlite.specs.Effect.{Database}
 use Rattle.sqlite.specs.State.{State, HasCleanDisk, Survives}
 use Rattle.atl_campaign.specs.Campaign.{CampaignValue}
-use Rattle.atl_sql.specs.Rows.{Holds}
+use Rattle.atl_store.specs.Rows.{Holds}
 use Rattle.atl_sql.specs.Inside.{HasTables, Carries, Commits, LeavesOff, MayLeave}
 use Rattle.atl_store.specs.Keeps.{Stores, Keeps, IsLater, IsReadyToCreate, FailsToCreate, BreaksOffCreation, RefusesToCreate, LeavesAfterFault, ChangesNothing, LeavesOthersAlone, MayLeaveCampaign}
 use Rattle.atl_sql.specs.Statements.{Statements}
@@ -21,7 +21,6 @@ use Rattle.atl_store.specs.declared.fault.CreateFault.{CreateFault}
 use Rattle.atl_store.specs.declared.fault.CreateFault.TheVariants as create
 use Rattle.atl_sql.proofs.CarryLaws.{carries_none}
 
--- the trees of a database whose tables hold the campaign store it (`Stores`)
 held_campaign_is_stored : (db : Database) (text : List ℕ) (c : CampaignValue) → HasTables db → Holds db.trees text c → Stores db.trees text c
 held_campaign_is_stored db text c has rows = record { schema = db.schema; begins = has.begins; sound = has.sound; rows = rows }
 
@@ -62,8 +61,6 @@ module _ (old new : State) (text : List ℕ) (settled : (db : Trees) → IsTrue 
     ];
   }
 
--- on a clean disk, a crash after a transaction that writes a campaign leaves what it could have left before, or the
--- campaign
 pub may_found : (old new : State) (text : List ℕ) (c : CampaignValue) (Before : Database → Type 0) (Does : Database → Database → Type 0) → Before old.now → ((db : Database) → Does old.now db → Holds db.trees text c) → HasCleanDisk new
     → Survives old new (MayLeave Before Does old) → MayLeaveCampaign old text c new
 may_found old new text c Before Does before holds clean survives db may = elim (survives.crash clean db may) [
@@ -71,7 +68,6 @@ may_found old new text c Before Does before holds clean survives db may = elim (
   | inr made ↦ let did = made.1 before in inr (subst (λ t. Stores t text c) (sym made.2) (held_campaign_is_stored made.0 text c did.tables (holds made.0 did.does)))
 ]
 
--- on a clean disk, a failed transaction changes nothing, if the connection was in no transaction and all was committed
 pub failed_changes_nothing : (old new : State) (Commits : Trees → Type 0) → HasCleanDisk new → LeavesOff old new → Survives old new Commits → old.in_transaction ≡ false → (IsTrue old.is_open → old.now ≡ old.committed) → ChangesNothing old new
 failed_changes_nothing old new Commits clean off survives idle settled = record {
   same = λ up.
@@ -83,39 +79,29 @@ failed_changes_nothing old new Commits clean off survives idle settled = record 
 
 -- the fault of a creation that an error of the database ended
 module _ {S : Type 0} (g : Ghosts S) (text : List ℕ) (c : CampaignValue) (old new : Held S) (ready : IsReadyToCreate (state g old)) (fails : FailsToCreate g text c old new) where
-  -- if `create` broke off with a fault other than NotEmpty, this is a fault that `create` may return
-  -- (`RefusesToCreate`)
   refused_by_fault : (fault : CreateFault) → fault ≢ create.NotEmpty → BreaksOffCreation g text c old new fault → RefusesToCreate g text c old new fault
   refused_by_fault create.NotEmpty other breaks = absurd (other refl)
   refused_by_fault create.Store other breaks = (fails, inr breaks)
   refused_by_fault create.Memory other breaks = (fails, breaks)
 
-  -- the fault of `create` for an error of the database is never NotEmpty
   never_not_empty : (e : Error) → create_fault e ≢ create.NotEmpty
   never_not_empty e = go (is_memory e)
     where
-      -- for `never_not_empty`: neither Memory nor Store is NotEmpty
       go : (b : Bool) → cond b create.Memory create.Store ≢ create.NotEmpty
       go true same = absurd cc
       go false same = absurd cc
 
-  -- if `create` ends with the fault of an error that the database gave, this is a fault that `create` may return
-  -- (`RefusesToCreate`)
   pub refused_with : (e : Error) (r : Result (Unit {0}) CreateFault) → IsErrAnd r (λ f. f ≡ create_fault e) → (HasCleanDisk (state g new) → Gives g (OfFounding text c) e old new) → IfErr r (RefusesToCreate g text c old new)
   refused_with e (Ok a) says gave = tt
   refused_with e (Err f) says gave = refused_by_fault f (λ none. never_not_empty e (sym says ∙ none)) (record { ready = ready; reports_error = λ clean. (e, says, gave clean) })
 
--- if a write ends with the fault of an error of the database, this is the error of a statement of the write, or of its
--- commit (`IsFaultOfError`)
 pub error_of : {S F A : Type 0} (g : Ghosts S) (own : Statements) (fault_of : Error → F) (old new : Held S) (e : Error) (r : Result A F) → IsErrAnd r (λ f. f ≡ fault_of e) → Gives g own e old new → IfErr r (IsFaultOfError g own fault_of old new)
 error_of g own fault_of old new e (Ok a) says gave = tt
 error_of g own fault_of old new e (Err f) says gave = (e, says, gave)
 
--- if the schema that a connection shows has no table `campaign`, the connection's schema has none
 pub not_there : {S : Type 0} (g : Ghosts S) (conn : Held S) (schema : Schema) (found : Bool) → schema ≡ (state g conn).now.schema → found ≡ has_campaign schema → found ≡ false → has_campaign conn.schema ≡ false
 not_there g conn schema found shown is none = ap has_campaign (sym shown) ∙ sym is ∙ none
 
--- doing nothing leaves a connection as it was (`ChangesNothing`)
 pub unchanged_itself : (s : State) → ChangesNothing s s
 unchanged_itself s = record { same = λ up. (refl, refl, refl); shuts = λ up. inl up }
 
@@ -124,17 +110,12 @@ unchanged_itself s = record { same = λ up. (refl, refl, refl); shuts = λ up. i
 pub survives_is_later : (old new : State) (Commits : Trees → Type 0) → Survives old new Commits → IsLater old new
 survives_is_later old new Commits survives = record { clean = λ clean. omega (arith, survives.clean); counts = survives.counts; shield = survives.shield }
 
--- ---- other tables
-
--- a commit leaves the tables that aren't the campaign's as they are (`LeavesOthersAlone`)
 pub commit_leaves_others : (old new : State) (Before : Database → Type 0) (Does : Database → Database → Type 0) → Commits Before Does old new → (HasTables old.now → Before old.now) → LeavesOthersAlone old new
 commit_leaves_others old new Before Does done before up has settled = (done.does (before has)).carries
 
--- a transaction that failed leaves the tables that aren't the campaign's as they are (`LeavesOthersAlone`)
 pub leaves_others : (old new : State) → LeavesOff old new → LeavesOthersAlone old new
 leaves_others old new off up has settled = subst (Carries old.now) (sym ((off.undone up).0 ∙ settled)) (carries_none old.now)
 
--- what holds anyway holds if a result is an error (`OnErr`)
 pub on_err : {A E : Type 0} (r : Result A E) (P : Type 0) → P → OnErr r P
 on_err (Ok a) P p = tt
 on_err (Err e) P p = p

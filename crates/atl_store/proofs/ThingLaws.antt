@@ -12,9 +12,9 @@ use Rattle.atl_sql.specs.declared.rows.has.ThingKind.TheVariants.{Item, Skill}
 use Rattle.atl_sql.specs.Written.{sort_number}
 use Rattle.atl_sql.specs.Tables.{has_table}
 use Rattle.atl_sql.specs.Shown.{int, has_key, has_row}
-use Rattle.atl_sql.specs.Rows.{HasRowsOf, amount_under}
+use Rattle.atl_store.specs.Rows.{HasRowsOf, amount_under}
 use Rattle.atl_sql.specs.Inside.{DoesInside, HasTables, Puts, Drops}
-use Rattle.atl_sql.specs.Marked.{unit_and_thing_pass}
+use Rattle.atl_store.specs.Marked.{unit_and_thing_pass}
 use Rattle.atl_store.specs.Rewriting.{FindsByNumbers, RewritesThings, is_owner_and_thing}
 use Rattle.atl_store.proofs.HasTableLaws.{three_same, row_has_amount, amount_has_row}
 use Rattle.atl_store.proofs.RewriteLaws.{equal_by_order, is_itself, rewrites_key, kept_only}
@@ -25,17 +25,14 @@ use Rattle.atl_store.proofs.WholeLaws.{inside_weaker}
 pub finds_things : (sort : ThingKind) → FindsByNumbers (unit_and_thing_pass sort)
 finds_things sort = record { either = either; none = none }
   where
-    -- for `finds_things`: the test "`f` or `g`" finds a row of `has` exactly if `f` or `g` finds it
     either : (f g : ℕ → ℕ → Bool) (r : Row) → unit_and_thing_pass sort (λ n t. f n t || g n t) r ≡ (unit_and_thing_pass sort f r || unit_and_thing_pass sort g r)
     either f g (Int (pos unit) ∷ Int (pos number) ∷ Int (pos thing) ∷ row) = and-or_distrib_left (number == sort_number sort) (f unit thing) (g unit thing)
     either f g row = refl
 
-    -- for `finds_things`: a test that is always false finds no row of `has`
     none : (r : Row) → unit_and_thing_pass sort (λ n t. false) r ≡ false
     none (Int (pos unit) ∷ Int (pos number) ∷ Int (pos thing) ∷ row) = and-false (number == sort_number sort)
     none row = refl
 
--- two kinds of things with the same number are equal
 pub same_sort : (a b : ThingKind) → sort_number a ≡ sort_number b → a ≡ b
 same_sort Item Item same = refl
 same_sort Item Skill same = absurd (omega (arith, same))
@@ -43,23 +40,19 @@ same_sort Skill Item same = absurd (omega (arith, same))
 same_sort Skill Skill same = refl
 
 module _ (unit : ℕ) (sort : ThingKind) (thing : ℕ) where
-  -- whether a row of `has` is that of the unit `unit`, the kind `sort` and the thing `thing`
   abbrev is_here : Row → Bool
   is_here r = unit_and_thing_pass sort (is_owner_and_thing unit thing) r
 
-  -- a row of this unit, kind and thing has their key
   key_of : (r : Row) → is_here r ≡ true → take 3 r ≡ has_key unit (sort_number sort) thing
   key_of (Int (pos n) ∷ Int (pos number) ∷ Int (pos t) ∷ row) is =
       let one = and_parts _ _ is in
       let two = and_parts _ _ one.1 in
       ap (λ k. has_key k number t) (equal_by_order n unit two.0) ∙ ap (λ k. has_key unit k t) (equals number (sort_number sort) one.0) ∙ ap (has_key unit (sort_number sort)) (equal_by_order t thing two.1)
     where
-      -- for `key_of`: two numbers that pass the test for equality are equal
       equals : (a b : ℕ) → (a == b) ≡ true → a ≡ b
       equals a b is = grind (arith, nat_tests)
   key_of row is = absurd (true≢false (sym is))
 
-  -- a row with the key of unit, kind and thing is of this unit, kind and thing
   of_key : (r : Row) → take 3 r ≡ has_key unit (sort_number sort) thing → is_here r ≡ true
   of_key [] key = absurd cc
   of_key (u ∷ []) key = absurd cc
@@ -71,16 +64,13 @@ module _ (unit : ℕ) (sort : ThingKind) (thing : ℕ) where
       ap (λ x. is_here (x ∷ v ∷ w ∷ row)) first ∙ ap (λ x. is_here (int unit ∷ x ∷ w ∷ row)) second ∙ ap (λ x. is_here (int unit ∷ int (sort_number sort) ∷ x ∷ row)) third
       ∙ and_from _ _ (itself (sort_number sort)) (and_from _ _ (is_itself unit) (is_itself thing))
     where
-      -- for `of_key`: each number passes the test for equality with itself
       itself : (a : ℕ) → (a == a) ≡ true
       itself a = grind (arith, nat_tests)
 
   module _ (c : CampaignValue) (amount : ℕ) (is : amount ≡ amount_under c.units unit sort thing) where
-    -- the row of `has` of the unit `unit`, the kind `sort` and the thing `thing`, with the amount `amount`
     abbrev row : Row
     row = has_row unit (sort_number sort) thing amount
 
-    -- a row of the campaign for this unit, kind and thing has the unit's amount, which is not 0
     wanted_here : (r : Row) → is_here r ≡ true → HasRowsOf c.units r → (amount ≢ 0) × (r ≡ row)
     wanted_here r here of =
         let had = row_has_amount c.units r of in
@@ -89,11 +79,9 @@ module _ (unit : ℕ) (sort : ThingKind) (thing : ℕ) where
         let says : Determines unit sort thing = subst (λ n. Determines n sort thing) keys.0 (subst (λ s. Determines had.0 s thing) (same_sort had.1 sort keys.1) (subst (Determines had.0 had.1) keys.2 (had.3, had.4))) in
         (λ none. says.0 (sym is ∙ none), says.1 ∙ ap (has_row unit (sort_number sort) thing) (sym is))
 
-    -- if the unit's amount of the thing is 0, no row of the campaign has the key of unit, kind and thing
     pub zero_amount_has_no_row : amount ≡ 0 → (r : Row) → HasRowsOf c.units r → take 3 r ≢ has_key unit (sort_number sort) thing
     zero_amount_has_no_row none r of key = (wanted_here r (of_key r key) of).0 none
 
-    -- putting the row of an amount that is not 0 rewrites this unit's item or skill
     pub thing_put : amount ≢ 0 → (old new : State) → DoesInside HasTables (Puts has_table 3 row) old new → DoesInside HasTables (RewritesThings c sort (is_owner_and_thing unit thing)) old new
     thing_put some old new did = inside_weaker HasTables (Puts has_table 3 row) (RewritesThings c sort (is_owner_and_thing unit thing)) old new
         (λ has puts. rewrites_key is_here (λ r. take 3 r ≡ has_key unit (sort_number sort) thing) (λ r. r ≡ row) (HasRowsOf c.units) key_of of_key
@@ -102,7 +90,6 @@ module _ (unit : ℕ) (sort : ThingKind) (thing : ℕ) where
         has_table old.now new.now puts.rows puts.others)
         did
 
-    -- deleting the row of an amount that is 0 rewrites this unit's item or skill
     pub thing_dropped : amount ≡ 0 → (old new : State) → DoesInside HasTables (Drops has_table 3 (has_key unit (sort_number sort) thing)) old new
         → DoesInside HasTables (RewritesThings c sort (is_owner_and_thing unit thing)) old new
     thing_dropped none old new did = inside_weaker HasTables (Drops has_table 3 (has_key unit (sort_number sort) thing)) (RewritesThings c sort (is_owner_and_thing unit thing)) old new

@@ -12,19 +12,15 @@ use Rattle.atl_sql.proofs.PartLaws.{tree_of, same_part, listed, are_apart, not_b
 
 -- ---- rows that stay
 
--- a table whose tree is unchanged has the same rows
 pub same_rows : (t : Table) (a b : Database) → b.trees t.tree ≡ a.trees t.tree → rows_in t b.trees ≡ rows_in t a.trees
 same_rows t a b same = ap (map (visible_row t)) same
 
--- a table whose tree is unchanged has exactly the rows of `S`, if it had them before
 pub stays_is : (t : Table) (S : Set) (a b : Database) → b.trees t.tree ≡ a.trees t.tree → HasExactly (rows_in t a.trees) S → HasExactly (rows_in t b.trees) S
 stays_is t S a b same is = subst (λ rows. HasExactly rows S) (sym (same_rows t a b same)) is
 
 -- ---- one table, and one after another
 
 module _ (Becomes : Part → List Row → List Row → Type 0) where
-  -- writing rows into one part's table (`Alters`) changes this part alone (`Changes`), if they are what `Becomes` says
-  -- of it
   pub one_changed : (part : Part) (S : Set) (old new : Database) → Alters (table_of part) S old new → (HasExactly (rows_in (table_of part) new.trees) S → Becomes part (rows_in (table_of part) old.trees) (rows_in (table_of part) new.trees))
       → Changes Becomes (part ∷ []) old new
   one_changed part S old new did becomes = record {
@@ -32,7 +28,6 @@ module _ (Becomes : Part → List Row → List Row → Type 0) where
     others = λ p free. did.others (table_of p) (listed p) (λ same. free (inl (same_part p part same)));
   }
 
-  -- changing some parts and then others changes both, if no part is in both lists (`Changes`)
   pub both_changed : (ps qs : List Part) → are_apart ps qs ≡ true → (old mid new : Database) → Changes Becomes ps old mid → Changes Becomes qs mid new → Changes Becomes (ps ++ qs) old new
   both_changed ps qs apart old mid new first second = record {
     done = λ p there. elim (has_either ps qs p there) [
@@ -44,11 +39,9 @@ module _ (Becomes : Part → List Row → List Row → Type 0) where
 
 -- ---- each of some parts, one after another
 
--- if `Does` is done for one part, it is done in turn (`InTurn`) for the list of this part alone
 pub in_turn_one : (Does : Part → Database → Database → Type 0) (part : Part) (old new : Database) → Does part old new → InTurn Does (part ∷ []) old new
 in_turn_one Does part old new did = (new, did, refl)
 
--- if `Does` is done in turn for the parts `ps` (`InTurn`), and then for `qs`, it is done in turn for `ps ++ qs`
 pub in_turn_then : (Does : Part → Database → Database → Type 0) (ps qs : List Part) (old mid new : Database) → InTurn Does ps old mid → InTurn Does qs mid new → InTurn Does (ps ++ qs) old new
 in_turn_then Does [] qs old mid new none rest = subst (λ db. InTurn Does qs db new) none rest
 in_turn_then Does (p ∷ ps) qs old mid new first rest = (first.0, first.1, in_turn_then Does ps qs first.0 mid new first.2 rest)

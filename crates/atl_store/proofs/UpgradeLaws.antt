@@ -13,7 +13,7 @@ use Rattle.atl_world.specs.declared.format.Format.TheVariants.{First}
 use Rattle.atl_campaign.specs.Campaign.{CampaignValue}
 use Rattle.atl_campaign.specs.Good.{HasNoStocks}
 use Rattle.atl_sql.specs.Inside.{DoesInside, HasTables, Carries, DoesBoth, Puts}
-use Rattle.atl_sql.specs.Rows.{campaign_row_of, rows_for, row_of_campaign, Holds, HoldsIn, MarketRowsOf}
+use Rattle.atl_store.specs.Rows.{campaign_row_of, rows_for, row_of_campaign, Holds, HoldsIn, MarketRowsOf}
 use Rattle.atl_sql.specs.Sets.{HasExactly, AreKeyedByRowid, rows_in, put, visible_row}
 use Rattle.atl_sql.specs.Shown.{campaign_row, campaign_row_in}
 use Rattle.atl_sql.specs.Tables.{Part, Own, Markets, campaign_table, market_table, all_tables, all_indexes, creation_of, first_tables, parts_in, table_of}
@@ -26,23 +26,19 @@ use Rattle.atl_sql.proofs.Made.{CreatesTable}
 use Rattle.atl_sql.proofs.PartLaws.{all_among, listed, same_part}
 use Rattle.atl_store.proofs.WholeLaws.{inside_then, inside_weaker}
 
--- the schema of the nine tables of the first format
 abbrev old_schema : Schema
 old_schema = first_tables 9 3
 
--- the schema of the ten tables of the second format
 abbrev new_schema : Schema
 new_schema = first_tables 10 4
 
 -- ---- the table of markets
 
--- the rowids of a table without rows are different integers
 no_rows : AreKeyedByRowid []
 no_rows = record { apart = tt; ints = tt }
 
 -- the table `market` is made after just the tables of the first format
 module _ (old new : Database) (is : IsFirstFormat old) (made : CreatesTable old_schema new_schema market_table.tree old new) where
-  -- after the table `market` is made, the database has the tables of a campaign (`HasTables`)
   has_all : HasTables new
   has_all = record {
     begins = record { tables = []; indexes = []; made_of = made.schema_is; free = tt; plain = λ i none. absurd none };
@@ -56,7 +52,6 @@ module _ (old new : Database) (is : IsFirstFormat old) (made : CreatesTable old_
     };
   }
 
-  -- adding the table `market` removes no table or index, and leaves what other tables hold (`Carries`)
   carries_all : Carries old new
   carries_all = record {
     tables = λ t there. subst (λ (s : Schema). Has s.tables t) (sym made.schema_is) (has_left old_schema.tables (market_table ∷ []) t (subst (λ (s : Schema). Has s.tables t) is.just there));
@@ -66,7 +61,6 @@ module _ (old new : Database) (is : IsFirstFormat old) (made : CreatesTable old_
         absurd (free (has_map (λ (u : Table). u.tree) all_tables t (has_left old_schema.tables (market_table ∷ []) t was)));
   }
 
--- the CREATE TABLE adds the empty table `market`
 pub adds_markets : (old new : State) → RunsStatement (creation_of Markets) [] old new → DoesInside IsFirstFormat AddsMarkets old new
 adds_markets old new ran = (
   ran.2.1.mode ∙ sym ran.0,
@@ -81,11 +75,9 @@ adds_markets old new ran = (
 
 -- ---- the whole
 
--- the first format has each part but the markets
 in_first : (part : Part) → part ≢ Markets → Has (parts_in First) part
 in_first part other = elim (all_among (Markets ∷ parts_in First) refl part) [ inl same ↦ absurd (other same) | inr there ↦ there ]
 
--- if nothing is in stock, `market` has no rows
 no_stocks : (c : CampaignValue) → HasNoStocks c → (r : Row) → ¬ MarketRowsOf c.regions r
 no_stocks c bare r of =
     let e = sym (get-empty {X = ℕ} nat_cmp of.3) ∙ ap (λ (m : FinMap nat_cmp ℕ). get m of.3) (sym (bare of.0 of.1 of.2)) ∙ of.5 in
@@ -99,19 +91,15 @@ own_row rows old was row key one made r = (
 )
 
 module _ (text : List ℕ) (c : CampaignValue) (old mid new : Database) (first : AddsMarkets old mid) (second : UpgradesCampaignRow (campaign_row_of c) text mid new) (before : List ℕ) (held : HoldsIn First old.trees before c) (bare : HasNoStocks c) where
-  -- after the table `market` is added, the other tables have the campaign's rows of the first format
   rows_between : (part : Part) → Has (parts_in First) part → HasExactly (rows_in (table_of part) mid.trees) (rows_for (campaign_row_in First (campaign_row_of c) before) c part)
   rows_between part there = subst (λ rows. HasExactly rows (rows_for (campaign_row_in First (campaign_row_of c) before) c part)) (sym (ap (map (visible_row (table_of part))) (first.others (table_of part) (has_map table_of (parts_in First) part there)))) (held.rows part there)
 
-  -- the campaign row of the second format, with the new text, was put
   row_put : Puts campaign_table 1 (campaign_row (campaign_row_of c) text) mid new
   row_put = second before (rows_between Own (inl refl))
 
-  -- each table but `campaign` has the rows that it had after the table `market` was added
   other_tables_stay : (part : Part) → part ≢ Own → rows_in (table_of part) new.trees ≡ rows_in (table_of part) mid.trees
   other_tables_stay part other = ap (map (visible_row (table_of part))) (row_put.others (table_of part) (listed part) (λ same. other (same_part part Own same)))
 
-  -- each table of the first format but `campaign` still has the campaign's rows after the campaign row is changed
   rows_stay : (part : Part) → part ≢ Own → Has (parts_in First) part → HasExactly (rows_in (table_of part) new.trees) (rows_for (campaign_row_in First (campaign_row_of c) before) c part)
   rows_stay part other there = subst (λ rows. HasExactly rows (rows_for (campaign_row_in First (campaign_row_of c) before) c part)) (sym (other_tables_stay part other)) (rows_between part there)
 
@@ -119,13 +107,11 @@ module _ (text : List ℕ) (c : CampaignValue) (old mid new : Database) (first :
   pub upgrade_held : Holds new.trees text c
   upgrade_held = record { rows = rows }
     where
-      -- for `upgrade_held`: each part's table has the campaign's rows of the second format
       rows : (part : Part) → HasExactly (rows_in (table_of part) new.trees) (rows_for (row_of_campaign text c) c part)
       rows Own = own_row _ _ (campaign_row_in First (campaign_row_of c) before) (row_of_campaign text c) refl (rows_between Own (inl refl)) row_put.rows
       rows Markets = λ r. (λ there. absurd (subst (λ l. Has l r) (other_tables_stay Markets (λ e. absurd cc) ∙ ap (map (visible_row market_table)) first.empty) there), λ of. absurd (no_stocks c bare r of))
       rows part = rows_stay part (λ e. absurd cc) (in_first part (λ e. absurd cc))
 
--- adding the table `market`, and then changing the campaign row, writes the upgrade (`WritesUpgrade`)
 pub upgrade_done : (text : List ℕ) (c : CampaignValue) (start mid end : State) → DoesInside IsFirstFormat AddsMarkets start mid → DoesInside HasTables (UpgradesCampaignRow (campaign_row_of c) text) mid end → DoesInside IsFirstFormat (WritesUpgrade text c) start end
 upgrade_done text c start mid end first second =
     inside_weaker IsFirstFormat (DoesBoth AddsMarkets (UpgradesCampaignRow (campaign_row_of c) text)) (WritesUpgrade text c) start end

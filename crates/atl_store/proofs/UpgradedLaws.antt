@@ -21,7 +21,7 @@ use Rattle.atl_sql.specs.Inside.{Commits, LeavesOff, MayLeave}
 use Rattle.atl_store.specs.Keeps.{ChangesNothing, IsLater}
 use Rattle.atl_store.specs.Loading.{LeavesAlone, LoadsIn, RefusesToLoadIn}
 use Rattle.atl_store.specs.OwnStatements.{OfUpgrade}
-use Rattle.atl_sql.specs.Rows.{Holds, HoldsIn}
+use Rattle.atl_store.specs.Rows.{Holds, HoldsIn}
 use Rattle.atl_sql.specs.Tables.{HasTablesOf, IsFirstFormatOnly}
 use Rattle.atl_store.specs.UpgradeSteps.{IsFirstFormat, WritesUpgrade}
 use Rattle.atl_store.specs.Upgrading.{BreaksOffUpgrade, FailsCheck, FailsInTransaction, HasMoreTables, HasOld, HasOtherWorld, HoldsOld, IsReadyToUpgrade, MatchesNewText, MayUpgrade, RefusesToUpgrade, Upgrades}
@@ -34,7 +34,6 @@ use Rattle.atl_store.specs.declared.fault.UpgradeFault.TheVariants as upgrade
 use Rattle.atl_store.proofs.BareWorldLaws.{good_either}
 use Rattle.atl_store.proofs.StayLaws.{commits_keeps, failed_changes_nothing, may_found}
 
--- if a result is an error with this fault, what holds of the fault (`P`) holds of the result's error
 pub holds_of_error : {A F : Type 0} (P : F → Type 0) (r : Result A F) (fault : F) → IsErrAnd r (λ f. f ≡ fault) → P fault → IfErr r P
 holds_of_error P (Ok a) fault says p = tt
 holds_of_error P (Err f) fault says p = subst P (sym says) p
@@ -42,7 +41,6 @@ holds_of_error P (Err f) fault says p = subst P (sym says) p
 -- ---- what was loaded is what the tables held
 
 module _ {S : Type 0} (g : Ghosts S) (text : List ℕ) (old mid : Held S) (alone : LeavesAlone g old mid) (clean : HasCleanDisk (state g mid)) where
-  -- the loaded campaign is what the tables of the first format held
   pub loaded_old : (w : WorldValue) (c : MarkedCampaign) → LoadsIn First g old mid w c → HoldsOld (state g old) w c.value
   loaded_old w c loads =
       let keeps = loads.keeps clean in
@@ -54,7 +52,6 @@ module _ {S : Type 0} (g : Ghosts S) (text : List ℕ) (old mid : Held S) (alone
         good = loads.good;
       }
 
-  -- the world of a file of the first format has no markets
   bare_before : (w : WorldValue) (c : MarkedCampaign) → LoadsIn First g old mid w c → without_markets w ≡ w
   bare_before w c loads = old_has_no_markets (world_text (state g mid)) w (loads.world clean)
 
@@ -66,8 +63,6 @@ module _ {S : Type 0} (g : Ghosts S) (text : List ℕ) (old mid : Held S) (alone
     held = subst (λ v. HoldsOld (state g old) v c.value) (sym (bare_before ready.before c ready.loads) ∙ sym ready.same) (loaded_old ready.before c ready.loads);
   }
 
-  -- a new world that differs from the old one in more than markets makes a check fail, with the fault Differs
-  -- (`HasOtherWorld`)
   pub other_world : (before w : WorldValue) (c : MarkedCampaign) → LoadsIn First g old mid before c → world_of text ≡ Ok w → ¬ (without_markets w ≡ without_markets before) → HasOtherWorld g text old mid
   other_world before w c loads is differs = record {
     world = w;
@@ -78,8 +73,6 @@ module _ {S : Type 0} (g : Ghosts S) (text : List ℕ) (old mid : Held S) (alone
     differs = λ same. differs (same ∙ sym (bare_before before c loads));
   }
 
-  -- a file with more tables or indexes than those of the first format makes a check fail, with the fault Store
-  -- (`HasMoreTables`)
   pub has_more : (w : WorldValue) (c : MarkedCampaign) → IsReadyToUpgrade g text old mid w c → ¬ IsFirstFormatOnly mid.schema → HasMoreTables g text old mid
   has_more w c ready more =
       let keeps = ready.loads.keeps clean in
@@ -92,16 +85,12 @@ module _ {S : Type 0} (g : Ghosts S) (text : List ℕ) (old mid : Held S) (alone
         more = λ just. more (ap (λ (d : Database). d.schema) same.0 ∙ just);
       }
 
--- after two calls a clean disk was clean before, no failure is forgotten, and reads tested by digests stay so
--- (`IsLater`)
 pub later_both : (old mid new : State) (FirstMayLeave SecondMayLeave : Trees → Type 0) → Survives old mid FirstMayLeave → Survives mid new SecondMayLeave → IsLater old new
 later_both old mid new FirstMayLeave SecondMayLeave one two = record { clean = λ clean. omega (arith, one.clean, two.clean, clean); counts = omega (arith, one.counts, two.counts); shield = λ shielded. two.shield (one.shield shielded) }
 
 -- ---- before the transaction
 
 module _ {S : Type 0} (g : Ghosts S) (text : List ℕ) (old new : Held S) where
-  -- if loading in the first format gives a fault, a check of the upgrade fails with `upgrade`'s fault for it
-  -- (`FailsCheck`)
   pub fails_to_load : (fault : LoadFault) → RefusesToLoadIn First g old fault → FailsCheck g text old new (first_format_fault fault)
   fails_to_load load.Store refused = inl refused
   fails_to_load (load.Damaged rule) refused = refused
@@ -109,8 +98,6 @@ module _ {S : Type 0} (g : Ghosts S) (text : List ℕ) (old new : Held S) where
   fails_to_load load.OtherFormat refused = refused
   fails_to_load load.Memory refused = inl refused
 
-  -- if the tables held a campaign in the first format, a fault of the new world text makes a check fail, with World and
-  -- this fault, or with Memory (`FailsCheck`)
   pub fails_to_read : (fault : WorldFault) → Reads (λ (w : WorldValue). w) (Err fault) (world_of text) → HasOld g text old new → FailsCheck g text old new (new_world_fault fault)
   fails_to_read world.NotToml reads was = (was, reads, λ e. absurd cc)
   fails_to_read (world.Missing path) reads was = (was, reads, λ e. absurd cc)
@@ -122,7 +109,6 @@ module _ {S : Type 0} (g : Ghosts S) (text : List ℕ) (old new : Held S) where
   fails_to_read world.NoLand reads was = (was, reads, λ e. absurd cc)
   fails_to_read world.Memory reads was = inr was
 
-  -- a check that fails before the transaction refuses the upgrade, and nothing is changed
   pub refused_before : (fault : UpgradeFault) → (HasCleanDisk (state g new) → FailsCheck g text old new fault) → LeavesAlone g old new → RefusesToUpgrade g text old new fault
   refused_before fault fails alone = record {
     cause = λ clean. inl (fails clean, alone);
@@ -137,16 +123,12 @@ module _ {S : Type 0} (g : Ghosts S) (text : List ℕ) (old mid new : Held S) (w
   abbrev Wrote : {A : Type 0} → Result A Error → Type 0
   Wrote r = Transacts g (OfUpgrade text c.value) IsFirstFormat (WritesUpgrade text c.value) r mid new
 
-  -- on a clean disk, the loaded tables are just those of the first format, if the schema is (`IsFirstFormat`)
   is_old : IsFirstFormatOnly mid.schema → HasCleanDisk (state g mid) → IsFirstFormat (state g mid).now
   is_old just clean = let keeps = ready.loads.keeps clean in record { just = just; keyed = keeps.keyed; listed = keeps.listed }
 
-  -- if the disk was clean before the transaction, a database that the upgrade wrote holds the loaded campaign with the
-  -- new text
   written_holds : (db : Database) → HasCleanDisk (state g mid) → WritesUpgrade text c.value (state g mid).now db → Holds db.trees text c.value
   written_holds db clean wrote = wrote (world_text (state g mid)) (ready.loads.keeps clean).rows ready.loads.fits.stocks
 
-  -- the disk was clean before the transaction, if it is clean after it
   clean_before : Survives (state g mid) (state g new) (MayLeave IsFirstFormat (WritesUpgrade text c.value) (state g mid)) → HasCleanDisk (state g new) → HasCleanDisk (state g mid)
   clean_before survives clean = omega (arith, survives.clean, clean)
 
@@ -165,11 +147,9 @@ module _ {S : Type 0} (g : Ghosts S) (text : List ℕ) (old mid new : Held S) (w
     idle = over;
   }
     where
-      -- for `upgrades`: the database after the transaction
       new_now : Database
       new_now = (state g new).now
 
-  -- two calls that change nothing (`ChangesNothing`) together change nothing
   both_change_nothing : (was_open : IsTrue (state g new).is_open → IsTrue (state g mid).is_open) → (state g old).faults ≤ (state g mid).faults → (state g mid).faults ≤ (state g new).faults → ChangesNothing (state g old) (state g mid) → ChangesNothing (state g mid) (state g new) → ChangesNothing (state g old) (state g new)
   both_change_nothing was_open early late first second = record {
     same = λ up.
@@ -183,14 +163,12 @@ module _ {S : Type 0} (g : Ghosts S) (text : List ℕ) (old mid new : Held S) (w
   }
 
   module _ (just : IsFirstFormatOnly mid.schema) (idle : mid.in_transaction ≡ false) (off : HasCleanDisk (state g new) → LeavesOff (state g mid) (state g new)) (survives : Survives (state g mid) (state g new) (MayLeave IsFirstFormat (WritesUpgrade text c.value) (state g mid))) where
-    -- if the transaction of the upgrade failed and the disk is clean, nothing is changed (`ChangesNothing`)
     upgrade_changed_nothing : HasCleanDisk (state g new) → ChangesNothing (state g old) (state g new)
     upgrade_changed_nothing clean =
         let clean_mid = clean_before survives clean in
         let keeps = ready.loads.keeps clean_mid in
         both_change_nothing (off clean).was_open alone.survives.counts survives.counts (alone.unchanged clean_mid) (failed_changes_nothing (state g mid) (state g new) _ clean (off clean) survives idle (λ up. sym keeps.settled))
 
-    -- a crash leaves what it could have left before, or the upgraded campaign, if the disk is clean
     may_upgrade : HasCleanDisk (state g new) → MayUpgrade (state g old) text (state g new)
     may_upgrade clean db may =
         let clean_mid = clean_before survives clean in
@@ -199,18 +177,13 @@ module _ {S : Type 0} (g : Ghosts S) (text : List ℕ) (old mid new : Held S) (w
           | inr stored ↦ inr (w, c.value, matched g text old mid alone clean_mid w c ready, stored)
         ]
 
-    -- an error of the transaction breaks the upgrade off, if the disk was clean before the transaction
-    -- (`BreaksOffUpgrade`)
     broken_off : (e : Error) (memory : Bool) → is_memory e ≡ memory → Gives g (OfUpgrade text c.value) e mid new → HasCleanDisk (state g mid) → BreaksOffUpgrade g text old new memory
     broken_off e memory is gave clean_mid = record { world = w; campaign = c.value; matches = matched g text old mid alone clean_mid w c ready; before = mid; alone = alone; error = e; memory_is = is; given = gave }
 
-    -- if the disk was clean before it, a failed transaction gives the fault Memory for an error of lack of memory, else
-    -- Store
     fails_to_write : (e : Error) (memory : Bool) → is_memory e ≡ memory → Gives g (OfUpgrade text c.value) e mid new → HasCleanDisk (state g mid) → FailsInTransaction g text old new (cond memory upgrade.Memory upgrade.Store)
     fails_to_write e true is gave clean_mid = broken_off e true is gave clean_mid
     fails_to_write e false is gave clean_mid = broken_off e false is gave clean_mid
 
-    -- an error of the transaction refuses the upgrade, with the fault for this error (`RefusesToUpgrade`)
     pub refused_after : (e : Error) → (HasCleanDisk (state g new) → Gives g (OfUpgrade text c.value) e mid new) → RefusesToUpgrade g text old new (upgrade_fault e)
     refused_after e gave = record {
       cause = λ clean. inr (fails_to_write e (is_memory e) refl (gave clean) (clean_before survives clean));

@@ -17,7 +17,6 @@ use Rattle.atl_sql.proofs.CauseLaws.{gives, gives_after, gives_until, gives_begu
 use Rattle.atl_sql.proofs.CarryLaws.{carries_then}
 use Rattle.atl_sql.proofs.WriteLaws.{on_ok_of_error, HandsOn, weaker, two_steps}
 
--- if a step inside a transaction does `First` and the next one does `Second`, together they do both (`DoesBoth`)
 pub inside_then : (Before : Database → Type 0) (First Second : Database → Database → Type 0) (a b c : State) → DoesInside Before First a b → DoesInside HasTables Second b c → DoesInside Before (DoesBoth First Second) a c
 inside_then Before First Second a b c one two = (
   two.0 ∙ one.0,
@@ -27,17 +26,14 @@ inside_then Before First Second a b c one two = (
       record { does = (b.now, was.does, now.does); tables = now.tables; carries = carries_then a.now b.now c.now was.carries now.carries },
 )
 
--- a step inside a transaction that does `Does` does `Less`, if `Less` follows from `Does`
 pub inside_weaker : (Before : Database → Type 0) (Does Less : Database → Database → Type 0) (a b : State) → (Before a.now → Does a.now b.now → Less a.now b.now) → DoesInside Before Does a b → DoesInside Before Less a b
 inside_weaker Before Does Less a b weaker h = (h.0, λ has. let did = h.1 has in record { does = weaker has did.does; tables = did.tables; carries = did.carries })
 
 -- the effect of a write on the tables, weakened, and of two writes
 module _ {S : Type 0} (g : Ghosts S) {own : Statements} {A : Type 0} {r : Result A Error} where
-  -- a write that does `First` does `Does`, if `Does` follows from `First`
   pub done_as : {First Does : Database → Database → Type 0} {a b : MutBor (Held S)} → ((old new : Database) → First old new → Does old new) → Writes g own (DoesInside HasTables First) r a b → Writes g own (DoesInside HasTables Does) r a b
   done_as {First = First} {Does = Does} said one = weaker g (λ old new did. inside_weaker HasTables First Does old new (λ has. said old.now new.now) did) one
 
-  -- a write that does `First` and then one that does `Second` do `Does`, if `Does` follows from both
   pub then_done : {First Second Does : Database → Database → Type 0} {X : Type 0} {x : X} {a b d : MutBor (Held S)}
       → ((old mid new : Database) → First old mid → Second mid new → Does old new) → Writes g own (DoesInside HasTables First) (Ok x) a b → Writes g own (DoesInside HasTables Second) r b d → Writes g own (DoesInside HasTables Does) r a d
   then_done {First = First} {Second = Second} {Does = Does} both one two =
@@ -57,7 +53,6 @@ module _ {S : Type 0} (g : Ghosts S) (old begun mid end : Held S) (begins : begu
       ))
       (survives_begin g old (state g mid) _ (rw begins at one)) two
 
-  -- after the commit the tables are those that the step made, and the connection is in no transaction (`Commits`)
   pub committed_after : (HasCleanDisk (state g mid) → DoesInside Before Does (state g begun) (state g mid)) → Survives (state g mid) (state g end) (λ db. db ≡ (state g mid).now.trees)
       → (HasCleanDisk (state g end) → IsTrue (state g mid).in_transaction × Shows (state g mid) (state g end) (state g mid).now (state g mid).now false × KeepsCounts (state g mid) (state g end) × ((state g end).marks ≡ []))
       → HasCleanDisk (state g end) → Commits Before Does (state g old) (state g end)
@@ -73,13 +68,11 @@ module _ {S : Type 0} (g : Ghosts S) (old begun mid end : Held S) (begins : begu
         is_open = shows.is_open;
       }
 
--- for `left_off`: what holds anyway holds if a result is an error (`OnErr`)
 given_err : {A E P : Type 0} (r : Result A E) → P → OnErr r P
 given_err (Ok a) p = tt
 given_err (Err e) p = p
 
 module _ {S : Type 0} (g : Ghosts S) (old : Held S) (begun mid : MutBor (Held S)) (begins : begun.now ≡ record old { in_transaction = true }) (Before : Database → Type 0) (Does : Database → Database → Type 0) (end : Held S) (over : end.in_transaction ≡ false) where
-  -- a rollback leaves the tables of the last commit before the transaction (`LeavesOff`)
   rolled_back : KeepsCommit (state g begun.now) (state g mid.now) → IsRolledBack (state g mid.now) (state g end) → LeavesOff (state g old) (state g end)
   rolled_back kept back = record {
     was_open = λ up. subst IsTrue (ap (λ (h : Held S). (state g h).is_open) begins) (kept.was_open (back.was_open up));
@@ -90,7 +83,6 @@ module _ {S : Type 0} (g : Ghosts S) (old : Held S) (begun mid : MutBor (Held S)
     idle = over;
   }
 
-  -- after BEGIN the connection is in a transaction
   inside_begun : IsTrue (state g begun.now).in_transaction
   inside_begun = ap (λ (h : Held S). h.in_transaction) begins
 

@@ -9,29 +9,24 @@ use Rattle.atl_world.specs.declared.format.Format.TheVariants.{First, Second}
 use Rattle.sqlite_rules.specs.Lists.{Has}
 use Rattle.atl_sql.specs.Tables.{Own, campaign_table, parts_in}
 use Rattle.atl_sql.specs.Shown.{campaign_row_in}
-use Rattle.atl_sql.specs.Rows.{campaign_row_of}
+use Rattle.atl_store.specs.Rows.{campaign_row_of}
 use Rattle.atl_store.specs.Keeps.{Keeps}
 use Rattle.atl_store.specs.Loading.{KeepsIn}
 use Rattle.atl_store.specs.WorldText.{world_text_in_rows, world_text}
 
--- the campaign row is a part of each format
 has_own : (f : Format) → Has (parts_in f) Own
 has_own First = inl refl
 has_own Second = inl refl
 
--- if the table `campaign` has just the campaign row with this text, the world text of the tables is this one
 text_held : (f : Format) (s : State) (text : List ℕ) (c : CampaignValue) → HasExactly (rows_in campaign_table s.now.trees) (λ r. r ≡ campaign_row_in f (campaign_row_of c) text) → world_text s ≡ text
 text_held f s text c holds = text_in_rows (rows_in campaign_table s.now.trees) holds
   where
-    -- for `text_held`: if a list of rows has only the campaign row with this text, its world text is this one
     text_in_rows : (rows : List Row) → HasExactly rows (λ r. r ≡ campaign_row_in f (campaign_row_of c) text) → world_text_in_rows rows ≡ text
     text_in_rows [] is = absurd ((is (campaign_row_in f (campaign_row_of c) text)).1 refl)
     text_in_rows (r ∷ rows) is = ap (λ (x : Row). world_text_in_rows (x ∷ [])) ((is r).0 (inl refl))
 
--- if a connection keeps a campaign with this text, its tables' world text is this one
 pub world_text_is : (s : State) (text : List ℕ) (c : CampaignValue) → Keeps s text c → world_text s ≡ text
 world_text_is s text c keeps = text_held Second s text c (keeps.rows.rows Own)
 
--- if tables hold a campaign in a format with this text (`KeepsIn`), their world text is this one
 pub kept_text_is : (f : Format) (s : State) (text : List ℕ) (c : CampaignValue) → KeepsIn f s text c → world_text s ≡ text
 kept_text_is f s text c keeps = text_held f s text c (keeps.rows.rows Own (has_own f))

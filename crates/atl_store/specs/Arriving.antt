@@ -18,7 +18,7 @@ use Rattle.atl_sql.specs.Inside.{Alters, Puts}
 use Rattle.atl_sql.specs.Tables.{Part, Own, Factions, Units, Reports, Books, table_of, campaign_table, faction_table, unit_table, mail_table, report_table, books_table}
 use Rattle.atl_sql.specs.Shown.{CampaignRowValue, campaign_row, mail_row, report_row, books_key}
 use Rattle.atl_store.specs.GroupedRows.{amount_lines}
-use Rattle.atl_sql.specs.Rows.{row_of_campaign, row_of_faction, row_of_unit}
+use Rattle.atl_store.specs.Rows.{row_of_campaign, row_of_faction, row_of_unit}
 
 -- What a write of a join needs: the campaign has the faction, its report, and the unit numbered `next_unit - 1`.
 -- The books have money and people among their things.
@@ -27,11 +27,8 @@ pub record HasArrival (c : CampaignValue) (number : ℕ) : Type 0 where
   pub next : 1 ≤ c.next_unit
   -- the things of the books include money and people
   pub things : 2 ≤ c.books.things
-  -- the campaign has the faction
   pub faction : IsSome (get c.factions number)
-  -- the campaign has the unit of the last number
   pub unit : IsSome (get c.units (c.next_unit - 1))
-  -- the campaign has the faction's report
   pub report : IsSome (get c.reports number)
 
 -- The campaign has this faction, this report, and this unit, whose number `unit_number` is the last (`next_unit - 1`).
@@ -39,11 +36,8 @@ pub record HasArrival (c : CampaignValue) (number : ℕ) : Type 0 where
 pub record HasArrivalWith (c : CampaignValue) (number : ℕ) (faction : Faction) (unit_number : ℕ) (unit : Unit) (report : List ℕ) : Type 0 where
   -- the unit's number `unit_number` is the last: the next one is `next_unit`
   pub place_is : c.next_unit ≡ unit_number + 1
-  -- the campaign has this faction under its number
   pub faction_is : get c.factions number ≡ Some faction
-  -- the campaign has this unit under its number
   pub unit_is : get c.units unit_number ≡ Some unit
-  -- the campaign has this report of the faction
   pub report_is : get c.reports number ≡ Some report
   -- the things of the books include money and people
   pub things : 2 ≤ c.books.things

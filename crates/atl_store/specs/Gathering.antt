@@ -21,8 +21,8 @@ use Rattle.atl_tables.specs.World.{world_of_text}
 use Rattle.atl_state.specs.Checking.{IsChecked, KeepsRule}
 use Rattle.atl_campaign.specs.Campaign.{MarkedCampaign}
 use Rattle.atl_state.specs.declared.checking.Rule.TheVariants.{OneRow}
-use Rattle.atl_campaign.specs.declared.parts.Parts.{Parts}
-use Rattle.atl_campaign.specs.declared.parts.StoredCampaignRow.{StoredCampaignRow}
+use Rattle.atl_rows.specs.declared.parts.Parts.{Parts}
+use Rattle.atl_rows.specs.declared.parts.StoredCampaignRow.{StoredCampaignRow}
 use Rattle.atl_sql.specs.Errors.{is_memory}
 use Rattle.atl_store.specs.Loading.{HaveRows, AreOwnRow, AreOfOtherFormat, HasOtherType, KeepsOneRow, other_parts, other_selects, shows_rowids, tables_with_rowids, rows_read, AfterReads, AllSelectsShowTyped, RefusesOne}
 use Rattle.atl_sql.specs.Reading.{Selects, select_of_part}
@@ -82,13 +82,9 @@ only_of (own ∷ other ∷ rows) = None
 -- The rows read of `campaign` are one row, `own`, which keeps the first rule: its id is 1, its format is `f`, and its
 -- world text reads as the world `w`.
 pub record IsOwnRow (f : Format) (rows : List StoredCampaign) (own : StoredCampaign) (w : WorldValue) : Type 0 where
-  -- `own` is the only row that was read of `campaign`
   pub only : rows ≡ own ∷ []
-  -- the id of the campaign row is 1
   pub id : own.head.id ≡ pos 1
-  -- the format of the campaign row is `f`
   pub format : own.head.format ≡ pos (format_number f)
-  -- the world text of the campaign row reads as the world `w`
   pub world : world_of_text f (string_bytes own.world) ≡ Ok w
 
 -- The result of judging: Ok of a value that fulfils the first condition (`Is`), Damaged by the first rule if the second
@@ -249,9 +245,7 @@ column_count part = length (table_of part).columns
 
 -- the values of the column at index `at` are integers, no two alike
 pub record HaveDistinctIntegers (at : ℕ) (rows : List Row) : Type 0 where
-  -- no two rows have equal values in the column at index `at`
   pub apart : IsDistinct (λ a b. is_eq (value_cmp (column a at) (column b at))) rows
-  -- in each row the value of the column at index `at` is an integer
   pub ints : AllByRecursion (λ r. is_int (column r at) ≡ true) rows
 
 -- in each part that is shown with rowids, the rowids are integers, no two alike
@@ -300,11 +294,8 @@ pub record GathersAll (f : Format) {S : Type 0} (g : Ghosts S) (old : Held S) (w
 -- After the reads the tables are confirmed as those of the format.
 -- The old schema begins with the format's tables, the trees list and obey it (`IsSound`), and `new` is open.
 pub record IsConfirmed (f : Format) (old new : State) : Type 0 where
-  -- the schema begins with the tables of the format
   pub begins : HasTablesOf f old.now.schema
-  -- after the test of the schema the connection is open
   pub is_open : IsTrue new.is_open
-  -- the trees of the database list its schema and obey it
   pub sound : IsSound old.now.schema old.now.trees
 
 -- The campaign `c` is loaded: it is made of rows that were read and keep all rules (`IsChecked`).

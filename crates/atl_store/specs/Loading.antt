@@ -22,15 +22,15 @@ use Rattle.atl_campaign.specs.Marks.{no_marks}
 use Rattle.atl_campaign.specs.Campaign.{CampaignValue, MarkedCampaign}
 use Rattle.atl_state.specs.declared.checking.Rule.{Rule}
 use Rattle.atl_state.specs.declared.checking.Rule.TheVariants as rules
-use Rattle.atl_campaign.specs.declared.parts.Parts.{Parts}
-use Rattle.atl_campaign.specs.declared.parts.StoredBooks.{StoredBooks}
-use Rattle.atl_campaign.specs.declared.parts.StoredHas.{StoredHas}
-use Rattle.atl_campaign.specs.declared.parts.StoredCampaignRow.{StoredCampaignRow}
-use Rattle.atl_campaign.specs.declared.parts.StoredMarket.{StoredMarket}
+use Rattle.atl_rows.specs.declared.parts.Parts.{Parts}
+use Rattle.atl_rows.specs.declared.parts.StoredBooks.{StoredBooks}
+use Rattle.atl_rows.specs.declared.parts.StoredHas.{StoredHas}
+use Rattle.atl_rows.specs.declared.parts.StoredCampaignRow.{StoredCampaignRow}
+use Rattle.atl_rows.specs.declared.parts.StoredMarket.{StoredMarket}
 use Rattle.atl_sql.specs.Errors.{is_memory}
 use Rattle.atl_store.specs.Keeps.{ChangesNothing, HoldsCampaign}
 use Rattle.atl_sql.specs.Reading.{Selects, RefusesToSelect, select_of_part}
-use Rattle.atl_sql.specs.Rows.{HoldsIn}
+use Rattle.atl_store.specs.Rows.{HoldsIn}
 use Rattle.atl_sql.specs.Shown.{int, campaign_row_stored, faction_stored, region_stored, unit_stored, structure_stored, mail_stored, report_stored, campaign_forms, faction_forms, region_forms, unit_forms, has_forms, structure_forms, mail_forms, report_forms, books_forms, market_forms}
 use Rattle.atl_sql.specs.Statements.{selection}
 use Rattle.atl_sql.specs.Sets.{rows_in, AreKeyedByRowid}
@@ -277,9 +277,7 @@ module _ (f : Format) {S : Type 0} (g : Ghosts S) (old : Held S) where
 
   -- The SELECT of `campaign` shows one row, which keeps the first rule (`AreOwnRow`).
   pub record KeepsOneRow : Type 0 where
-    -- the rows that the SELECT of `campaign` shows
     pub rows : List Row
-    -- the SELECT of `campaign` shows `rows`
     pub selects : Selects g (selection campaign_table 1) old rows
     -- the campaign row, without its world text
     pub head : StoredCampaignRow
@@ -292,9 +290,7 @@ module _ (f : Format) {S : Type 0} (g : Ghosts S) (old : Held S) where
 
   -- The SELECT of `campaign` shows rows that break the first rule and aren't one row of the other format.
   pub record BreaksOneRow : Type 0 where
-    -- the rows that the SELECT of `campaign` shows
     pub rows : List Row
-    -- the SELECT of `campaign` shows `rows`
     pub selects : Selects g (selection campaign_table 1) old rows
     -- the rows that the SELECT of `campaign` shows break the first rule
     pub broken : (h : StoredCampaignRow) (text : List ℕ) (w : WorldValue) → ¬ AreOwnRow f rows h text w
@@ -354,19 +350,14 @@ module _ (f : Format) {S : Type 0} (g : Ghosts S) (old : Held S) where
 -- The connection is open and in no transaction.
 -- The trees list and obey the schema, and the rowids of each table are integers, no two alike.
 pub record KeepsIn (f : Format) (s : State) (text : List ℕ) (c : CampaignValue) : Type 0 where
-  -- the connection is in no transaction
   pub idle : s.in_transaction ≡ false
-  -- the connection is open
   pub is_open : IsTrue s.is_open
-  -- nothing is uncommitted
   pub settled : s.committed ≡ s.now
-  -- the schema begins with the tables of the format
   pub begins : HasTablesOf f s.now.schema
   -- the trees of the database list its schema and obey it
   pub listed : IsSound s.now.schema s.now.trees
   -- in each table of the format the rowids are integers, no two alike
   pub keyed : (table : Table) → Has (map table_of (parts_in f)) table → AreKeyedByRowid (s.now.trees table.tree)
-  -- the tables of the format hold exactly the rows of the text and the campaign
   pub rows : HoldsIn f s.now.trees text c
 
 -- What Ok of loading in a format says: if the disk is clean, the tables of the format hold the campaign and a text of

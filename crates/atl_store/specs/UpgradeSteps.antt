@@ -7,25 +7,20 @@ use Rattle.sqlite_rules.specs.Lists.{Has}
 use Rattle.atl_world.specs.declared.format.Format.TheVariants.{First}
 use Rattle.atl_campaign.specs.Campaign.{CampaignValue}
 use Rattle.atl_campaign.specs.Good.{HasNoStocks}
-use Rattle.atl_sql.specs.Rows.{Holds, HoldsIn}
+use Rattle.atl_store.specs.Rows.{Holds, HoldsIn}
 use Rattle.atl_sql.specs.Sets.{AreKeyedByRowid}
 use Rattle.atl_sql.specs.Tables.{IsFirstFormatOnly, market_table, parts_in, table_of}
 
 -- The database has exactly the tables of the first format, and its trees list and obey the schema.
 -- The rowids of each table are integers, no two alike.
 pub record IsFirstFormat (db : Database) : Type 0 where
-  -- the schema is exactly the tables and indexes of the first format
   pub just : IsFirstFormatOnly db.schema
-  -- in each table of the first format the rowids are integers, no two alike
   pub keyed : (table : Table) → Has (map table_of (parts_in First)) table → AreKeyedByRowid (db.trees table.tree)
-  -- the trees of the database list its schema and obey it
   pub listed : IsSound db.schema db.trees
 
 -- the table `market` has no row, and each table of the first format is as it was
 pub record AddsMarkets (old new : Database) : Type 0 where
-  -- the new table `market` has no row
   pub empty : new.trees market_table.tree ≡ []
-  -- each table of the first format is as it was
   pub others : (table : Table) → Has (map table_of (parts_in First)) table → new.trees table.tree ≡ old.trees table.tree
 
 -- If the tables held a campaign without stocks in the first format, they hold it in the second, with this text.

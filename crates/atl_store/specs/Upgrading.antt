@@ -20,18 +20,16 @@ use Rattle.atl_sql.specs.Errors.{is_memory}
 use Rattle.atl_store.specs.Keeps.{HoldsCampaign, Stores, ChangesNothing}
 use Rattle.atl_store.specs.Loading.{LeavesAlone, LoadsIn, RefusesToLoadIn}
 use Rattle.atl_store.specs.OwnStatements.{OfUpgrade}
-use Rattle.atl_sql.specs.Rows.{HoldsIn}
+use Rattle.atl_store.specs.Rows.{HoldsIn}
 use Rattle.atl_sql.specs.Tables.{HasTablesOf, IsFirstFormatOnly}
 
 -- the tables hold this campaign, which is good, in the first format, with a text of this world
 pub record HoldsOld (s : State) (w : WorldValue) (c : CampaignValue) : Type 0 where
   -- the world text of the tables
   pub text : List ℕ
-  -- the world text of the tables reads as the world `w`
   pub world : old_world_of text ≡ Ok w
   -- the tables of the first format hold exactly the rows of the text and the campaign
   pub rows : HoldsIn First s.now.trees text c
-  -- the campaign is good
   pub good : IsGood w c
 
 -- The new text is of the world `w`, and the tables hold the campaign in the first format.
@@ -157,11 +155,7 @@ module _ {S : Type 0} (g : Ghosts S) (text : List ℕ) (old new : Held S) where
 -- the campaign is loaded in the first format, and the new text's world differs from the campaign's in markets alone
 pub record IsReadyToUpgrade {S : Type 0} (g : Ghosts S) (text : List ℕ) (old mid : Held S)
     (w : WorldValue) (c : MarkedCampaign) : Type 0 where
-  -- the new text reads as the world `w`
   pub world : world_of text ≡ Ok w
-  -- the world of the text that the tables hold
   pub before : WorldValue
-  -- the campaign is loaded in the first format, with the world `before`
   pub loads : LoadsIn First g old mid before c
-  -- the two worlds differ in markets alone
   pub same : without_markets w ≡ without_markets before

@@ -31,7 +31,6 @@ pub(crate) trait AmountWriter: Copy {
             tx.new.conn };
 }
 
-/// Puts the row of an owner's amount of a thing, if the amount is not 0.
 fn put_nonzero<O: AmountWriter, S: Alter>(
     tx: &mut Transaction<'_, S>,
     owner: O,

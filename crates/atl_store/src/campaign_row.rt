@@ -1,6 +1,6 @@
 //! Writes the campaign row: in a founding, a join, a change, and an upgrade.
 ghost use Rattle.std.specs.Prelude.{◌≡◌};
-ghost use Rattle.atl_sql.specs.Rows.{campaign_row_of};
+ghost use Rattle.atl_store.specs.Rows.{campaign_row_of};
 ghost use Rattle.atl_sql.specs.PutsCampaignRow.{PutsCampaignRow, UpgradesCampaignRow};
 ghost use Rattle.atl_store.specs.Rewriting.{RewritesCampaignRow};
 ghost use Rattle.atl_sql.specs.Shown.{campaign_row_values};
@@ -14,8 +14,6 @@ use atl_campaign::Campaign;
 use atl_sql::rows::campaign::{CampaignRow, put_campaign, put_upgraded};
 use sqlite::{Alter, Error, Transaction};
 
-/// Gives what the campaign row says of a campaign: the month, the numbers of the next faction, unit
-/// and structure, and the moderator's pass text.
 fn own_row(campaign: &Campaign) -> CampaignRow<'_>
     ensures { head_shown result ≡ campaign_row_of campaign.now.value }
 {

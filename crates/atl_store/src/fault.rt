@@ -87,24 +87,20 @@ pub enum UpgradeFault {
     Memory,
 }
 
-/// Shows the name of the fault.
 impl fmt::Display for WriteFault {
     fn fmt<W: fmt::Write>(&self, f: &mut fmt::Formatter<W>) -> fmt::Result {
         write!(f, "{self:?}")
     }
 }
 
-/// As an `Error`, a `WriteFault` is shown by its name.
 impl std::error::Error for WriteFault {}
 
-/// Shows the name of the fault.
 impl fmt::Display for CreateFault {
     fn fmt<W: fmt::Write>(&self, f: &mut fmt::Formatter<W>) -> fmt::Result {
         write!(f, "{self:?}")
     }
 }
 
-/// As an `Error`, a `CreateFault` is shown by its name.
 impl std::error::Error for CreateFault {}
 
 /// Shows the name of the fault; of `Damaged` the rule's number, too, as `Damaged 11`.
@@ -117,7 +113,6 @@ impl fmt::Display for StoreFault {
     }
 }
 
-/// As an `Error`, a `StoreFault` is shown by its name, and `Damaged` also by the rule's number.
 impl std::error::Error for StoreFault {}
 
 /// Shows the fault's name; of `Damaged` also the rule's number, as `Damaged 11`; of `World` also
@@ -132,8 +127,6 @@ impl fmt::Display for UpgradeFault {
     }
 }
 
-/// As an `Error`, an `UpgradeFault` is shown by its name, with the rule's number after `Damaged`
-/// and the text's fault after `World`.
 impl std::error::Error for UpgradeFault {}
 
 /// An error of the database becomes Memory for lack of memory, else Store.
@@ -145,7 +138,6 @@ impl From<Error> for WriteFault {
     }
 }
 
-/// An error of the database becomes Memory for lack of memory, else Store.
 impl From<Error> for CreateFault {
     ghost from_gives = { λ error fault. fault ≡ create_fault error };
 
@@ -154,7 +146,6 @@ impl From<Error> for CreateFault {
     }
 }
 
-/// An error of the database becomes Memory for lack of memory, else Store.
 impl From<Error> for StoreFault {
     ghost from_gives = { λ error fault. fault ≡ store_fault error };
 
@@ -163,7 +154,6 @@ impl From<Error> for StoreFault {
     }
 }
 
-/// An error of the database becomes Memory for lack of memory, else Store.
 impl From<Error> for LoadFault {
     ghost from_gives = { λ error fault. fault ≡ load_fault error };
 
@@ -172,7 +162,6 @@ impl From<Error> for LoadFault {
     }
 }
 
-/// An error of the database becomes Memory for lack of memory, else Store.
 impl From<Error> for UpgradeFault {
     ghost from_gives = { λ error fault. fault ≡ upgrade_fault error };
 
@@ -181,7 +170,6 @@ impl From<Error> for UpgradeFault {
     }
 }
 
-/// A failed allocation becomes Memory.
 impl From<AllocError> for WriteFault {
     ghost use Rattle.atl_store.specs.declared.fault.WriteFault.TheVariants.{Memory};
 
@@ -192,7 +180,6 @@ impl From<AllocError> for WriteFault {
     }
 }
 
-/// A failed allocation becomes Memory.
 impl From<AllocError> for LoadFault {
     ghost use Rattle.atl_store.specs.declared.fault.LoadFault.TheVariants.{Memory};
 
@@ -203,7 +190,6 @@ impl From<AllocError> for LoadFault {
     }
 }
 
-/// A failed allocation becomes Memory.
 impl From<AllocError> for UpgradeFault {
     ghost use Rattle.atl_store.specs.declared.fault.UpgradeFault.TheVariants.{Memory};
 
@@ -296,7 +282,6 @@ impl StoreFault {
     }
 }
 
-/// Numbers the faults of `upgrade`; callers know them by these numbers.
 impl UpgradeFault {
     /// The fault's number, from 1; `Memory` has none.
     pub fn number(&self) -> Option<u8>

@@ -19,7 +19,6 @@ use atl_sql::tables::create_tables;
 use sqlite::{Alter, Connection, Error, Transaction};
 use sqlite_schema::schema::Schema;
 
-/// Makes the tables and puts all rows of the campaign, inside a transaction.
 fn put_founding<S: Alter>(
     tx: &mut Transaction<'_, S>,
     text: &str,
@@ -35,7 +34,6 @@ fn put_founding<S: Alter>(
     OtherParts::fill(tx, campaign)
 }
 
-/// Makes the tables and puts all rows of the campaign in one transaction.
 fn write_founding<S: Alter>(
     conn: &mut Connection<S>,
     text: &str,
@@ -51,7 +49,6 @@ fn write_founding<S: Alter>(
     tx.commit()
 }
 
-/// Whether the schema has a table `campaign`.
 fn has_campaign_table(schema: &Schema) -> bool
     ensures { result ≡ has_campaign schema.now }
 {
@@ -59,7 +56,6 @@ fn has_campaign_table(schema: &Schema) -> bool
     tables.any(|table| table.name.as_slice() == b"campaign".as_slice())
 }
 
-/// Whether the schema has no table, index or view.
 fn is_blank(schema: &Schema) -> bool
     ensures { IsTrue result ↔ (schema.now ≡ no_tables) }
 {
@@ -68,7 +64,6 @@ fn is_blank(schema: &Schema) -> bool
         && schema.views.as_slice().is_empty()
 }
 
-/// Whether the database has no table, index or view and the connection is in no transaction.
 fn is_ready<S: Alter>(conn: &Connection<S>) -> bool
     ensures ready { IsTrue result ↔ (IsReadyToCreate (state S.Store conn.now)) }
     ensures settled { IsTrue result → IsTrue (state S.Store conn.now).is_open

@@ -3,7 +3,7 @@ ghost use Rattle.std.specs.Prelude.{refl};
 ghost use Rattle.atl_sql.specs.Tables.{Goods, has_table};
 ghost use Rattle.atl_sql.specs.Shown.{has_row};
 ghost use Rattle.atl_sql.specs.Written.{sort_number};
-ghost use Rattle.atl_sql.specs.Rows.{HasRowsOf};
+ghost use Rattle.atl_store.specs.Rows.{HasRowsOf};
 ghost use Rattle.atl_store.specs.GroupedRows.{goods_lines, unit_goods_lines, all_goods_lines};
 ghost use Rattle.atl_store.specs.OwnStatements.{OfChange};
 ghost use Rattle.atl_sql.specs.Writes.{Writes, WritesRows};
@@ -25,7 +25,6 @@ struct UnitThings {
     sort: ThingKind,
 }
 
-/// Writes amounts of a unit's items, or days of its skills, into `has`, by unit, kind and thing.
 impl AmountWriter for UnitThings {
     ghost table = { has_table };
 
@@ -33,7 +32,6 @@ impl AmountWriter for UnitThings {
 
     ghost line = { λ t. has_row t.unit (sort_number t.sort) };
 
-    /// Inserts the row of an item or skill of the unit into `has`, or changes the row with its key.
     fn put<S: Alter>(
         self,
         tx: &mut Transaction<'_, S>,
@@ -50,7 +48,6 @@ impl AmountWriter for UnitThings {
     }
 }
 
-/// Puts the rows of a unit's items and skills whose amount is not 0.
 fn put_goods<S: Alter>(
     tx: &mut Transaction<'_, S>,
     unit: u32,
@@ -71,7 +68,6 @@ fn put_goods<S: Alter>(
     put_amounts(tx, skills, holding.days())
 }
 
-/// Puts the rows of all units' items and skills whose amount is not 0.
 pub(crate) fn put_all_goods<S: Alter>(
     tx: &mut Transaction<'_, S>,
     units: SlotEntries<'_, Unit>,
@@ -103,17 +99,14 @@ impl Grouped for Unit {
 
     ghost are_rows = { λ own c r is. is };
 
-    /// The numbers of the units whose goods are all marked.
     fn marked_groups(campaign: &Campaign) -> MarkedNumbers<'_> {
         campaign.marked_goods()
     }
 
-    /// Puts the rows of the unit's items and skills whose amount is not 0 into `has`.
     fn put_rows<S: Alter>(&self, tx: &mut Transaction<'_, S>, number: u32) -> Result<(), Error> {
         put_goods(tx, number, &self.holding)
     }
 
-    /// Deletes all rows of the unit from `has`.
     fn drop_rows<S: Alter>(tx: &mut Transaction<'_, S>, number: u32) -> Result<(), Error> {
         drop_goods(tx, number)
     }

@@ -7,7 +7,7 @@ ghost use Rattle.atl_records.specs.declared.books.BooksEntry.TheVariants.{Joinin
 ghost use Rattle.atl_records.specs.declared.books.Thing.TheVariants.{Money, People};
 ghost use Rattle.atl_sql.specs.Tables.{faction_table, unit_table, report_table};
 ghost use Rattle.atl_sql.specs.Shown.{report_row};
-ghost use Rattle.atl_sql.specs.Rows.{campaign_row_of, row_of_faction, row_of_unit};
+ghost use Rattle.atl_store.specs.Rows.{campaign_row_of, row_of_faction, row_of_unit};
 ghost use Rattle.atl_sql.specs.PutsCampaignRow.{PutsCampaignRow};
 ghost use Rattle.atl_sql.specs.Causes.{IsFaultOfError};
 ghost use Rattle.atl_store.specs.Faults.{write_fault};
@@ -20,8 +20,8 @@ ghost use Rattle.atl_store.specs.Keeps.{Keeps, LeavesAfterFault, IsLater, Leaves
 use crate::campaign_row::put_campaign_row;
 use crate::fault::WriteFault;
 use crate::ledger::write_amount;
+use crate::numbered_rows::NumberedRow;
 use atl_campaign::{BooksEntry, Campaign, Faction, Thing, Unit};
-use atl_sql::numbered_rows::NumberedRow;
 use atl_world::Text;
 use sqlite::{Alter, Connection, Error, Transaction};
 
@@ -36,7 +36,6 @@ struct Arrival<'a> {
     report: &'a Text,
 }
 
-/// Gives the faction with this number, its report, and the unit numbered last (`next_unit - 1`).
 fn arrival_of(campaign: &Campaign, number: u32) -> Arrival<'_>
     requires { HasArrival campaign.now.value number }
     ensures found { HasArrivalWith campaign.now.value result.number result.faction.now
@@ -54,7 +53,6 @@ fn arrival_of(campaign: &Campaign, number: u32) -> Arrival<'_>
     }
 }
 
-/// Puts the campaign row, and the rows of the faction that joined and of its unit.
 fn put_newcomer<S: Alter>(
     tx: &mut Transaction<'_, S>,
     campaign: &Campaign,
@@ -74,8 +72,6 @@ fn put_newcomer<S: Alter>(
     arrival.unit.put(tx, arrival.unit_number)
 }
 
-/// Puts the row of the faction's report, and writes the two amounts that are booked under joining:
-/// money and people.
 fn put_report_and_amounts<S: Alter>(
     tx: &mut Transaction<'_, S>,
     campaign: &Campaign,
@@ -94,7 +90,6 @@ fn put_report_and_amounts<S: Alter>(
     write_amount(tx, campaign, BooksEntry::Joining, Thing::People)
 }
 
-/// Puts all rows that a faction's joining adds or changes, inside a transaction.
 fn put_joining<S: Alter>(
     tx: &mut Transaction<'_, S>,
     campaign: &Campaign,
@@ -110,7 +105,6 @@ fn put_joining<S: Alter>(
     put_report_and_amounts(tx, campaign, arrival)
 }
 
-/// Puts all rows that a faction's joining adds or changes, in one transaction.
 fn write_joining<S: Alter>(
     conn: &mut Connection<S>,
     campaign: &Campaign,

@@ -15,7 +15,6 @@ use atl_campaign::{BooksEntry, Campaign, Thing};
 use atl_sql::rows::books::{BooksRow, drop_books, put_books};
 use sqlite::{Alter, Error, Transaction};
 
-/// Puts the row of an amount of the books, if the amount is not 0.
 fn put_amount<S: Alter>(
     tx: &mut Transaction<'_, S>,
     campaign: &Campaign,
@@ -62,7 +61,6 @@ pub(crate) fn write_amount<S: Alter>(
     put_books(tx, &row)
 }
 
-/// Puts the rows of those amounts of a thing under the entries `entries` that are not 0.
 fn put_entries<S: Alter>(
     tx: &mut Transaction<'_, S>,
     campaign: &Campaign,
@@ -96,7 +94,6 @@ pub(crate) fn put_all_books<S: Alter>(
     Ok(())
 }
 
-/// If an amount of the books is marked, puts its row, or deletes the row if the amount is 0.
 fn rewrite_amount<S: Alter>(
     tx: &mut Transaction<'_, S>,
     campaign: &Campaign,
@@ -114,8 +111,6 @@ fn rewrite_amount<S: Alter>(
     Ok(())
 }
 
-/// Puts the rows of a thing's marked amounts under the entries `entries`, and deletes the rows of
-/// those that are 0.
 fn rewrite_entries<S: Alter>(
     tx: &mut Transaction<'_, S>,
     campaign: &Campaign,

@@ -21,7 +21,6 @@ use own::read_own;
 use sqlite::{Alter, Connection};
 use std::alloc::Global;
 
-/// Reads the world and the rows of all tables of the format, or gives the first fault of reading.
 fn gather<S: Alter>(
     alloc: Global,
     conn: &mut Connection<S>,

@@ -15,7 +15,6 @@ use crate::fault::WriteFault;
 use atl_sql::rows::mail::put_mail;
 use sqlite::{Alter, Connection, Error};
 
-/// Puts the row of a faction's mailing into `mail` in one transaction.
 fn write_mailing<S: Alter>(conn: &mut Connection<S>, faction: u32, text: &[u8]) -> Result<(), Error>
     requires { conn.old.in_transaction ≡ false }
     ensures { Transacts S.Store (OfMail faction text.now) HasTables (WritesMail faction text.now)

@@ -2,8 +2,8 @@
 ghost use Rattle.std.specs.Prelude.{refl};
 ghost use Rattle.atl_sql.specs.Tables.{Markets, market_table};
 ghost use Rattle.atl_sql.specs.Shown.{market_row};
-ghost use Rattle.atl_sql.specs.Marked.{region_and_item_pass};
-ghost use Rattle.atl_sql.specs.Rows.{MarketRowsOf};
+ghost use Rattle.atl_store.specs.Marked.{region_and_item_pass};
+ghost use Rattle.atl_store.specs.Rows.{MarketRowsOf};
 ghost use Rattle.atl_store.specs.GroupedRows.{region_stock_lines, all_stocks_lines};
 ghost use Rattle.atl_store.specs.OwnStatements.{OfChange};
 ghost use Rattle.atl_sql.specs.Writes.{Writes, WritesRows};
@@ -24,7 +24,6 @@ struct RegionStocks {
     region: u32,
 }
 
-/// Writes stocks of a region into `market`, whose key is the region and the item.
 impl AmountWriter for RegionStocks {
     ghost table = { market_table };
 
@@ -32,7 +31,6 @@ impl AmountWriter for RegionStocks {
 
     ghost line = { λ m. market_row m.region };
 
-    /// Inserts the row of an item of the region into `market`, or changes the row with its key.
     fn put<S: Alter>(
         self,
         tx: &mut Transaction<'_, S>,
@@ -43,7 +41,6 @@ impl AmountWriter for RegionStocks {
     }
 }
 
-/// Puts the rows of a region's stocks that are not 0.
 fn put_stocks<S: Alter>(
     tx: &mut Transaction<'_, S>,
     number: u32,
@@ -56,7 +53,6 @@ fn put_stocks<S: Alter>(
     put_amounts(tx, RegionStocks { region: number }, region.stocks.iter())
 }
 
-/// Puts the rows of all regions' stocks that are not 0.
 pub(crate) fn put_all_stocks<S: Alter>(
     tx: &mut Transaction<'_, S>,
     regions: Entries<'_, Region>,
@@ -88,17 +84,14 @@ impl Grouped for Region {
 
     ghost are_rows = { λ own c r is. is };
 
-    /// The numbers of the regions whose stocks are all marked.
     fn marked_groups(campaign: &Campaign) -> MarkedNumbers<'_> {
         campaign.marked_stocks()
     }
 
-    /// Puts the rows of the region's stocks that are not 0 into `market`.
     fn put_rows<S: Alter>(&self, tx: &mut Transaction<'_, S>, number: u32) -> Result<(), Error> {
         put_stocks(tx, number, self)
     }
 
-    /// Deletes all rows of the region from `market`.
     fn drop_rows<S: Alter>(tx: &mut Transaction<'_, S>, number: u32) -> Result<(), Error> {
         drop_stocks(tx, number)
     }
@@ -118,12 +111,10 @@ impl SingleAmounts for SingleStocks {
 
     ghost marks = { λ s m. m.stock_items };
 
-    /// The stocks that are marked one by one: the items' numbers, by the region's number.
     fn marked_singles(self, campaign: &Campaign) -> Entries<'_, Numbered<()>> {
         campaign.marked_stock_items()
     }
 
-    /// Puts the row of a stock into `market`, or deletes the row if the stock is 0.
     fn rewrite_single<S: Alter>(
         self,
         tx: &mut Transaction<'_, S>,

@@ -8,7 +8,7 @@ ghost use Rattle.atl_campaign.specs.Marks.{Marks, MarkedThings};
 ghost use Rattle.atl_store.specs.OwnStatements.{OfChange};
 ghost use Rattle.atl_sql.specs.Writes.{Writes};
 ghost use Rattle.atl_sql.specs.Inside.{DoesInside, HasTables};
-ghost use Rattle.atl_sql.specs.Marked.{has_thing};
+ghost use Rattle.atl_store.specs.Marked.{has_thing};
 ghost use Rattle.atl_store.specs.Rewriting.{FindsByNumbers, Rewrites, is_owner_and_thing, is_owner_and_listed};
 
 use atl_campaign::Campaign;
@@ -47,8 +47,6 @@ pub(crate) trait SingleAmounts: Copy {
             (wanted campaign.now.value))) result tx.old.conn tx.new.conn };
 }
 
-/// Puts the rows of an owner's amounts of the things in `numbers`, and deletes the rows of those
-/// that are 0.
 fn rewrite_amounts_of_owner<A: SingleAmounts, S: Alter>(
     tx: &mut Transaction<'_, S>,
     campaign: &Campaign,

@@ -1,11 +1,11 @@
 //! Writes the single items and skills of units that are marked, row by row.
 ghost use Rattle.std.specs.Prelude.{◌≡◌};
-ghost use Rattle.atl_sql.specs.Rows.{HasRowsOf, amount_under};
+ghost use Rattle.atl_store.specs.Rows.{HasRowsOf, amount_under};
 ghost use Rattle.atl_store.specs.OwnStatements.{OfChange};
 ghost use Rattle.atl_sql.specs.Tables.{has_table};
 ghost use Rattle.atl_sql.specs.Writes.{Writes};
 ghost use Rattle.atl_sql.specs.Inside.{DoesInside, HasTables};
-ghost use Rattle.atl_sql.specs.Marked.{unit_and_thing_pass};
+ghost use Rattle.atl_store.specs.Marked.{unit_and_thing_pass};
 ghost use Rattle.atl_store.specs.Rewriting.{RewritesThings, is_owner_and_thing, marked_things};
 
 use crate::singles::SingleAmounts;
@@ -14,7 +14,6 @@ use atl_sql::rows::has::{HasRow, ThingKind, drop_has, put_has};
 use atl_world::{Entries, Numbered};
 use sqlite::{Alter, Error, Transaction};
 
-/// How much of an item, or how many days of a skill, a unit has; 0 if there is no such unit.
 fn amount_of(campaign: &Campaign, unit: u32, sort: ThingKind, thing: u32) -> u32
     ensures { result ≡ amount_under campaign.now.value.units unit sort thing }
 {
@@ -27,7 +26,6 @@ fn amount_of(campaign: &Campaign, unit: u32, sort: ThingKind, thing: u32) -> u32
     }
 }
 
-/// Puts the row of a unit's item or skill, or deletes the row if the unit has none of the thing.
 fn rewrite_thing<S: Alter>(
     tx: &mut Transaction<'_, S>,
     campaign: &Campaign,
@@ -64,7 +62,6 @@ impl SingleAmounts for ThingKind {
 
     ghost marks = { λ sort m. marked_things m sort };
 
-    /// The items, or the skills, that are marked one by one: their numbers, by the unit's number.
     fn marked_singles(self, campaign: &Campaign) -> Entries<'_, Numbered<()>> {
         match self {
             ThingKind::Item => campaign.marked_items(),
@@ -72,7 +69,6 @@ impl SingleAmounts for ThingKind {
         }
     }
 
-    /// Puts the row of a unit's item or skill, or deletes the row if the unit has none of it.
     fn rewrite_single<S: Alter>(
         self,
         tx: &mut Transaction<'_, S>,

@@ -21,7 +21,6 @@ use atl_world::{Format, World};
 use sqlite::{Alter, Connection, Error, Transaction};
 use std::alloc::Global;
 
-/// Makes the table `market`, and gives the campaign row the second format and this world text.
 fn put_upgrade<S: Alter>(
     tx: &mut Transaction<'_, S>,
     text: &str,
@@ -35,8 +34,6 @@ fn put_upgrade<S: Alter>(
     upgrade_campaign_row(tx, campaign, text)
 }
 
-/// Makes the table `market`, and gives the campaign row the second format and this world text, in
-/// one transaction.
 fn write_upgrade<S: Alter>(
     conn: &mut Connection<S>,
     text: &str,

@@ -18,19 +18,16 @@ use Rattle.atl_tables.specs.declared.fault.WorldFault.{WorldFault}
 use Rattle.atl_tables.specs.declared.fault.WorldFault.TheVariants.{TwoNames}
 use Rattle.atl_tables.specs.declared.world_draft.WorldDraft.{WorldDraft}
 
--- if no condition of the list fs ++ gs is broken, no condition of its first part, fs, is broken
 first_part_has_no_fault : (fs gs : Conditions) → first_fault (fs ++ gs) ≡ None → first_fault fs ≡ None
 first_part_has_no_fault [] gs h = refl
 first_part_has_no_fault (None ∷ fs) gs h = first_part_has_no_fault fs gs h
 first_part_has_no_fault (Some f ∷ fs) gs h = h
 
--- if no condition of the list fs ++ gs is broken, no condition of its second part, gs, is broken
 second_part_has_no_fault : (fs gs : Conditions) → first_fault (fs ++ gs) ≡ None → first_fault gs ≡ None
 second_part_has_no_fault [] gs h = h
 second_part_has_no_fault (None ∷ fs) gs h = second_part_has_no_fault fs gs h
 second_part_has_no_fault (Some f ∷ fs) gs h = absurd (cc)
 
--- if no condition on any element of a list is broken (`conditions_on_each`), no condition on the k-th element is broken
 element_has_no_fault : {A : Type 0} (conditions : ℕ → A → Conditions) (i : ℕ) (xs : List A) → first_fault (conditions_on_each conditions i xs) ≡ None → (k : ℕ) (x : A) → slice_get xs k ≡ Some x → first_fault (conditions (i + k) x) ≡ None
 element_has_no_fault conditions i [] h k x e = absurd (cc)
 element_has_no_fault conditions i (y ∷ ys) h zero x e =
@@ -42,7 +39,6 @@ element_has_no_fault conditions i (y ∷ ys) h (suc k) x e =
     rw there (element_has_no_fault conditions (i + 1) ys (second_part_has_no_fault (conditions i y) (conditions_on_each conditions (i + 1) ys) h) k x e)
 
 module _ {A : Type 0} (title : A → List ℕ) where
-  -- whether some element of the list `front` has the same name as x, ignoring ASCII case
   abbrev name_occurs_in : A → List A → Bool
   name_occurs_in x front = list_any (λ y. same_name (title y) (title x)) front
 
@@ -52,18 +48,14 @@ module _ {A : Type 0} (title : A → List ℕ) where
   test_is_false true f h = absurd (cc)
   test_is_false false f h = refl
 
-  -- if the condition on duplicates of the i-th element, x, holds, no element before the i-th has the name of x
   no_duplicate : (array key : List ℕ) (all : List A) (i : ℕ) (x : A) → first_fault (no_duplicate_before title array key all i x) ≡ None → name_occurs_in x (take i all) ≡ false
   unfolding no_duplicate_before
   no_duplicate array key all i x h = test_is_false (name_occurs_in x (take i all)) (TwoNames (path (element_path array i) key)) h
 
-  -- the name of x differs from the names of all elements of a list, if it differs from that of the element at each
-  -- index
   head_differs : (x : A) (xs : List A) → ((k : ℕ) (y : A) → slice_get xs k ≡ Some y → same_name (title x) (title y) ≡ false) → AllByRecursion (λ n. same_name (title x) n ≡ false) (map title xs)
   head_differs x [] h = tt
   head_differs x (y ∷ ys) h = (h 0 y refl, head_differs x ys (λ k. h (suc k)))
 
-  -- if no element of front ++ x ∷ rest has the name of y, then the name of x differs from that of y
   in_middle : (front rest : List A) (x y : A) → name_occurs_in y (front ++ x ∷ rest) ≡ false → same_name (title x) (title y) ≡ false
   in_middle front rest x y h =
       let both = or_parts _ _ (sym (list_any-append (λ z. same_name (title z) (title y)) front (x ∷ rest)) ∙ h) in
@@ -80,13 +72,10 @@ module _ {A : Type 0} (title : A → List ℕ) where
   pub array_names_differ : (array key : List ℕ) (all : List A) → first_fault (no_duplicates title array key all) ≡ None → NamesDiffer (map title all)
   array_names_differ array key all h = later_names_differ [] all (λ k x e. let same : 0 + k ≡ k = omega arith in no_duplicate array key all k x (rw same at (element_has_no_fault (no_duplicate_before title array key all) 0 all h k x e)))
 
--- a list mapped by f has the same list of names as the list itself, if f keeps the name of each element
 pub names_kept : {A B : Type 0} (f : A → B) (n : A → List ℕ) (m : B → List ℕ) → ((x : A) → m (f x) ≡ n x) → (xs : List A) → map m (map f xs) ≡ map n xs
 names_kept f n m h [] = refl
 names_kept f n m h (x ∷ xs) = rw (h x, names_kept f n m h xs) refl
 
--- no two terrains, no two items, no two skills and no two kinds have the same name (`ThingNamesDiffer`), if the
--- conditions on these names hold (`titles_differ`)
 thing_names_differ_by_titles : (all : WorldDraft) → first_fault (titles_differ all) ≡ None → ThingNamesDiffer all
 unfolding titles_differ
 thing_names_differ_by_titles all h =

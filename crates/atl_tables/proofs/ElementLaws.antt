@@ -11,17 +11,13 @@ use Rattle.atl_tables.specs.Keys.{element_path}
 use Rattle.atl_tables.specs.Arrays.{element_table, element_conditions, elements_conditions, elements_of}
 use Rattle.atl_tables.proofs.FaultLaws.{fault_is_of_second_list, error_of_first_list_is_of_joined}
 
--- the elements of an array from the i-th on are the i-th, v, and those after it
 pub elements_from_index : (vs : List Value) (i : ℕ) (v : Value) → i < length vs → v ≡ get_or vs i v → items_view (drop i vs) ≡ item (view v) (items_view (drop (i + 1) vs))
 elements_from_index vs i v h e = items_view-drop vs i v h ∙ ap (λ (x : Value). item (view x) (items_view (drop (i + 1) vs))) (sym e)
 
 module _ (conditions : List ℕ → Members → Conditions) (key : List ℕ) (i : ℕ) (d : Data) (ds : Items) (total : Option WorldFault) where
-  -- if the conditions on the first element d hold, the first fault of the elements ds after it is that of all elements
   pub later_elements_have_same_fault : first_fault (elements_conditions conditions key i (item d ds)) ≡ total → first_fault (element_conditions conditions (element_path key i) d) ≡ None → first_fault (elements_conditions conditions key (i + 1) ds) ≡ total
   later_elements_have_same_fault so_far one = sym (fault_is_of_second_list (element_conditions conditions (element_path key i) d) (elements_conditions conditions key (i + 1) ds) one) ∙ so_far
 
-  -- an error e that is Memory or the first fault of the first element d is Memory or the first fault of all elements,
-  -- too (`IsFaultOrMemory`)
   pub error_of_element_is_error_of_all : (e : WorldFault) → first_fault (elements_conditions conditions key i (item d ds)) ≡ total → IsFaultOrMemory e (first_fault (element_conditions conditions (element_path key i) d)) → IsFaultOrMemory e total
   error_of_element_is_error_of_all e so_far one = subst (IsFaultOrMemory e) so_far (error_of_first_list_is_of_joined e (element_conditions conditions (element_path key i) d) (elements_conditions conditions key (i + 1) ds) one)
 

@@ -13,30 +13,23 @@ pub stops_first : {X Y : Type 0} (view : X → Y) (e : WorldFault) (r : Result Y
 stops_first view Memory r fs h = tt
 stops_first view e r fs h = rw h refl
 
--- if the first of two lists of conditions has no fault, the fault of the joined list is that of the second
 pub fault_is_of_second_list : (fs gs : Conditions) → first_fault fs ≡ None → first_fault (fs ++ gs) ≡ first_fault gs
 fault_is_of_second_list [] gs h = refl
 fault_is_of_second_list (None ∷ fs) gs h = fault_is_of_second_list fs gs h
 fault_is_of_second_list (Some f ∷ fs) gs h = absurd (cc)
 
--- if the first of two lists of conditions has a fault, that is the fault of the joined list
 fault_is_of_first_list : (f : WorldFault) (fs gs : Conditions) → first_fault fs ≡ Some f → first_fault (fs ++ gs) ≡ Some f
 fault_is_of_first_list f [] gs h = absurd (cc)
 fault_is_of_first_list f (None ∷ fs) gs h = fault_is_of_first_list f fs gs h
 fault_is_of_first_list f (Some x ∷ fs) gs h = h
 
--- an error that is Memory or the first fault of the first of two lists of conditions is that of the joined list, too
--- (`IsFaultOrMemory`)
 pub error_of_first_list_is_of_joined : (e : WorldFault) (fs gs : Conditions) → IsFaultOrMemory e (first_fault fs) → IsFaultOrMemory e (first_fault (fs ++ gs))
 error_of_first_list_is_of_joined Memory fs gs h = tt
 error_of_first_list_is_of_joined e fs gs h = fault_is_of_first_list e fs gs h
 
--- if the first of two lists of conditions has no fault, an error that is Memory or the fault of the second list is that
--- of both joined, too (`IsFaultOrMemory`)
 pub error_of_second_list_is_of_joined : (e : WorldFault) (fs gs : Conditions) → first_fault fs ≡ None → IsFaultOrMemory e (first_fault gs) → IsFaultOrMemory e (first_fault (fs ++ gs))
 error_of_second_list_is_of_joined e fs gs h s = subst (IsFaultOrMemory e) (sym (fault_is_of_second_list fs gs h)) s
 
--- if neither of two lists of conditions has a fault, the joined list has none
 pub joined_list_has_no_fault : (fs gs : Conditions) → first_fault fs ≡ None → first_fault gs ≡ None → first_fault (fs ++ gs) ≡ None
 joined_list_has_no_fault fs gs h s = fault_is_of_second_list fs gs h ∙ s
 
@@ -53,14 +46,10 @@ gives_implies_reads view (Ok x) fault v h = rw (h.0, h.1) refl
 gives_implies_reads view (Err Memory) fault v h = tt
 gives_implies_reads view (Err e) fault v h = rw h refl
 
--- an error that is Memory or the fault of a condition is that of any list that begins with this condition, too
--- (`IsFaultOrMemory`)
 pub error_of_condition_is_of_list : (e : WorldFault) (fault : Option WorldFault) (fs : Conditions) → IsFaultOrMemory e fault → IsFaultOrMemory e (first_fault (fault ∷ fs))
 error_of_condition_is_of_list Memory fault fs h = tt
 error_of_condition_is_of_list e fault fs h = rw h refl
 
--- What a call gives by one condition, it gives by the list of this condition alone, too. It gives the value v, the
--- condition's fault, or Memory (`Gives`).
 pub result_by_condition_is_by_list : {X Y : Type 0} (view : X → Y) (r : Result X WorldFault) (fault : Option WorldFault) (v : Y) → Gives view r fault v → Gives view r (first_fault (fault ∷ [])) v
 result_by_condition_is_by_list view r None v h = h
 result_by_condition_is_by_list view r (Some f) v h = h

@@ -7,12 +7,10 @@ use Rattle.atl_tables.specs.EachIndex.{EachIndex}
 use Rattle.atl_world.specs.Sums.{by_number}
 use Rattle.atl_world.proofs.GeneralLaws.{is_equal, insert_adds_at_most_one}
 
--- a map that equals the empty map has no entry
 pub len_none : {V : Type 0} (m : FinMap nat_cmp V) → m ≡ empty → len m ≡ 0
 len_none {V} m e = ap len e ∙ len-empty nat_cmp V
 
 module _ {V : Type 0} (number : V → ℕ) where
-  -- the map of a list of values, each under its own number, has no more entries than the list has values
   pub map_is_no_longer_than_list : (vs : List V) → len (by_number number vs) ≤ length vs
   map_is_no_longer_than_list [] = omega (arith, len-empty nat_cmp V)
   map_is_no_longer_than_list (v ∷ vs) = omega (arith, insert_adds_at_most_one (by_number number vs) (number v) v, map_is_no_longer_than_list vs)
@@ -26,7 +24,6 @@ module _ {V : Type 0} (number : V → ℕ) where
         subst (P n) same (subst (λ k. P k u) (sym (is_equal n (number u) e)) here)
     property_holds_after_put false n u v o e here rest h = rest h
 
-    -- if P holds of each value at its own number, P holds of each entry of the map of the values
     pub property_holds_in_map : (vs : List V) → EachIndex (λ i v. P (number v) v) vs → (n : ℕ) (v : V) → get (by_number number vs) n ≡ Some v → P n v
     property_holds_in_map [] all n v h = let e = get-empty {X = V} nat_cmp n in absurd (cc)
     property_holds_in_map (u ∷ vs) all n v h =

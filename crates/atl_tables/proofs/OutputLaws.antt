@@ -16,7 +16,6 @@ use Rattle.atl_tables.specs.declared.output_table.Output.{Output}
 abbrev pub entries_view : List (String Global × Value) → List (List ℕ × Data)
 entries_view es = map (λ e. (string_bytes e.0, view e.1)) es
 
--- `put_key` puts a key that is before all keys of the entries in front of them
 put_first : (k : String Global) (d : Data) (es : List (String Global × Value)) → is_before (string_bytes k) (members_view es) ≡ true → put_key (string_bytes k) d (entries_view es) ≡ (string_bytes k, d) ∷ entries_view es
 put_first k d [] h = refl
 put_first k d (e ∷ es) h = rw h refl
@@ -28,12 +27,9 @@ entries_in_order [] h = refl
 entries_in_order (e ∷ es) h = rw (entries_in_order es h.1) (put_first e.0 (view e.1) es (is_before-sorted e.0 es h.0))
 
 module _ (at : List ℕ) (e : List ℕ × Data) (es : List (List ℕ × Data)) (n : ℕ) (one : amount_at at e ≡ Ok n) where
-  -- if the first amount of an output has no fault, the first fault of the amounts after it is that of all amounts
   pub later_amounts_have_same_fault : (total : Option WorldFault) → first_fault (amounts_keys at (e ∷ es)) ≡ total → first_fault (amounts_keys at es) ≡ total
   later_amounts_have_same_fault total so_far = ap (λ (r : Result ℕ WorldFault). first_fault (fault_of r ∷ amounts_keys at es)) (sym one) ∙ so_far
 
-  -- after the amount n of the entry e is read, the amounts so far (`front`) and those of the entries left (es) are
-  -- still all amounts (`total`)
   pub amounts_with_one_more_are_all : (front : List Output) (total : List Output) → front ++ amounts_from at (e ∷ es) ≡ total → (front ++ record { item = e.0; amount = n } ∷ []) ++ amounts_from at es ≡ total
   amounts_with_one_more_are_all front total so_far =
       append_assoc front (record { item = e.0; amount = n } ∷ []) (amounts_from at es)

@@ -26,28 +26,21 @@ unfolding same_name
 has_more seen grown lowered name put same other =
     rw same at (btree_set_updates_text (string_bytes lowered) seen grown true put (map to_ascii_lowercase other)) ∙ choice_is_or (same_name name other) (has_name seen other)
 
--- if `new` is the negation of `there`, and is false, `there` is true: for `came_before`, where `there` says whether the
--- set has a name
 not_new_was_there : (new there : Bool) → new ≡ not there → new ≡ false → there ≡ true
 not_new_was_there new true said h = refl
 not_new_was_there new false said h = sym h ∙ said
 
--- if `new` is the negation of `there`, and is true, `there` is false: for `comes_first`, where `there` says whether the
--- set has a name
 new_was_not_there : (new there : Bool) → new ≡ not there → new ≡ true → there ≡ false
 new_was_not_there new true said h = sym h ∙ said
 new_was_not_there new false said h = refl
 
 module _ {A Z : Type 0} (title : A → List ℕ) (all : List A) (i : ℕ) (x : A) (seen : BTreeSet (String Z)) (so_far : HasNames title (take i all) seen) where
-  -- a name that isn't new to the names of the first i elements is the name of one of these
   pub came_before : (new : Bool) → new ≡ not (has_name seen (title x)) → new ≡ false → list_any (λ y. same_name (title y) (title x)) (take i all) ≡ true
   came_before new said h = sym (so_far (title x)) ∙ not_new_was_there new _ said h
 
-  -- a name that is new to the names of the first i elements is the name of none of these
   pub comes_first : (new : Bool) → new ≡ not (has_name seen (title x)) → new ≡ true → list_any (λ y. same_name (title y) (title x)) (take i all) ≡ false
   comes_first new said h = sym (so_far (title x)) ∙ new_was_not_there new _ said h
 
-  -- the set of the names of the first i elements has those of the first i + 1 after the name of the i-th is put in
   pub has_one_more : (grown : BTreeSet (String Z)) → i < length all → x ≡ get_or all i x → ((other : List ℕ) → has_name grown other ≡ (has_name seen other || same_name (title x) other)) → HasNames title (take (i + 1) all) grown
   has_one_more grown below here put name =
       let more = list_any_more (λ y. same_name (title y) name) all i x below in

@@ -19,7 +19,6 @@ use Rattle.atl_world.specs.declared.world.RegionPlan.{RegionPlan}
 use Rattle.atl_tables.proofs.HasNumberLaws.{map_is_no_longer_than_list, property_holds_in_map}
 use Rattle.atl_tables.proofs.DuplicateLaws.{names_kept}
 
--- what holds of all elements of a list holds of the one at an index
 pub holds_at_index : {A : Type 0} (P : A → Type 0) (xs : List A) → All P xs → (i : ℕ) (x : A) → slice_get xs i ≡ Some x → P x
 holds_at_index P xs all i x h = subst P (get_or_from_slice_get xs i x x h) (All-get_or P xs i x (slice_get_within xs i x h) all)
 

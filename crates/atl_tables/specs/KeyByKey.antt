@@ -8,9 +8,7 @@ use Rattle.atl_tables.specs.Keys.{KeyReader, number_at, name_at, text_at, flag_a
 -- what reading a table gives: the conditions on its keys in order, and its value, with a default where a key has a
 -- fault
 pub record TableReading (A : Type 0) : Type 0 where
-  -- the conditions on the keys, in order
   pub conditions : Conditions
-  -- the value that the table gives; with defaults where keys have a fault
   pub value : A
 
 -- a way to read a table: from its path and its members, the conditions on its keys and its value
@@ -40,8 +38,6 @@ value_only x = λ at t. record { conditions = []; value = x }
 -- reads keys as one part of a table: all conditions on them become one, whose fault is the first of theirs
 abbrev pub as_one_condition : {A : Type 0} → TableReader A → TableReader A
 as_one_condition table = λ at t. record { conditions = first_fault (conditions_of table at t) ∷ []; value = value_of table at t }
-
--- ---- tables of one key
 
 -- reads one key; the value is the default d if the key has a fault
 abbrev pub one_key : {A : Type 0} → A → KeyReader A → TableReader A

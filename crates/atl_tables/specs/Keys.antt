@@ -67,8 +67,6 @@ abbrev pub name_or_fault : List ℕ → Option (List ℕ) → Result (List ℕ) 
 name_or_fault p None = Err (WrongType p)
 name_or_fault p (Some s) = if name_ok s then Ok s else Err (OutOfRange p)
 
--- ---- keys of a table
-
 -- `number_at least most key at t` is the number under a key of the table t at a path, from least to most, else the
 -- fault Missing, WrongType or OutOfRange
 unfoldable pub number_at : ℕ → ℕ → List ℕ → List ℕ → Members → Result ℕ WorldFault
@@ -109,8 +107,6 @@ optional_text_at key at t = optional_value (λ d. value_or_wrong_type (path at k
 -- fault WrongType
 unfoldable pub optional_table_at : List ℕ → List ℕ → Members → Result Members WorldFault
 optional_table_at key at t = value_or_default no_members (λ d. value_or_wrong_type (path at key) (as_table d)) (get_member key t)
-
--- ---- tables and arrays
 
 -- the table under a key of the document, else the fault Missing or WrongType
 unfoldable pub table_at : List ℕ → Members → Result Members WorldFault

@@ -17,8 +17,6 @@ use Rattle.atl_tables.specs.declared.fault.WorldFault.TheVariants.{TwoNames}
 use Rattle.atl_tables.specs.declared.output_table.Output.{Output}
 use Rattle.atl_tables.specs.declared.world_draft.WorldDraft.{WorldDraft}
 
--- ---- the entries of a table in byte order
-
 -- entries sorted by key, with the entry of `key` put in before the first entry with a greater key
 abbrev pub put_key : List ℕ → Data → List (List ℕ × Data) → List (List ℕ × Data)
 put_key key d [] = (key, d) ∷ []
@@ -28,8 +26,6 @@ put_key key d (e ∷ es) = if is_lt (slice_cmp nat_cmp key e.0) then (key, d) �
 unfoldable pub in_byte_order : Members → List (List ℕ × Data)
 in_byte_order no_members = []
 in_byte_order (member key d ms) = put_key key d (in_byte_order ms)
-
--- ---- each key with its amount
 
 -- the amount under a key, from 0 to most_amount, of the table `output` at a path; else the fault WrongType or
 -- OutOfRange

@@ -23,13 +23,8 @@ world_parts_of all = record {
 
 -- the parts of a world are in their ranges, and refer only to terrains, items and skills that the file has
 pub record AreWorldPartsOf (all : WorldDraft) (p : WorldParts) : Type 0 where
-  -- the rules are in their ranges, and refer only to skills that the file has
   pub rules : AreRules (length all.skills) p.rules
-  -- each terrain is in its ranges, and has an amount of output for each item that the file has
   pub terrains : EachIndex (λ i x. IsTerrain (length all.items) x) p.terrains
-  -- each item is in its ranges, and refers only to skills and to other items that the file has
   pub items : EachIndex (λ i x. IsItem (length all.items) (length all.skills) i x) p.items
-  -- each kind is in its ranges, and refers only to items and skills that the file has
   pub kinds : EachIndex (λ i x. IsKind (length all.items) (length all.skills) x) p.kinds
-  -- each region is in its ranges, and refers only to terrains and items that the file has
   pub regions : EachIndex (λ i x. IsRegionPlan (length all.terrains) (length all.items) x.number x) p.regions

@@ -2,11 +2,11 @@
 //! also return `Memory`. See docs/FORMATS.md, "The world file".
 ghost use Rattle.std.specs.Prelude.{◌≡◌, ◌≤◌, ◌∷◌, ℕ, List, IfOk, Result, length};
 ghost use Rattle.std.specs.List.{All};
-ghost use Rattle.toml.specs.Data.{Members};
+ghost use Rattle.toml.specs.Data.{Members, as_array};
 ghost use Rattle.toml.specs.View.{view, table_view, array_view};
 ghost use Rattle.atl_tables.specs.Faults.{Conditions, first_fault};
 ghost use Rattle.atl_tables.specs.Results.{Gives};
-ghost use Rattle.atl_tables.specs.Keys.{element_path, array_at, optional_array_at};
+ghost use Rattle.atl_tables.specs.Keys.{element_path, array_of_size, array_at, optional_array_at};
 ghost use Rattle.atl_tables.specs.Arrays.{element_table, element_conditions, elements_conditions, elements_of, list_conditions, list_of};
 
 use crate::fault::WorldFault;
@@ -36,8 +36,6 @@ pub(crate) trait FromTable: Drop {
         ensures sound { IfOk result is_sound };
 }
 
-/// The element `value`, the i-th of the array at the path `key`, as read, else the fault WrongType
-/// if it is no table, or the first fault of its keys.
 fn one_element<E: FromTable>(
     alloc: Global,
     key: &str,
@@ -58,8 +56,6 @@ fn one_element<E: FromTable>(
     }
 }
 
-/// All elements of the array at the path `key`, as read, in order, else the first fault of an
-/// element.
 fn elements<E: FromTable>(alloc: Global, key: &str, values: &Array) -> Result<Vec<E>, WorldFault>
     ensures value { Gives (λ v. v.items) result
         (first_fault (elements_conditions E.conditions key.now 0 (array_view values.now)))
@@ -73,6 +69,28 @@ fn elements<E: FromTable>(alloc: Global, key: &str, values: &Array) -> Result<Ve
         read.push(one)?;
     }
     Ok(read)
+}
+
+/// The `least` to `most` elements of the array that a value is, as read, else the fault WrongType or
+/// OutOfRange at the path `array`, or the first fault of an element.
+#[tactic(auto, unfolding(crate::specs::Arrays::list_conditions, crate::specs::Arrays::list_of))]
+pub(crate) fn array_elements<E: FromTable>(
+    alloc: Global,
+    least: usize,
+    most: usize,
+    array: &str,
+    value: &Value,
+) -> Result<Sequence<E>, WorldFault>
+    ensures value { Gives (λ v. v) result
+        (first_fault (list_conditions E.conditions array.now
+        (array_of_size array.now least most (as_array (view value.now)))))
+        (list_of E.record_of array.now
+        (array_of_size array.now least most (as_array (view value.now)))) }
+    ensures sound { IfOk result (λ v. All E.is_sound v) }
+    ensures most { IfOk result (λ v. length v ≤ most) }
+{
+    let values = array_of_size(alloc, least, most, array, value)?;
+    Ok(Sequence::from_vec(elements(alloc, array, values)?))
 }
 
 /// The 1 to `most` elements of the array under a key of the document, else the fault Missing,
@@ -93,10 +111,7 @@ pub(crate) fn read_array<E: FromTable>(
 {
     match member(document, key) {
         None => Err(WorldFault::Missing(Text::from_str(alloc, key)?)),
-        Some(value) => {
-            let values = array_of_size(alloc, 1, most, key, value)?;
-            Ok(Sequence::from_vec(elements(alloc, key, values)?))
-        }
+        Some(value) => array_elements(alloc, 1, most, key, value),
     }
 }
 
@@ -121,9 +136,6 @@ pub(crate) fn read_optional_array<E: FromTable>(
 {
     match member(table, key) {
         None => Ok(Sequence::new(alloc)),
-        Some(value) => {
-            let values = array_of_size(alloc, 0, most, array, value)?;
-            Ok(Sequence::from_vec(elements(alloc, array, values)?))
-        }
+        Some(value) => array_elements(alloc, 0, most, array, value),
     }
 }

@@ -34,9 +34,7 @@ pub enum WorldFault {
     Memory,
 }
 
-/// Gives the fault's number, its name, and the path in the file that it is about.
 impl WorldFault {
-    /// The number of the fault, if it has one, and its name.
     fn number_and_name(&self) -> (Option<u8>, &'static str)
         ensures number { result.0 ≡ fault_number self.now }
         ensures name { result.1.now ≡ fault_name self.now }
@@ -90,7 +88,6 @@ impl WorldFault {
 /// Writes the fault's number (`Memory` has none), its name, and its path if it has one, as
 /// `3 WrongType rules.growth`.
 impl fmt::Display for WorldFault {
-    /// Writes the number, the name and the path.
     fn fmt<W: fmt::Write>(&self, f: &mut fmt::Formatter<W>) -> fmt::Result {
         let name = self.name();
         match (self.number(), self.path()) {
@@ -101,20 +98,16 @@ impl fmt::Display for WorldFault {
     }
 }
 
-/// Lets a caller handle a world fault as any `Error`; its text is what `Display` writes.
 impl Error for WorldFault {}
 
-/// A failed allocation becomes the fault `Memory`.
 impl From<AllocError> for WorldFault {
     ghost from_gives = { λ _ e. e ≡ Memory };
 
-    /// The fault `Memory`, whatever the failed allocation was for.
     fn from(_error: AllocError) -> WorldFault {
         WorldFault::Memory
     }
 }
 
-/// A failed allocation, which gives back a value, becomes the fault `Memory`.
 impl<T: Drop> From<AllocFailed<T>> for WorldFault {
     ghost from_gives = { λ _ e. e ≡ Memory };
 

@@ -8,10 +8,8 @@ use std::alloc::{AllocError, Global};
 
 /// A value with a number of its own, under which a map stores it.
 pub(crate) trait HasNumber: Drop {
-    // The number under which the value is stored.
     ghost own_number_of: { Self → ℕ };
 
-    /// The value's own number, under which a map stores the value.
     fn own_number(&self) -> u32
         ensures { result ≡ own_number_of self.now };
 }

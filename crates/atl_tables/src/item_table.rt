@@ -22,18 +22,15 @@ use toml::Table;
 
 /// What making one item takes, with the skill and the raw item by name.
 pub struct Recipe {
-    /// The name of the skill that makes the item, where there is one.
     pub skill: Option<Text>,
     /// The level of the skill that making one takes, from 1 to `LAST_LEVEL`; 1 where the file has
     /// none.
     pub level: u32,
-    /// The name of the item that the item is made of, where there is one.
     pub raw: Option<Text>,
     /// How many raw items one item is made of, from 1 to `MOST_RAW_COUNT`; 1 if the file has none.
     pub raw_count: u32,
 }
 
-/// Drops the names of the skill and of the raw item.
 impl Drop for Recipe {
     fn drop(self) {
         let_go!(self: Recipe { skill, level, raw, raw_count });
@@ -48,11 +45,9 @@ pub struct ItemDraft {
     pub weight: u32,
     /// The weight of goods that one item carries, at most `MOST_WEIGHT`.
     pub carry: u32,
-    /// What making one item takes.
     pub making: Recipe,
 }
 
-/// Drops the item's name and what making one takes.
 impl Drop for ItemDraft {
     fn drop(self) {
         let_go!(self: ItemDraft { name, weight, carry, making });
@@ -68,8 +63,6 @@ impl FromTable for Recipe {
 
     ghost is_sound = { IsRecipe };
 
-    /// What making the item takes, as the table at the path `at` says, else the first fault of its
-    /// keys `skill`, `level`, `raw` and `raw_count`.
     #[tactic(auto, unfolding(crate::specs::ItemTable::making_at))]
     fn read(alloc: Global, at: &str, table: &Table) -> Result<Recipe, WorldFault> {
         let skill = keys::optional_text(alloc, "skill", at, table)?;
@@ -85,8 +78,6 @@ impl FromTable for Recipe {
     }
 }
 
-/// Reads all keys of a table `[[item]]`: its name, what it weighs and carries, what making one
-/// takes.
 impl FromTable for ItemDraft {
     ghost conditions = { item_keys };
 
@@ -94,7 +85,6 @@ impl FromTable for ItemDraft {
 
     ghost is_sound = { IsItemDraft };
 
-    /// The item that the table at a path describes, else the first fault of the table's keys.
     #[tactic(auto, unfolding(crate::specs::ItemTable::item_at))]
     fn read(alloc: Global, at: &str, table: &Table) -> Result<ItemDraft, WorldFault> {
         let name = keys::name(alloc, "name", at, table)?;
@@ -110,11 +100,9 @@ impl FromTable for ItemDraft {
     }
 }
 
-/// The title of an item is its name.
 impl Titled for ItemDraft {
     ghost title_of = { λ x. x.name };
 
-    /// The name of the item.
     fn title(&self) -> &Text {
         &self.name
     }
@@ -168,7 +156,6 @@ fn raw_item(
     }
 }
 
-/// Makes the item of a table `[[item]]`, with its skill and its raw item looked up by name.
 impl Draft for ItemDraft {
     type Record = Item;
 
@@ -180,8 +167,6 @@ impl Draft for ItemDraft {
 
     ghost is_sound = { λ all i x. IsItem (length all.items) (length all.skills) i x };
 
-    /// The item with its skill and its raw item by number, else the fault UnknownName at the first
-    /// name that refers to nothing.
     #[tactic(auto, unfolding(crate::specs::ItemTable::item_known, crate::specs::ItemTable::item_of))]
     fn resolve(&self, alloc: Global, all: &WorldDraft, i: usize) -> Result<Item, WorldFault> {
         let element = element_path(alloc, "item", i)?;

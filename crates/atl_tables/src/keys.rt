@@ -27,14 +27,25 @@ pub(crate) fn element_path(alloc: Global, key: &str, i: usize) -> Result<Text, A
     Ok(Text::from_string(format!(in alloc; "{key}[{i}]")?))
 }
 
-/// The value under a key of a table, `None` if the key is missing.
+/// The path of a key of the i-th element of the array at the path `array`, as `region[0].number`.
+pub(crate) fn element_key_path(
+    alloc: Global,
+    array: &str,
+    i: usize,
+    key: &str,
+) -> Result<Text, AllocError>
+    ensures { IfOk result (λ text. text ≡ path (element_path array.now i) key.now) }
+{
+    let element = element_path(alloc, array, i)?;
+    path(alloc, element.as_str(), key)
+}
+
 pub(crate) fn member<'a>(table: &'a Table, key: &str) -> Option<&'a Value>
     ensures { option_map (λ v. view v.now) result ≡ get_member key.now (table_view table.now) }
 {
     table.get(key)
 }
 
-/// An integer as a number of 32 bits, `None` if it isn't from `least` to `most`.
 fn number_within(least: u32, most: u32, number: i64) -> Option<u32>
     ensures value { result ≡ number_within least most number }
     ensures least { IfSome result (λ n. least ≤ n) }
@@ -166,7 +177,6 @@ pub(crate) fn name(alloc: Global, key: &str, at: &str, table: &Table) -> Result<
     }
 }
 
-/// A copy of the text that a value is, else the fault WrongType at the path of its key.
 fn text_value(alloc: Global, key: &str, at: &str, value: &Value) -> Result<Text, WorldFault>
     ensures { Reads (λ t. t) result
         (value_or_wrong_type (path at.now key.now) (as_str (view value.now))) }
@@ -240,7 +250,6 @@ pub(crate) fn table<'a>(
     }
 }
 
-/// The number of elements of an array.
 fn count(array: &Array) -> usize
     ensures value { result ≡ count_of (array_view array.now) }
     ensures length { result ≡ length array.now.items }

@@ -18,17 +18,14 @@ use toml::Table;
 
 /// What building a structure takes, with its material and its skill by name.
 pub struct BuildingNeeds {
-    /// The name of the item that the structure is built of.
     pub material: Text,
     /// How much material makes the structure complete, from 1 to `MOST_SIZE`.
     pub size: u32,
-    /// The name of the skill that builds the structure.
     pub skill: Text,
     /// The level of the skill that building the structure takes, from 1 to `LAST_LEVEL`.
     pub level: u32,
 }
 
-/// Drops the names of the material and of the skill.
 impl Drop for BuildingNeeds {
     fn drop(self) {
         let_go!(self: BuildingNeeds { material, size, skill, level });
@@ -53,13 +50,10 @@ pub struct KindDraft {
     pub name: Text,
     /// Whether the structure is a ship, else it is a building.
     pub ship: bool,
-    /// What building the structure takes.
     pub building: BuildingNeeds,
-    /// What the structure is good for.
     pub purpose: Purpose,
 }
 
-/// Drops the kind's name, what building one takes, and what it is good for.
 impl Drop for KindDraft {
     fn drop(self) {
         let_go!(self: KindDraft { name, ship, building, purpose });
@@ -75,8 +69,6 @@ impl FromTable for BuildingNeeds {
 
     ghost is_sound = { AreBuildingNeeds };
 
-    /// What building the structure takes, as the table at the path `at` says, else the first fault
-    /// of its keys `material`, `size`, `skill` and `level`.
     #[tactic(auto, unfolding(crate::specs::KindTable::building_needs_at))]
     fn read(alloc: Global, at: &str, table: &Table) -> Result<BuildingNeeds, WorldFault> {
         let material = keys::text(alloc, "material", at, table)?;
@@ -101,8 +93,6 @@ impl FromTable for Purpose {
 
     ghost is_sound = { IsPurpose };
 
-    /// What the structure is good for, as the table at the path `at` says, else the first fault of
-    /// its keys `capacity`, `crew` and `helps`.
     #[tactic(auto, unfolding(crate::specs::KindTable::purpose_at))]
     fn read(alloc: Global, at: &str, table: &Table) -> Result<Purpose, WorldFault> {
         let capacity = keys::number_or(alloc, 0, 0, MOST_AMOUNT, "capacity", at, table)?;
@@ -116,8 +106,6 @@ impl FromTable for Purpose {
     }
 }
 
-/// Reads all keys of a table `[[kind]]`: its name, whether it is a ship, what building one takes,
-/// and what it is good for.
 impl FromTable for KindDraft {
     ghost conditions = { kind_keys };
 
@@ -125,7 +113,6 @@ impl FromTable for KindDraft {
 
     ghost is_sound = { IsKindDraft };
 
-    /// The kind that the table at a path describes, else the first fault of the table's keys.
     #[tactic(auto, unfolding(crate::specs::KindTable::kind_at))]
     fn read(alloc: Global, at: &str, table: &Table) -> Result<KindDraft, WorldFault> {
         let name = keys::name(alloc, "name", at, table)?;
@@ -141,17 +128,14 @@ impl FromTable for KindDraft {
     }
 }
 
-/// The title of a kind of structure is its name.
 impl Titled for KindDraft {
     ghost title_of = { λ x. x.name };
 
-    /// The name of the kind of structure.
     fn title(&self) -> &Text {
         &self.name
     }
 }
 
-/// Makes the kind of a table `[[kind]]`, with its material and its skills looked up by name.
 impl Draft for KindDraft {
     type Record = Kind;
 
@@ -163,8 +147,6 @@ impl Draft for KindDraft {
 
     ghost is_sound = { λ all i x. IsKind (length all.items) (length all.skills) x };
 
-    /// The kind with its material and its skills by number, else the fault UnknownName at the first
-    /// name that refers to nothing.
     #[tactic(auto, unfolding(crate::specs::KindTable::kind_known, crate::specs::KindTable::kind_of))]
     fn resolve(&self, alloc: Global, all: &WorldDraft, i: usize) -> Result<Kind, WorldFault> {
         let element = element_path(alloc, "kind", i)?;

@@ -9,10 +9,10 @@ ghost use Rattle.atl_tables.specs.Results.{Gives};
 ghost use Rattle.atl_tables.specs.MarketTable.{market_keys, market_from, markets_keys, markets_from, market_known, market_of};
 ghost use Rattle.atl_world.specs.Worlds.{IsMarket};
 
-use crate::elements::{FromTable, read_optional_array};
+use crate::elements::{FromTable, array_elements};
 use crate::fault::WorldFault;
 use crate::has_number::HasNumber;
-use crate::keys::{self, path};
+use crate::keys::{self, member, path};
 use crate::titles::known_number;
 use crate::world_draft::{Draft, WorldDraft};
 use atl_world::limits::{MOST_AMOUNT, MOST_MARKETS, MOST_PRICE};
@@ -24,7 +24,6 @@ use toml::Table;
 pub struct MarketDraft {
     /// The path of the market's table, as `region[0].market[1]`.
     pub table_path: Text,
-    /// The name of the item that the market trades.
     pub item: Text,
     /// Money that a unit pays the market for one item, from 1 to `MOST_PRICE`.
     pub price: u32,
@@ -36,7 +35,6 @@ pub struct MarketDraft {
     pub restock: u32,
 }
 
-/// Drops the path of the market's table and the name of its item.
 impl Drop for MarketDraft {
     fn drop(self) {
         let_go!(self: MarketDraft { table_path, item, price, pays, limit, restock });
@@ -51,7 +49,6 @@ impl FromTable for MarketDraft {
 
     ghost is_sound = { IsMarketDraft };
 
-    /// The market that the table at a path describes, else the first fault of the table's keys.
     #[tactic(auto, unfolding(crate::specs::MarketTable::market_keys, crate::specs::MarketTable::market_from))]
     fn read(alloc: Global, at: &str, table: &Table) -> Result<MarketDraft, WorldFault> {
         let item = keys::text(alloc, "item", at, table)?;
@@ -73,7 +70,7 @@ impl FromTable for MarketDraft {
 
 /// The markets of the region at a path, at most `MOST_MARKETS` in the order of the file, else the
 /// first fault of their array or of one of them.
-#[tactic(auto, unfolding(crate::specs::MarketTable::markets_keys, crate::specs::MarketTable::markets_from))]
+#[tactic(auto, unfolding(crate::specs::MarketTable::markets_keys, crate::specs::MarketTable::markets_from, crate::specs::Keys::optional_array_at, crate::specs::Arrays::list_conditions, crate::specs::Arrays::list_of))]
 pub(crate) fn markets(
     alloc: Global,
     at: &str,
@@ -83,21 +80,23 @@ pub(crate) fn markets(
         (markets_from at.now (table_view table.now)) }
     ensures sound { IfOk result (λ v. All IsMarketDraft v) }
 {
-    let array = path(alloc, at, "market")?;
-    read_optional_array::<MarketDraft>(alloc, MOST_MARKETS, array.as_str(), "market", table)
+    match member(table, "market") {
+        None => Ok(Sequence::new(alloc)),
+        Some(value) => {
+            let array = path(alloc, at, "market")?;
+            array_elements::<MarketDraft>(alloc, 0, MOST_MARKETS, array.as_str(), value)
+        }
+    }
 }
 
-/// The title of a market is the name of its item.
 impl Titled for MarketDraft {
     ghost title_of = { λ d. d.item };
 
-    /// The name of the market's item.
     fn title(&self) -> &Text {
         &self.item
     }
 }
 
-/// Makes the market of a table `[[region.market]]`, with its item looked up by name.
 impl Draft for MarketDraft {
     type Record = Market;
 
@@ -109,7 +108,6 @@ impl Draft for MarketDraft {
 
     ghost is_sound = { λ all i m. IsMarket (length all.items) m.item m };
 
-    /// The market with its item by number, else the fault UnknownName if no item has the name.
     #[tactic(auto, unfolding(crate::specs::MarketTable::market_known, crate::specs::MarketTable::market_of))]
     fn resolve(&self, alloc: Global, all: &WorldDraft, _i: usize) -> Result<Market, WorldFault> {
         let at = self.table_path.as_str();
@@ -128,7 +126,6 @@ impl Draft for MarketDraft {
 impl HasNumber for Market {
     ghost own_number_of = { λ m. m.item };
 
-    /// The number of the market's item.
     fn own_number(&self) -> u32 {
         u32::from(self.item)
     }

@@ -1,23 +1,22 @@
 //! Checks that neighbours are mutual. A call that may return a fault may also return `Memory`. See
 //! docs/FORMATS.md, "The world file".
-ghost use Rattle.std.specs.Prelude.{◌≡◌, OnOk, option_and_then};
+ghost use Rattle.std.specs.Prelude.{◌≡◌, codes, OnOk, option_and_then};
 ghost use Rattle.std.specs.FinMap.{get};
 ghost use Rattle.std.specs.List.{All};
 ghost use Rattle.atl_tables.specs.Each.{conditions_on_each};
 ghost use Rattle.atl_tables.specs.Faults.{first_fault};
 ghost use Rattle.atl_tables.specs.Results.{Gives};
-ghost use Rattle.atl_tables.specs.Keys.{path};
+ghost use Rattle.atl_tables.specs.Keys.{path, element_path};
 ghost use Rattle.atl_tables.specs.Neighbours.{equals_number, neighbour_fault, neighbours_at};
 ghost use Rattle.atl_world.specs.Worlds.{neighbour_to, LeadsBack, HasMutualNeighbours};
 
 use crate::fault::WorldFault;
-use crate::keys::{element_path, path};
+use crate::keys::element_key_path;
 use crate::region_table::RegionDraft;
 use atl_world::Direction::{self, East, North, South, West};
 use atl_world::{Numbered, RegionPlan};
 use std::alloc::Global;
 
-/// The number of a region's neighbour on a side, `None` if there is no such region or no neighbour.
 fn region_next_to(regions: &Numbered<RegionPlan>, number: u32, side: Direction) -> Option<u32>
     ensures { result ≡ option_and_then (neighbour_to side) (get regions.now number) }
 {
@@ -27,7 +26,6 @@ fn region_next_to(regions: &Numbered<RegionPlan>, number: u32, side: Direction) 
     }
 }
 
-/// Whether `other` is given (`Some`) and equals the region number `number`.
 fn equals_number(number: u32, other: Option<u32>) -> bool
     ensures { result ≡ equals_number number other }
 {
@@ -38,18 +36,19 @@ fn equals_number(number: u32, other: Option<u32>) -> bool
 }
 
 /// Checks that the neighbour `other` of the region `number`, if there is one, has this region on
-/// its side `opposite`. An error is the fault BadNeighbour at `key` of the table at the path `at`.
+/// its side `opposite`. An error is the fault BadNeighbour at `key` of the i-th region of the file.
 fn check_neighbour(
     alloc: Global,
+    i: usize,
     key: &str,
-    at: &str,
     regions: &Numbered<RegionPlan>,
     opposite: Direction,
     number: u32,
     other: Option<u32>,
 ) -> Result<(), WorldFault>
     ensures value { Gives (λ u. u) result
-        (neighbour_fault (path at.now key.now) regions.now opposite number other) (tt {0}) }
+        (neighbour_fault (path (element_path (codes "region") i) key.now) regions.now opposite
+        number other) (tt {0}) }
     ensures back { OnOk result (LeadsBack regions.now (neighbour_to opposite) number other) }
 {
     match other {
@@ -58,13 +57,11 @@ fn check_neighbour(
             if equals_number(number, region_next_to(regions, other, opposite)) {
                 return Ok(());
             }
-            Err(WorldFault::BadNeighbour(path(alloc, at, key)?))
+            Err(WorldFault::BadNeighbour(element_key_path(alloc, "region", i, key)?))
         }
     }
 }
 
-/// Checks that each neighbour of the i-th region of the file has this region on its opposite side,
-/// else gives the fault BadNeighbour at the first side whose neighbour hasn't.
 #[tactic(auto, unfolding(crate::specs::Neighbours::neighbours_at))]
 fn neighbours_of(
     alloc: Global,
@@ -78,14 +75,12 @@ fn neighbours_of(
         (HasMutualNeighbours regions.now draft.now.basics.number draft.now.sides.north
         draft.now.sides.south draft.now.sides.east draft.now.sides.west) }
 {
-    let element = element_path(alloc, "region", i)?;
-    let at = element.as_str();
     let number = draft.basics.number;
     let sides = &draft.sides;
-    check_neighbour(alloc, "north", at, regions, South, number, sides.north)?;
-    check_neighbour(alloc, "south", at, regions, North, number, sides.south)?;
-    check_neighbour(alloc, "east", at, regions, West, number, sides.east)?;
-    check_neighbour(alloc, "west", at, regions, East, number, sides.west)
+    check_neighbour(alloc, i, "north", regions, South, number, sides.north)?;
+    check_neighbour(alloc, i, "south", regions, North, number, sides.south)?;
+    check_neighbour(alloc, i, "east", regions, West, number, sides.east)?;
+    check_neighbour(alloc, i, "west", regions, East, number, sides.west)
 }
 
 /// Checks that each neighbour of each region has the region on its opposite side, else gives the

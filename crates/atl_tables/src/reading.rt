@@ -49,8 +49,6 @@ pub struct OptionalTables {
     pub kinds: Sequence<KindDraft>,
 }
 
-/// The tables of items, skills and kinds of the document, else the first fault of an array or a
-/// key.
 #[tactic(auto, unfolding(crate::specs::World::optional_conditions, crate::specs::World::optional_tables_of))]
 fn read_optional_tables(alloc: Global, document: &Table) -> Result<OptionalTables, WorldFault>
     ensures value { Gives (λ t. t) result
@@ -114,8 +112,6 @@ fn tables(alloc: Global, format: Format, document: &Table) -> Result<WorldDraft,
     })
 }
 
-/// Checks that no two terrains, no two items, no two skills and no two kinds have the same name,
-/// else gives the fault TwoNames.
 #[tactic(auto, unfolding(crate::specs::World::titles_differ))]
 fn titles_differ(alloc: Global, all: &WorldDraft) -> Result<(), WorldFault>
     ensures { Gives (λ u. u) result (first_fault (titles_differ all.now)) (tt {0}) }
@@ -138,8 +134,6 @@ fn names_differ(alloc: Global, all: &WorldDraft) -> Result<(), WorldFault>
     no_duplicates_inside(alloc, all.regions.as_slice())
 }
 
-/// The parts of the world that the tables describe, except its skills, with names looked up, else
-/// the fault UnknownName at the first name that refers to nothing.
 #[tactic(auto, unfolding(crate::specs::World::names_are_known))]
 fn resolve(alloc: Global, all: &WorldDraft) -> Result<WorldParts, WorldFault>
     requires { IsWorldDraft all.now }
@@ -161,7 +155,6 @@ fn resolve(alloc: Global, all: &WorldDraft) -> Result<WorldParts, WorldFault>
     })
 }
 
-/// Whether the terrain of a region, looked up by its number in `terrains`, is land.
 fn is_land(terrains: &[Terrain], plan: &RegionPlan) -> bool
     ensures { result ≡ is_land terrains.now plan.now }
 {
@@ -188,8 +181,6 @@ fn land_numbers(
     Ok(numbers)
 }
 
-/// Makes the world of its parts, if the terrain of some region is land, else gives the fault
-/// NoLand.
 fn world_with_land(
     alloc: Global,
     rules: Rules,
@@ -250,7 +241,6 @@ fn from_tables(alloc: Global, all: WorldDraft) -> Result<World, WorldFault>
     make_world(alloc, all, parts)
 }
 
-/// The world that a document of TOML describes in a format, or its first fault.
 #[tactic(auto, unfolding(crate::specs::World::document_conditions))]
 fn from_document(alloc: Global, format: Format, document: &Table) -> Result<World, WorldFault>
     ensures { Gives (λ w. w) result (first_fault
@@ -261,7 +251,6 @@ fn from_document(alloc: Global, format: Format, document: &Table) -> Result<Worl
     from_tables(alloc, all)
 }
 
-/// The world that a text describes in a format, or its first fault.
 #[tactic(auto, unfolding(crate::specs::World::world_of_text))]
 fn read(alloc: Global, format: Format, text: &str) -> Result<World, WorldFault>
     ensures { Reads (λ w. w) result (world_of_text format text.now) }

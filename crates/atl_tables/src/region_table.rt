@@ -1,19 +1,23 @@
 //! Reads the tables `[[region]]` and looks up the terrains and items that they name. A call that
 //! may return a fault may also return `Memory`. See docs/FORMATS.md, "The world file".
-ghost use Rattle.std.specs.Prelude.{◌≡◌, IfOk, length, map};
+ghost use Rattle.std.specs.Prelude.{◌≡◌, ◌≤◌, ◌<◌, IfOk, codes, length, map, unwrap_or};
 ghost use Rattle.toml.specs.View.{table_view};
 ghost use Rattle.atl_tables.specs.Drafts.{AreRegionBasics, IsOldRegion, IsRegionDraft};
 ghost use Rattle.atl_tables.specs.Faults.{first_fault};
+ghost use Rattle.atl_tables.specs.Keys.{path, element_path};
 ghost use Rattle.atl_tables.specs.Results.{Gives};
 ghost use Rattle.atl_tables.specs.RegionTable.{basics_keys, basics_from, side_keys, sides_from, old_region_keys, old_region_from, as_draft, region_keys, region_from, duplicate_market_items, region_known, region_of};
+ghost use Rattle.atl_tables.specs.Titles.{number_of, name_is_known};
+ghost use Rattle.atl_world.specs.Limits.{most_numbered};
 ghost use Rattle.atl_world.specs.Worlds.{IsRegionPlan};
 
 use crate::elements::FromTable;
 use crate::fault::WorldFault;
 use crate::has_number::{HasNumber, by_number};
-use crate::keys::{self, element_path, path};
+use crate::keys::{self, element_key_path};
 use crate::market_table::{MarketDraft, markets};
-use crate::titles::{HasUniqueNames, known_number, no_duplicate_names};
+use crate::terrain_table::TerrainDraft;
+use crate::titles::{HasUniqueNames, first_duplicate, number_of};
 use crate::world_draft::{Draft, WorldDraft, resolve_all};
 use atl_world::limits::{LAST_REGION, MOST_AMOUNT};
 use atl_world::{RegionPlan, Sequence, Text, let_go};
@@ -26,7 +30,6 @@ pub struct RegionBasics {
     pub number: u32,
     /// The region's name as the file writes it; it keeps the rule of names.
     pub name: Text,
-    /// The name of the region's terrain.
     pub terrain: Text,
     /// The region's peasants at founding, at most `MOST_AMOUNT`.
     pub peasants: u32,
@@ -34,7 +37,6 @@ pub struct RegionBasics {
     pub money: u32,
 }
 
-/// Drops the names of the region and of its terrain.
 impl Drop for RegionBasics {
     fn drop(self) {
         let_go!(self: RegionBasics { number, name, terrain, peasants, money });
@@ -54,24 +56,19 @@ pub struct Sides {
 /// A table `[[region]]` of the first format as read, with its terrain by name.
 #[derive(Drop)]
 pub struct OldRegion {
-    /// The region's number, name, terrain, peasants and money.
     pub basics: RegionBasics,
-    /// The numbers of the region's neighbours on its four sides.
     pub sides: Sides,
 }
 
 /// A table `[[region]]` as read by either format, with its terrain and the items of its markets by
 /// name; by the first it has no markets.
 pub struct RegionDraft {
-    /// The region's number, name, terrain, peasants and money.
     pub basics: RegionBasics,
-    /// The numbers of the region's neighbours on its four sides.
     pub sides: Sides,
     /// The region's markets, in the order of the file.
     pub markets: Sequence<MarketDraft>,
 }
 
-/// Drops the region's basics, its sides and its markets.
 impl Drop for RegionDraft {
     fn drop(self) {
         let_go!(self: RegionDraft { basics, sides, markets });
@@ -86,8 +83,6 @@ impl FromTable for RegionBasics {
 
     ghost is_sound = { AreRegionBasics };
 
-    /// The basics that the table of a region gives, else the first fault of its keys `number`,
-    /// `name`, `terrain`, `peasants` and `money`.
     #[tactic(auto, unfolding(crate::specs::RegionTable::basics_keys, crate::specs::RegionTable::basics_from))]
     fn read(alloc: Global, at: &str, table: &Table) -> Result<RegionBasics, WorldFault> {
         let number = keys::number(alloc, 1, LAST_REGION, "number", at, table)?;
@@ -105,8 +100,6 @@ impl FromTable for RegionBasics {
     }
 }
 
-/// The numbers of a region's neighbours on its four sides, else the fault WrongType or OutOfRange
-/// of a side.
 #[tactic(auto, unfolding(crate::specs::RegionTable::side_keys, crate::specs::RegionTable::sides_from))]
 fn read_sides(alloc: Global, at: &str, table: &Table) -> Result<Sides, WorldFault>
     ensures { Gives (λ s. s) result (first_fault (side_keys at.now (table_view table.now)))
@@ -132,8 +125,6 @@ impl FromTable for OldRegion {
 
     ghost is_sound = { IsOldRegion };
 
-    /// The region that the table at the path `at` describes in the first format, else the first
-    /// fault of its keys but `market`.
     #[tactic(auto, unfolding(crate::specs::RegionTable::old_region_keys, crate::specs::RegionTable::old_region_from))]
     fn read(alloc: Global, at: &str, table: &Table) -> Result<OldRegion, WorldFault> {
         let basics = RegionBasics::read(alloc, at, table)?;
@@ -150,8 +141,6 @@ impl FromTable for RegionDraft {
 
     ghost is_sound = { IsRegionDraft };
 
-    /// The region that the table at a path describes, else the first fault of its keys and its
-    /// markets.
     #[tactic(auto, unfolding(crate::specs::RegionTable::region_keys, crate::specs::RegionTable::region_from))]
     fn read(alloc: Global, at: &str, table: &Table) -> Result<RegionDraft, WorldFault> {
         let OldRegion { basics, sides } = OldRegion::read(alloc, at, table)?;
@@ -183,22 +172,43 @@ pub(crate) fn without_markets(
     Ok(drafts)
 }
 
-/// Checks that no two markets of a region are of the same item, else gives the fault TwoNames at
-/// the second.
 impl HasUniqueNames for RegionDraft {
     ghost no_duplicates = { duplicate_market_items };
 
-    /// Checks the markets of the i-th region, else gives TwoNames at the second market of an item.
     #[tactic(auto, unfolding(crate::specs::RegionTable::duplicate_market_items))]
     fn no_duplicates_inside(&self, alloc: Global, i: usize) -> Result<(), WorldFault> {
-        let element = element_path(alloc, "region", i)?;
-        let element = path(alloc, element.as_str(), "market")?;
-        no_duplicate_names(alloc, element.as_str(), "item", self.markets.as_slice())
+        match first_duplicate(alloc, self.markets.as_slice())? {
+            None => Ok(()),
+            Some(k) => {
+                let markets = element_key_path(alloc, "region", i, "market")?;
+                let item = element_key_path(alloc, markets.as_str(), k, "item")?;
+                Err(WorldFault::TwoNames(item))
+            }
+        }
     }
 }
 
-/// Makes the region of a table `[[region]]`, with its terrain and the items of its markets looked
-/// up.
+/// The number of the terrain that the i-th region of the file names, else the fault UnknownName at
+/// the path of its `terrain`.
+fn known_terrain(
+    alloc: Global,
+    terrains: &[TerrainDraft],
+    i: usize,
+    name: &Text,
+) -> Result<u16, WorldFault>
+    requires { length terrains.now ≤ most_numbered }
+    ensures value { Gives (λ n. n) result
+        (name_is_known (path (element_path (codes "region") i) (codes "terrain"))
+        (number_of (λ d. d.name) terrains.now name.now))
+        (unwrap_or (number_of (λ d. d.name) terrains.now name.now) 0) }
+    ensures below { IfOk result (λ n. n < length terrains.now) }
+{
+    match number_of(terrains, name) {
+        Some(number) => Ok(number),
+        None => Err(WorldFault::UnknownName(element_key_path(alloc, "region", i, "terrain")?)),
+    }
+}
+
 impl Draft for RegionDraft {
     type Record = RegionPlan;
 
@@ -211,18 +221,9 @@ impl Draft for RegionDraft {
     ghost is_sound = { λ all i x. IsRegionPlan (length all.terrains) (length all.items) x.number
         x };
 
-    /// The region with its terrain and the items of its markets by number, else UnknownName at the
-    /// first name that refers to nothing.
     #[tactic(auto, unfolding(crate::specs::RegionTable::region_known, crate::specs::RegionTable::region_of))]
     fn resolve(&self, alloc: Global, all: &WorldDraft, i: usize) -> Result<RegionPlan, WorldFault> {
-        let element = element_path(alloc, "region", i)?;
-        let terrain = known_number(
-            alloc,
-            all.terrains.as_slice(),
-            "terrain",
-            element.as_str(),
-            &self.basics.terrain,
-        )?;
+        let terrain = known_terrain(alloc, all.terrains.as_slice(), i, &self.basics.terrain)?;
         let markets = resolve_all(alloc, all, self.markets.as_slice())?;
         let markets = by_number(alloc, markets.into_vec())?;
         let name = self.basics.name.copy(alloc)?;
@@ -241,11 +242,9 @@ impl Draft for RegionDraft {
     }
 }
 
-/// A region is stored under its own number.
 impl HasNumber for RegionPlan {
     ghost own_number_of = { λ p. p.number };
 
-    /// The number of the region.
     fn own_number(&self) -> u32 {
         self.number
     }

@@ -5,7 +5,7 @@ ghost use Rattle.atl_tables.specs.Results.{Gives};
 ghost use Rattle.atl_tables.specs.Regions.{duplicate_numbers};
 
 use crate::fault::WorldFault;
-use crate::keys::{element_path, path};
+use crate::keys::element_key_path;
 use crate::region_table::RegionDraft;
 use atl_world::Numbered;
 use std::alloc::Global;
@@ -19,8 +19,8 @@ pub(crate) fn no_duplicate_numbers(alloc: Global, drafts: &[RegionDraft]) -> Res
     for i in 0..drafts.len() {
         let number = drafts[i].basics.number;
         if let Some(()) = seen.get(number) {
-            let element = element_path(alloc, "region", i)?;
-            return Err(WorldFault::TwoNames(path(alloc, element.as_str(), "number")?));
+            let path = element_key_path(alloc, "region", i, "number")?;
+            return Err(WorldFault::TwoNames(path));
         }
         seen.insert(number, ())?;
     }

@@ -56,15 +56,11 @@ pub struct MenRules {
 
 /// The skills of observation, stealth and sailing, by name, `None` if the file names none.
 pub struct SkillNames {
-    /// The name of the skill that finds hidden units, where there is one.
     pub observation: Option<Text>,
-    /// The name of the skill that hides units, where there is one.
     pub stealth: Option<Text>,
-    /// The name of the skill that sails ships, where there is one.
     pub sailing: Option<Text>,
 }
 
-/// Drops the names of the three skills.
 impl Drop for SkillNames {
     fn drop(self) {
         let_go!(self: SkillNames { observation, stealth, sailing });
@@ -74,13 +70,9 @@ impl Drop for SkillNames {
 /// The table `[rules]` as read, with skills by name.
 #[derive(Drop)]
 pub struct RulesDraft {
-    /// What men cost, what they take as tax, and what a recruit costs.
     pub prices: Prices,
-    /// The rules on recruits, births and income of peasants.
     pub peasants: PeasantRules,
-    /// The money of a new faction, and what men weigh and carry.
     pub men: MenRules,
-    /// The names of the skills of observation, stealth and sailing.
     pub skills: SkillNames,
 }
 
@@ -92,8 +84,6 @@ impl FromTable for Prices {
 
     ghost is_sound = { ArePrices };
 
-    /// The rules on prices that the table gives, else the first fault of its keys `maintenance`,
-    /// `tax_per_man` and `recruit_price`.
     #[tactic(auto, unfolding(crate::specs::RulesTable::prices_at, crate::specs::Keys::number_at))]
     fn read(alloc: Global, at: &str, table: &Table) -> Result<Prices, WorldFault> {
         let maintenance = keys::number(alloc, 1, MOST_PER_HEAD, "maintenance", at, table)?;
@@ -115,8 +105,6 @@ impl FromTable for PeasantRules {
 
     ghost is_sound = { ArePeasantRules };
 
-    /// The rules on peasants that the table gives, else the first fault of its keys
-    /// `recruit_fraction`, `growth` and `income`.
     #[tactic(auto, unfolding(crate::specs::RulesTable::peasant_rules_at, crate::specs::Keys::number_at))]
     fn read(alloc: Global, at: &str, table: &Table) -> Result<PeasantRules, WorldFault> {
         let recruit_fraction = keys::number(
@@ -145,8 +133,6 @@ impl FromTable for MenRules {
 
     ghost is_sound = { AreMenRules };
 
-    /// The rules on men that the table gives, else the first fault of its keys `start_money`,
-    /// `man_weight` and `man_carry`.
     #[tactic(auto, unfolding(crate::specs::RulesTable::men_rules_at, crate::specs::Keys::number_at))]
     fn read(alloc: Global, at: &str, table: &Table) -> Result<MenRules, WorldFault> {
         let start_money = keys::number(alloc, 0, MOST_AMOUNT, "start_money", at, table)?;
@@ -178,7 +164,6 @@ fn skill_names(alloc: Global, at: &str, table: &Table) -> Result<SkillNames, Wor
     })
 }
 
-/// Reads all keys of the table `[rules]`.
 impl FromTable for RulesDraft {
     ghost conditions = { conditions_of rules_at };
 
@@ -186,7 +171,6 @@ impl FromTable for RulesDraft {
 
     ghost is_sound = { AreRulesDraft };
 
-    /// All rules that the table at a path gives, else the first fault of its keys.
     #[tactic(auto, unfolding(crate::specs::RulesTable::rules_at))]
     fn read(alloc: Global, at: &str, table: &Table) -> Result<RulesDraft, WorldFault> {
         let prices = Prices::read(alloc, at, table)?;

@@ -20,7 +20,6 @@ impl FromTable for Skill {
 
     ghost is_sound = { IsSkill };
 
-    /// The skill that the table at a path describes, else the first fault of the table's keys.
     #[tactic(auto, unfolding(crate::specs::SkillTable::skill_at))]
     fn read(alloc: Global, at: &str, table: &Table) -> Result<Skill, WorldFault> {
         let name = keys::name(alloc, "name", at, table)?;

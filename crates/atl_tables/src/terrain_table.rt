@@ -8,7 +8,7 @@ ghost use Rattle.atl_tables.specs.TerrainTable.{economy_at, terrain_keys, terrai
 
 use crate::elements::FromTable;
 use crate::fault::WorldFault;
-use crate::keys::{self, element_path, path};
+use crate::keys::{self, element_key_path};
 use crate::output_table::{Output, amounts_of, keys_name_items, no_duplicate_keys, outputs};
 use crate::titles::HasUniqueNames;
 use crate::world_draft::{Draft, WorldDraft};
@@ -37,13 +37,11 @@ pub struct TerrainDraft {
     pub name: Text,
     /// Whether the terrain is land, else it is water.
     pub land: bool,
-    /// What work pays in a region, for how many men, and the most money and peasants there.
     pub economy: Economy,
     /// What a region gives in a month, in the byte order of the items' names.
     pub output: Sequence<Output>,
 }
 
-/// Drops the terrain's name, its economy and its output.
 impl Drop for TerrainDraft {
     fn drop(self) {
         let_go!(self: TerrainDraft { name, land, economy, output });
@@ -58,8 +56,6 @@ impl FromTable for Economy {
 
     ghost is_sound = { IsEconomy };
 
-    /// The economy that the table of a terrain gives, else the first fault of its keys `wage`,
-    /// `places`, `money_limit` and `peasant_limit`.
     #[tactic(auto, unfolding(crate::specs::TerrainTable::economy_at, crate::specs::Keys::number_at))]
     fn read(alloc: Global, at: &str, table: &Table) -> Result<Economy, WorldFault> {
         let wage = keys::number(alloc, 1, MOST_PRICE, "wage", at, table)?;
@@ -75,8 +71,6 @@ impl FromTable for Economy {
     }
 }
 
-/// Reads all keys of a table `[[terrain]]`: its name, whether it is land, its economy and its
-/// output.
 impl FromTable for TerrainDraft {
     ghost conditions = { terrain_keys };
 
@@ -84,7 +78,6 @@ impl FromTable for TerrainDraft {
 
     ghost is_sound = { IsTerrainDraft };
 
-    /// The terrain that the table at a path describes, else the first fault of the table's keys.
     #[tactic(auto, unfolding(crate::specs::TerrainTable::terrain_at))]
     fn read(alloc: Global, at: &str, table: &Table) -> Result<TerrainDraft, WorldFault> {
         let name = keys::name(alloc, "name", at, table)?;
@@ -100,17 +93,14 @@ impl FromTable for TerrainDraft {
     }
 }
 
-/// The title of a terrain is its name.
 impl Titled for TerrainDraft {
     ghost title_of = { λ x. x.name };
 
-    /// The name of the terrain.
     fn title(&self) -> &Text {
         &self.name
     }
 }
 
-/// Makes the terrain of a table `[[terrain]]`, with the items of its output looked up by name.
 impl Draft for TerrainDraft {
     type Record = Terrain;
 
@@ -122,13 +112,10 @@ impl Draft for TerrainDraft {
 
     ghost is_sound = { λ all i x. IsTerrain (length all.items) x };
 
-    /// The terrain with an amount of output for each item of the world, else the fault UnknownName
-    /// at the first key of its output that names no item.
     #[tactic(auto, unfolding(crate::specs::TerrainTable::terrain_known, crate::specs::TerrainTable::terrain_of))]
     fn resolve(&self, alloc: Global, all: &WorldDraft, i: usize) -> Result<Terrain, WorldFault> {
-        let element = element_path(alloc, "terrain", i)?;
-        let element = path(alloc, element.as_str(), "output")?;
-        keys_name_items(alloc, all, element.as_str(), self.output.as_slice())?;
+        let outputs = element_key_path(alloc, "terrain", i, "output")?;
+        keys_name_items(alloc, all, outputs.as_str(), self.output.as_slice())?;
         let output = amounts_of(alloc, all.items.as_slice(), self.output.as_slice())?;
         let name = self.name.copy(alloc)?;
         Ok(Terrain {
@@ -143,17 +130,12 @@ impl Draft for TerrainDraft {
     }
 }
 
-/// Checks that no two keys of a terrain's output are equal, ignoring ASCII case, else gives the
-/// fault TwoNames at the second.
 impl HasUniqueNames for TerrainDraft {
     ghost no_duplicates = { duplicate_output_keys };
 
-    /// Checks the keys of the i-th terrain's output, else gives TwoNames at the second of two
-    /// equal keys.
     #[tactic(auto, unfolding(crate::specs::TerrainTable::duplicate_output_keys))]
     fn no_duplicates_inside(&self, alloc: Global, i: usize) -> Result<(), WorldFault> {
-        let element = element_path(alloc, "terrain", i)?;
-        let element = path(alloc, element.as_str(), "output")?;
-        no_duplicate_keys(alloc, element.as_str(), self.output.as_slice())
+        let outputs = element_key_path(alloc, "terrain", i, "output")?;
+        no_duplicate_keys(alloc, outputs.as_str(), self.output.as_slice())
     }
 }

@@ -1,18 +1,19 @@
 //! Names that must be unique, and the numbers of things by name. A call that may return a fault may
 //! also return `Memory`. See docs/FORMATS.md, "The world file".
-ghost use Rattle.std.specs.Prelude.{◌≡◌, ◌≤◌, ◌<◌, ℕ, List, length, not, ◌||◌, IfOk, OnOk, OnErr, IfSome, Some, None, unwrap_or, option_and_then};
+ghost use Rattle.std.specs.Prelude.{◌≡◌, ◌≤◌, ◌<◌, ℕ, List, length, not, ◌||◌, IfOk, OnOk, OnErr, IfSome, Some, None, unwrap_or, option_and_then, option_map};
 ghost use Rattle.std.specs.BTreeSet.{IsUnchanged};
 ghost use Rattle.atl_tables.specs.Each.{conditions_on_each};
 ghost use Rattle.atl_tables.specs.Faults.{Conditions, first_fault};
 ghost use Rattle.atl_tables.specs.Results.{Gives};
-ghost use Rattle.atl_tables.specs.Keys.{path};
+ghost use Rattle.atl_tables.specs.Keys.{path, element_path};
 ghost use Rattle.atl_world.specs.Limits.{most_numbered};
 ghost use Rattle.atl_tables.specs.Titles.{no_duplicates, number_of, name_is_known, optional_name_is_known};
 ghost use Rattle.atl_world.specs.Names.{same_name};
 ghost use Rattle.atl_tables.specs.SeenNames.{has_name};
+ghost use Rattle.atl_tables.specs.declared.fault.WorldFault.TheVariants.{TwoNames};
 
 use crate::fault::WorldFault;
-use crate::keys::{element_path, path};
+use crate::keys::{element_key_path, path};
 use atl_world::{Text, Titled};
 use std::alloc::{AllocError, Global};
 use std::collections::BTreeSet;
@@ -42,6 +43,25 @@ pub(crate) fn add_name(
     Ok(new)
 }
 
+/// The index of the first element whose title equals one before it, ignoring ASCII case; `None` if
+/// there is none.
+pub(crate) fn first_duplicate<T: Titled>(
+    alloc: Global,
+    items: &[T],
+) -> Result<Option<usize>, AllocError>
+    ensures { IfOk result (λ found. (array key : List ℕ)
+        → first_fault (no_duplicates T.title_of array key items.now)
+        ≡ option_map (λ i. TwoNames (path (element_path array i) key)) found) }
+{
+    let mut seen = BTreeSet::new(alloc);
+    for (i, item) in items.iter().enumerate() {
+        if !add_name(alloc, &mut seen, item.title())? {
+            return Ok(Some(i));
+        }
+    }
+    Ok(None)
+}
+
 /// Checks that no two elements of the array at the path `array` have equal titles, ignoring ASCII
 /// case, else gives the fault TwoNames at the key `key` of the second.
 pub(crate) fn no_duplicate_names<T: Titled>(
@@ -54,14 +74,10 @@ pub(crate) fn no_duplicate_names<T: Titled>(
         (no_duplicates T.title_of array.now key.now items.now))
         (tt {0}) }
 {
-    let mut seen = BTreeSet::new(alloc);
-    for (i, item) in items.iter().enumerate() {
-        if !add_name(alloc, &mut seen, item.title())? {
-            let element = element_path(alloc, array, i)?;
-            return Err(WorldFault::TwoNames(path(alloc, element.as_str(), key)?));
-        }
+    match first_duplicate(alloc, items)? {
+        None => Ok(()),
+        Some(i) => Err(WorldFault::TwoNames(element_key_path(alloc, array, i, key)?)),
     }
-    Ok(())
 }
 
 /// A table that holds names no two of which may be equal: a terrain the keys of its output, a

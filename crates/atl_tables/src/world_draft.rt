@@ -28,7 +28,6 @@ pub struct WorldDraft {
     pub regions: Sequence<RegionDraft>,
 }
 
-/// Takes out the tables that need no look-up: those of skills.
 impl WorldDraft {
     /// The skills, which need no look-up, taken out of the tables.
     pub(crate) fn into_skills(self) -> Sequence<Skill>
@@ -46,7 +45,6 @@ impl WorldDraft {
     }
 }
 
-/// Drops all tables of the file.
 impl Drop for WorldDraft {
     fn drop(self) {
         let_go!(self: WorldDraft { rules, terrains, items, skills, kinds, regions });

@@ -6,7 +6,6 @@ use atl_campaign::parts::{
 };
 use sqlite::{Alter, Connection, Error, params};
 
-/// A row that can be inserted into its table of the first format.
 trait Put {
     /// Inserts the row; the result is how many rows were inserted.
     fn put<S: Alter>(&self, conn: &mut Connection<S>) -> Result<usize, Error>;
@@ -14,7 +13,6 @@ trait Put {
 
 /// Inserts a faction; its names and its pass text, which are bytes, are cast to TEXT.
 impl Put for StoredFaction {
-    /// Inserts the row of a faction.
     fn put<S: Alter>(&self, conn: &mut Connection<S>) -> Result<usize, Error> {
         conn.execute(
             "INSERT INTO faction VALUES (?1, CAST(?2 AS TEXT), CAST(?3 AS TEXT), CAST(?4 AS TEXT), ?5)",
@@ -29,9 +27,7 @@ impl Put for StoredFaction {
     }
 }
 
-/// Inserts a region: its number, peasants and money.
 impl Put for StoredRegion {
-    /// Inserts the row of a region.
     fn put<S: Alter>(&self, conn: &mut Connection<S>) -> Result<usize, Error> {
         conn.execute(
             "INSERT INTO region VALUES (?1, ?2, ?3)",
@@ -42,7 +38,6 @@ impl Put for StoredRegion {
 
 /// Inserts a unit without its goods; its name, which is bytes, is cast to TEXT.
 impl Put for StoredUnit {
-    /// Inserts the row of a unit.
     fn put<S: Alter>(&self, conn: &mut Connection<S>) -> Result<usize, Error> {
         conn.execute(
             "INSERT INTO unit VALUES (?1, ?2, CAST(?3 AS TEXT), ?4, ?5, ?6, ?7, ?8)",
@@ -60,9 +55,7 @@ impl Put for StoredUnit {
     }
 }
 
-/// Inserts an item or a skill of a unit, with the amount or the days.
 impl Put for StoredHas {
-    /// Inserts the row of an item or a skill of a unit.
     fn put<S: Alter>(&self, conn: &mut Connection<S>) -> Result<usize, Error> {
         conn.execute(
             "INSERT INTO has VALUES (?1, ?2, ?3, ?4)",
@@ -73,7 +66,6 @@ impl Put for StoredHas {
 
 /// Inserts a structure; its name, which is bytes, is cast to TEXT.
 impl Put for StoredStructure {
-    /// Inserts the row of a structure.
     fn put<S: Alter>(&self, conn: &mut Connection<S>) -> Result<usize, Error> {
         conn.execute(
             "INSERT INTO structure VALUES (?1, ?2, CAST(?3 AS TEXT), ?4, ?5, ?6)",
@@ -91,7 +83,6 @@ impl Put for StoredStructure {
 
 /// Inserts a faction's mailing, as bytes.
 impl Put for StoredMail {
-    /// Inserts the row of a faction's mailing.
     fn put<S: Alter>(&self, conn: &mut Connection<S>) -> Result<usize, Error> {
         conn.execute(
             "INSERT INTO mail VALUES (?1, ?2)",
@@ -102,7 +93,6 @@ impl Put for StoredMail {
 
 /// Inserts a faction's report, as text.
 impl Put for StoredReport {
-    /// Inserts the row of a faction's report.
     fn put<S: Alter>(&self, conn: &mut Connection<S>) -> Result<usize, Error> {
         conn.execute(
             "INSERT INTO report VALUES (?1, ?2)",
@@ -111,9 +101,7 @@ impl Put for StoredReport {
     }
 }
 
-/// Inserts an amount of the books under its entry and its thing.
 impl Put for StoredBooks {
-    /// Inserts the row of an amount of the books.
     fn put<S: Alter>(&self, conn: &mut Connection<S>) -> Result<usize, Error> {
         conn.execute(
             "INSERT INTO books VALUES (?1, ?2, ?3)",
@@ -122,7 +110,6 @@ impl Put for StoredBooks {
     }
 }
 
-/// Inserts all rows of one table.
 fn put_each<S: Alter, T: Put>(conn: &mut Connection<S>, rows: &[T]) -> Result<(), Error> {
     for row in rows {
         row.put(conn)?;
@@ -130,7 +117,6 @@ fn put_each<S: Alter, T: Put>(conn: &mut Connection<S>, rows: &[T]) -> Result<()
     Ok(())
 }
 
-/// Inserts each row of the table `campaign`, with the world text.
 fn put_campaign_rows<S: Alter>(
     conn: &mut Connection<S>,
     world: &str,
@@ -154,7 +140,6 @@ fn put_campaign_rows<S: Alter>(
     Ok(())
 }
 
-/// Inserts the rows of four tables: regions, units, what units have, and structures.
 fn put_places<S: Alter>(conn: &mut Connection<S>, parts: &Parts) -> Result<(), Error> {
     put_each(conn, parts.regions.as_slice())?;
     put_each(conn, parts.units.as_slice())?;
@@ -162,7 +147,6 @@ fn put_places<S: Alter>(conn: &mut Connection<S>, parts: &Parts) -> Result<(), E
     put_each(conn, parts.structures.as_slice())
 }
 
-/// Inserts a campaign's rows of all nine tables, with the world text.
 pub(crate) fn put_all<S: Alter>(
     conn: &mut Connection<S>,
     world: &str,

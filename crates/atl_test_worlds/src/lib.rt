@@ -48,14 +48,12 @@ money = 500
 /// The text of the small world: one region, without items, skills, kinds and markets.
 pub const SMALL_WORLD: &str = world_of_one_region!(1000, 100, 1000, "");
 
-/// The text of the small world where a faction that joins gets no money.
 pub const NO_START_MONEY: &str = world_of_one_region!(0, 100, 1000, "");
 
 /// The text of the small world without work places, where a faction that joins gets money for half
 /// a month.
 pub const NO_WORK_PLACES: &str = world_of_one_region!(5, 0, 1000, "");
 
-/// The text of the small world with only three peasants.
 pub const THREE_PEASANTS: &str = world_of_one_region!(1000, 100, 3, "");
 
 /// The text of the small world with a second region to the east.
@@ -233,7 +231,6 @@ south = 3
     };
 }
 
-/// The text of the island without a market.
 pub const ISLE: &str = world_of_island!("", "");
 
 /// The text of the island with a market of wood in its first region.

@@ -12,13 +12,11 @@ use Rattle.atl_world.proofs.GeneralLaws.{key_itself, same_key}
 use Rattle.atl_world.proofs.SetLaws.{sets_are_equal, remove_absent, union-empty, union-insert, len-within, len-below, not_and_is_false, or_without_first_is_second}
 use Rattle.atl_world.proofs.SortedListLaws.{contains-is_at}
 
--- a finite set of natural numbers
 abbrev NumberSet : Type 0
 NumberSet = set.FinSet nat_cmp
 
 -- ---- a set with one number more or less
 
--- a number of a set, taken out and put in again, leaves the set as it was
 put_back_keeps_set : (s : NumberSet) (n : ℕ) → set.contains s n ≡ true → set.insert (set.remove s n) n ≡ s
 put_back_keeps_set s n h = sets_are_equal _ _ (λ q.
     set.contains-insert nat_cmp_total (set.remove s n) n q ∙ ap (λ b. eq_by_cmp nat_cmp q n || b) (set.contains-remove nat_cmp_total s n q)
@@ -27,23 +25,18 @@ put_back_keeps_set s n h = sets_are_equal _ _ (λ q.
       | false ↦ λ _. refl
     ] refl)
 
--- a set with n taken out doesn't contain n
 contains-removed : (s : NumberSet) (n : ℕ) → set.contains (set.remove s n) n ≡ false
 contains-removed s n = set.contains-remove nat_cmp_total s n n ∙ ap (λ b. not b && set.contains s n) (key_itself n)
 
--- a set with a new number put in has one number more than before
 len-new : (s : NumberSet) (n : ℕ) → set.contains s n ≡ false → set.len (set.insert s n) ≡ set.len s + 1
 len-new s n h = set.len-insert nat_cmp_total s n ∙ ap (λ b. cond b (set.len s) (set.len s + 1)) h
 
--- a set with the number n in it has one number more than the same set without n
 len-put_back : (s : NumberSet) (n : ℕ) → set.contains s n ≡ true → set.len s ≡ set.len (set.remove s n) + 1
 len-put_back s n h = ap set.len (sym (put_back_keeps_set s n h)) ∙ len-new (set.remove s n) n (contains-removed s n)
 
--- each number of a set without n is in the whole set
 is_in_whole_set : (s : NumberSet) (n q : ℕ) → set.contains (set.remove s n) q ≡ true → set.contains s q ≡ true
 is_in_whole_set s n q e = (and_parts (not (eq_by_cmp nat_cmp q n)) (set.contains s q) (sym (set.contains-remove nat_cmp_total s n q) ∙ e)).1
 
--- a set without n has no more numbers than the set
 len-less : (s : NumberSet) (n : ℕ) → set.len (set.remove s n) ≤ set.len s
 len-less s n = len-within (set.remove s n) s (is_in_whole_set s n)
 
@@ -53,7 +46,6 @@ and_distributes_over_or : (e a b : Bool) → ((not e && a) || (not e && b)) ≡ 
 and_distributes_over_or true a b = refl
 and_distributes_over_or false a b = refl
 
--- if n is taken out of two sets, their union is the union of the whole sets with n taken out
 pub union-remove : (s t : NumberSet) (n : ℕ) → set.union (set.remove s n) (set.remove t n) ≡ set.remove (set.union s t) n
 union-remove s t n = sets_are_equal _ _ (λ q.
     set.contains-union nat_cmp_total (set.remove s n) (set.remove t n) q
@@ -111,21 +103,17 @@ len-both_below most s t f g = len-below most (set.union s t) (λ k e. or_cases _
 
 -- ---- no number is in both sets
 
--- a set has no number in common with the empty set
 apart_empty : (s : NumberSet) → AreApart s set.empty
 apart_empty s = record { apart = λ n _. set.contains-empty nat_cmp n }
 
--- a number that is in a set differs from a number that isn't in it
 other_key : (s : NumberSet) (n q : ℕ) → set.contains s n ≡ false → set.contains s q ≡ true → eq_by_cmp nat_cmp q n ≡ false
 other_key s n q h e = false_from_ne_true _ (λ alike. false≢true (sym (ap (set.contains s) (same_key q n alike) ∙ h) ∙ e))
 
--- two sets without a common number still have none after one gets a number that the other doesn't have
 apart_insert : (s t : NumberSet) (n : ℕ) → AreApart s t → set.contains s n ≡ false → AreApart s (set.insert t n)
 apart_insert s t n h missing = record {
   apart = λ q e. set.contains-insert nat_cmp_total t n q ∙ (λ i. other_key s n q missing e i || h.apart q e i);
 }
 
--- two sets without a common number still have none after a number is taken out of both
 apart_remove : (s t : NumberSet) (n : ℕ) → AreApart s t → AreApart (set.remove s n) (set.remove t n)
 apart_remove s t n h = record {
   apart = λ q e. set.contains-remove nat_cmp_total t n q ∙ ap (λ b. not (eq_by_cmp nat_cmp q n) && b) (h.apart q (is_in_whole_set s n q e)) ∙ and_false _;
@@ -139,27 +127,20 @@ apart_remove s t n h = record {
 
 -- ---- marks in two sets
 
--- a set within its room and an empty set of recent marks keep `AreMarks`: no number is in both, and the first has room
--- for all
 pub none_recent : (s : NumberSet) (room recent : ℕ) → set.len s ≤ room → AreMarks (record { numbers = s; room = room }) (record { numbers = set.empty; room = recent })
 none_recent s room recent h = record { apart = apart_empty s; fits = let none : set.len {R = nat_cmp} set.empty ≡ 0 = set.len-empty nat_cmp in omega (arith, none, h) }
 
--- two empty sets with any rooms keep `AreMarks`: no number is in both, and the first has room for all
 pub no_marks : (room recent : ℕ) → AreMarks (record { numbers = set.empty; room = room }) (record { numbers = set.empty; room = recent })
 no_marks room recent = none_recent set.empty room recent (let none : set.len {R = nat_cmp} set.empty ≡ 0 = set.len-empty nat_cmp in omega (arith, none))
 
 -- a number n is to be marked, where v is the set of all marks: those of m and the recent ones of l
 module _ (m l v : RoomySet) (n : ℕ) (seen : ◌≡◌ {A = RoomySet} (record { numbers = set.union m.numbers l.numbers; room = m.room }) v) (marks : AreMarks m l) where
-  -- if n isn't in v, the set of all marks, it is neither in m nor in l, the set of the recent marks
   in_neither : set.contains v.numbers n ≡ false → (set.contains m.numbers n ≡ false) × (set.contains l.numbers n ≡ false)
   in_neither h = or_false_parts _ _ (sym (set.contains-union nat_cmp_total m.numbers l.numbers n) ∙ ap (λ (w : RoomySet). set.contains w.numbers n) seen ∙ h)
 
-  -- if n isn't marked, and the recent marks are fewer than their room, then with n put in they are within the room
   pub fits_recent : set.contains v.numbers n ≡ false → set.len l.numbers < l.room → set.len (set.insert l.numbers n) ≤ l.room
   fits_recent missing room = let more = len-new l.numbers n (in_neither missing).1 in omega (arith, more, room)
 
-  -- After an unmarked n is put into l, the set of the recent marks, no number is both in m and in l, and m has room for
-  -- all marks (`AreMarks`). For this m must have room for all marks and n.
   pub one_recent : set.contains v.numbers n ≡ false → set.len (set.insert v.numbers n) ≤ v.room → AreMarks m (record l { numbers = set.insert l.numbers n })
   one_recent missing h =
       let more = len-new v.numbers n missing in
@@ -175,12 +156,10 @@ module _ (m l v : RoomySet) (n : ℕ) (seen : ◌≡◌ {A = RoomySet} (record {
   mark_is_added_to_all h = none_recent (set.insert (set.union m.numbers l.numbers) n) m.room l.room
       (let size = ap (λ (w : RoomySet). set.len (set.insert w.numbers n)) seen in let room = ap (λ (w : RoomySet). w.room) seen in omega (arith, size, room, h))
 
--- after a number is taken out of m and of l, still no number is in both, and m has room for all (`AreMarks`)
 pub mark_taken : (m l : RoomySet) (n : ℕ) → AreMarks m l → AreMarks (record m { numbers = set.remove m.numbers n }) (record l { numbers = set.remove l.numbers n })
 mark_taken m l n h =
     record { apart = apart_remove m.numbers l.numbers n h.apart; fits = omega (arith, len-less m.numbers n, len-less l.numbers n, h.fits) }
 
--- if a number of xs is at most a number of ys, it is less, where xs and ys have no number in common
 pub less_apart : (xs ys : List ℕ) (i j : ℕ) → AreApart (set.from_list xs) (set.from_list ys) → i < length xs → j < length ys → get_or xs i 0 ≤ get_or ys j 0 → get_or xs i 0 < get_or ys j 0
 less_apart xs ys i j h l m le =
     elim (cases_order (get_or xs i 0) (get_or ys j 0)) [

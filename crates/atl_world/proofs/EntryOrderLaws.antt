@@ -6,7 +6,6 @@ use Rattle.std.specs.Cmp.{ranked}
 use Rattle.std.specs.FinMap.{is_sorted}
 use Rattle.std.proofs.lemmas.Bool.{and_parts, false≢true}
 
--- a number that compares as Less than q is less than q
 less_by_comparison : (k q : ℕ) → is_lt (nat_cmp k q) ≡ true → k < q
 less_by_comparison k q h =
     elim (nat_cmp k q) as (λ r. nat_cmp k q ≡ r → is_lt r ≡ true → k < q) [
@@ -21,21 +20,17 @@ module _ {V : Type 0} where
   BeginsFrom n [] = Unit {0}
   BeginsFrom n (e ∷ es) = n ≤ e.0
 
-  -- sorted entries without the first are sorted
   pub sorted_rest : (e : ℕ × V) (es : List (ℕ × V)) → is_sorted nat_cmp (e ∷ es) ≡ true → is_sorted nat_cmp es ≡ true
   sorted_rest e es h = (and_parts _ _ h).1
 
-  -- in sorted entries, the entry after one whose number is at least n has a number that is at least n + 1
   pub begins_later : (n : ℕ) (e : ℕ × V) (es : List (ℕ × V)) → is_sorted nat_cmp (e ∷ es) ≡ true → n ≤ e.0 → BeginsFrom (n + 1) es
   begins_later n e [] h l = tt
   begins_later n e (f ∷ es) h l = omega (arith, l, less_by_comparison e.0 f.0 (and_parts _ _ (and_parts _ _ h).0).0)
 
-  -- in sorted entries, the entry after one whose number is at least n has a number that is at least n
   pub begins_same : (n : ℕ) (e : ℕ × V) (es : List (ℕ × V)) → is_sorted nat_cmp (e ∷ es) ≡ true → n ≤ e.0 → BeginsFrom n es
   begins_same n e [] h l = tt
   begins_same n e (f ∷ es) h l = omega (arith, l, less_by_comparison e.0 f.0 (and_parts _ _ (and_parts _ _ h).0).0)
 
-  -- the first of some entries, if there is one, has a number that is at least 0
   pub begins_zero : (es : List (ℕ × V)) → BeginsFrom 0 es
   begins_zero [] = tt
   begins_zero (e ∷ es) = omega arith

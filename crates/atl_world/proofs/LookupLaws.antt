@@ -11,7 +11,6 @@ use Rattle.atl_world.specs.Lookup.{letter_of}
 abbrev pub same_from : List ℕ → Bool → List ℕ → ℕ → Bool
 same_from name quoted word i = str_eq_ignore_ascii_case (drop i name) (map (letter_of quoted) (drop i word))
 
--- a word of another length than a name doesn't mean that name
 pub other_length : (name : List ℕ) (quoted : Bool) (word : List ℕ) → length name ≢ length word → str_eq_ignore_ascii_case name (map (letter_of quoted) word) ≡ false
 other_length [] quoted [] h = absurd (h refl)
 other_length [] quoted (b ∷ ys) h = refl
@@ -20,15 +19,12 @@ other_length (a ∷ xs) quoted (b ∷ ys) h =
     ap (λ t. eqb (to_ascii_lowercase a) (to_ascii_lowercase (letter_of quoted b)) && t) (other_length xs quoted ys (λ e. h (ap suc e)))
     ∙ and_right (eqb (to_ascii_lowercase a) (to_ascii_lowercase (letter_of quoted b))) false refl
 
--- a word means a name from the i-th byte on (`same_from`) exactly if it does at the i-th byte and from i + 1 on
 same_from_next : (name : List ℕ) (quoted : Bool) (word : List ℕ) (i : ℕ) → i < length name → i < length word → same_from name quoted word i ≡ (eq_ignore_ascii_case (get_or name i 0) (letter_of quoted (get_or word i 0)) && same_from name quoted word (i + 1))
 same_from_next name quoted word i h k = rw (drop_more name i 0 h, drop_more word i 0 k) refl
 
--- if a word means a name at the i-th byte, it does from i on (`same_from`) exactly if it does from i + 1 on
 pub same_letter : (name : List ℕ) (quoted : Bool) (word : List ℕ) (i : ℕ) → i < length name → i < length word → eq_ignore_ascii_case (get_or name i 0) (letter_of quoted (get_or word i 0)) ≡ true → same_from name quoted word (i + 1) ≡ same_from name quoted word i
 same_letter name quoted word i h k e = sym (same_from_next name quoted word i h k ∙ ap (λ t. t && same_from name quoted word (i + 1)) e)
 
--- if a word doesn't mean a name at the i-th byte, it doesn't from the i-th byte on (`same_from`)
 pub other_letter : (name : List ℕ) (quoted : Bool) (word : List ℕ) (i : ℕ) → i < length name → i < length word → eq_ignore_ascii_case (get_or name i 0) (letter_of quoted (get_or word i 0)) ≡ false → same_from name quoted word i ≡ false
 other_letter name quoted word i h k e = same_from_next name quoted word i h k ∙ ap (λ t. t && same_from name quoted word (i + 1)) e
 

@@ -19,7 +19,6 @@ use Rattle.atl_world.specs.Tracking.{IsAscendingListOf}
 use Rattle.atl_world.proofs.GeneralLaws.{same_key}
 use Rattle.atl_world.proofs.SetLaws.{sets_are_equal, or_false_is_same, or_swaps_first_two, or_is_associative}
 
--- a list is sorted, without duplicates
 abbrev IsRising : List ℕ → Type 0
 IsRising xs = IsStrictlySortedBy nat_cmp xs
 
@@ -47,7 +46,6 @@ or_repeated true u a b e = refl
 or_repeated false u a b e = ap (λ v. a || (v || b)) e
 
 module _ (n : ℕ) where
-  -- whether n is in a list
   abbrev is_listed : List ℕ → Bool
   is_listed xs = list_any (eq_by_cmp nat_cmp n) xs
 
@@ -60,7 +58,6 @@ module _ (n : ℕ) where
       (λ e. ap (λ b. eq_by_cmp nat_cmp n x || b) (h ys) ∙ or_repeated (eq_by_cmp nat_cmp n x) (eq_by_cmp nat_cmp n y) (is_listed xs) (is_listed ys) (ap (eq_by_cmp nat_cmp n) (nat_cmp-IsAntisymmetric x y e)))
       (λ _. ap (λ b. eq_by_cmp nat_cmp n y || b) (has-step x xs on h ys) ∙ or_swaps_first_two (eq_by_cmp nat_cmp n y) (is_listed (x ∷ xs)) (is_listed ys))
 
-  -- n is in the merge of two lists exactly if n is in one of the lists
   has-merged : (xs ys : List ℕ) → is_listed (merged xs ys) ≡ (is_listed xs || is_listed ys)
   has-merged [] ys = refl
   has-merged (x ∷ xs) ys = has-step x xs (merged xs) (has-merged xs) ys
@@ -74,27 +71,21 @@ from_list-merged xs ys = sets_are_equal _ _ (λ n.
 -- ---- two merged lists are sorted
 
 module _ (P : ℕ → Type 0) where
-  -- P holds of all numbers of the merge of x ∷ xs and a second list, if it holds of all numbers of both, given that
-  -- this is so for xs. (`on` merges xs with a list.)
   all-step : (x : ℕ) (xs : List ℕ) (on : List ℕ → List ℕ) → P x → AllByRecursion P xs → ((ys : List ℕ) → AllByRecursion P ys → AllByRecursion P (on ys)) → (ys : List ℕ) → AllByRecursion P ys → AllByRecursion P (merge_with_first x xs on ys)
   all-step x xs on p a h [] b = (p, a)
   all-step x xs on p a h (y ∷ ys) b = by_rank (AllByRecursion P) (nat_cmp x y) _ _ _ (λ _. (p, h (y ∷ ys) b)) (λ _. (p, h ys b.1)) (λ _. (b.0, all-step x xs on p a h ys b.1))
 
-  -- what holds of all numbers of two lists holds of all numbers of the merged list
   all-merged : (xs ys : List ℕ) → AllByRecursion P xs → AllByRecursion P ys → AllByRecursion P (merged xs ys)
   all-merged [] ys a b = b
   all-merged (x ∷ xs) ys a b = all-step x xs (merged xs) a.0 a.1 (λ zs. all-merged xs zs a.1) ys b
 
--- all numbers of a list are greater than x
 abbrev Above : ℕ → List ℕ → Type 0
 Above x ys = AllByRecursion (λ y. nat_cmp x y ≡ Less) ys
 
--- if x is less than y, a list whose numbers are all greater than y has only numbers greater than x
 above_lower : (x y : ℕ) (ys : List ℕ) → nat_cmp x y ≡ Less → Above y ys → Above x ys
 above_lower x y [] l a = tt
 above_lower x y (z ∷ ys) l a = (nat_cmp_total.trans x y z l a.0, above_lower x y ys l a.1)
 
--- if x ∷ xs is sorted, and xs merged with any sorted list is sorted, x ∷ xs merged with a sorted list is sorted
 sorted-step : (x : ℕ) (xs : List ℕ) → IsRising (x ∷ xs) → ((ys : List ℕ) → IsRising ys → IsRising (merged xs ys)) → (ys : List ℕ) → IsRising ys → IsRising (merged (x ∷ xs) ys)
 unfolding IsStrictlySortedBy
 sorted-step x xs s h [] t = s
@@ -124,7 +115,6 @@ Lists-merged s t xs ys p q = record {
 abbrev pub Under : List ℕ → ℕ → Type 0
 Under xs n = AllByRecursion (λ x. nat_cmp x n ≡ Less) xs
 
--- a list merged with the empty list is the list
 pub merged_alone : (xs : List ℕ) → merged xs [] ≡ xs
 merged_alone [] = refl
 merged_alone (x ∷ xs) = refl
@@ -149,36 +139,29 @@ module _ (n : ℕ) where
   own_last-step x xs on more h [] u = refl
   own_last-step x xs on more h (y ∷ ys) u = all_longer (nat_cmp x y) (n ∷ []) _ _ _ _ _ _ (ap (λ zs. x ∷ zs) (h (y ∷ ys) u)) (ap (λ zs. x ∷ zs) (h ys u.1)) (ap (λ zs. y ∷ zs) (own_last-step x xs on more h ys u.1))
 
-  -- the list of n alone, merged with a list of lesser numbers, is that list with n at its end
   own_last-only : (ys : List ℕ) → Under ys n → merged (n ∷ []) ys ≡ ys ++ n ∷ []
   own_last-only [] u = refl
   own_last-only (y ∷ ys) u =
       let greater : nat_cmp n y ≡ Greater = nat_cmp_total.antisymm n y ∙ ap ordering_reverse u.0 in
       ap (λ k. match_ordering k (n ∷ y ∷ ys) (n ∷ ys) (y ∷ merged (n ∷ []) ys)) greater ∙ ap (λ zs. y ∷ zs) (own_last-only ys u.1)
 
-  -- n at the end of the first list is at the end of the merged list, if all of the second are less
   own_last : (xs ys : List ℕ) → Under ys n → merged (xs ++ n ∷ []) ys ≡ merged xs ys ++ n ∷ []
   own_last [] ys u = own_last-only ys u
   own_last (x ∷ xs) ys u = own_last-step x xs (merged xs) (merged (xs ++ n ∷ [])) (own_last xs) ys u
 
-  -- n at the end of a second list is at the end of its merge with x ∷ xs, for x below n, given that this is so for xs.
-  -- (`on` merges xs with a list.)
   other_last-step : (x : ℕ) (xs : List ℕ) (on : List ℕ → List ℕ) → nat_cmp x n ≡ Less → on [] ≡ xs → ((ys : List ℕ) → on (ys ++ n ∷ []) ≡ on ys ++ n ∷ []) → (ys : List ℕ) → merge_with_first x xs on (ys ++ n ∷ []) ≡ merge_with_first x xs on ys ++ n ∷ []
   other_last-step x xs on l e h [] =
       ap (λ k. match_ordering k (x ∷ on (n ∷ [])) (x ∷ on []) (n ∷ x ∷ xs)) l ∙ ap (λ zs. x ∷ zs) (h [] ∙ ap (λ zs. zs ++ n ∷ []) e)
   other_last-step x xs on l e h (y ∷ ys) = all_longer (nat_cmp x y) (n ∷ []) _ _ _ _ _ _ (ap (λ zs. x ∷ zs) (h (y ∷ ys))) (ap (λ zs. x ∷ zs) (h ys)) (ap (λ zs. y ∷ zs) (other_last-step x xs on l e h ys))
 
-  -- n at the end of the second list is at the end of the merged list, if all of the first are less
   other_last : (xs ys : List ℕ) → Under xs n → merged xs (ys ++ n ∷ []) ≡ merged xs ys ++ n ∷ []
   other_last [] ys u = refl
   other_last (x ∷ xs) ys u = other_last-step x xs (merged xs) u.0 (merged_alone xs) (λ zs. other_last xs zs u.1) ys
 
--- all numbers of a list are less than n, if the number at each index of the list is less than n
 all_under : (xs : List ℕ) (n : ℕ) → ((k : ℕ) → k < length xs → get_or xs k 0 < n) → Under xs n
 all_under [] n h = tt
 all_under (x ∷ xs) n h = (sym (nat_cmp_is x n Less (h 0 (omega arith))), all_under xs n (λ k l. h (suc k) (omega (arith, l))))
 
--- the first `count` numbers of a sorted list are less than n, if the last of these numbers is less than n
 pub under_last : (xs : List ℕ) (count n : ℕ) → IsRising xs → count ≤ length xs → (0 < count → get_or xs (count - 1) 0 < n) → Under (take count xs) n
 under_last xs count n s l h = all_under (take count xs) n (λ k m.
     let within : k < count = omega (arith, m, length-take-le count xs l) in
@@ -223,14 +206,12 @@ all_put xs ys now all own left none kept h =
     sym (take-append-drop own now) ∙ ap (λ zs. zs ++ drop own now) (kept ∙ sym (ap (merged (take own xs)) none_left ∙ merged_alone (take own xs)))
     ∙ ap (λ k. merged (take own xs) (take left ys) ++ drop k now) (sym there) ∙ h
 
--- if P holds, and P together with b < a leads to a contradiction, then a is at most b
 pub not_above : (P : Type 0) (a b : ℕ) → (P × (b < a) → IsTrue false) → P → a ≤ b
 not_above P a b h p = elim (cases_order a b) [
   | inl e ↦ omega (arith, e)
   | inr r ↦ elim r [ inl less ↦ omega (arith, less) | inr more ↦ absurd (false≢true (h (p, more))) ]
 ]
 
--- a number in a list is below `most`, if the number at each index of the list is
 pub listed_below : (xs : List ℕ) (most n : ℕ) → ((k : ℕ) → k < length xs → get_or xs k 0 < most) → list_any (eq_by_cmp nat_cmp n) xs ≡ true → n < most
 listed_below [] most n h e = absurd (false≢true e)
 listed_below (x ∷ xs) most n h e =

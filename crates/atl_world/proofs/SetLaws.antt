@@ -9,11 +9,9 @@ use Rattle.std.specs.FinMap.{nat_cmp-IsAntisymmetric}
 use Rattle.std.specs.FinSet as set
 use Rattle.atl_world.proofs.GeneralLaws.{key_itself}
 
--- two sets are equal if each number is in both or in neither
 pub sets_are_equal : (s t : set.FinSet nat_cmp) → ((q : ℕ) → set.contains s q ≡ set.contains t q) → s ≡ t
 sets_are_equal s t h = set.same_set nat_cmp_total nat_cmp-IsAntisymmetric s t h
 
--- putting in a number that is in the set already leaves the set as it was
 pub insert_twice : (s : set.FinSet nat_cmp) (n : ℕ) → set.contains s n ≡ true → set.insert s n ≡ s
 insert_twice s n h = sets_are_equal _ _ (λ q. set.contains-insert nat_cmp_total s n q ∙ elim (nat_cmp q n) as (λ r. nat_cmp q n ≡ r → (is_eq r || set.contains s q) ≡ set.contains s q) [
   | Less ↦ λ _. refl
@@ -21,7 +19,6 @@ insert_twice s n h = sets_are_equal _ _ (λ q. set.contains-insert nat_cmp_total
   | Greater ↦ λ _. refl
 ] refl)
 
--- a new number, put in and taken out again, leaves the set as it was
 pub insert_undone : (s : set.FinSet nat_cmp) (n : ℕ) → set.contains s n ≡ false → set.remove (set.insert s n) n ≡ s
 insert_undone s n h = sets_are_equal _ _ (λ q.
     set.contains-remove nat_cmp_total (set.insert s n) n q ∙ ap (λ b. not (eq_by_cmp nat_cmp q n) && b) (set.contains-insert nat_cmp_total s n q)
@@ -31,7 +28,6 @@ insert_undone s n h = sets_are_equal _ _ (λ q.
       | Greater ↦ λ _. refl
     ] refl)
 
--- to take out a number that isn't in a set leaves the set as it was
 pub remove_absent : (s : set.FinSet nat_cmp) (n : ℕ) → set.contains s n ≡ false → set.remove s n ≡ s
 remove_absent s n h = sets_are_equal _ _ (λ q. set.contains-remove nat_cmp_total s n q ∙ elim (nat_cmp q n) as (λ r. nat_cmp q n ≡ r → (not (is_eq r) && set.contains s q) ≡ set.contains s q) [
   | Less ↦ λ _. refl
@@ -39,13 +35,11 @@ remove_absent s n h = sets_are_equal _ _ (λ q. set.contains-remove nat_cmp_tota
   | Greater ↦ λ _. refl
 ] refl)
 
--- a number that was put in is in the set
 pub contains_inserted : (s : set.FinSet nat_cmp) (n : ℕ) → set.contains (set.insert s n) n ≡ true
 contains_inserted s n = set.contains-insert nat_cmp_total s n n ∙ ap (λ b. b || set.contains s n) (key_itself n)
 
 -- ---- how many
 
--- if a set t of n numbers has some number k in it, then n is at least 1
 len-some : (n : ℕ) (t : set.FinSet nat_cmp) (k : ℕ) → set.len t ≡ n → set.contains t k ≡ true → 1 ≤ n
 len-some zero t k e h = absurd (false≢true (sym (set.contains-empty nat_cmp k) ∙ ap (λ u. set.contains u k) (sym (set.empty_of_len t e)) ∙ h))
 len-some (suc n) t k e h = omega arith
@@ -90,11 +84,9 @@ len-within_by (k ∷ ks) s t all h =
     (λ q e. set.contains-remove nat_cmp_total t k q ∙ not_and_holds _ _ (other q e) (h q (was q e))) in
     less_step (set.contains s k) (set.contains t k) (set.len s) (set.len t) (h k) (len-some (set.len t) t k refl) (rw (set.len-remove nat_cmp_total s k, set.len-remove nat_cmp_total t k) at rest)
 
--- if a set t has all numbers of a set s, then s has no more numbers than t
 pub len-within : (s t : set.FinSet nat_cmp) → ((q : ℕ) → set.contains s q ≡ true → set.contains t q ≡ true) → set.len s ≤ set.len t
 len-within s t h = len-within_by (set.items s) s t (λ q e. sym (set.contains-items s q) ∙ e) h
 
--- "b or false" is b: no number is in the empty set or the empty list
 pub or_false_is_same : (b : Bool) → (b || false) ≡ b
 or_false_is_same true = refl
 or_false_is_same false = refl
@@ -106,22 +98,18 @@ or_swaps_first_two true true c = refl
 or_swaps_first_two true false c = refl
 or_swaps_first_two false b c = refl
 
--- the union of a set with the empty set is the set
 pub union-empty : (s : set.FinSet nat_cmp) → set.union s set.empty ≡ s
 union-empty s = sets_are_equal _ _ (λ q. set.contains-union nat_cmp_total s set.empty q ∙ ap (λ b. set.contains s q || b) (set.contains-empty nat_cmp q) ∙ or_false_is_same _)
 
--- the union of a set with another that has k put in is the union of both with k put in
 pub union-insert : (s t : set.FinSet nat_cmp) (k : ℕ) → set.union s (set.insert t k) ≡ set.insert (set.union s t) k
 union-insert s t k = sets_are_equal _ _ (λ q.
     set.contains-union nat_cmp_total s (set.insert t k) q ∙ ap (λ b. set.contains s q || b) (set.contains-insert nat_cmp_total t k q) ∙ or_swaps_first_two (set.contains s q) (eq_by_cmp nat_cmp q k) (set.contains t q)
     ∙ sym (set.contains-insert nat_cmp_total (set.union s t) k q ∙ ap (λ b. eq_by_cmp nat_cmp q k || b) (set.contains-union nat_cmp_total s t q)))
 
--- "or" is associative: whether a number is the one put in (a), is in a set (b), or is in another set (c)
 pub or_is_associative : (a b c : Bool) → ((a || b) || c) ≡ (a || (b || c))
 or_is_associative true b c = refl
 or_is_associative false b c = refl
 
--- the union of a set that has k put in with another set is the union of both with k put in
 pub insert-union : (s t : set.FinSet nat_cmp) (k : ℕ) → set.union (set.insert s k) t ≡ set.insert (set.union s t) k
 insert-union s t k = sets_are_equal _ _ (λ q.
     set.contains-union nat_cmp_total (set.insert s k) t q ∙ ap (λ b. b || set.contains t q) (set.contains-insert nat_cmp_total s k q) ∙ or_is_associative (eq_by_cmp nat_cmp q k) (set.contains s q) (set.contains t q)
@@ -133,7 +121,6 @@ chosen_is_at_most_one_more : (b : Bool) (n : ℕ) → cond b n (n + 1) ≤ n + 1
 chosen_is_at_most_one_more true n = omega arith
 chosen_is_at_most_one_more false n = omega arith
 
--- the union of a set with the numbers of a list has at most as many numbers as the set and the list have together
 pub len-union : (s : set.FinSet nat_cmp) (ks : List ℕ) → set.len (set.union s (set.from_list ks)) ≤ set.len s + length ks
 len-union s [] = let e : set.len (set.union s set.empty) ≡ set.len s = ap set.len (union-empty s) in omega (arith, e)
 len-union s (k ∷ ks) =
@@ -143,18 +130,15 @@ len-union s (k ∷ ks) =
     let l = chosen_is_at_most_one_more (set.contains (set.union s (set.from_list ks)) k) (set.len (set.union s (set.from_list ks))) in
     omega (arith, rest, e, l)
 
--- if a is true, so is "a or b": a number of a set (a) is in its union with another set (b)
 pub or_holds_by_first : (a b : Bool) → a ≡ true → (a || b) ≡ true
 or_holds_by_first true b h = refl
 or_holds_by_first false b h = absurd (false≢true h)
 
 -- ---- the numbers of a list, which come one after another
 
--- the union of a set with the numbers of k ∷ ks is that of the set with k put in, with the numbers of ks
 pub union-next : (s : set.FinSet nat_cmp) (k : ℕ) (ks : List ℕ) → set.union (set.insert s k) (set.from_list ks) ≡ set.union s (set.from_list (k ∷ ks))
 union-next s k ks = insert-union s (set.from_list ks) k ∙ sym (union-insert s (set.from_list ks) k)
 
--- a set with the first number of a list put in has no more numbers than with all numbers of the list put in
 pub len-next : (s t : set.FinSet nat_cmp) (k : ℕ) (ks : List ℕ) → set.union s (set.from_list (k ∷ ks)) ≡ t → set.len (set.insert s k) ≤ set.len t
 len-next s t k ks h =
     len-within (set.insert s k) t (λ q e. ap (λ u. set.contains u q) (sym (union-next s k ks ∙ h)) ∙ set.contains-union nat_cmp_total (set.insert s k) (set.from_list ks) q ∙ or_holds_by_first _ _ e)

@@ -16,17 +16,14 @@ use Rattle.std.proofs.lemmas.List.Sorted.{IsPermutation-insert, IsPermutation-re
 use Rattle.atl_world.specs.SortedNumbers.{IsAt, BelongsAt}
 use Rattle.atl_world.proofs.SetLaws.{sets_are_equal, insert_twice, insert_undone, contains_inserted}
 
--- a list is sorted, without duplicates
 abbrev IsRising : List ℕ → Type 0
 IsRising xs = IsStrictlySortedBy nat_cmp xs
 
--- P holds, if it follows from a = b, from a < b and from b < a
 by_cases : {P : Type 0} (a b : ℕ) → (a ≡ b → P) → (a < b → P) → (b < a → P) → P
 by_cases a b alike less more = elim (cases_order a b) [ inl e ↦ alike e | inr r ↦ elim r [ inl l ↦ less l | inr m ↦ more m ] ]
 
 -- ---- a list stays sorted
 
--- a sorted list stays sorted if n is put in at the index where it belongs
 pub sorted-insert : (xs : List ℕ) (n i : ℕ) → IsRising xs → BelongsAt xs n i → IsRising (insert xs i n)
 sorted-insert xs n i s b = sorted_from_strictly_increasing (insert xs i n) (λ k l.
     let size : length (insert xs i n) ≡ length xs + 1 = length-insert xs i n b.within in
@@ -56,11 +53,9 @@ sorted-insert xs n i s b = sorted_from_strictly_increasing (insert xs i n) (λ k
     let rises = below_from_sorted xs (k - 1) k 0 s (omega (arith, m)) (omega (arith, l, size)) in
     omega (arith, here, next, rises)))
   where
-    -- a number j above another one is (j - 1) + 1
     one_back : (j i : ℕ) → i < j → j ≡ j - 1 + 1
     one_back j i m = omega arith
 
--- a sorted list stays sorted if an element is removed
 pub sorted-remove : (xs : List ℕ) (i : ℕ) → IsRising xs → i < length xs → IsRising (remove xs i)
 sorted-remove xs i s within = sorted_from_strictly_increasing (remove xs i) (λ k l.
     let size : length (remove xs i) + 1 ≡ length xs = length-remove xs i within in
@@ -83,7 +78,6 @@ sorted-remove xs i s within = sorted_from_strictly_increasing (remove xs i) (λ 
 
 -- ---- how many numbers the set of a list has
 
--- a number that is less than all numbers of a list is not in the list
 lesser_not_listed : (x : ℕ) (xs : List ℕ) → AllByRecursion (λ y. nat_cmp x y ≡ Less) xs → list_any (eq_by_cmp nat_cmp x) xs ≡ false
 lesser_not_listed x [] h = refl
 lesser_not_listed x (y ∷ xs) h = ap (λ r. is_eq r || list_any (eq_by_cmp nat_cmp x) xs) h.0 ∙ lesser_not_listed x xs h.1
@@ -94,7 +88,6 @@ chosen_is_one_more : (b : Bool) (m n : ℕ) → b ≡ false → m ≡ n → cond
 chosen_is_one_more true m n e h = absurd (false≢true (sym e))
 chosen_is_one_more false m n e h = omega arith
 
--- the set of a sorted list has as many numbers as the list is long
 pub len-sorted : (xs : List ℕ) → IsRising xs → set.len {R = nat_cmp} (set.from_list xs) ≡ length xs
 len-sorted [] s = set.len-empty nat_cmp
 len-sorted (x ∷ xs) s =
@@ -103,19 +96,15 @@ len-sorted (x ∷ xs) s =
 
 -- ---- which numbers the set of a list has
 
--- lists that are permutations of each other have the same set
 from_list-permutation : (xs ys : List ℕ) → IsPermutation xs ys → set.from_list {R = nat_cmp} xs ≡ set.from_list ys
 from_list-permutation xs ys p = sets_are_equal _ _ (λ q. set.contains-from_list nat_cmp_total xs q ∙ list_any-IsPermutation (eq_by_cmp nat_cmp q) xs ys p ∙ sym (set.contains-from_list nat_cmp_total ys q))
 
--- the set of a list with n inserted is the set of the list with n put in
 pub from_list-insert : (xs : List ℕ) (n i : ℕ) → set.from_list {R = nat_cmp} (insert xs i n) ≡ set.insert (set.from_list xs) n
 from_list-insert xs n i = sym (from_list-permutation (n ∷ xs) (insert xs i n) (IsPermutation-insert xs i n))
 
--- the set of a list is the set of the list without its i-th element n, with n put in
 from_list-put_back : (xs : List ℕ) (n i : ℕ) → IsAt xs n i → set.from_list {R = nat_cmp} xs ≡ set.insert (set.from_list (remove xs i)) n
 from_list-put_back xs n i h = from_list-permutation xs (n ∷ remove xs i) (IsPermutation-remove xs i n h.within (sym (get_or_default xs i n 0 h.within ∙ h.number_there)))
 
--- the number n at an index of a list is in the set of the list
 pub contains-is_at : (xs : List ℕ) (n i : ℕ) → IsAt xs n i → set.contains {R = nat_cmp} (set.from_list xs) n ≡ true
 contains-is_at xs n i h = ap (λ s. set.contains s n) (from_list-put_back xs n i h) ∙ contains_inserted (set.from_list (remove xs i)) n
 
@@ -123,14 +112,12 @@ contains-is_at xs n i h = ap (λ s. set.contains s n) (from_list-put_back xs n i
 pub len-belongs : (xs : List ℕ) (n i : ℕ) → IsRising xs → BelongsAt xs n i → set.len {R = nat_cmp} (set.insert (set.from_list xs) n) ≡ length xs + 1
 len-belongs xs n i s b = ap set.len (sym (from_list-insert xs n i)) ∙ len-sorted (insert xs i n) (sorted-insert xs n i s b) ∙ length-insert xs i n b.within
 
--- a number that belongs at an index of a sorted list (`BelongsAt`) is not in the set of the list
 pub contains-belongs : (xs : List ℕ) (n i : ℕ) → IsRising xs → BelongsAt xs n i → set.contains {R = nat_cmp} (set.from_list xs) n ≡ false
 contains-belongs xs n i s b = false_from_ne_true _ (λ e.
     let more = len-belongs xs n i s b in
     let as_many : set.len {R = nat_cmp} (set.insert (set.from_list xs) n) ≡ length xs = ap set.len (insert_twice (set.from_list xs) n e) ∙ len-sorted xs s in
     omega (arith, more, as_many))
 
--- the set of a sorted list with its i-th element n removed is the set of the list without n
 pub from_list-remove : (xs : List ℕ) (n i : ℕ) → IsRising xs → IsAt xs n i → set.from_list {R = nat_cmp} (remove xs i) ≡ set.remove (set.from_list xs) n
 from_list-remove xs n i s h =
     let back = from_list-put_back xs n i h in
@@ -142,14 +129,12 @@ from_list-remove xs n i s h =
     omega (arith, all, less, size, as_many)) in
     sym (ap (λ t. set.remove t n) back ∙ insert_undone (set.from_list (remove xs i)) n gone)
 
--- the empty list is sorted
 pub sorted-empty : IsRising []
 unfolding IsStrictlySortedBy
 sorted-empty = tt
 
 -- ---- the index that a binary search returns
 
--- of two elements of a sorted list the later one is no less than the earlier one
 not_falling : (xs : List ℕ) → IsRising xs → (i j : ℕ) → i ≤ j → j < length xs → get_or xs i 0 ≤ get_or xs j 0
 not_falling xs s i j l m = non_decreasing_from_sorted xs s i j 0 l m
 
@@ -158,7 +143,6 @@ pub searched-found : (xs : List ℕ) (n : ℕ) (r : Result ℕ ℕ) → IsRising
 searched-found xs n (Ok i) s h = let found = searched xs n (Ok i) h (not_falling xs s) in record { within = found.0; number_there = found.1 }
 searched-found xs n (Err i) s h = tt
 
--- if a binary search in a sorted list doesn't find n, then n belongs at the index that the search returns
 pub searched-missing : (xs : List ℕ) (n : ℕ) (r : Result ℕ ℕ) → IsRising xs → IsBinarySearchResult (λ y. nat_cmp y n) xs r → IfErr r (λ i. BelongsAt xs n i)
 searched-missing xs n (Ok i) s h = tt
 searched-missing xs n (Err i) s h = let missing = searched xs n (Err i) h (not_falling xs s) in record { within = missing.0; before = missing.1; after = missing.2 }

@@ -10,7 +10,6 @@ use Rattle.std.proofs.lemmas.List.Sums.{sum_by-cons}
 use Rattle.std.proofs.lemmas.Option.{none-some}
 use Rattle.atl_world.specs.Sums.{sum_over, numbers_where}
 
--- addition is commutative: for `put_new`
 addition_commutes : (a b : ℕ) → a + b ≡ b + a
 addition_commutes a b = omega arith
 
@@ -34,13 +33,11 @@ module _ {X : Type 0} where
   inner_choice_is_unused true x y z = refl
   inner_choice_is_unused false x y z = refl
 
-  -- the map with v put in under k is the same if the value under k, if any, is removed first
   pub put_over : (m : FinMap nat_cmp X) (k : ℕ) (v : X) → insert m k v ≡ insert (remove m k) k v
   put_over m k v = same_map nat_cmp_total nat_cmp-IsAntisymmetric _ _ (λ q.
       get-insert nat_cmp_total m k v q ∙ inner_choice_is_unused (eq_by_cmp nat_cmp q k) (Some v) None (get m q)
       ∙ sym (get-insert nat_cmp_total (remove m k) k v q ∙ ap (cond (eq_by_cmp nat_cmp q k) (Some v)) (get-remove nat_cmp_total m k q)))
 
-  -- a value taken out and put in again leaves the map as it was
   pub put_back_keeps_map : (m : FinMap nat_cmp X) (k : ℕ) (u : X) → get m k ≡ Some u → m ≡ insert (remove m k) k u
   put_back_keeps_map m k u h = same_map nat_cmp_total nat_cmp-IsAntisymmetric _ _ (λ q.
       elim (nat_cmp q k) as (λ r. nat_cmp q k ≡ r → get m q ≡ cond (is_eq r) (Some u) (cond (is_eq r) None (get m q))) [
@@ -50,7 +47,6 @@ module _ {X : Type 0} where
       ] refl
       ∙ sym (get-insert nat_cmp_total (remove m k) k u q ∙ ap (cond (eq_by_cmp nat_cmp q k) (Some u)) (get-remove nat_cmp_total m k q)))
 
-  -- a new value, put in and taken out again, leaves the map as it was
   pub remove_undoes_insert : (m : FinMap nat_cmp X) (k : ℕ) (v : X) → get m k ≡ None → remove (insert m k v) k ≡ m
   remove_undoes_insert m k v h = same_map nat_cmp_total nat_cmp-IsAntisymmetric _ _ (λ q.
       get-remove nat_cmp_total (insert m k v) k q ∙ ap (cond (eq_by_cmp nat_cmp q k) None) (get-insert nat_cmp_total m k v q)
@@ -62,11 +58,9 @@ module _ {X : Type 0} where
 
   -- ---- sums
 
-  -- the sum of f over the values of entries
   abbrev sum_of_entries : (f : X → ℕ) → List (ℕ × X) → ℕ
   sum_of_entries f es = sum_by (λ e. f e.1) es
 
-  -- an entry with a new number and the value v, put into entries, adds f v to the sum of f over them
   put_new : (f : X → ℕ) (k : ℕ) (v : X) (es : List (ℕ × X)) → find nat_cmp k es ≡ None → sum_of_entries f (put nat_cmp k v es) ≡ sum_of_entries f es + f v
   put_new f k v [] h = omega arith
   put_new f k v (e ∷ es) h =
@@ -77,7 +71,6 @@ module _ {X : Type 0} where
         | Greater ↦ λ g. more e (put nat_cmp k v es) ∙ sum_after_first (f e.1) _ (sum_of_entries f es) (f v) (put_new f k v es g) ∙ ap (λ n. n + f v) (sym (more e es))
       ] h
 
-  -- the sum of f over entries with v put in under k, plus f u, is the sum with u put in under k, plus f v
   put_either : (f : X → ℕ) (k : ℕ) (u v : X) (es : List (ℕ × X)) → sum_of_entries f (put nat_cmp k v es) + f u ≡ sum_of_entries f (put nat_cmp k u es) + f v
   put_either f k u v [] = omega arith
   put_either f k u v (e ∷ es) =
@@ -103,7 +96,6 @@ module _ {X : Type 0} where
 
   -- ---- the numbers whose values pass a test
 
-  -- the numbers of the entries whose values pass a test
   abbrev numbers_passing : (p : X → Bool) → List (ℕ × X) → List ℕ
   numbers_passing p es = map (λ e. e.0) (filter (λ e. p e.1) es)
 
@@ -113,11 +105,9 @@ module _ {X : Type 0} where
   chosen-cond p true e es = refl
   chosen-cond p false e es = refl
 
-  -- the numbers of e ∷ es whose values pass the test p are those of es, with the number of e in front if e passes
   pub chosen-cons : (p : X → Bool) (e : ℕ × X) (es : List (ℕ × X)) → numbers_passing p (e ∷ es) ≡ cond (p e.1) (e.0 ∷ numbers_passing p es) (numbers_passing p es)
   chosen-cons p e es = chosen-cond p (p e.1) e es
 
-  -- the numbers whose values pass the test p are the same with u and with v under k, if u and v both pass or both fail
   chosen-put : (p : X → Bool) (k : ℕ) (u v : X) → p u ≡ p v → (es : List (ℕ × X)) → numbers_passing p (put nat_cmp k v es) ≡ numbers_passing p (put nat_cmp k u es)
   chosen-put p k u v h [] = chosen-cons p (k, v) [] ∙ ap (λ b. cond b (k ∷ []) []) (sym h) ∙ sym (chosen-cons p (k, u) [])
   chosen-put p k u v h (e ∷ es) =
@@ -127,8 +117,6 @@ module _ {X : Type 0} where
         | Greater ↦ chosen-cons p e (put nat_cmp k v es) ∙ ap (λ ns. cond (p e.1) (e.0 ∷ ns) ns) (chosen-put p k u v h es) ∙ sym (chosen-cons p e (put nat_cmp k u es))
       ]
 
-  -- an entry with a new number, put into entries, adds nothing to the numbers whose values pass the test p, if its own
-  -- value fails p
   chosen-put_other : (p : X → Bool) (k : ℕ) (v : X) → p v ≡ false → (es : List (ℕ × X)) → find nat_cmp k es ≡ None → numbers_passing p (put nat_cmp k v es) ≡ numbers_passing p es
   chosen-put_other p k v h [] g = chosen-cons p (k, v) [] ∙ ap (λ b. cond b (k ∷ []) []) h
   chosen-put_other p k v h (e ∷ es) g =
@@ -138,23 +126,18 @@ module _ {X : Type 0} where
         | Greater ↦ λ g. chosen-cons p e (put nat_cmp k v es) ∙ ap (λ ns. cond (p e.1) (e.0 ∷ ns) ns) (chosen-put_other p k v h es g) ∙ sym (chosen-cons p e es)
       ] g
 
-  -- if v replaces u in a map, and the test p is the same of both, the numbers whose values pass p stay the same numbers
   pub numbers_where-insert_known : (p : X → Bool) (m : FinMap nat_cmp X) (k : ℕ) (u v : X) → get m k ≡ Some u → p u ≡ p v → numbers_where p (insert m k v) ≡ numbers_where p m
   numbers_where-insert_known p m k u v h same =
       ap (numbers_where p) (put_over m k v) ∙ ap (numbers_passing p) (entries-insert nat_cmp_total (remove m k) k v) ∙ chosen-put p k u v same (entries (remove m k))
       ∙ ap (numbers_passing p) (sym (entries-insert nat_cmp_total (remove m k) k u)) ∙ ap (numbers_where p) (sym (put_back_keeps_map m k u h))
 
-  -- the numbers whose values pass the test p are still the same after a value that fails p is put in under a new number
   pub numbers_where-insert_other : (p : X → Bool) (m : FinMap nat_cmp X) (k : ℕ) (v : X) → get m k ≡ None → p v ≡ false → numbers_where p (insert m k v) ≡ numbers_where p m
   numbers_where-insert_other p m k v h fails =
       ap (numbers_passing p) (entries-insert nat_cmp_total m k v) ∙ chosen-put_other p k v fails (entries m) (sym (get-entries m k) ∙ h)
 
-  -- replacing a value by an equal one leaves the map as it was
   pub put_same : (m : FinMap nat_cmp X) (k : ℕ) (u v : X) → get m k ≡ Some u → v ≡ u → insert m k v ≡ m
   put_same m k u v h e = ap (insert m k) e ∙ put_over m k u ∙ sym (put_back_keeps_map m k u h)
 
-  -- to put in v under k leaves the map as it was if the result r is an error (`OnErr`), given that v then equals u, the
-  -- value under k
   pub put_same_err : {A E : Type 0} (r : Result A E) (m : FinMap nat_cmp X) (k : ℕ) (u v : X) → get m k ≡ Some u → OnErr r (v ≡ u) → OnErr r (insert m k v ≡ m)
   put_same_err (Ok a) m k u v h e = tt
   put_same_err (Err x) m k u v h e = put_same m k u v h e

@@ -9,8 +9,6 @@ use Rattle.atl_world.specs.declared.direction.Direction.{Direction}
 use Rattle.atl_world.specs.declared.world.Market.{Market}
 use Rattle.atl_world.specs.declared.world.Terrain.{Terrain}
 
--- ---- look-ups by the number of a region
-
 -- the terrain of a region, by the region's number; None if the world has no such region
 abbrev pub terrain_of : WorldValue → (region : ℕ) → Option Terrain
 terrain_of w region = option_and_then (λ p. slice_get w.terrains p.terrain) (get w.regions region)
@@ -27,8 +25,6 @@ neighbour w region direction = option_and_then (neighbour_to direction) (get w.r
 abbrev pub market_of : WorldValue → (region item : ℕ) → Option Market
 market_of w region item = option_and_then (λ p. get p.markets item) (get w.regions region)
 
--- ---- look-ups by the number of a kind of structure
-
 -- whether a kind of structure, by its number, is a ship; false if there is no such kind
 abbrev pub is_ship : WorldValue → (kind : ℕ) → Bool
 is_ship w kind = option_map_or (λ k. k.ship) (slice_get w.kinds kind) false
@@ -36,8 +32,6 @@ is_ship w kind = option_map_or (λ k. k.ship) (slice_get w.kinds kind) false
 -- the size of a complete structure of a kind, by the kind's number; most_size if there is no such kind
 abbrev pub size_of : WorldValue → (kind : ℕ) → ℕ
 size_of w kind = option_map_or (λ k. k.size) (slice_get w.kinds kind) most_size
-
--- ---- look-up by the number of a skill
 
 -- the money that a month of study of a skill, by its number, costs each man; 0 if there is no such skill
 abbrev pub fee_of : WorldValue → (skill : ℕ) → ℕ

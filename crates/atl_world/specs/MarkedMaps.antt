@@ -7,7 +7,6 @@ use Rattle.std.specs.FinSet as set
 
 -- a map with marks: its values by number, and the set of the marked numbers
 pub record MarkedMapValue (V : Type 0) : Type 0 where
-  -- the values of the map, by number
   pub values : FinMap nat_cmp V
   -- the marked numbers: those whose values changed
   pub marks : set.FinSet nat_cmp

@@ -7,9 +7,7 @@ use Rattle.std.specs.FinSet as set
 
 -- a set with room: its numbers, and how many numbers it can hold without taking memory
 pub record RoomySet : Type 0 where
-  -- the numbers of the set
   pub numbers : set.FinSet nat_cmp
-  -- how many numbers the set can hold without taking memory
   pub room : ℕ
 
 -- for proofs alone: a set with room encoded as the pair of both, as the kit asks of a type that contracts see

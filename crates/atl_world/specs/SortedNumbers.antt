@@ -6,28 +6,20 @@ use Rattle.atl_world.specs.RoomySets.{RoomySet}
 
 -- the number n is at the index i of a list
 pub record IsAt (xs : List ℕ) (n : ℕ) (i : ℕ) : Type 0 where
-  -- i is an index of the list
   pub within : i < length xs
-  -- the number at the index i is n
   pub number_there : slice_index xs i ≡ n
 
 -- the number n belongs at the index i of a list: all numbers before i are less than n, and all from i on are greater
 pub record BelongsAt (xs : List ℕ) (n : ℕ) (i : ℕ) : Type 0 where
-  -- i is an index of the list, or its length
   pub within : i ≤ length xs
-  -- each number before the index i is less than n
   pub before : (k : ℕ) → k < i → slice_index xs k < n
-  -- each number from the index i on is greater than n
   pub after : (k : ℕ) → i ≤ k → k < length xs → n < slice_index xs k
 
 -- two sets have no number in common
 pub record AreApart (s t : set.FinSet nat_cmp) : Type 0 where
-  -- no number of the set s is in the set t
   pub apart : (n : ℕ) → set.contains s n ≡ true → set.contains t n ≡ false
 
 -- the marks of `Marks` are kept in two sets: no number is in both, and the first set has room for the numbers of both
 pub record AreMarks (numbers recent : RoomySet) : Type 0 where
-  -- no number is in both sets
   pub apart : AreApart numbers.numbers recent.numbers
-  -- the set `numbers` has room for the numbers of both sets
   pub fits : set.len numbers.numbers + set.len recent.numbers ≤ numbers.room

@@ -17,9 +17,7 @@ marked_with marks n (Some v) = set.insert marks n
 
 -- a list has exactly the numbers of a set of marks, in ascending order
 pub record IsAscendingListOf (marks : set.FinSet nat_cmp) (numbers : List ℕ) : Type 0 where
-  -- the numbers of the list are strictly ascending
   pub ascending : IsStrictlySortedBy nat_cmp numbers
-  -- the numbers of the list are exactly those of `marks`
   pub all : set.from_list numbers ≡ marks
 
 module _ {V : Type 0} where

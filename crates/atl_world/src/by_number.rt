@@ -9,7 +9,6 @@ use crate::direction::Direction;
 use crate::limits::MOST_SIZE;
 use crate::world::{Item, Kind, Market, Terrain, World};
 
-/// Looks up what a world has under a number.
 impl World {
     /// The terrain of a region, by the region's number; `None` if the world has no such region.
     pub fn terrain_of(&self, region: u32) -> Option<&Terrain>

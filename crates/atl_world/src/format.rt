@@ -11,7 +11,6 @@ pub enum Format {
     Second,
 }
 
-/// Gives the number by which the campaign's row names a format.
 impl Format {
     /// The number of the format in the campaign's row: 1 or 2. See docs/FORMATS.md, "Tables".
     pub fn number(self) -> u8

@@ -1,18 +1,13 @@
 //! The limits of worlds. See docs/RULES.md, "Limits", and docs/FORMATS.md, "The world file".
 
-/// The most terrains of a world.
 pub const MOST_TERRAINS: usize = 20;
 
-/// The most items of a world.
 pub const MOST_ITEMS: usize = 200;
 
-/// The most skills of a world.
 pub const MOST_SKILLS: usize = 100;
 
-/// The most kinds of structures of a world.
 pub const MOST_KINDS: usize = 100;
 
-/// The most regions of a world.
 pub const MOST_REGIONS: usize = 10_000;
 
 /// The most markets of a region.

@@ -8,31 +8,25 @@ use crate::text::Text;
 use crate::titled::Titled;
 use crate::world::{Item, Kind, Skill, World};
 
-/// The title of an item is its name.
 impl Titled for Item {
     ghost title_of = { λ item. item.name };
 
-    /// The name of the item.
     fn title(&self) -> &Text {
         &self.name
     }
 }
 
-/// The title of a skill is its name.
 impl Titled for Skill {
     ghost title_of = { λ skill. skill.name };
 
-    /// The name of the skill.
     fn title(&self) -> &Text {
         &self.name
     }
 }
 
-/// The title of a kind of structure is its name.
 impl Titled for Kind {
     ghost title_of = { λ kind. kind.name };
 
-    /// The name of the kind of structure.
     fn title(&self) -> &Text {
         &self.name
     }
@@ -50,8 +44,6 @@ pub fn letter_of(byte: u8, quoted: bool) -> u8
     }
 }
 
-/// Whether a word means a given name: they are equal but for ASCII case, where `_` in a word
-/// without quotes is a space.
 #[tactic(auto, using(crate::proofs::LookupLaws::other_length, crate::proofs::LookupLaws::same_letter, crate::proofs::LookupLaws::other_letter, crate::proofs::LookupLaws::end_of_both))]
 fn is_named(name: &[u8], word: &[u8], quoted: bool) -> bool
     ensures { result ≡ str_eq_ignore_ascii_case name.now (name_of word.now quoted) }
@@ -68,8 +60,6 @@ fn is_named(name: &[u8], word: &[u8], quoted: bool) -> bool
     true
 }
 
-/// The index of the first item, skill or kind of a list that a word names, ignoring ASCII case,
-/// `None` if there is none.
 fn index_named<T: Titled>(things: &[T], word: &[u8], quoted: bool) -> Option<usize>
     ensures value { result ≡ index_named T.title_of things.now word.now quoted }
     ensures within { IfSome result (λ i. i < length things.now) }
@@ -79,7 +69,6 @@ fn index_named<T: Titled>(things: &[T], word: &[u8], quoted: bool) -> Option<usi
         .position(|thing| is_named(thing.title().as_bytes(), word, quoted))
 }
 
-/// Looks up the number of what a word of an order names.
 impl World {
     /// The number of the item that a word names, ignoring ASCII case, `None` if there is none. In a
     /// word without quotes `_` is a space. It takes no memory.

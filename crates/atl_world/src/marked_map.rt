@@ -15,13 +15,11 @@ use std::marker::Model;
 /// A map from numbers to values that marks each number whose value changes. A value changes if it
 /// is put in, lent to be changed, or taken out; the marks stay until they are cleared.
 pub struct MarkedMap<V> {
-    // The values by their numbers.
     values: Numbered<V>,
     // The marked numbers, with room for one mark on each value.
     marks: Marks,
 }
 
-/// Drops the values and the marks.
 impl<V: Drop> Drop for MarkedMap<V> {
     fn drop(self) {
         let_go!(self: MarkedMap { values, marks });
@@ -43,7 +41,6 @@ impl<V> Model for MarkedMap<V> {
     ghost invariant = { λ a. HasRoomForMarks a.values a.marks };
 }
 
-/// Makes a map with marks, reads and changes its values, and sets, clears and lists its marks.
 impl<V: Drop> MarkedMap<V> {
     ghost use Rattle.std.specs.Option.{option_copied_mut};
     ghost use Rattle.std.specs.Borrow.{sem};
@@ -174,7 +171,6 @@ impl<V: Drop> MarkedMap<V> {
         &self.values
     }
 
-    /// How many values the map has.
     pub fn len(&self) -> usize
         ensures { result ≡ map.len self.now.values }
     {
@@ -188,7 +184,6 @@ impl<V: Drop> MarkedMap<V> {
         self.values.iter()
     }
 
-    /// Whether a number is marked.
     pub fn is_marked(&self, number: u32) -> bool
         ensures { result ≡ set.contains self.now.marks number }
     {
@@ -202,7 +197,6 @@ impl<V: Drop> MarkedMap<V> {
         self.marks.iter()
     }
 
-    /// How many numbers are marked.
     pub fn marked_count(&self) -> usize
         ensures value { result ≡ set.len self.now.marks }
         ensures small { result ≤ number_count }

@@ -38,7 +38,6 @@ impl<'a> Iterator for MarkedNumbers<'a> {
 
     ghost remaining = { item_count (λ s. s) };
 
-    /// The least of the numbers left to come; `None` at the end.
     fn next(&mut self) -> Option<u32> {
         let Some(number) = self.numbers.as_slice().first() else {
             return next_of(&mut self.recent);
@@ -57,7 +56,6 @@ impl<'a> Iterator for MarkedNumbers<'a> {
     }
 }
 
-/// Takes the next number from an iterator over a slice, `None` at its end.
 fn next_of(numbers: &mut Iter<'_, u32>) -> Option<u32>
     ensures { YieldsFirstBy (λ n. n) iter_rest numbers.old result numbers.new }
 {

@@ -26,7 +26,6 @@ pub struct Marks {
     recent: SortedNumbers,
 }
 
-/// Drops both lists of marked numbers.
 impl Drop for Marks {
     fn drop(self) {
         let_go!(self: Marks { numbers, recent });
@@ -52,7 +51,6 @@ impl Model for Marks {
     ghost invariant = { λ a. AreMarks a.numbers a.recent };
 }
 
-/// Makes a set of marks with its room, and sets, clears, counts and lists the marks.
 impl Marks {
     /// The empty set, without room. It takes no memory.
     pub fn new(alloc: Global) -> Marks
@@ -148,14 +146,12 @@ impl Marks {
         self.recent.clear();
     }
 
-    /// Whether a number is marked.
     pub fn contains(&self, number: u32) -> bool
         ensures { result ≡ set.contains self.now.numbers number }
     {
         self.numbers.contains(number) || self.recent.contains(number)
     }
 
-    /// How many numbers are marked.
     pub fn len(&self) -> usize
         ensures value { result ≡ set.len self.now.numbers }
         ensures small { result ≤ number_count }

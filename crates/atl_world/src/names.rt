@@ -8,29 +8,24 @@ use crate::letters::{QUOTE, SPACE, TILDE};
 use crate::limits::MOST_NAME_BYTES;
 use crate::lookup::letter_of;
 
-/// Whether a text has 1 to 40 bytes.
 fn has_allowed_length(text: &[u8]) -> bool
     ensures { result ≡ has_allowed_length text.now }
 {
     1 <= text.len() && text.len() <= MOST_NAME_BYTES
 }
 
-/// Whether a byte may be in a name: it is from 32 to 126, and no quotation mark.
 fn is_name_byte(byte: u8) -> bool
     ensures { result ≡ is_name_byte byte }
 {
     SPACE <= byte && byte <= TILDE && byte != QUOTE
 }
 
-/// Whether a byte may be in a pass text: it is from 33 to 126.
 fn is_pass_byte(byte: u8) -> bool
     ensures { result ≡ is_pass_byte byte }
 {
     SPACE < byte && byte <= TILDE
 }
 
-/// Whether a word, with `_` as a space unless the word is quoted, neither begins nor ends with a
-/// space.
 fn has_no_edge_space(word: &[u8], quoted: bool) -> bool
     ensures { result ≡ has_no_edge_space (name_of word.now quoted) }
 {
@@ -42,7 +37,6 @@ fn has_no_edge_space(word: &[u8], quoted: bool) -> bool
     first != SPACE && last != SPACE
 }
 
-/// Whether a word, with `_` as a space unless the word is quoted, has only bytes allowed in a name.
 fn are_name_bytes(word: &[u8], quoted: bool) -> bool
     ensures { result ≡ list_all is_name_byte (name_of word.now quoted) }
 {
@@ -51,7 +45,6 @@ fn are_name_bytes(word: &[u8], quoted: bool) -> bool
         .all(|byte| is_name_byte(byte))
 }
 
-/// Whether a text has only bytes that may be in a pass text.
 fn are_pass_bytes(text: &[u8]) -> bool
     ensures { result ≡ list_all is_pass_byte text.now }
 {

@@ -23,7 +23,6 @@ impl<V> Model for Numbered<V> {
     ghost view = { λ a. map.from_entries a.entries.entries };
 }
 
-/// Makes a map, and reads and changes its values by their numbers.
 impl<V: Drop> Numbered<V> {
     ghost use Rattle.std.specs.Option.{option_copied_mut};
     ghost use Rattle.std.specs.Borrow.{sem};
@@ -77,7 +76,6 @@ impl<V: Drop> Numbered<V> {
         self.entries.clear();
     }
 
-    /// How many values the map has.
     pub fn len(&self) -> usize
         ensures { result ≡ map.len self.now }
     {
@@ -94,7 +92,6 @@ impl<V: Drop> Numbered<V> {
     }
 }
 
-/// Reaches the values of a map of maps by two numbers, that of the inner map and that of the value.
 impl<V: Drop> Numbered<Numbered<V>> {
     ghost use Rattle.atl_world.specs.Groups.{group_of};
 
@@ -148,7 +145,6 @@ impl<'a, V> Model for Entries<'a, V> {
     ghost view = { λ a. a.inner };
 }
 
-/// Gives the lowest number left to come, with its value.
 impl<'a, V> Iterator for Entries<'a, V> {
     type Item = (u32, &'a V);
 
@@ -158,7 +154,6 @@ impl<'a, V> Iterator for Entries<'a, V> {
 
     ghost remaining = { item_count (λ s. s) };
 
-    /// The lowest number left to come, with its value; `None` at the end.
     fn next(&mut self) -> Option<(u32, &'a V)> {
         match self.inner.next() {
             Some((number, value)) => Some((*number, value)),

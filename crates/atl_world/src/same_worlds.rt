@@ -20,7 +20,6 @@ trait Comparable: Drop {
         ensures { IsTrue result ↔ (self.now ≡ other.now) };
 }
 
-/// Whether two lists have the same length, and equal things at each index.
 fn are_same<T: Comparable>(things: &[T], others: &[T]) -> bool
     ensures { IsTrue result ↔ (things.now ≡ others.now) }
 {
@@ -35,9 +34,7 @@ fn are_same<T: Comparable>(things: &[T], others: &[T]) -> bool
     true
 }
 
-/// Compares all fields of two terrains, the names byte by byte.
 impl Comparable for Terrain {
-    /// Whether two terrains are equal in all their fields.
     fn is_same(&self, other: &Terrain) -> bool {
         self.name.is_same(&other.name)
             && agree!(self other: land wage places money_limit peasant_limit)
@@ -45,32 +42,25 @@ impl Comparable for Terrain {
     }
 }
 
-/// Compares all fields of two items, the names byte by byte.
 impl Comparable for Item {
-    /// Whether two items are equal in all their fields.
     fn is_same(&self, other: &Item) -> bool {
         self.name.is_same(&other.name) && agree!(self other: weight carry skill level raw raw_count)
     }
 }
 
-/// Compares the names of two skills, byte by byte, and their fees.
 impl Comparable for Skill {
-    /// Whether two skills are equal in their names and fees.
     fn is_same(&self, other: &Skill) -> bool {
         self.name.is_same(&other.name) && self.fee == other.fee
     }
 }
 
-/// Compares all fields of two kinds of structures, the names byte by byte.
 impl Comparable for Kind {
-    /// Whether two kinds of structures are equal in all their fields.
     fn is_same(&self, other: &Kind) -> bool {
         self.name.is_same(&other.name)
             && agree!(self other: ship material size skill level capacity crew helps)
     }
 }
 
-/// Whether the rules of two worlds are equal in all their fields.
 fn are_same_rules(rules: &Rules, others: &Rules) -> bool
     ensures { IsTrue result ↔ (rules.now ≡ others.now) }
 {
@@ -87,7 +77,6 @@ fn is_same_region(plan: &RegionPlan, other: &RegionPlan) -> bool
         && agree!(plan other: terrain peasants money north south east west)
 }
 
-/// Whether two maps of regions are equal but for the markets of the regions.
 fn are_same_regions(plans: &Numbered<RegionPlan>, others: &Numbered<RegionPlan>) -> bool
     ensures { IsTrue result ↔ (map_values without_market plans.now ≡ map_values without_market
         others.now) }
@@ -106,7 +95,6 @@ fn are_same_regions(plans: &Numbered<RegionPlan>, others: &Numbered<RegionPlan>)
     rest.next().is_none()
 }
 
-/// Compares a world with another one.
 impl World {
     /// Whether two worlds are equal once the markets of their regions are left out.
     pub fn is_same_but_for_markets(&self, other: &World) -> bool

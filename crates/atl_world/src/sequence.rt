@@ -10,7 +10,6 @@ pub struct Sequence<T> {
     items: Vec<T>,
 }
 
-/// Contracts see a `Sequence` as the list of its values.
 impl<T> Model for Sequence<T> {
     ghost use Rattle.std.specs.Prelude.{List};
     ghost use Rattle.std.specs.Coded.{coded_list};
@@ -22,7 +21,6 @@ impl<T> Model for Sequence<T> {
     ghost view = { λ a. a.items.items };
 }
 
-/// Makes a list, adds values at its end, and gives them as a slice or a vector.
 impl<T: Drop> Sequence<T> {
     /// The empty list, which takes no memory.
     pub fn new(alloc: Global) -> Self
@@ -67,14 +65,12 @@ impl<T: Drop> Sequence<T> {
         Ok(())
     }
 
-    /// How many values the list has.
     pub fn len(&self) -> usize
         ensures { result ≡ length self.now }
     {
         self.items.len()
     }
 
-    /// The values of the list, in order.
     pub fn as_slice(&self) -> &[T]
         ensures { result.now ≡ self.now }
     {

@@ -40,7 +40,6 @@ impl Model for SortedNumbers {
     ghost invariant = { λ a. IsStrictlySortedBy nat_cmp a.numbers.items };
 }
 
-/// Makes a list with its room, and adds, merges, removes and looks up numbers.
 impl SortedNumbers {
     /// The empty list, without room. It takes no memory.
     pub fn new(alloc: Global) -> SortedNumbers
@@ -114,7 +113,6 @@ impl SortedNumbers {
         self.numbers.clear();
     }
 
-    /// Whether a number is in the list.
     pub fn contains(&self, number: u32) -> bool
         ensures { result ≡ set.contains self.now.numbers number }
     {
@@ -124,7 +122,6 @@ impl SortedNumbers {
         }
     }
 
-    /// How many numbers the list has.
     pub fn len(&self) -> usize
         ensures value { result ≡ set.len self.now.numbers }
         ensures low { (n : ℕ) → set.contains self.now.numbers n ≡ true → n < number_count }
@@ -160,7 +157,6 @@ fn index_of(numbers: &[u32], number: u32) -> Result<usize, usize>
     numbers.binary_search(&number)
 }
 
-/// Inserts a number at an index of a list that has room for it.
 fn put_at(numbers: &mut Vec<u32>, index: usize, number: u32)
     requires within { index ≤ length numbers.old.items }
     requires room { length numbers.old.items < vec_capacity numbers.old }
@@ -179,7 +175,6 @@ fn length_of_bounded(numbers: &[u32], last: u32) -> usize
     numbers.len()
 }
 
-/// Appends a number to a list that has room for it.
 fn put_last(numbers: &mut Vec<u32>, number: u32)
     requires { length numbers.old.items < vec_capacity numbers.old }
     ensures items { numbers.new.items ≡ numbers.old.items ++ number ∷ [] }
@@ -189,7 +184,6 @@ fn put_last(numbers: &mut Vec<u32>, number: u32)
     put_at(numbers, end, number);
 }
 
-/// Appends numbers to a list that has room for them.
 fn append(numbers: &mut Vec<u32>, others: &[u32])
     requires { length numbers.old.items + length others.now ≤ vec_capacity numbers.old }
     ensures items { numbers.new.items ≡ numbers.old.items ++ others.now }
@@ -232,8 +226,6 @@ fn merge(numbers: &mut [u32], own: usize, others: &[u32])
     }
 }
 
-/// Merges the numbers of a sorted list into another sorted list that has none of them, and room for
-/// all.
 fn merge_into(numbers: &mut Vec<u32>, others: &[u32])
     requires room { length numbers.old.items + length others.now ≤ vec_capacity numbers.old }
     requires ascending { IsStrictlySortedBy nat_cmp numbers.old.items }

@@ -7,10 +7,8 @@ use crate::text::Text;
 /// A thing with a title: the name by which it is looked up, or by which it has to differ from the
 /// other things of its array.
 pub trait Titled {
-    // The title of the thing, as bytes.
     ghost title_of: { Self → List ℕ };
 
-    /// The title of the thing.
     fn title(&self) -> &Text
         ensures { result.now ≡ title_of self.now };
 }

@@ -62,7 +62,6 @@ pub struct Terrain {
     pub output: Sequence<u32>,
 }
 
-/// Drops the name and the output of the terrain.
 impl Drop for Terrain {
     fn drop(self) {
         let_go!(self: Terrain { name, land, wage, places, money_limit, peasant_limit, output });
@@ -155,26 +154,20 @@ pub struct RegionPlan {
     pub peasants: u32,
     /// Money at founding, at most `MOST_AMOUNT`.
     pub money: u32,
-    /// The number of the region in the north, where there is one.
     pub north: Option<u32>,
-    /// The number of the region in the south, where there is one.
     pub south: Option<u32>,
-    /// The number of the region in the east, where there is one.
     pub east: Option<u32>,
-    /// The number of the region in the west, where there is one.
     pub west: Option<u32>,
     /// The region's markets, each under the number of its item.
     pub markets: Numbered<Market>,
 }
 
-/// Drops the name and the markets of the region.
 impl Drop for RegionPlan {
     fn drop(self) {
         let_go!(self: RegionPlan { number, name, terrain, peasants, money, north, south, east, west, markets });
     }
 }
 
-/// Looks up the neighbours of a region.
 impl RegionPlan {
     ghost use Rattle.atl_world.specs.Worlds.{neighbour_to};
 
@@ -207,7 +200,6 @@ pub struct World {
     land: Sequence<u32>,
 }
 
-/// Drops all parts of the world.
 impl Drop for World {
     fn drop(self) {
         let_go!(self: World { rules, terrains, items, skills, kinds, regions, land });
@@ -232,7 +224,6 @@ impl Model for World {
         a.regions)) };
 }
 
-/// Makes a world of its parts, and gives the parts.
 impl World {
     ghost use Rattle.atl_world.specs.Worlds.{IsWorld, land_of, world_of_parts};
 
@@ -262,7 +253,6 @@ impl World {
         }
     }
 
-    /// The rules of the world. See docs/FORMATS.md, "The world file".
     pub fn rules(&self) -> &Rules
         ensures value { result.now ≡ self.now.rules }
         ensures world { IsWorld self.now }

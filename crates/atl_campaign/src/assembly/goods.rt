@@ -8,10 +8,10 @@ ghost use Rattle.atl_campaign.specs.FromRows.{as_u32};
 ghost use Rattle.atl_campaign.specs.RowRules.{has_in_range};
 
 use crate::arena::Arena;
-use crate::parts::{StoredHas, StoredMarket};
 use crate::row_values::as_u32;
 use crate::rows::{ITEM_SORT, SKILL_SORT};
 use atl_records::{Region, Unit};
+use atl_rows::parts::{StoredHas, StoredMarket};
 use atl_world::Numbered;
 use std::alloc::AllocError;
 
@@ -33,7 +33,6 @@ fn put_thing(units: &mut Arena<Unit>, row: &StoredHas) -> Result<(), AllocError>
     }
 }
 
-/// Puts the amounts of rows of `has`, which are in their ranges, into their units, row by row.
 pub(super) fn put_things(units: &mut Arena<Unit>, rows: &[StoredHas]) -> Result<(), AllocError>
     requires { list_all has_in_range rows.now ≡ true }
     ensures { OnOk result (units.new
@@ -56,7 +55,6 @@ fn put_stock(regions: &mut Numbered<Region>, row: &StoredMarket) -> Result<(), A
     }
 }
 
-/// Puts the stocks of rows of `market` into their regions, row by row.
 pub(super) fn put_stocks(
     regions: &mut Numbered<Region>,
     rows: &[StoredMarket],

@@ -10,12 +10,12 @@ ghost use Rattle.atl_campaign.specs.RowRules.{faction_named};
 
 use super::goods::put_stocks;
 use super::records::{bare_region, faction_of, structure_of};
-use crate::parts::{
-    Parts, StoredFaction, StoredMail, StoredMarket, StoredRegion, StoredReport, StoredStructure,
-};
 use crate::regions::Regions;
 use crate::row_values::as_u32;
 use atl_records::{Faction, Region, Structure};
+use atl_rows::parts::{
+    Parts, StoredFaction, StoredMail, StoredMarket, StoredRegion, StoredReport, StoredStructure,
+};
 use atl_world::{MarkedMap, Numbered, Sequence, Text};
 use std::alloc::{AllocError, Global};
 
@@ -37,7 +37,6 @@ pub(crate) fn factions_of(
     Ok(factions)
 }
 
-/// The regions that rows of `region` say, by number, with nothing in stock.
 fn bare_regions(alloc: Global, rows: &[StoredRegion]) -> Result<Numbered<Region>, AllocError>
     ensures { IfOk result (λ regions. regions
         ≡ by_number (λ r. as_u32 r.number) bare_region rows.now) }
@@ -49,7 +48,6 @@ fn bare_regions(alloc: Global, rows: &[StoredRegion]) -> Result<Numbered<Region>
     Ok(regions)
 }
 
-/// The regions that rows of `region` say, by number, with the stocks that rows of `market` say.
 pub(crate) fn regions_of(
     alloc: Global,
     rows: &[StoredRegion],
@@ -80,7 +78,6 @@ pub(crate) fn structures_of(
     Ok(structures)
 }
 
-/// The mail that rows of `mail` say, by the factions' numbers.
 pub(crate) fn mail_of(
     alloc: Global,
     rows: &[StoredMail],
@@ -96,7 +93,6 @@ pub(crate) fn mail_of(
     Ok(mail)
 }
 
-/// The reports that rows of `report` say, by the factions' numbers.
 pub(crate) fn reports_of(alloc: Global, rows: &[StoredReport]) -> Result<Numbered<Text>, AllocError>
     ensures { IfOk result (λ reports. reports
         ≡ by_number (λ r. as_u32 r.faction) (λ r. r.text) rows.now) }
@@ -118,8 +114,6 @@ pub(crate) struct CampaignMaps {
     pub(crate) reports: MarkedMap<Text>,
 }
 
-/// The factions that rows of `faction` say, by number, with nothing marked. Their names and pass
-/// texts have to keep their rules.
 fn unmarked_factions(
     alloc: Global,
     rows: &[StoredFaction],
@@ -132,7 +126,6 @@ fn unmarked_factions(
     MarkedMap::from_values(alloc, factions)
 }
 
-/// The regions that rows of `region` and `market` say, with their stocks, and nothing marked.
 fn unmarked_regions(
     alloc: Global,
     rows: &[StoredRegion],
@@ -145,8 +138,6 @@ fn unmarked_regions(
     Regions::unmarked_from(alloc, regions)
 }
 
-/// The structures that rows of `structure` say, by number, with nothing marked. Their names have to
-/// keep the name rule.
 fn unmarked_structures(
     alloc: Global,
     rows: &[StoredStructure],
@@ -159,7 +150,6 @@ fn unmarked_structures(
     MarkedMap::from_values(alloc, structures)
 }
 
-/// The mail that rows of `mail` say, by the factions' numbers, with nothing marked.
 fn unmarked_mail(alloc: Global, rows: &[StoredMail]) -> Result<MarkedMap<Sequence<u8>>, AllocError>
     ensures { IfOk result (λ t. t
         ≡ without_marks (by_number (λ r. as_u32 r.faction) (λ r. r.text) rows.now)) }
@@ -168,7 +158,6 @@ fn unmarked_mail(alloc: Global, rows: &[StoredMail]) -> Result<MarkedMap<Sequenc
     MarkedMap::from_values(alloc, mail)
 }
 
-/// The reports that rows of `report` say, by the factions' numbers, with nothing marked.
 fn unmarked_reports(alloc: Global, rows: &[StoredReport]) -> Result<MarkedMap<Text>, AllocError>
     ensures { IfOk result (λ t. t
         ≡ without_marks (by_number (λ r. as_u32 r.faction) (λ r. r.text) rows.now)) }

@@ -13,10 +13,10 @@ use super::goods::put_things;
 use super::records::name_of;
 use crate::arena::Arena;
 use crate::lists::{UnitLists, list_keys_of};
-use crate::parts::{Parts, StoredHas, StoredUnit};
 use crate::row_values::{as_u32, is_set};
 use crate::units::Units;
 use atl_records::{Holding, Unit};
+use atl_rows::parts::{Parts, StoredHas, StoredUnit};
 use atl_world::Numbered;
 use std::alloc::{AllocError, Global};
 
@@ -40,8 +40,6 @@ fn bare_unit(alloc: Global, row: &StoredUnit) -> Result<Unit, AllocError>
     })
 }
 
-/// The units that rows of `unit` say, by number, without items and days of study. Names have to
-/// keep the name rule, and numbers have to be in their ranges.
 fn bare_units(alloc: Global, rows: &[StoredUnit]) -> Result<Arena<Unit>, AllocError>
     requires named { list_all (λ r. name_ok r.name) rows.now ≡ true }
     requires range { list_all unit_in_range rows.now ≡ true }
@@ -73,8 +71,6 @@ pub(crate) fn units_of(
     Ok(units)
 }
 
-/// The units that rows of `unit` and `has` say, with items and days of study, and nothing marked.
-/// Names have to keep the name rule, and numbers have to be in their ranges.
 pub(crate) fn roster_of(alloc: Global, parts: &Parts) -> Result<Units, AllocError>
     requires named { list_all (λ r. name_ok r.name) parts.now.units ≡ true }
     requires range { list_all unit_in_range parts.now.units ≡ true }
@@ -87,7 +83,6 @@ pub(crate) fn roster_of(alloc: Global, parts: &Parts) -> Result<Units, AllocErro
     Units::unmarked_from(alloc, units)
 }
 
-/// For each region, faction and structure the list of its units, made of the given units.
 pub(crate) fn lists_of(alloc: Global, units: &Units) -> Result<UnitLists, AllocError>
     ensures { IfOk result (λ lists. AreUnitLists units.now.values lists) }
 {

@@ -10,7 +10,6 @@ use atl_records::Books;
 use atl_world::{MarkedMap, Marks, Text};
 use std::alloc::Global;
 
-/// Makes an empty campaign.
 impl Campaign {
     /// An empty campaign, with nothing marked. Callers leave it where they move a campaign out;
     /// founding never returns it. It takes no memory.

@@ -10,7 +10,6 @@ use crate::lists::list_keys_of;
 use atl_records::{Structure, Unit};
 use std::alloc::AllocError;
 
-/// Adds units and structures under the next numbers.
 impl Campaign {
     /// Adds a unit under a number that no unit has, and marks it, its row and all its goods.
     /// Without memory for it nothing changes.

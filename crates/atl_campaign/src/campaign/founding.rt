@@ -21,8 +21,6 @@ use atl_records::{Books, BooksEntry, ENTRY_COUNT, FIRST_ITEM, Region, Thing};
 use atl_world::{Marks, Numbered, RegionPlan, Text, World};
 use std::alloc::{AllocError, Global};
 
-/// The regions of a campaign right after founding, as the world plans them, with nothing in stock
-/// and nothing marked.
 fn make_regions(alloc: Global, plans: &Numbered<RegionPlan>) -> Result<Regions, AllocError>
     ensures { IfOk result (λ regions. regions
         ≡ unmarked_regions (map_values founded_region plans.now)) }

@@ -10,7 +10,6 @@ use super::Campaign;
 use atl_records::{BooksEntry, Thing, amount_number};
 use atl_world::{Entries, MarkedNumbers, Numbered};
 
-/// Counts, lists and clears what is marked as to be written.
 impl Campaign {
     /// How much is marked as to be written: factions, rows of regions, structures, mail, reports,
     /// amounts of the books and the campaign row count one each. A unit counts once, whatever of it

@@ -9,7 +9,6 @@ use super::Campaign;
 use crate::lists::{ListKeys, list_keys_of};
 use std::alloc::AllocError;
 
-/// The first of some numbers that isn't `leaving`, or 0 where there is none.
 fn first_other(numbers: &[u32], leaving: u32) -> u32
     ensures { result ≡ first_other numbers.now leaving }
 {
@@ -21,7 +20,6 @@ fn first_other(numbers: &[u32], leaving: u32) -> u32
     0
 }
 
-/// Moves and removes units, and hands the structures that they owned to their next owners.
 impl Campaign {
     /// The owner of a structure once a unit has left it; 0 where there is no such structure. If the
     /// unit didn't own it, the owner stays; else it is the lowest-numbered other unit inside, or 0
@@ -36,8 +34,6 @@ impl Campaign {
         }
     }
 
-    /// The next owner of a structure when its owner `leaving` leaves: the lowest-numbered other
-    /// unit inside, or 0 where there is none.
     fn heir(&self, structure: u32, leaving: u32) -> u32
         ensures { result ≡ heir self.now.value structure leaving }
     {

@@ -5,7 +5,7 @@ ghost use Rattle.std.specs.Int.{w64};
 ghost use Rattle.std.specs.Int.RustNames.{FitsSigned};
 ghost use Rattle.atl_records.specs.Books.{amount_in, thing_index};
 ghost use Rattle.atl_records.specs.Limits.{holding_limit, men_limit};
-ghost use Rattle.atl_campaign.specs.Marking.{MarksStock, mark_campaign_row, mark_faction, mark_region, mark_structure, mark_unit_row, mark_item, mark_skill, item_marked, skill_marked, mark_amount, mark_all_mail};
+ghost use Rattle.atl_campaign.specs.Marking.{MarksStock, mark_campaign_row, mark_faction, mark_peasants, mark_region_money, mark_structure, mark_unit_row, mark_item, mark_skill, item_marked, skill_marked, mark_amount, mark_all_mail};
 ghost use Rattle.atl_campaign.specs.Campaign.{with_month, with_faction_name, with_gone, with_peasants, with_region_money, with_stock, with_unit_name, with_men, with_money, with_item, with_skill, with_guard, with_done, with_structure_name, with_structure_region, with_owner, with_booking, without_mail};
 
 use super::Campaign;
@@ -13,7 +13,6 @@ use atl_records::{BooksEntry, Thing, amount_number};
 use atl_world::Text;
 use std::alloc::AllocError;
 
-/// Sets single values of the campaign, books amounts, removes the mail, and marks what changed.
 impl Campaign {
     /// Sets the month last closed, from 0 to LAST_MONTH, and marks the campaign row.
     pub fn set_month(&mut self, month: u32)
@@ -44,20 +43,20 @@ impl Campaign {
         }
     }
 
-    /// Sets how many peasants a region has, and marks its row, none of its stocks. In a good
-    /// campaign there are 0 to atl_world's MOST_AMOUNT.
+    /// Sets how many peasants a region has. If it had others, its row is marked, and none of its
+    /// stocks. In a good campaign there are 0 to atl_world's MOST_AMOUNT.
     pub fn set_peasants(&mut self, region: u32, peasants: u32)
         ensures what { self.new.value ≡ with_peasants self.old.value region peasants }
-        ensures marks { self.new.marks ≡ mark_region self.old region }
+        ensures marks { self.new.marks ≡ mark_peasants self.old region peasants }
     {
         self.regions.set_peasants(region, peasants);
     }
 
-    /// Sets how much money a region has, and marks its row, none of its stocks. In a good campaign
-    /// it is 0 to atl_world's MOST_AMOUNT.
+    /// Sets how much money a region has. If it had another amount, its row is marked, and none of
+    /// its stocks. In a good campaign it is 0 to atl_world's MOST_AMOUNT.
     pub fn set_region_money(&mut self, region: u32, money: u32)
         ensures what { self.new.value ≡ with_region_money self.old.value region money }
-        ensures marks { self.new.marks ≡ mark_region self.old region }
+        ensures marks { self.new.marks ≡ mark_region_money self.old region money }
     {
         self.regions.set_money(region, money);
     }

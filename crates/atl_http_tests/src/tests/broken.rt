@@ -27,8 +27,6 @@ pub(crate) fn assert_breaks_off(
     assert_number(rt, service.next_faction(), 2);
 }
 
-/// Asserts WriteFault, the bytes written, and that the faction has joined, in a new campaign. The
-/// writer takes `most` bytes; then it fails if `fails`, and takes none otherwise.
 fn assert_write_fault_after(
     rt: &impl Abort,
     alloc: Global,
@@ -42,7 +40,6 @@ fn assert_write_fault_after(
     Ok(())
 }
 
-/// A join is done although its reply breaks off after any number of bytes, because a write fails.
 #[test]
 fn writes_that_fail(rt: HostRuntime) -> Result<(), Fail> {
     for most in 0..JOINED.len() {
@@ -51,8 +48,6 @@ fn writes_that_fail(rt: HostRuntime) -> Result<(), Fail> {
     Ok(())
 }
 
-/// A join is done although its reply breaks off after any number of bytes, because a write takes
-/// none.
 #[test]
 fn writes_that_take_nothing(rt: HostRuntime) -> Result<(), Fail> {
     for most in 0..JOINED.len() {
@@ -61,7 +56,6 @@ fn writes_that_take_nothing(rt: HostRuntime) -> Result<(), Fail> {
     Ok(())
 }
 
-/// Each fault of HTTP and its number; Memory has none.
 static NUMBERS: [(HttpFault, Option<u8>); 4] = [
     (HttpFault::Cut, Some(1)),
     (HttpFault::ReadFault, Some(2)),
@@ -69,7 +63,6 @@ static NUMBERS: [(HttpFault, Option<u8>); 4] = [
     (HttpFault::Memory, None),
 ];
 
-/// Asserts the number of each fault.
 fn assert_numbers(rt: &impl Abort, faults: &[(HttpFault, Option<u8>)]) {
     for (fault, number) in faults.iter() {
         assert_true(rt, fault.number() == *number);

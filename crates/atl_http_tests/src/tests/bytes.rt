@@ -6,7 +6,6 @@ use std::alloc::Global;
 use std::process::Abort;
 use std::test::Fail;
 
-/// The reply to a mailing without a header, the line that begins with `#ATLANTIS`.
 const NO_HEADER: &str =
     "HTTP/1.1 400 Bad Request\r\nContent-Type: application/json\r\nContent-Length: 31\r\nConnection: close\r\n\r\n{\"error\":\"NoHeader\",\"number\":9}";
 
@@ -30,7 +29,6 @@ static CASES: [(&[u8], &str); 6] = [
     ),
 ];
 
-/// Lets Avalon join, and asserts the reply to each request of `CASES`.
 fn assert_bad_bytes(rt: &impl Abort, alloc: Global, service: &mut impl HttpService) {
     assert_reply(rt, alloc, service, &mut JOIN.as_bytes(), JOINED);
     for (request, wanted) in CASES.iter() {
@@ -39,7 +37,6 @@ fn assert_bad_bytes(rt: &impl Abort, alloc: Global, service: &mut impl HttpServi
     }
 }
 
-/// Requests with bytes that aren't UTF-8 in target, field or body are refused with the right reply.
 #[test]
 fn no_text(rt: HostRuntime) -> Result<(), Fail> {
     let mut service = new_service(rt.alloc())?;

@@ -3,27 +3,22 @@
 use atl_http::HttpFault;
 use std::process::Abort;
 
-/// Asserts that a count is the wanted one.
 pub(crate) fn assert_count(rt: &impl Abort, actual: usize, wanted: usize) {
     assert_eq!(rt; actual, wanted);
 }
 
-/// Asserts that a number is the wanted one.
 pub(crate) fn assert_number(rt: &impl Abort, actual: u32, wanted: u32) {
     assert_eq!(rt; actual, wanted);
 }
 
-/// Asserts that serving a request ended with the wanted fault.
 pub(crate) fn assert_fault(rt: &impl Abort, actual: Result<u16, HttpFault>, wanted: HttpFault) {
     assert_eq!(rt; actual.err(), Some(wanted));
 }
 
-/// Asserts that a truth value is true.
 pub(crate) fn assert_true(rt: &impl Abort, actual: bool) {
     assert!(rt; actual);
 }
 
-/// Asserts that a text is the wanted one.
 pub(crate) fn assert_text(rt: &impl Abort, actual: &str, wanted: &str) {
     assert_eq!(rt; actual, wanted);
 }

@@ -24,7 +24,6 @@ static JOINING_WORDS: [(u64, u32, u32); 6] = [
     (u64::MAX, u32::MAX, 726_911_579),
 ];
 
-/// Asserts the first words of the dice for a seed and a month.
 fn assert_words(
     rt: &impl Abort,
     alloc: Global,
@@ -37,7 +36,6 @@ fn assert_words(
     Ok(())
 }
 
-/// Asserts for each row (a seed, a faction's number, a word) the word of the dice for the join.
 fn assert_join_words(rt: &impl Abort, rows: &[(u64, u32, u32)]) {
     for (seed, faction, word) in rows.iter() {
         let dice = Dice { seed: *seed };
@@ -45,7 +43,6 @@ fn assert_join_words(rt: &impl Abort, rows: &[(u64, u32, u32)]) {
     }
 }
 
-/// The words of a month are those that were worked out independently for its seed and number.
 #[test]
 fn words_of_months(rt: HostRuntime) -> Result<(), AllocError> {
     let alloc = rt.alloc();
@@ -68,7 +65,6 @@ fn words_of_months(rt: HostRuntime) -> Result<(), AllocError> {
     assert_words(&rt, alloc, 7, 1, &[])
 }
 
-/// The word for a join is the one worked out independently for its seed and faction number.
 #[test]
 fn words_of_factions(rt: HostRuntime) {
     assert_join_words(&rt, &JOINING_WORDS);

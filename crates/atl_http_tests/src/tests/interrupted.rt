@@ -41,7 +41,6 @@ fn assert_join_read(
     assert_count(rt, reader.reads, reads);
 }
 
-/// Asserts for each row of `READS` that a join is served after this number of reads.
 fn assert_reads_are_enough(rt: &impl Abort, alloc: Global) -> Result<(), Fail> {
     for (piece, interruptions, reads) in READS.iter() {
         let mut service = new_service(alloc)?;
@@ -53,7 +52,6 @@ fn assert_reads_are_enough(rt: &impl Abort, alloc: Global) -> Result<(), Fail> {
     Ok(())
 }
 
-/// A request that is whole after at most 1,000,000 reads is served.
 #[test]
 fn reads_within_the_bound(rt: HostRuntime) -> Result<(), Fail> {
     assert_reads_are_enough(&rt, rt.alloc())
@@ -70,7 +68,6 @@ fn assert_reads_are_too_many(rt: &impl Abort, alloc: Global, service: &mut impl 
     assert_reply(rt, alloc, service, &mut JOIN.as_bytes(), JOINED);
 }
 
-/// A request that isn't whole after 1,000,000 reads ends in a fault, and no command is run.
 #[test]
 fn reads_beyond_the_bound(rt: HostRuntime) -> Result<(), Fail> {
     let mut service = new_service(rt.alloc())?;
@@ -93,7 +90,6 @@ static TOO_MANY_WRITES: [(usize, usize, usize, usize); 4] = [
     (1, usize::MAX, 0, 1_000_000),
 ];
 
-/// Serves a join to a writer, and asserts that it gets the whole reply.
 fn assert_join_written(
     rt: &impl Abort,
     alloc: Global,
@@ -105,7 +101,6 @@ fn assert_join_written(
     assert_text(rt, outcome_text(served, &writer.taken), JOINED);
 }
 
-/// Asserts for each row of `WRITES` that the whole reply to a join is written.
 fn assert_replies_are_written(rt: &impl Abort, alloc: Global) -> Result<(), Fail> {
     for (piece, interruptions) in WRITES.iter() {
         let mut service = new_service(alloc)?;
@@ -118,14 +113,11 @@ fn assert_replies_are_written(rt: &impl Abort, alloc: Global) -> Result<(), Fail
     Ok(())
 }
 
-/// A reply is written whole if fewer than 1,000,000 writes are interrupted.
 #[test]
 fn writes_within_the_bound(rt: HostRuntime) -> Result<(), Fail> {
     assert_replies_are_written(&rt, rt.alloc())
 }
 
-/// Asserts WriteFault, the bytes written and the number of writes for each row of
-/// `TOO_MANY_WRITES`.
 fn assert_replies_break_off(rt: &impl Abort, alloc: Global) -> Result<(), Fail> {
     for (piece, interruptions, taken, writes) in TOO_MANY_WRITES.iter() {
         let mut service = new_service(alloc)?;
@@ -139,7 +131,6 @@ fn assert_replies_break_off(rt: &impl Abort, alloc: Global) -> Result<(), Fail> 
     Ok(())
 }
 
-/// A reply breaks off with WriteFault once 1,000,000 writes were interrupted.
 #[test]
 fn writes_beyond_the_bound(rt: HostRuntime) -> Result<(), Fail> {
     assert_replies_break_off(&rt, rt.alloc())

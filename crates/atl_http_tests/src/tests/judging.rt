@@ -29,7 +29,6 @@ fn name_of(verdict: &Verdict) -> &'static str {
     }
 }
 
-/// Asserts that `verdict_on` gives some bytes the verdict of this name.
 fn assert_verdict(
     rt: &impl Abort,
     alloc: Global,
@@ -41,7 +40,6 @@ fn assert_verdict(
     Ok(())
 }
 
-/// `verdict_on` gives each text of `BYTES` its verdict.
 #[test]
 fn bytes_are_judged(rt: HostRuntime) -> Result<(), AllocError> {
     for (bytes, wanted) in BYTES.iter() {
@@ -50,7 +48,6 @@ fn bytes_are_judged(rt: HostRuntime) -> Result<(), AllocError> {
     Ok(())
 }
 
-/// Calls the law `pieces_do_not_matter` once and asserts nothing: its clause is proved.
 #[test]
 fn states_that_pieces_do_not_matter() {
     pieces_do_not_matter();

@@ -9,7 +9,6 @@ use std::test::Fail;
 /// SQL that sets a campaign to its limits: the last month is closed, and the last unit number used.
 const LIMITS: &str = "UPDATE campaign SET month = 9999, next_unit = 1000000000";
 
-/// A join and a closing that are refused at the limits, with their replies.
 static AT_LIMITS: [Case; 2] = [
     (
         JOIN,
@@ -21,7 +20,6 @@ static AT_LIMITS: [Case; 2] = [
     ),
 ];
 
-/// The service of a new campaign whose tables the statements `sql` changed.
 fn changed_service(alloc: Global, sql: &str) -> Result<Service<MemStore>, Fail> {
     let mut conn = new_service(alloc)?.end();
     conn.execute_batch(sql)?;
@@ -31,7 +29,6 @@ fn changed_service(alloc: Global, sql: &str) -> Result<Service<MemStore>, Fail> 
     }
 }
 
-/// After the last month and the last unit number, a join and a closing are refused over HTTP.
 #[test]
 fn at_the_limits(rt: HostRuntime) -> Result<(), Fail> {
     let mut service = changed_service(rt.alloc(), LIMITS)?;

@@ -41,7 +41,6 @@ fn peer<R: Net<Stream = TcpStream>>(
     Ok(stream)
 }
 
-/// The connections of the peers of `PEERS`, each of which has sent its request.
 fn peers<R: Net<Stream = TcpStream>>(
     net: &R,
     alloc: Global,
@@ -68,7 +67,6 @@ fn assert_received(
     Ok(())
 }
 
-/// Asserts that each peer of `PEERS` receives its reply and no more.
 fn assert_all_received(rt: &impl Abort, alloc: Global, streams: &[TcpStream]) -> io::Result<()> {
     for (stream, (_, _, wanted)) in streams.iter().zip(PEERS.iter()) {
         assert_received(rt, alloc, stream, wanted)?;
@@ -76,7 +74,6 @@ fn assert_all_received(rt: &impl Abort, alloc: Global, streams: &[TcpStream]) ->
     Ok(())
 }
 
-/// Serves the four connections of `PEERS`, and asserts what each peer receives.
 fn four_are_served<R: Net<Stream = TcpStream> + Clock + Abort>(
     rt: &R,
     alloc: Global,
@@ -89,7 +86,6 @@ fn four_are_served<R: Net<Stream = TcpStream> + Clock + Abort>(
     assert_all_received(rt, alloc, &streams)
 }
 
-/// Four connections over a socket are served one after another, one of which ends early.
 #[test]
 fn over_a_socket(rt: HostRuntime) -> Result<(), Fail> {
     let Ok(listener) = TcpListener::bind(&rt, (Ipv4Addr::LOCALHOST, 0)) else {
@@ -119,8 +115,6 @@ fn assert_net_fault<R: Clock + Abort>(
     Ok(())
 }
 
-/// Serving with a listener that has no connection and doesn't wait for one ends in the fault Net,
-/// and no command is run.
 #[test]
 fn no_connection_is_taken(rt: HostRuntime) -> Result<(), Fail> {
     let Ok(listener) = TcpListener::bind(&rt, (Ipv4Addr::LOCALHOST, 0)) else {

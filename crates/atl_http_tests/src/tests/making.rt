@@ -14,7 +14,6 @@ use std::test::Fail;
 /// A request, and its wanted reply or the name of the fault.
 pub(crate) type Case = (&'static str, &'static str);
 
-/// The service of the small world's campaign, just founded in memory.
 pub(crate) fn new_service(alloc: Global) -> Result<Service<MemStore>, Fail> {
     match found(
         alloc,
@@ -27,7 +26,6 @@ pub(crate) fn new_service(alloc: Global) -> Result<Service<MemStore>, Fail> {
     }
 }
 
-/// The status in the first line of a reply.
 fn status_in(reply: &str) -> Option<u16> {
     let (_, rest) = reply.split_once(' ')?;
     let (status, _) = rest.split_once(' ')?;
@@ -70,7 +68,6 @@ pub(crate) fn assert_books(
     Ok(())
 }
 
-/// Serves a request from a reader, and asserts the reply or the fault.
 pub(crate) fn assert_reply(
     rt: &impl Abort,
     alloc: Global,
@@ -83,7 +80,6 @@ pub(crate) fn assert_reply(
     assert_text(rt, outcome_text(served, &written), wanted);
 }
 
-/// Serves requests in turn, each readable at once, and asserts each reply.
 pub(crate) fn assert_replies(
     rt: &impl Abort,
     alloc: Global,
@@ -96,7 +92,6 @@ pub(crate) fn assert_replies(
     }
 }
 
-/// Serves requests in turn on a new campaign of the small world, and asserts each reply.
 pub(crate) fn play(rt: &impl Abort, alloc: Global, cases: &[Case]) -> Result<(), Fail> {
     let mut service = new_service(alloc)?;
     assert_replies(rt, alloc, &mut service, cases);

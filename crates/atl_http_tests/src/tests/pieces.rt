@@ -9,14 +9,12 @@ use std::alloc::Global;
 use std::process::Abort;
 use std::test::Fail;
 
-/// The text of the books before anybody has joined.
 const FOUNDED: &str = "money founding 500
 money total 500
 people founding 1000
 people total 1000
 ";
 
-/// Asserts that a request cut short changes nothing, and that a whole one in two pieces joins.
 fn assert_cut_and_whole(
     rt: &impl Abort,
     alloc: Global,
@@ -44,8 +42,6 @@ fn assert_cut_and_whole(
 /// How many bytes each read of a join gives, and after how many such reads the join is whole.
 static BY_PIECES: [(usize, usize); 3] = [(1, JOIN.len()), (8, 11), (JOIN.len(), 1)];
 
-/// Asserts that a read that fails before the request is whole runs no command, whichever read it
-/// is.
 fn assert_failing_reads(rt: &impl Abort, alloc: Global, service: &mut impl HttpService) {
     for (piece, reads) in BY_PIECES.iter() {
         for done in 0..*reads {
@@ -56,8 +52,6 @@ fn assert_failing_reads(rt: &impl Abort, alloc: Global, service: &mut impl HttpS
     }
 }
 
-/// Asserts that failed reads run no command, that a join is served which comes byte by byte with
-/// interruptions, and that a reply can be written so.
 fn assert_joining_in_pieces(rt: &impl Abort, alloc: Global, service: &mut impl HttpService) {
     assert_failing_reads(rt, alloc, service);
     let mut reader = Pieces::of(JOIN.as_bytes(), 1);
@@ -67,7 +61,6 @@ fn assert_joining_in_pieces(rt: &impl Abort, alloc: Global, service: &mut impl H
     assert_writing_in_pieces(rt, alloc, service);
 }
 
-/// Asserts that each proper beginning of a request gives the fault Cut and runs no command.
 fn assert_each_front_is_cut(rt: &impl Abort, alloc: Global, service: &mut impl HttpService) {
     for len in 0..JOIN.len() {
         assert_reply(rt, alloc, service, &mut &JOIN.as_bytes()[..len], "cut");
@@ -75,8 +68,6 @@ fn assert_each_front_is_cut(rt: &impl Abort, alloc: Global, service: &mut impl H
     assert_reply(rt, alloc, service, &mut JOIN.as_bytes(), JOINED);
 }
 
-/// Asserts that Avalon's report is written whole to a writer that takes one byte at a time and is
-/// interrupted before each.
 fn assert_writing_in_pieces(rt: &impl Abort, alloc: Global, service: &mut impl HttpService) {
     let mut writer = NarrowWriter::of(alloc, REPORTED.len(), true);
     writer.interruptions = 1;
@@ -106,7 +97,6 @@ static NO_FURTHER: [(&str, usize, &str); 4] = [
     ("GET /joins HTTP/1.0\r\n\r\nGET", 23, NO_ROUTE),
 ];
 
-/// Asserts that nothing after the end of a request is read.
 fn assert_no_further_reading(rt: &impl Abort, alloc: Global, service: &mut impl HttpService) {
     for (request, reads, wanted) in NO_FURTHER.iter() {
         let mut reader = Pieces::of(request.as_bytes(), 1);
@@ -119,7 +109,6 @@ fn assert_no_further_reading(rt: &impl Abort, alloc: Global, service: &mut impl 
 const LONGEST_HEAD: &str =
     "POST /orders/1 HTTP/1.0\r\nAtlantis-Pass: pw\r\nContent-Length: 65536\r\n\r\n";
 
-/// The reply to the longest mailing, which has neither orders nor faulty lines.
 const MAILED: &str =
     "HTTP/1.1 200 OK\r\nContent-Type: application/json\r\nContent-Length: 24\r\nConnection: close\r\n\r\n{\"faults\":[],\"orders\":0}";
 
@@ -131,7 +120,6 @@ fn longest_request(alloc: Global) -> Result<Vec<u8>, Fail> {
     Ok(request)
 }
 
-/// Asserts that the longest mailing is stored if it comes byte by byte.
 fn assert_mailing_byte_by_byte(
     rt: &impl Abort,
     alloc: Global,
@@ -164,8 +152,6 @@ static LONG_HEADS: [(usize, usize, &str); 4] = [
     (1, 31, BAD_REQUEST),
 ];
 
-/// Asserts the reply to a head with a field whose value has `long` bytes, and `fields` short
-/// fields.
 fn assert_long_head(
     rt: &impl Abort,
     alloc: Global,
@@ -179,7 +165,6 @@ fn assert_long_head(
     Ok(())
 }
 
-/// Asserts the reply to each head of `LONG_HEADS`.
 fn assert_long_heads(
     rt: &impl Abort,
     alloc: Global,
@@ -192,8 +177,6 @@ fn assert_long_heads(
     Ok(())
 }
 
-/// Reads that fail run no command, a join may come byte by byte, and a reply may be written byte by
-/// byte.
 #[test]
 fn in_pieces(rt: HostRuntime) -> Result<(), Fail> {
     let mut service = new_service(rt.alloc())?;
@@ -202,7 +185,6 @@ fn in_pieces(rt: HostRuntime) -> Result<(), Fail> {
     Ok(())
 }
 
-/// A request cut short at any byte runs no command.
 #[test]
 fn cut_requests_run_no_command(rt: HostRuntime) -> Result<(), Fail> {
     let mut service = new_service(rt.alloc())?;
@@ -211,7 +193,6 @@ fn cut_requests_run_no_command(rt: HostRuntime) -> Result<(), Fail> {
     Ok(())
 }
 
-/// A request cut short changes nothing, and one in two pieces joins.
 #[test]
 fn in_two_pieces(rt: HostRuntime) -> Result<(), Fail> {
     let mut service = new_service(rt.alloc())?;
@@ -220,7 +201,6 @@ fn in_two_pieces(rt: HostRuntime) -> Result<(), Fail> {
     done
 }
 
-/// Nothing after the end of a request is read.
 #[test]
 fn no_further(rt: HostRuntime) -> Result<(), Fail> {
     let mut service = new_service(rt.alloc())?;
@@ -238,7 +218,6 @@ fn heads_at_the_limit(rt: HostRuntime) -> Result<(), Fail> {
     done
 }
 
-/// The longest mailing is stored if it comes byte by byte.
 #[test]
 fn the_longest_mailing(rt: HostRuntime) -> Result<(), Fail> {
     let mut service = new_service(rt.alloc())?;

@@ -15,9 +15,7 @@ pub(crate) struct Pieces<'a> {
     interrupted: usize,
 }
 
-/// Makes a reader that gives bytes in pieces.
 impl<'a> Pieces<'a> {
-    /// A reader that gives `bytes` in pieces of `piece` bytes, without interruption or failure.
     pub(crate) fn of(bytes: &'a [u8], piece: usize) -> Pieces<'a> {
         Pieces {
             bytes,
@@ -33,7 +31,6 @@ impl<'a> Pieces<'a> {
 /// Gives the next piece, none at the end, or an error: Interrupted, or ConnectionReset once no read
 /// is left.
 impl<'a> Read for Pieces<'a> {
-    /// Gives the next piece and returns its length, 0 at the end of the bytes; counts the read.
     fn read(&mut self, buf: &mut [u8]) -> io::Result<usize> {
         self.reads = self.reads.saturating_add(1);
         if self.reads_left == 0 {
@@ -66,7 +63,6 @@ pub(crate) struct NarrowWriter {
     interrupted: usize,
 }
 
-/// Makes a writer that takes bytes in pieces.
 impl NarrowWriter {
     /// A writer that takes one byte at a time without interruption, up to `most` bytes; then it
     /// fails or takes none.
@@ -85,7 +81,6 @@ impl NarrowWriter {
 
 /// Takes the next piece; or gives Interrupted, and after `most` bytes BrokenPipe or takes none.
 impl Write for NarrowWriter {
-    /// Takes the next piece and returns its length, 0 if the writer takes none; counts the write.
     fn write(&mut self, buf: &[u8]) -> io::Result<usize> {
         self.writes = self.writes.saturating_add(1);
         if self.interrupted < self.interruptions {

@@ -2,18 +2,14 @@
 use super::making::{Case, play};
 use std::test::Fail;
 
-/// The request by which Avalon joins.
 pub(crate) const JOIN: &str =
     "POST /join HTTP/1.1\r\nHost: x\r\nContent-Length: 29\r\n\r\n{\"name\":\"Avalon\",\"pass\":\"pw\"}";
 
-/// The reply to Avalon's join.
 pub(crate) const JOINED: &str =
     "HTTP/1.1 200 OK\r\nContent-Type: application/json\r\nContent-Length: 22\r\nConnection: close\r\n\r\n{\"faction\":1,\"unit\":1}";
 
-/// The request for Avalon's report.
 pub(crate) const REPORT: &str = "GET /report/1 HTTP/1.1\r\nHost: x\r\nAtlantis-Pass: pw\r\n\r\n";
 
-/// The reply with Avalon's first report.
 pub(crate) const REPORTED: &str =
     "HTTP/1.1 200 OK\r\nContent-Type: text/plain\r\nContent-Length: 161\r\nConnection: close\r\n\r\nAtlantis report, month 0, faction 1 \"Avalon\".
 Orders:
@@ -23,11 +19,9 @@ Exits: none.
 * Unit 1 \"Unit 1\": 1 men, 1000 money.
 ";
 
-/// The reply to a request that can't be read.
 pub(crate) const BAD_REQUEST: &str =
     "HTTP/1.1 400 Bad Request\r\nContent-Type: application/json\r\nContent-Length: 33\r\nConnection: close\r\n\r\n{\"error\":\"BadRequest\",\"number\":0}";
 
-/// The reply to a path without a route.
 pub(crate) const NO_ROUTE: &str =
     "HTTP/1.1 404 Not Found\r\nContent-Type: application/json\r\nContent-Length: 30\r\nConnection: close\r\n\r\n{\"error\":\"NoRoute\",\"number\":0}";
 
@@ -39,19 +33,15 @@ const POST_ONLY: &str =
 const GET_ONLY: &str =
     "HTTP/1.1 405 Method Not Allowed\r\nContent-Type: application/json\r\nContent-Length: 32\r\nConnection: close\r\nAllow: GET\r\n\r\n{\"error\":\"BadMethod\",\"number\":0}";
 
-/// The reply to a body without a length.
 const NO_LENGTH: &str =
     "HTTP/1.1 411 Length Required\r\nContent-Type: application/json\r\nContent-Length: 31\r\nConnection: close\r\n\r\n{\"error\":\"NoLength\",\"number\":0}";
 
-/// The reply to a body that is too long.
 pub(crate) const TOO_LONG: &str =
     "HTTP/1.1 413 Payload Too Large\r\nContent-Type: application/json\r\nContent-Length: 34\r\nConnection: close\r\n\r\n{\"error\":\"BodyTooLong\",\"number\":0}";
 
-/// The reply to a request without exactly one pass text.
 const NO_PASS: &str =
     "HTTP/1.1 400 Bad Request\r\nContent-Type: application/json\r\nContent-Length: 29\r\nConnection: close\r\n\r\n{\"error\":\"NoPass\",\"number\":0}";
 
-/// The reply to a join whose body isn't a JSON object with the texts `name` and `pass`.
 pub(crate) const BAD_JSON: &str =
     "HTTP/1.1 400 Bad Request\r\nContent-Type: application/json\r\nContent-Length: 30\r\nConnection: close\r\n\r\n{\"error\":\"BadJson\",\"number\":0}";
 
@@ -79,7 +69,6 @@ static JOINING: [Case; 6] = [
     ),
 ];
 
-/// A join, a second join under the same name, and requests for the report get their replies.
 #[test]
 fn joining(rt: HostRuntime) -> Result<(), Fail> {
     play(&rt, rt.alloc(), &JOINING)
@@ -103,7 +92,6 @@ static A_MONTH: [Case; 4] = [
     ),
 ];
 
-/// Orders with two faulty lines, a closing, and the same closing again get their replies.
 #[test]
 fn a_month(rt: HostRuntime) -> Result<(), Fail> {
     play(&rt, rt.alloc(), &A_MONTH)
@@ -127,7 +115,6 @@ static QUITTING: [Case; 4] = [
     ),
 ];
 
-/// After a faction quit, its later orders are refused.
 #[test]
 fn quitting(rt: HostRuntime) -> Result<(), Fail> {
     play(&rt, rt.alloc(), &QUITTING)
@@ -170,7 +157,6 @@ static REFUSALS: [Case; 9] = [
     ),
 ];
 
-/// Refused joins, reports, closings and mailings get their statuses, names and numbers.
 #[test]
 fn refusals(rt: HostRuntime) -> Result<(), Fail> {
     play(&rt, rt.alloc(), &REFUSALS)
@@ -193,7 +179,6 @@ static HEADS: [Case; 6] = [
     ("GET /report/1", "cut"),
 ];
 
-/// Faulty heads are refused with BadRequest, and a head that isn't whole gives the fault Cut.
 #[test]
 fn heads(rt: HostRuntime) -> Result<(), Fail> {
     play(&rt, rt.alloc(), &HEADS)
@@ -216,7 +201,6 @@ static ROUTES: [Case; 13] = [
     ("POST /report/1 HTTP/1.0\r\n\r\n", GET_ONLY),
 ];
 
-/// Paths without a route are refused, and so are methods that a route doesn't have.
 #[test]
 fn routes(rt: HostRuntime) -> Result<(), Fail> {
     play(&rt, rt.alloc(), &ROUTES)
@@ -277,8 +261,6 @@ static LENGTHS: [Case; 14] = [
     ),
 ];
 
-/// Requests without one good body length or without exactly one pass text are refused; a body that
-/// doesn't arrive gives the fault Cut.
 #[test]
 fn lengths(rt: HostRuntime) -> Result<(), Fail> {
     play(&rt, rt.alloc(), &LENGTHS)
@@ -322,7 +304,6 @@ static BODIES: [Case; 9] = [
     ),
 ];
 
-/// A join whose body is no JSON object with the texts `name` and `pass` is refused with BadJson.
 #[test]
 fn bodies(rt: HostRuntime) -> Result<(), Fail> {
     play(&rt, rt.alloc(), &BODIES)
@@ -350,7 +331,6 @@ static VALUES: [Case; 4] = [
     ),
 ];
 
-/// A join whose body has a JSON value that can't be read is refused with BadJson.
 #[test]
 fn values(rt: HostRuntime) -> Result<(), Fail> {
     play(&rt, rt.alloc(), &VALUES)

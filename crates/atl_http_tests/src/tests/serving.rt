@@ -9,13 +9,11 @@ use std::io::{Read, Write};
 use std::net::TcpListener;
 use std::rt::Clock;
 
-/// The dice of the services in these tests: their seed is 1.
 const DICE: Dice = Dice { seed: 1 };
 
 /// What these tests call of a service: serving requests, the number of its next faction, and its
 /// books.
 pub(crate) trait HttpService {
-    /// Serves one request from a reader, and writes the reply; the result is the reply's status.
     fn serve<R: Read, W: Write>(
         &mut self,
         alloc: Global,
@@ -23,7 +21,6 @@ pub(crate) trait HttpService {
         writer: &mut W,
     ) -> Result<u16, HttpFault>;
 
-    /// Serves the next `count` connections of a listener, one after another.
     fn serve_each<C: Clock>(
         &mut self,
         alloc: Global,
@@ -35,13 +32,11 @@ pub(crate) trait HttpService {
     /// The number of the faction that joins next; 0 if the service is closed.
     fn next_faction(&self) -> u32;
 
-    /// The text of the campaign's books; None if the service is closed.
     fn books(&self) -> Option<Result<String, AllocError>>;
 }
 
 /// A service over any store serves by the calls of atl_http, with the words of `DICE`.
 impl<S: Alter> HttpService for Service<S> {
-    /// Serves one request, by `serve_one` of atl_http.
     fn serve<R: Read, W: Write>(
         &mut self,
         alloc: Global,
@@ -51,7 +46,6 @@ impl<S: Alter> HttpService for Service<S> {
         serve_one(alloc, reader, writer, self, DICE)
     }
 
-    /// Serves the next `count` connections, by `serve_each` of atl_http.
     fn serve_each<C: Clock>(
         &mut self,
         alloc: Global,
@@ -62,7 +56,6 @@ impl<S: Alter> HttpService for Service<S> {
         serve_each(alloc, clock, listener, self, count, DICE)
     }
 
-    /// The number of the campaign's next faction; 0 if the service is closed.
     fn next_faction(&self) -> u32 {
         match self.campaign() {
             Some(campaign) => campaign.next_faction(),
@@ -70,7 +63,6 @@ impl<S: Alter> HttpService for Service<S> {
         }
     }
 
-    /// The text of the books, by the call of the service.
     fn books(&self) -> Option<Result<String, AllocError>> {
         Service::books(self)
     }

@@ -10,11 +10,9 @@ use std::alloc::Global;
 use std::process::Abort;
 use std::test::Fail;
 
-/// The reply to a request that ends in the fault Store.
 const STORE: &str =
     "HTTP/1.1 500 Internal Server Error\r\nContent-Type: application/json\r\nContent-Length: 28\r\nConnection: close\r\n\r\n{\"error\":\"Store\",\"number\":0}";
 
-/// The reply to a request that ends in the fault Closed.
 const CLOSED: &str =
     "HTTP/1.1 500 Internal Server Error\r\nContent-Type: application/json\r\nContent-Length: 29\r\nConnection: close\r\n\r\n{\"error\":\"Closed\",\"number\":0}";
 

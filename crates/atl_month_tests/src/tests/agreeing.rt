@@ -19,8 +19,6 @@ use std::alloc::{AllocError, Global};
 use std::process::Abort;
 use std::test::Fail;
 
-// ---- what is compared
-
 /// Asserts that a list is the wanted one. The message names what is listed (`what`), and the index
 /// of the first difference if both lists are equally long.
 fn assert_equal_lists<T: PartialEq>(rt: &impl Abort, what: &str, actual: &[T], wanted: &[T]) {
@@ -30,8 +28,6 @@ fn assert_equal_lists<T: PartialEq>(rt: &impl Abort, what: &str, actual: &[T], w
     }
 }
 
-/// Asserts that a campaign has the goods, stocks and books of the reference's campaign; their order
-/// and amounts of 0 don't matter.
 fn assert_amounts(
     rt: &impl Abort,
     alloc: Global,
@@ -59,8 +55,6 @@ fn assert_amounts(
     Ok(())
 }
 
-/// Asserts that a campaign's units, regions, goods, stocks and books after a phase, and the month's
-/// events, are those of the reference (`wanted`).
 fn assert_campaign(
     rt: &impl Abort,
     alloc: Global,
@@ -75,8 +69,6 @@ fn assert_campaign(
     assert_amounts(rt, alloc, &actual, wanted)
 }
 
-// ---- the phases
-
 /// A phase that is compared with the reference: one that shares pots, or upkeep.
 #[derive(Clone, Copy, Drop)]
 enum ComparedPhase {
@@ -84,7 +76,6 @@ enum ComparedPhase {
     Upkeep,
 }
 
-/// All phases that are compared with the reference.
 static COMPARED_PHASES: [ComparedPhase; 7] = [
     ComparedPhase::SharingPhase(SharingPhase::Trade(PlainTrade::Sell)),
     ComparedPhase::SharingPhase(SharingPhase::Trade(PlainTrade::Buy)),
@@ -95,8 +86,6 @@ static COMPARED_PHASES: [ComparedPhase; 7] = [
     ComparedPhase::Upkeep,
 ];
 
-/// Plays SELL as the program does; the result is the campaign and the month after it.
-/// The campaign must be good, and the month's mailings read with its world.
 fn run_sell(
     alloc: Global,
     world: &World,
@@ -109,8 +98,6 @@ fn run_sell(
     SellPhase {}.run(alloc, world, campaign, month)
 }
 
-/// Plays BUY as the program does; the result is the campaign and the month after it.
-/// The campaign must be good, and the month's mailings read with its world.
 fn run_buy(
     alloc: Global,
     world: &World,
@@ -123,8 +110,6 @@ fn run_buy(
     BuyPhase {}.run(alloc, world, campaign, month)
 }
 
-/// Plays TAX as the program does; the result is the campaign and the month after it.
-/// The campaign must be good, and the month's mailings read with its world.
 fn run_tax(
     alloc: Global,
     world: &World,
@@ -137,8 +122,6 @@ fn run_tax(
     TaxPhase.run(alloc, world, campaign, month)
 }
 
-/// Plays RECRUIT as the program does; the result is the campaign and the month after it.
-/// The campaign must be good, and the month's mailings read with its world.
 fn run_recruit(
     alloc: Global,
     world: &World,
@@ -151,8 +134,6 @@ fn run_recruit(
     RecruitPhase.run(alloc, world, campaign, month)
 }
 
-/// Plays PRODUCE as the program does; the result is the campaign and the month after it.
-/// The campaign must be good, and the month's mailings read with its world.
 fn run_produce(
     alloc: Global,
     world: &World,
@@ -165,8 +146,6 @@ fn run_produce(
     ProducePhase.run(alloc, world, campaign, month)
 }
 
-/// Plays WORK as the program does; the result is the campaign and the month after it.
-/// The campaign must be good, and the month's mailings read with its world.
 fn run_work(
     alloc: Global,
     world: &World,
@@ -179,8 +158,6 @@ fn run_work(
     WorkPhase.run(alloc, world, campaign, month)
 }
 
-/// Plays upkeep as the program does; the result is the campaign and the month after it.
-/// The campaign must be good, and the month's mailings read with its world.
 fn run_upkeep(
     alloc: Global,
     world: &World,
@@ -193,8 +170,6 @@ fn run_upkeep(
     UpkeepPhase.run(alloc, world, campaign, month)
 }
 
-/// Plays a phase that shares pots as the program does; the result is the campaign and the month
-/// after it. The campaign must be good, and the month's mailings read with its world.
 fn run_sharing(
     alloc: Global,
     world: &World,
@@ -233,7 +208,6 @@ fn run_phase(
     }
 }
 
-/// Plays a phase of `COMPARED_PHASES` on the reference's campaign by the reference calculation.
 fn calculate_phase(
     alloc: Global,
     world: &World,
@@ -247,8 +221,6 @@ fn calculate_phase(
     }
 }
 
-/// The campaign that the reference calculates for a phase of `COMPARED_PHASES`, from a campaign and
-/// a month.
 fn calculated_campaign(
     alloc: Global,
     world: &World,
@@ -261,8 +233,6 @@ fn calculated_campaign(
     Ok(plain)
 }
 
-/// Asserts that a phase makes of the campaign of `crowd` the campaign and the events that the
-/// reference calculates.
 fn assert_agreement(
     rt: &impl Abort,
     alloc: Global,
@@ -277,8 +247,6 @@ fn assert_agreement(
     Ok(())
 }
 
-/// Asserts that each phase of `COMPARED_PHASES` makes of the campaign of `crowd` what the reference
-/// calculates.
 fn assert_all_agree(rt: &impl Abort, alloc: Global, world: &World) -> Result<(), Fail> {
     for played in COMPARED_PHASES.iter() {
         assert_agreement(rt, alloc, world, *played)?;
@@ -286,15 +254,11 @@ fn assert_all_agree(rt: &impl Abort, alloc: Global, world: &World) -> Result<(),
     Ok(())
 }
 
-/// Each phase that shares pots, and upkeep, makes of a campaign of 300 units what the reference
-/// calculates.
 #[test]
 fn phases_agree(rt: HostRuntime) -> Result<(), Fail> {
     let world = crowd_world(rt.alloc())?;
     assert_all_agree(&rt, rt.alloc(), &world)
 }
-
-// ---- shares
 
 /// Lists of wants among which a test shares every pot from 0 to `MOST_SHARED`. The largest pot is
 /// more than all wants of any list together.
@@ -307,7 +271,6 @@ static WANTS: [&[u64]; 6] = [
     &[0, 0],
 ];
 
-/// The largest pot that is shared among the wants of `WANTS`.
 const MOST_SHARED: u64 = 300;
 
 /// Asserts that `share` splits one pot among the wants `wants` as the reference does; a pot above
@@ -322,8 +285,6 @@ fn assert_pot(rt: &impl Abort, alloc: Global, pot: u64, wants: &[u64]) -> Result
     Ok(())
 }
 
-/// Asserts that `share` splits each pot up to `MOST_SHARED` among the wants `wants` as the
-/// reference does.
 fn assert_pots(rt: &impl Abort, alloc: Global, wants: &[u64]) -> Result<(), Fail> {
     for pot in 0..=MOST_SHARED {
         assert_pot(rt, alloc, pot, wants)?;
@@ -331,7 +292,6 @@ fn assert_pots(rt: &impl Abort, alloc: Global, wants: &[u64]) -> Result<(), Fail
     Ok(())
 }
 
-/// `share` splits each pot up to `MOST_SHARED` among each list of `WANTS` as the reference does.
 #[test]
 fn shares_agree(rt: HostRuntime) -> Result<(), Fail> {
     for wants in WANTS.iter() {

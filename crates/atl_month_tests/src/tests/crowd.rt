@@ -18,13 +18,10 @@ use atl_world::{Sequence, Text, World};
 use std::alloc::{AllocError, Global};
 use std::test::Fail;
 
-/// How many units the crowd's campaign has, numbered from 1.
 const UNITS: u32 = 300;
 
-/// How many factions the crowd's campaign has, numbered from 1.
 const FACTIONS: u32 = 4;
 
-/// How many regions the crowd's world has, numbered from 1.
 const REGIONS: u32 = 12;
 
 /// How many units with consecutive numbers are in one region: one of each faction.
@@ -98,7 +95,6 @@ name = "carpentry"
 fee = 9
 "#;
 
-/// How many items the crowd's world has.
 const ITEMS: u32 = 5;
 
 /// A market of a region: its item with its name, its price and what it pays for one, and its limit.
@@ -154,7 +150,6 @@ static CROWD_MARKETS: [CrowdMarket; 5] = [
 /// How many thirds of its limit a market has in stock, picked by region number plus item.
 static FILLED: [u32; 4] = [0, 1, 3, 2];
 
-/// How many skills the crowd's world has.
 const SKILLS: u32 = 4;
 
 /// Terrain, peasants and money of a region, picked by its number.
@@ -168,7 +163,6 @@ static LANDS: [(&str, u32, u32); 7] = [
     ("hill", 61, 880),
 ];
 
-/// How many men a unit has, picked by its number.
 static MEN: [i64; 11] = [1, 1, 2, 3, 5, 8, 13, 40, 90, 2, 1];
 
 /// How much money a unit has, picked by its number, if the number is no multiple of `RICH_DIVISOR`.
@@ -200,7 +194,6 @@ static MONTH_LONG: [&str; 9] = [
     "PRODUCE wood",
 ];
 
-/// The SELL order of a unit, picked by its number; an empty text is no order.
 static SOLD: [&str; 8] = [
     "SELL 3 wood",
     "SELL 40 grain",
@@ -212,7 +205,6 @@ static SOLD: [&str; 8] = [
     "SELL 9 cart",
 ];
 
-/// The BUY order of a unit, picked by its number; an empty text is no order.
 static BOUGHT: [&str; 13] = [
     "BUY 2 grain",
     "BUY 5 wood",
@@ -236,16 +228,12 @@ static RECRUITED: [u32; 5] = [1, 20, 3, 7, 400];
 /// faction's, and not for the unit with that number.
 const MISDIRECTED_DIVISOR: u32 = 29;
 
-/// The number of Joining among the entries of the books.
 const JOINING: i64 = 2;
 
-/// The number of the thing money in the books.
 const MONEY_THING: i64 = 0;
 
-/// The number of the thing people in the books.
 const PEOPLE_THING: i64 = 1;
 
-/// The number of the first item among the things of the books.
 const FIRST_ITEM_THING: i64 = 2;
 
 /// The value that `number` picks from a table: the one at the index `number`, modulo its length.
@@ -255,9 +243,6 @@ fn picked<T: Copy + Drop>(table: &[T], number: u32) -> T
     table[number as usize % table.len()]
 }
 
-// ---- the world
-
-/// The two markets of a region, picked by its number.
 fn markets_of(region: u32) -> [CrowdMarket; 2] {
     [
         picked(&CROWD_MARKETS, region),
@@ -265,7 +250,6 @@ fn markets_of(region: u32) -> [CrowdMarket; 2] {
     ]
 }
 
-/// Appends a market to the world text.
 fn add_market(alloc: Global, stall: CrowdMarket, text: &mut String) -> Result<(), AllocError> {
     let CrowdMarket {
         item: _,
@@ -280,7 +264,6 @@ fn add_market(alloc: Global, stall: CrowdMarket, text: &mut String) -> Result<()
     text.push_str(table.as_str())
 }
 
-/// Appends the markets of a region to the world text.
 fn add_markets(alloc: Global, number: u32, text: &mut String) -> Result<(), AllocError> {
     for stall in markets_of(number).iter() {
         add_market(alloc, *stall, text)?;
@@ -288,7 +271,6 @@ fn add_markets(alloc: Global, number: u32, text: &mut String) -> Result<(), Allo
     Ok(())
 }
 
-/// Appends a region with its markets to the world text.
 fn add_region(alloc: Global, number: u32, text: &mut String) -> Result<(), AllocError> {
     let (terrain, peasants, money) = picked(&LANDS, number);
     let table = format!(in alloc;
@@ -298,7 +280,6 @@ fn add_region(alloc: Global, number: u32, text: &mut String) -> Result<(), Alloc
     add_markets(alloc, number, text)
 }
 
-/// The world of the campaign of 300 units, with the markets of its twelve regions.
 pub(crate) fn crowd_world(alloc: Global) -> Result<World, Fail> {
     let mut text = String::from_str(alloc, WORLD_HEAD)?;
     for number in 1..=REGIONS {
@@ -307,9 +288,6 @@ pub(crate) fn crowd_world(alloc: Global) -> Result<World, Fail> {
     Ok(read_world(alloc, text.as_str())?)
 }
 
-// ---- the units
-
-/// The faction of the unit with this number; consecutive numbers are of the four factions in turn.
 fn faction_of(number: u32) -> u32 {
     number % FACTIONS + 1
 }
@@ -324,7 +302,6 @@ fn guards(number: u32) -> bool {
     region_of(number) % FACTIONS + 1 == faction_of(number) && number % 5 != 0
 }
 
-/// The money of the unit with this number.
 fn money_of(number: u32) -> i64 {
     if number % RICH_DIVISOR == 0 {
         MOST_MONEY_GIVEN
@@ -333,7 +310,6 @@ fn money_of(number: u32) -> i64 {
     }
 }
 
-/// The row of the unit with this number in the table `unit`, with what the number picks.
 fn unit(alloc: Global, number: u32) -> Result<StoredUnit, AllocError> {
     Ok(StoredUnit {
         number: i64::from(number),
@@ -347,7 +323,6 @@ fn unit(alloc: Global, number: u32) -> Result<StoredUnit, AllocError> {
     })
 }
 
-/// The rows of all 300 units in the table `unit`.
 fn units(alloc: Global) -> Result<Sequence<StoredUnit>, AllocError> {
     let mut units = Sequence::new(alloc);
     for number in 1..=UNITS {
@@ -376,12 +351,10 @@ fn add_good(
     })
 }
 
-/// How much of an item the unit with this number has.
 fn pieces(number: u32, item: u32) -> i64 {
     picked(&PIECES, number.wrapping_add(item))
 }
 
-/// Adds a unit's items to the rows of the table `has`.
 fn add_items(number: u32, has: &mut Sequence<StoredHas>) -> Result<(), AllocError> {
     for item in 0..ITEMS {
         add_good(number, 0, item, pieces(number, item), has)?;
@@ -389,7 +362,6 @@ fn add_items(number: u32, has: &mut Sequence<StoredHas>) -> Result<(), AllocErro
     Ok(())
 }
 
-/// Adds a unit's days of study to the rows of the table `has`.
 fn add_days(number: u32, has: &mut Sequence<StoredHas>) -> Result<(), AllocError> {
     for skill in 0..SKILLS {
         let each = picked(&DAYS, number.wrapping_add(skill));
@@ -399,7 +371,6 @@ fn add_days(number: u32, has: &mut Sequence<StoredHas>) -> Result<(), AllocError
     Ok(())
 }
 
-/// The rows of the table `has`: items and days of study of all units.
 fn has(alloc: Global) -> Result<Sequence<StoredHas>, AllocError> {
     let mut has = Sequence::new(alloc);
     for number in 1..=UNITS {
@@ -409,15 +380,11 @@ fn has(alloc: Global) -> Result<Sequence<StoredHas>, AllocError> {
     Ok(has)
 }
 
-// ---- the stocks
-
-/// How much a region's market `stall` has in stock.
 fn stock_of(region: u32, stall: CrowdMarket) -> i64 {
     let thirds = picked(&FILLED, region.wrapping_add(stall.item));
     i64::from(stall.limit.wrapping_mul(thirds) / 3)
 }
 
-/// Adds a region's stocks that aren't 0 to the rows of the table `market`.
 fn add_stocks(region: u32, markets: &mut Sequence<StoredMarket>) -> Result<(), AllocError> {
     for stall in markets_of(region).iter() {
         let stock = stock_of(region, *stall);
@@ -432,7 +399,6 @@ fn add_stocks(region: u32, markets: &mut Sequence<StoredMarket>) -> Result<(), A
     Ok(())
 }
 
-/// The rows of the table `market`: all stocks that aren't 0.
 fn stocks(alloc: Global) -> Result<Sequence<StoredMarket>, AllocError> {
     let mut markets = Sequence::new(alloc);
     for region in 1..=REGIONS {
@@ -441,7 +407,6 @@ fn stocks(alloc: Global) -> Result<Sequence<StoredMarket>, AllocError> {
     Ok(markets)
 }
 
-/// How much of an item all markets have in stock together.
 fn all_in_stock(markets: &Sequence<StoredMarket>, item: u32) -> i64 {
     let mut all: i64 = 0;
     for row in markets.as_slice() {
@@ -452,10 +417,6 @@ fn all_in_stock(markets: &Sequence<StoredMarket>, item: u32) -> i64 {
     all
 }
 
-// ---- factions and books
-
-/// The one row of the table `campaign`, which has the next free numbers of a faction, a unit and a
-/// structure.
 fn head(alloc: Global) -> Result<Sequence<StoredCampaignRow>, AllocError> {
     let mut all = Sequence::new(alloc);
     all.push(StoredCampaignRow {
@@ -470,7 +431,6 @@ fn head(alloc: Global) -> Result<Sequence<StoredCampaignRow>, AllocError> {
     Ok(all)
 }
 
-/// The row of the faction with this number in the table `faction`.
 fn faction(alloc: Global, number: u32) -> Result<StoredFaction, AllocError> {
     let name = format!(in alloc; "F{number}")?;
     Ok(StoredFaction {
@@ -482,7 +442,6 @@ fn faction(alloc: Global, number: u32) -> Result<StoredFaction, AllocError> {
     })
 }
 
-/// The rows of the four factions.
 fn factions(alloc: Global) -> Result<Sequence<StoredFaction>, AllocError> {
     let mut all = Sequence::new(alloc);
     for number in 1..=FACTIONS {
@@ -491,7 +450,6 @@ fn factions(alloc: Global) -> Result<Sequence<StoredFaction>, AllocError> {
     Ok(all)
 }
 
-/// The rows of the factions' reports, all with one text.
 fn reports(alloc: Global) -> Result<Sequence<StoredReport>, AllocError> {
     let mut all = Sequence::new(alloc);
     for number in 1..=FACTIONS {
@@ -515,7 +473,6 @@ fn book(thing: i64, amount: i64, books: &mut Sequence<StoredBooks>) -> Result<()
     })
 }
 
-/// The money and the men of all units together.
 fn money_and_men() -> (i64, i64) {
     let mut money: i64 = 0;
     let mut men: i64 = 0;
@@ -526,7 +483,6 @@ fn money_and_men() -> (i64, i64) {
     (money, men)
 }
 
-/// How much of an item all units have together.
 fn all_pieces(item: u32) -> i64 {
     let mut all: i64 = 0;
     for number in 1..=UNITS {
@@ -535,7 +491,6 @@ fn all_pieces(item: u32) -> i64 {
     all
 }
 
-/// Books under Joining the money, men and items of all units, and all that is in stock.
 fn book_all(
     markets: &Sequence<StoredMarket>,
     books: &mut Sequence<StoredBooks>,
@@ -564,7 +519,6 @@ fn fill(alloc: Global, parts: &mut Parts) -> Result<(), AllocError> {
     Ok(())
 }
 
-/// All rows of the campaign of 300 units: those of a founding, changed by `fill`.
 fn rows(alloc: Global, world: &World) -> Result<Parts, AllocError> {
     let mut parts = founded(alloc, world, b"gm")?.parts()?;
     fill(alloc, &mut parts)?;
@@ -579,15 +533,12 @@ pub(crate) fn checked(alloc: Global, world: &World, rows: Parts) -> Result<Campa
     Ok(check(alloc, world, rows)?)
 }
 
-/// The campaign of 300 units, with nothing marked.
 pub(crate) fn crowd(alloc: Global, world: &World) -> Result<Campaign, Fail>
     ensures { IfOk result (λ campaign. IsGood world.now campaign.value) }
 {
     let rows = rows(alloc, world)?;
     checked(alloc, world, rows)
 }
-
-// ---- the month
 
 /// The unit for which the orders that `number` picks are written: the unit with this number, or the
 /// next one if the number is a multiple of `MISDIRECTED_DIVISOR`.
@@ -599,7 +550,6 @@ fn ordered_unit(number: u32) -> u32 {
     }
 }
 
-/// Appends the orders that a unit's number picks to its faction's mailing.
 fn add_orders(alloc: Global, number: u32, mailing: &mut String) -> Result<(), AllocError> {
     let unit = ordered_unit(number);
     let men = picked(&RECRUITED, number);
@@ -611,7 +561,6 @@ fn add_orders(alloc: Global, number: u32, mailing: &mut String) -> Result<(), Al
     mailing.push_str(orders.as_str())
 }
 
-/// The mailing of a faction: the orders that each of its units picks.
 fn mailing(alloc: Global, faction: u32) -> Result<String, AllocError> {
     let mut mailing = format!(in alloc; "#ATLANTIS {faction}\n")?;
     for number in 1..=UNITS {
@@ -622,7 +571,6 @@ fn mailing(alloc: Global, faction: u32) -> Result<String, AllocError> {
     Ok(mailing)
 }
 
-/// The texts as `&str`, in the same order, as `month` takes them.
 fn as_strs(alloc: Global, texts: &[String]) -> Result<Vec<&str>, AllocError> {
     let mut all = Vec::new(alloc);
     for text in texts {
@@ -631,7 +579,6 @@ fn as_strs(alloc: Global, texts: &[String]) -> Result<Vec<&str>, AllocError> {
     Ok(all)
 }
 
-/// The month to which all four factions of the crowd have sent their mailings.
 pub(crate) fn crowd_month(alloc: Global, world: &World) -> Result<Month, Fail>
     ensures { IfOk result (λ month. AreFit world.now month.readings) }
 {

@@ -14,7 +14,6 @@ use atl_month::{
 use atl_phase::{mailings_have_no_order, one_order_counts, orders_are_in_mailings};
 use atl_report::{only_what_is_seen_is_reported, others_events_are_not_reported};
 
-/// Calls each law of the crates under test and asserts nothing: the clause of each is proved.
 #[test]
 fn states_laws_of_the_month() {
     mailings_have_no_order();

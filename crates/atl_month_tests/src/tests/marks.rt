@@ -16,7 +16,6 @@ use std::alloc::{AllocError, Global};
 use std::process::Abort;
 use std::test::Fail;
 
-/// Makes a faction join with 0 as the word of the dice, and stores an empty report for it.
 fn join(alloc: Global, world: &World, campaign: &mut Campaign, name: &str) -> Result<(), Fail>
     requires { IsGood world.now campaign.old.value }
 {
@@ -29,7 +28,6 @@ fn join(alloc: Global, world: &World, campaign: &mut Campaign, name: &str) -> Re
     Ok(())
 }
 
-/// The campaign after one more faction has joined; nothing of it is marked.
 fn joined(
     alloc: Global,
     world: &World,
@@ -44,7 +42,6 @@ fn joined(
     checked(alloc, world, rows)
 }
 
-/// The campaign of two factions with a unit each in one region; nothing of it is marked.
 fn two_factions(alloc: Global, world: &World) -> Result<Campaign, Fail>
     ensures { IfOk result (λ campaign. IsGood world.now campaign.value) }
 {
@@ -75,19 +72,15 @@ fn after_month(
     Ok(campaign)
 }
 
-/// The campaign of `two_factions` after a month of the mailing `PAYING`.
 fn paid(alloc: Global, world: &World) -> Result<Campaign, Fail> {
     let campaign = two_factions(alloc, world)?;
     after_month(alloc, world, campaign, &PAYING, &[0])
 }
 
-/// Asserts that a condition is true.
 fn assert_true(rt: &impl Abort, output: bool) {
     assert!(rt; output);
 }
 
-/// Whether unit 1 has two men and the name `Watch`, as it has after a month of the mailing
-/// `PAYING`.
 fn has_a_recruit(campaign: &Campaign) -> bool {
     match campaign.unit(1) {
         Some(unit) => unit.holding.men() == 2 && unit.holding.name().as_str() == "Watch",
@@ -95,7 +88,6 @@ fn has_a_recruit(campaign: &Campaign) -> bool {
     }
 }
 
-/// A month with a new name, PAY, RECRUIT and upkeep marks both units and their rows, and no goods.
 #[test]
 fn names_pay_recruits_and_upkeep_mark_no_goods(rt: HostRuntime) -> Result<(), Fail> {
     let world = small_world(rt.alloc())?;
@@ -105,12 +97,8 @@ fn names_pay_recruits_and_upkeep_mark_no_goods(rt: HostRuntime) -> Result<(), Fa
     Ok(())
 }
 
-// ---- the goods of a unit, thing by thing
-
-/// How much wood unit 1 has in the campaign of `equipped`.
 const WOOD: i64 = 20;
 
-/// How many days of carpentry unit 1 has in the campaign of `equipped`.
 const CARPENTRY: i64 = 30;
 
 /// Adds rows by which unit 1 has wood and days of carpentry; the wood is booked under Joining.
@@ -145,7 +133,6 @@ fn equipped(alloc: Global, world: &World) -> Result<Campaign, Fail>
     checked(alloc, world, rows)
 }
 
-/// The campaign of `equipped` after a month of one mailing.
 fn island_after_month(alloc: Global, world: &World, mailing: &str) -> Result<Campaign, Fail> {
     let campaign = equipped(alloc, world)?;
     after_month(alloc, world, campaign, &[mailing], &[0, 0, 0, 0])
@@ -203,8 +190,6 @@ fn marks_of(alloc: Global, campaign: &Campaign) -> Result<String, AllocError> {
     Ok(output)
 }
 
-/// Asserts which marks of units a campaign has, as `marks_of` prints them; the message names `row`,
-/// the index in the table of cases.
 fn assert_marks(
     rt: &impl Abort,
     alloc: Global,
@@ -234,7 +219,6 @@ static MARKED: [(&str, &str); 6] = [
     ),
 ];
 
-/// Asserts that a month of each mailing of `MARKED` marks what its row lists.
 fn assert_month_marks(rt: &impl Abort, alloc: Global, world: &World) -> Result<(), Fail> {
     for (row, (mailing, wanted)) in MARKED.iter().enumerate() {
         let campaign = island_after_month(alloc, world, mailing)?;
@@ -243,7 +227,6 @@ fn assert_month_marks(rt: &impl Abort, alloc: Global, world: &World) -> Result<(
     Ok(())
 }
 
-/// Closing a month marks the units, rows, items and skills that change in it, and no others.
 #[test]
 fn months_mark_what_they_change(rt: HostRuntime) -> Result<(), Fail> {
     let world = read_world(rt.alloc(), ISLE_WITH_MARKET)?;

@@ -13,18 +13,14 @@ use atl_world::World;
 use std::alloc::{AllocError, Global};
 use std::test::Fail;
 
-/// The small world with wood as an item and sailing as a skill.
 pub(crate) fn world(alloc: Global) -> Result<World, Fail> {
     Ok(read_world(alloc, WOOD_AND_SAILING)?)
 }
 
-/// The small world: one region, without items, skills and markets.
 pub(crate) fn small_world(alloc: Global) -> Result<World, Fail> {
     Ok(read_world(alloc, SMALL_WORLD)?)
 }
 
-/// The mailings that are read from some texts, in the same order; a text that is refused is a
-/// failure.
 fn mailings_of(alloc: Global, world: &World, texts: &[&str]) -> Result<Vec<Mailing>, Fail>
     ensures { IfOk result (λ mailings. All (IsReadWith world.now) mailings.items) }
 {
@@ -35,7 +31,6 @@ fn mailings_of(alloc: Global, world: &World, texts: &[&str]) -> Result<Vec<Maili
     Ok(mailings)
 }
 
-/// The faction of each mailing, in the same order.
 fn factions_of(alloc: Global, mailings: &[Mailing]) -> Result<Vec<u32>, AllocError>
     ensures { IfOk result (λ factions. factions.items ≡ map (λ m. m.faction) mailings.now) }
 {

@@ -115,8 +115,6 @@ static ORDERS_OF_PHASES: [(&[&str], &str); 9] = [
     ),
 ];
 
-/// Asserts which orders the five phases of `orders_text` get of the mailings of one row of
-/// `ORDERS_OF_PHASES`.
 fn assert_row_orders(
     rt: &impl Abort,
     alloc: Global,
@@ -131,8 +129,6 @@ fn assert_row_orders(
     Ok(())
 }
 
-/// Asserts, for each row of `ORDERS_OF_PHASES`, which orders the five phases of `orders_text` get
-/// of its mailings.
 fn assert_all_orders(rt: &impl Abort, alloc: Global, world: &World) -> Result<(), Fail> {
     for (row, (texts, wanted)) in ORDERS_OF_PHASES.iter().enumerate() {
         assert_row_orders(rt, alloc, world, row, texts, wanted)?;
@@ -140,7 +136,6 @@ fn assert_all_orders(rt: &impl Abort, alloc: Global, world: &World) -> Result<()
     Ok(())
 }
 
-/// Each phase gets the orders of its verbs that count, sorted by unit or, for FORM, by faction.
 #[test]
 fn orders_of_phases(rt: HostRuntime) -> Result<(), Fail> {
     let world = world(rt.alloc())?;
@@ -158,7 +153,6 @@ fn formed(alloc: Global, world: &World) -> Result<Month, Fail> {
     Ok(month)
 }
 
-/// Asserts which month-long orders of the mailings `texts` count, as `write_orders` prints them.
 fn assert_month_long_orders(
     rt: &impl Abort,
     alloc: Global,
@@ -179,7 +173,6 @@ fn assert_month_long_orders(
     Ok(())
 }
 
-/// Only the last month-long order for a unit in a mailing counts; TAX and GIVE aren't month-long.
 #[test]
 fn month_long_orders(rt: HostRuntime) -> Result<(), Fail> {
     let world = world(rt.alloc())?;
@@ -204,8 +197,6 @@ fn assert_aliases(rt: &impl Abort, month: &Month) {
     assert!(rt; month.alias(3, 1).is_none());
 }
 
-/// Asserts the aliases of the month of `formed`, and which orders the five phases of `orders_text`
-/// get of it.
 fn assert_formed(rt: &impl Abort, alloc: Global, month: &Month) -> Result<(), Fail> {
     assert_aliases(rt, month);
     let output = orders_text(alloc, month)?;
@@ -218,7 +209,6 @@ fn assert_formed(rt: &impl Abort, alloc: Global, month: &Month) -> Result<(), Fa
     Ok(())
 }
 
-/// An alias belongs to one faction: an order for it is for the unit that the faction's FORM made.
 #[test]
 fn aliases_of_factions(rt: HostRuntime) -> Result<(), Fail> {
     let world = world(rt.alloc())?;
@@ -226,7 +216,6 @@ fn aliases_of_factions(rt: HostRuntime) -> Result<(), Fail> {
     assert_formed(&rt, rt.alloc(), &month)
 }
 
-/// The event of a FORM that made unit 7, to add to a month.
 const EVENT: Event = Event {
     faction: 1,
     unit: 4,
@@ -240,14 +229,11 @@ fn assert_verb(rt: &impl Abort, output: Option<Verb>, wanted: Option<Verb>) {
     assert!(rt; output == wanted);
 }
 
-/// The verb of the order with an index in a faction's mailing; None if there is no such order.
 fn verb_at(month: &Month, faction: u32, place: usize) -> Option<Verb> {
     let entry = month.mailing(faction)?.entries.as_slice().get(place)?;
     Some(entry.order.verb)
 }
 
-/// Asserts the verbs of orders at some indexes of the month of `formed`, and which factions have a
-/// mailing.
 fn assert_orders(rt: &impl Abort, month: &Month) {
     assert_verb(rt, verb_at(month, 1, 1), Some(Verb::Work));
     assert_verb(rt, verb_at(month, 2, 1), Some(Verb::Study));
@@ -262,8 +248,6 @@ fn assert_orders(rt: &impl Abort, month: &Month) {
     assert!(rt; month.mailing(3).is_none());
 }
 
-/// Asserts that a month has no event, and has `EVENT` once it is added, and that 7 and 9 are its
-/// words of the dice.
 fn assert_events(rt: &impl Abort, mut month: Month) -> Result<(), Fail> {
     assert!(rt; month.events().is_empty());
     month.add_event(EVENT)?;
@@ -274,7 +258,6 @@ fn assert_events(rt: &impl Abort, mut month: Month) -> Result<(), Fail> {
     Ok(())
 }
 
-/// A month gives access to its mailings, orders, words of the dice, and events.
 #[test]
 fn orders_and_events(rt: HostRuntime) -> Result<(), Fail> {
     let world = world(rt.alloc())?;

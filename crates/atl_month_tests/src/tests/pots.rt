@@ -21,13 +21,11 @@ struct TwoPots {
     second: u16,
 }
 
-/// The pot of region 1 is `first`, that of region 2 is `second`, and that of any other region is 0.
 impl Pots for TwoPots {
     ghost pot_of = { λ places. pot_in places.first places.second };
 
     ghost ready = { λ _. ⊤ };
 
-    /// How much there is to share in `region`.
     fn pot(&self, region: u32) -> u64 {
         match region {
             1 => u64::from(self.first),
@@ -80,13 +78,11 @@ static SHARED: [(&[Taker], (u16, u16), &str); 8] = [
     (&[(9, Some(5)), (1, Some(5))], (5, 5), "2 5;"),
 ];
 
-/// A holding of one man, who has no money, items or days.
 fn one_man(alloc: Global) -> Result<Holding, Fail> {
     let name = Text::from_str(alloc, "A man")?;
     Ok(Holding::new(name, 1, 0, Numbered::new(alloc), Numbered::new(alloc)))
 }
 
-/// Adds a unit of one man of faction 1 to a region, with the next free number.
 fn unit_comes(alloc: Global, campaign: &mut Campaign, region: u32) -> Result<(), Fail> {
     let holding = one_man(alloc)?;
     if campaign.next_unit() > LAST_UNIT || campaign.unit(campaign.next_unit()).is_some() {
@@ -101,7 +97,6 @@ fn unit_comes(alloc: Global, campaign: &mut Campaign, region: u32) -> Result<(),
     Ok(())
 }
 
-/// The campaign of a world just founded, with a unit for each taker in its region, numbered from 1.
 fn campaign_of(alloc: Global, world: &World, takers: &[Taker]) -> Result<Campaign, Fail> {
     let mut campaign = founded(alloc, world, b"gm")?;
     for (region, _) in takers {
@@ -110,7 +105,6 @@ fn campaign_of(alloc: Global, world: &World, takers: &[Taker]) -> Result<Campaig
     Ok(campaign)
 }
 
-/// How much each unit wants, by unit numbers from 1; units without a want are left out.
 fn wants_of(alloc: Global, takers: &[Taker]) -> Result<Numbered<u32>, Fail>
     ensures { IfOk result (λ wants. AreWants wants) }
 {
@@ -125,7 +119,6 @@ fn wants_of(alloc: Global, takers: &[Taker]) -> Result<Numbered<u32>, Fail>
     Ok(wants)
 }
 
-/// The shares that units got, as text: each unit's number and its share.
 fn shares_text(alloc: Global, given: &Numbered<u32>) -> Result<String, AllocError> {
     let mut output = String::new(alloc);
     for (number, share) in given.iter() {
@@ -134,7 +127,6 @@ fn shares_text(alloc: Global, given: &Numbered<u32>) -> Result<String, AllocErro
     Ok(output)
 }
 
-/// What `pot_shares` gives each taker of the pots of regions 1 and 2, as text.
 fn shares(
     alloc: Global,
     world: &World,
@@ -151,7 +143,6 @@ fn shares(
     Ok(shares_text(alloc, &given)?)
 }
 
-/// Asserts, for each row of `SHARED`, what `pot_shares` gives each taker.
 fn assert_pot_cases(rt: &impl Abort, alloc: Global, world: &World) -> Result<(), Fail> {
     for (row, (takers, pots, wanted)) in SHARED.iter().enumerate() {
         let output = shares(alloc, world, takers, *pots)?;
@@ -160,7 +151,6 @@ fn assert_pot_cases(rt: &impl Abort, alloc: Global, world: &World) -> Result<(),
     Ok(())
 }
 
-/// `pot_shares` splits each region's pot among the units of that region that have a want.
 #[test]
 fn pots_are_shared(rt: HostRuntime) -> Result<(), Fail> {
     let world = read_world(rt.alloc(), TWO_REGIONS)?;

@@ -2,7 +2,6 @@
 use std::alloc::{AllocError, Global};
 use std::process::Abort;
 
-/// Asserts that a text is the wanted one; the message names the index of the row in its table.
 pub(crate) fn assert_row(rt: &impl Abort, row: usize, actual: &str, wanted: &str) {
     assert_eq!(rt; actual, wanted, "at {row}");
 }

@@ -36,7 +36,6 @@ static SETTLED: [(&[(u8, u8, u16, u16)], &str); 11] = [
     ),
 ];
 
-/// What upkeep reads of each unit of a case, in the order of the units, which are numbered from 1.
 fn upkeep_inputs_of(
     alloc: Global,
     units: &[(u8, u8, u16, u16)],
@@ -78,8 +77,6 @@ fn units_text(alloc: Global, units: &[(u8, u8, u16, u16)]) -> Result<String, Fai
     Ok(output)
 }
 
-/// Each unit pays its own upkeep, then its faction's units in the region pay for each other, and
-/// men left unpaid starve.
 #[test]
 fn upkeep_is_shared(rt: HostRuntime) -> Result<(), Fail> {
     for (row, (units, wanted)) in SETTLED.iter().enumerate() {

@@ -22,7 +22,6 @@ static SHARED: [(u64, &[u64], &[u64]); 8] = [
     ),
 ];
 
-/// Asserts that the takers of a pot got the wanted shares; the message names the pot.
 pub(crate) fn assert_shares(rt: &impl Abort, pot: u64, actual: &[u64], wanted: &[u64]) {
     assert_eq!(rt; actual, wanted, "of {pot}");
 }
@@ -34,8 +33,6 @@ pub(crate) fn are_small(wants: &[u64]) -> bool
     wants.iter().all(|want| *want <= 999_999_999)
 }
 
-/// Asserts that `share` splits a pot among the wants `wants` into the shares `wanted`, as a row of
-/// `SHARED` says.
 fn assert_split(
     rt: &impl Abort,
     alloc: Global,
@@ -51,7 +48,6 @@ fn assert_split(
     Ok(())
 }
 
-/// Asserts, for each row of `SHARED`, that `share` splits its pot as the row says.
 fn assert_splits(rt: &impl Abort, alloc: Global) -> Result<(), Fail> {
     for (pot, wants, wanted) in SHARED.iter() {
         assert_split(rt, alloc, *pot, wants, wanted)?;
@@ -59,7 +55,6 @@ fn assert_splits(rt: &impl Abort, alloc: Global) -> Result<(), Fail> {
     Ok(())
 }
 
-/// `share` splits each pot of `SHARED` as worked out by hand.
 #[test]
 fn a_pot_is_shared(rt: HostRuntime) -> Result<(), Fail> {
     assert_splits(&rt, rt.alloc())
@@ -78,7 +73,6 @@ fn given_to_crowd(alloc: Global, wants: &[u64]) -> Result<u64, Fail> {
     Ok(sum)
 }
 
-/// 100,000 takers that each want all of the largest pot get all of it together.
 #[test]
 fn a_crowd_gets_the_whole_pot(rt: HostRuntime) -> Result<(), Fail> {
     let wants = [999_999_999u64].repeat(rt.alloc(), 100_000)?;

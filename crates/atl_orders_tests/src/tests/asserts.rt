@@ -11,12 +11,10 @@ pub(crate) fn assert_text(rt: &impl Abort, row: &str, found: &str, wanted: &str)
     assert_eq!(rt; found, wanted, "at {row}");
 }
 
-/// Asserts that a number is the wanted one.
 pub(crate) fn assert_number(rt: &impl Abort, found: usize, wanted: usize) {
     assert_eq!(rt; found, wanted);
 }
 
-/// Asserts that a list of numbers is the wanted one.
 pub(crate) fn assert_numbers(rt: &impl Abort, found: &[u32], wanted: &[u32]) {
     assert_eq!(rt; found, wanted);
 }

@@ -265,7 +265,6 @@ pub(crate) static NAME_KEY_CHANGES: [Change; 19] = [
     ("name = \"Vale\"", "name = \"Va le\"", "none"),
 ];
 
-/// Edits of the truth values `land` and `ship` of the world with an item, a skill and a kind.
 pub(crate) static TRUTH_CHANGES: [Change; 5] = [
     ("land = true", "", "2 Missing terrain[0].land"),
     ("land = true", "land = 1", "3 WrongType terrain[0].land"),
@@ -347,8 +346,6 @@ pub(crate) static REFERENCE_CHANGES: [Change; 20] = [
     ("terrain = \"plain\"", "terrain = \"PLAIN\"", "none"),
 ];
 
-/// Edits of the region's keys `north`, `south`, `east` and `west`, in the world with an item, a
-/// skill and a kind.
 pub(crate) static NEIGHBOUR_CHANGES: [Change; 11] = [
     (
         "money = 500",
@@ -403,7 +400,6 @@ pub(crate) static NEIGHBOUR_CHANGES: [Change; 11] = [
     ("money = 500", "money = 500\neast = 1\nwest = 1", "none"),
 ];
 
-/// Edits of the terrain's key `output`, in the world with an item, a skill and a kind.
 pub(crate) static OUTPUT_CHANGES: [Change; 6] = [
     ("wage = 12", "wage = 12\noutput = {}", "none"),
     (

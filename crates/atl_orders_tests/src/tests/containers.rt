@@ -5,7 +5,6 @@ use std::alloc::Global;
 use std::process::Abort;
 use std::test::Fail;
 
-/// Asserts that a text and a copy of it have the wanted bytes.
 fn assert_text_and_copy(
     rt: &impl Abort,
     alloc: Global,
@@ -18,7 +17,6 @@ fn assert_text_and_copy(
     Ok(())
 }
 
-/// Asserts that a `Text` made of `text` has its bytes, in whichever of the three ways it is made.
 fn assert_made_in_each_way(rt: &impl Abort, alloc: Global, text: &str) -> Result<(), Fail> {
     assert_text_and_copy(rt, alloc, &Text::from_str(alloc, text)?, text)?;
     let string = String::from_str(alloc, text)?;
@@ -29,7 +27,6 @@ fn assert_made_in_each_way(rt: &impl Abort, alloc: Global, text: &str) -> Result
 /// The texts of which each `Text` is made: empty, one letter, with a space, and beyond ASCII.
 static TEXTS: [&str; 4] = ["", "a", "Big Bob", "\u{e9}\u{1f600}"];
 
-/// A `Text` has the bytes that it is made of, in whichever way it is made, and so has a copy of it.
 #[test]
 fn texts_have_their_bytes(rt: HostRuntime) -> Result<(), Fail> {
     for text in TEXTS.iter() {
@@ -38,13 +35,11 @@ fn texts_have_their_bytes(rt: HostRuntime) -> Result<(), Fail> {
     Ok(())
 }
 
-/// Asserts the length and the values of a list.
 fn assert_list(rt: &impl Abort, list: &Sequence<u32>, wanted: &[u32]) {
     assert_number(rt, list.len(), wanted.len());
     assert_numbers(rt, list.as_slice(), wanted);
 }
 
-/// A `Sequence` has the values that it is made of and those that are pushed, in this order.
 #[test]
 fn sequences_keep_their_values(rt: HostRuntime) -> Result<(), Fail> {
     let mut list = Sequence::new(rt.alloc());
@@ -84,8 +79,6 @@ pub(crate) fn map_of_three(alloc: Global) -> Result<Numbered<u32>, Fail> {
     Ok(map)
 }
 
-/// Reads, changes and removes entries of the map of `map_of_three`, also under a number that it
-/// doesn't have, and asserts what is read.
 fn change_entries(rt: &impl Abort, map: &mut Numbered<u32>) {
     assert!(rt; map.get(20) == Some(&2));
     assert!(rt; map.get(2).is_none());
@@ -97,7 +90,6 @@ fn change_entries(rt: &impl Abort, map: &mut Numbered<u32>) {
     map.remove(2);
 }
 
-/// A `Numbered` keeps values by number, in ascending order, through inserts, changes and removals.
 #[test]
 fn numbered_maps_keep_their_values(rt: HostRuntime) -> Result<(), Fail> {
     assert_map(&rt, rt.alloc(), &Numbered::new(rt.alloc()), &[])?;

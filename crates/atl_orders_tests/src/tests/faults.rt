@@ -65,7 +65,6 @@ pub(crate) fn assert_change(
     assert_faults(rt, alloc, to, text.as_str(), wanted, old_fault(wanted))
 }
 
-/// Asserts the first faults that each edit makes, applied alone to `text` (`assert_change`).
 fn assert_changes(
     rt: &impl Abort,
     alloc: Global,
@@ -78,7 +77,6 @@ fn assert_changes(
     Ok(())
 }
 
-/// The reader reports the first fault of each edit of the small world.
 #[test]
 fn faulty_worlds(rt: HostRuntime) -> Result<(), Fail> {
     assert_changes(&rt, rt.alloc(), SMALL_WORLD, &SMALL_CHANGES)?;
@@ -96,8 +94,6 @@ fn faulty_worlds(rt: HostRuntime) -> Result<(), Fail> {
     )
 }
 
-/// Asserts the first faults that each edit makes in `text`, the small world with an item, a skill
-/// and a kind.
 fn assert_thing_changes(rt: &impl Abort, alloc: Global, text: &str) -> Result<(), Fail> {
     assert_changes(rt, alloc, text, &KEY_CHANGES)?;
     assert_changes(rt, alloc, text, &NAME_CHANGES)?;
@@ -108,14 +104,12 @@ fn assert_thing_changes(rt: &impl Abort, alloc: Global, text: &str) -> Result<()
     assert_changes(rt, alloc, text, &OUTPUT_CHANGES)
 }
 
-/// The reader reports the first fault of each edit of the world with an item, a skill and a kind.
 #[test]
 fn faulty_things(rt: HostRuntime) -> Result<(), Fail> {
     let text = small_with(rt.alloc(), ITEM_SKILL_KIND)?;
     assert_thing_changes(&rt, rt.alloc(), text.as_str())
 }
 
-/// Asserts the first faults that each edit makes in the world with `count` markets.
 fn assert_market_changes(
     rt: &impl Abort,
     alloc: Global,
@@ -126,7 +120,6 @@ fn assert_market_changes(
     assert_changes(rt, alloc, text.as_str(), changes)
 }
 
-/// Asserts the first fault of each edit of `TWO_FAULTS`, in the second format and in the first.
 fn assert_first_of_two_faults(rt: &impl Abort, alloc: Global) -> Result<(), Fail> {
     let one = with_markets(alloc, 1)?;
     for (from, to, second, first) in TWO_FAULTS.iter() {
@@ -136,7 +129,6 @@ fn assert_first_of_two_faults(rt: &impl Abort, alloc: Global) -> Result<(), Fail
     Ok(())
 }
 
-/// The reader reports the first fault of each edit of worlds with markets, in both formats.
 #[test]
 fn faulty_markets(rt: HostRuntime) -> Result<(), Fail> {
     assert_market_changes(&rt, rt.alloc(), 0, &ARRAY_CHANGES)?;
@@ -147,7 +139,6 @@ fn faulty_markets(rt: HostRuntime) -> Result<(), Fail> {
     assert_first_of_two_faults(&rt, rt.alloc())
 }
 
-/// The text of a region, which a test appends many times to the small world.
 const REGION: &str = "[[region]]
 number = 1
 name = \"Vale\"
@@ -156,7 +147,6 @@ peasants = 1000
 money = 500
 ";
 
-/// The text of a terrain, which a test appends many times to the small world.
 const TERRAIN: &str = "[[terrain]]
 name = \"Plain\"
 land = true
@@ -166,13 +156,10 @@ money_limit = 0
 peasant_limit = 0
 ";
 
-/// The text of an item, which a test appends many times to the small world.
 const ITEM: &str = "[[item]]\nname = \"wood\"\nweight = 5\ncarry = 0\n";
 
-/// The text of a skill, which a test appends many times to the small world.
 const SKILL: &str = "[[skill]]\nname = \"carpentry\"\nfee = 10\n";
 
-/// The text of a kind, which a test appends many times to the small world.
 const KIND: &str = "[[kind]]
 name = \"lodge\"
 ship = false
@@ -203,31 +190,26 @@ const EMPTY: RepeatedText = RepeatedText {
     end: "",
 };
 
-/// A `RepeatedText` that appends n regions.
 const MANY_REGIONS: RepeatedText = RepeatedText {
     open: REGION,
     ..EMPTY
 };
 
-/// A `RepeatedText` that appends n terrains.
 const MANY_TERRAINS: RepeatedText = RepeatedText {
     open: TERRAIN,
     ..EMPTY
 };
 
-/// A `RepeatedText` that appends n items.
 const MANY_ITEMS: RepeatedText = RepeatedText {
     open: ITEM,
     ..EMPTY
 };
 
-/// A `RepeatedText` that appends n skills.
 const MANY_SKILLS: RepeatedText = RepeatedText {
     open: SKILL,
     ..EMPTY
 };
 
-/// A `RepeatedText` that appends n kinds.
 const MANY_KINDS: RepeatedText = RepeatedText {
     open: KIND,
     ..EMPTY
@@ -249,7 +231,6 @@ static MANY: [(RepeatedText, usize, &str); 11] = [
     (MANY_KINDS, 101, "4 OutOfRange kind"),
 ];
 
-/// A `RepeatedText` that appends tables inside tables, n deep.
 const TABLES: RepeatedText = RepeatedText {
     front: "a = ",
     open: "{ a = ",
@@ -258,7 +239,6 @@ const TABLES: RepeatedText = RepeatedText {
     end: "",
 };
 
-/// A `RepeatedText` that appends arrays inside arrays, n deep.
 const ARRAYS: RepeatedText = RepeatedText {
     front: "a = ",
     open: "[",
@@ -320,8 +300,6 @@ static NESTED: [(RepeatedText, usize, &str); 16] = [
     (DOTTED_BELOW, 79, "none"),
 ];
 
-/// The text of the small world with that of `long` appended, its `open` and its `close` repeated
-/// `times` times.
 fn long_text(alloc: Global, long: &RepeatedText, times: usize) -> Result<String, Fail> {
     let RepeatedText {
         front,
@@ -335,7 +313,6 @@ fn long_text(alloc: Global, long: &RepeatedText, times: usize) -> Result<String,
     Ok(format!(in alloc; "{SMALL_WORLD}{front}{open}{inside}{close}{end}")?)
 }
 
-/// Asserts for each row the first fault of the small world with the row's text appended.
 fn assert_long_world_texts(
     rt: &impl Abort,
     alloc: Global,
@@ -361,7 +338,6 @@ fn nested_texts(rt: HostRuntime) -> Result<(), Fail> {
     assert_long_world_texts(&rt, rt.alloc(), &NESTED)
 }
 
-/// The text of the small world with `count` regions, numbered from 1, instead of its own.
 fn with_regions(alloc: Global, count: u32) -> Result<String, Fail> {
     let mut text = String::from_str(alloc, small_world_above("[[region]]"))?;
     for number in 1..=count {
@@ -373,7 +349,6 @@ fn with_regions(alloc: Global, count: u32) -> Result<String, Fail> {
     Ok(text)
 }
 
-/// Asserts the first fault of the small world with `count` regions.
 fn assert_regions(rt: &impl Abort, alloc: Global, count: u32, wanted: &str) -> Result<(), Fail> {
     let text = with_regions(alloc, count)?;
     let actual = fault(alloc, Format::Second, text.as_str())?;
@@ -417,7 +392,6 @@ fn fault_of(number: u8, path: Text) -> WorldFault {
     }
 }
 
-/// The path of a world fault, or `none`.
 fn path_of(fault: &WorldFault) -> &str {
     match fault.path() {
         Some(path) => path.as_str(),
@@ -425,7 +399,6 @@ fn path_of(fault: &WorldFault) -> &str {
     }
 }
 
-/// Asserts the number, the name and the path of the fault of a row.
 fn assert_fault(rt: &impl Abort, alloc: Global, row: &(u8, &str, &str)) -> Result<(), Fail> {
     let (number, name, path) = *row;
     let fault = fault_of(number, Text::from_str(alloc, "rules.growth")?);
@@ -435,7 +408,6 @@ fn assert_fault(rt: &impl Abort, alloc: Global, row: &(u8, &str, &str)) -> Resul
     Ok(())
 }
 
-/// Each world fault has its number, its name and its path.
 #[test]
 fn world_faults(rt: HostRuntime) -> Result<(), Fail> {
     for row in FAULTS.iter() {

@@ -3,7 +3,6 @@
 use atl_orders::{readings_keep_bounds, rules_are_the_reading};
 use atl_tables::old_worlds_have_no_markets;
 
-/// Calls each law of atl_orders and atl_tables and asserts nothing: the clause of each is proved.
 #[test]
 fn states_laws_of_both_readers() {
     rules_are_the_reading();

@@ -83,7 +83,6 @@ static NAMES: [(&str, bool, &str); 26] = [
     ("Vale", true, "[None, None, None]"),
 ];
 
-/// Asserts the item, the skill and the kind that the word of a row names.
 fn assert_names_of_word(
     rt: &impl Abort,
     alloc: Global,
@@ -100,7 +99,6 @@ fn assert_names_of_word(
     assert_shown(rt, alloc, word, &actual, wanted)
 }
 
-/// Asserts what each word of `NAMES` names.
 fn assert_names_of_words(rt: &impl Abort, alloc: Global, world: &World) -> Result<(), Fail> {
     for row in NAMES.iter() {
         assert_names_of_word(rt, alloc, world, row)?;

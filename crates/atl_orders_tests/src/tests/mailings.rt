@@ -8,7 +8,6 @@ use std::alloc::Global;
 use std::process::Abort;
 use std::test::Fail;
 
-/// Appends each order of a mailing to a text: its line, its unit, its verb and its operands.
 fn write_orders(alloc: Global, mailing: &Mailing, output: &mut String) -> Result<(), Fail> {
     for entry in mailing.entries.as_slice().iter() {
         let order = format!(in alloc; "{}: {:?} {:?}", entry.line, entry.target, entry.order.verb)?;
@@ -19,7 +18,6 @@ fn write_orders(alloc: Global, mailing: &Mailing, output: &mut String) -> Result
     Ok(())
 }
 
-/// Appends each faulty line of a mailing to a text: its number and its fault.
 fn write_faults(alloc: Global, mailing: &Mailing, output: &mut String) -> Result<(), Fail> {
     for faulty in mailing.faults.as_slice().iter() {
         let fault = format!(in alloc; "{}: {};", faulty.line, faulty.fault)?;
@@ -28,7 +26,6 @@ fn write_faults(alloc: Global, mailing: &Mailing, output: &mut String) -> Result
     Ok(())
 }
 
-/// A mailing as text: its orders, followed by its faulty lines.
 fn mailing_text(alloc: Global, mailing: &Mailing) -> Result<String, Fail> {
     let mut output = String::new(alloc);
     write_orders(alloc, mailing, &mut output)?;
@@ -53,7 +50,6 @@ fn reading_text(alloc: Global, world: &World, text: &[u8]) -> Result<String, Fai
     }
 }
 
-/// Asserts which orders and faults, or which refusal, a text is read as.
 fn assert_read(
     rt: &impl Abort,
     alloc: Global,
@@ -116,7 +112,6 @@ static GOOD: [(&str, &str); 24] = [
     ("FORM 5", "Form Alias(5)"),
 ];
 
-/// Good orders that name an item, a skill or a kind, and how each is read.
 static NAMING: [(&str, &str); 7] = [
     (
         "GIVE 2 5 LONG_BOW",
@@ -230,7 +225,6 @@ fn assert_lines(
     Ok(())
 }
 
-/// Asserts how each line in the lists from `GOOD` to `BAD_WORK` is read.
 fn assert_order_forms(rt: &impl Abort, alloc: Global, world: &World) -> Result<(), Fail> {
     assert_lines(rt, alloc, world, "Number(7) ", &GOOD)?;
     assert_lines(rt, alloc, world, "Number(7) ", &NAMING)?;
@@ -241,12 +235,10 @@ fn assert_order_forms(rt: &impl Abort, alloc: Global, world: &World) -> Result<(
 
 /// Texts of whole mailings, with blocks, line ends and headers, and what each is read as.
 static TEXTS: [(&str, &str); 10] = [
-    // One faulty line.
     (
         "From: a club\r\n\r\n#ATLANTIS 1 secret\r\nUNIT 1 ; the first\r\nATTACK 2\r\nwork\r\n",
         "6: Number(1) Work Nothing;5: 2 UnknownOrder;",
     ),
-    // Blocks with each of their faults.
     (
         "#ATLANTIS 1\nWORK\nUNIT 1\nEND\nFORM 1\nFORM 2\nEND\nFORM 1\nTAX\nEND\nGIVE 2 0 wood\n",
         "5: Number(1) Form Alias(1);2: 1 NoUnit;4: 9 EndAlone;6: 8 NestedForm;8: 7 BadAlias;9: 1 NoUnit;11: 3 BadNumber;",
@@ -264,7 +256,6 @@ static TEXTS: [(&str, &str); 10] = [
         "#ATLANTIS 1\r\nUNIT 1\r\n\tWORK\t\r\n\r\nTAX\r\r\nL\rEAVE\n;\nLEAVE\r",
         "3: Number(1) Work Nothing;8: Number(1) Leave Nothing;5: 6 BadByte;6: 6 BadByte;",
     ),
-    // No header, or a bad one.
     ("hello", "refused 2"),
     ("", "refused 2"),
     ("#ATLANTIS x", "refused 3"),
@@ -289,7 +280,6 @@ static LONG: [(&str, &str, usize, &str, &str); 8] = [
     ("", "x\n", 32_768, "", "refused 2"),
 ];
 
-/// Asserts which orders and faults, or which refusal, each whole text is read as.
 fn assert_texts(
     rt: &impl Abort,
     alloc: Global,
@@ -302,7 +292,6 @@ fn assert_texts(
     Ok(())
 }
 
-/// A text made of a front, a piece that comes `times` times, and an end.
 fn repeated(
     alloc: Global,
     front: &str,
@@ -314,7 +303,6 @@ fn repeated(
     Ok(format!(in alloc; "{front}{middle}{end}")?)
 }
 
-/// Asserts which orders and faults, or which refusal, each long text is read as.
 fn assert_long_texts(
     rt: &impl Abort,
     alloc: Global,
@@ -328,7 +316,6 @@ fn assert_long_texts(
     Ok(())
 }
 
-/// Asserts what each whole text, each text that is not UTF-8, and each long text is read as.
 fn assert_all_texts(rt: &impl Abort, alloc: Global, world: &World) -> Result<(), Fail> {
     assert_texts(rt, alloc, world, &TEXTS)?;
     assert_read(rt, alloc, world, b"#ATLANTIS 1 \xc8", "")?;
@@ -342,7 +329,6 @@ fn assert_all_texts(rt: &impl Abort, alloc: Global, world: &World) -> Result<(),
     assert_long_texts(rt, alloc, world, &LONG)
 }
 
-/// The keyword of each order of a mailing, followed by the name that it gives, if any.
 fn words_of(alloc: Global, mailing: &Mailing) -> Result<String, Fail> {
     let mut words = String::new(alloc);
     for entry in mailing.entries.as_slice().iter() {
@@ -375,7 +361,6 @@ static WORDS: [(&str, &str); 3] = [
     ),
 ];
 
-/// Asserts the keywords and new names of the orders of each mailing of `WORDS`.
 fn assert_words(rt: &impl Abort, alloc: Global, world: &World) -> Result<(), Fail> {
     for (text, wanted) in WORDS.iter() {
         let mailing = read_mailing(alloc, world, text.as_bytes())?;
@@ -395,7 +380,6 @@ static SPANS: [(usize, usize, bool, &[u8]); 5] = [
     (900, 901, true, b""),
 ];
 
-/// Asserts the bytes that a mailing has at a span, read as a name.
 fn assert_span_name(
     rt: &impl Abort,
     alloc: Global,
@@ -409,7 +393,6 @@ fn assert_span_name(
     Ok(())
 }
 
-/// Asserts the bytes that a mailing has at each span of `SPANS`, read as a name.
 fn assert_span_names(rt: &impl Abort, alloc: Global, world: &World) -> Result<(), Fail> {
     let mailing = read_mailing(alloc, world, b"#ATLANTIS 1\n_\xFF")?;
     for row in SPANS.iter() {
@@ -418,13 +401,11 @@ fn assert_span_names(rt: &impl Abort, alloc: Global, world: &World) -> Result<()
     Ok(())
 }
 
-/// The number of the faction in the mailing that a text is read as.
 fn faction_of(alloc: Global, world: &World, text: &[u8]) -> Result<usize, Fail> {
     let mailing = read_mailing(alloc, world, text)?;
     Ok(mailing.faction as usize)
 }
 
-/// Asserts how all mailings in the lists of this module are read, and the faction of two more.
 fn assert_all_readings(rt: &impl Abort, alloc: Global, world: &World) -> Result<(), Fail> {
     assert_order_forms(rt, alloc, world)?;
     assert_all_texts(rt, alloc, world)?;

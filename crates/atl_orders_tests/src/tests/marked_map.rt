@@ -14,17 +14,12 @@ enum Step {
     Insert(u32, u32),
     /// Puts a value under a number, in place of any that is there.
     Put(u32, u32),
-    /// Overwrites a value through `get_mut`, if there is one.
     Change(u32, u32),
-    /// Takes out the value under a number, if there is one, and marks the number.
     Remove(u32),
     /// Takes a value out together with its mark.
     TakeOut(u32),
-    /// Marks a number, if it has a value.
     Mark(u32),
-    /// Clears all marks.
     Unmark,
-    /// Takes out all values and marks their numbers.
     Clear,
 }
 
@@ -76,7 +71,6 @@ static ROUND: [Row; 5] = [
     (Step::Unmark, 3, &[]),
 ];
 
-/// Inserts a value, if the number has none.
 fn inserts(map: &mut MarkedMap<u32>, number: u32, value: u32) -> Result<(), Fail> {
     if map.get(number).is_none() {
         map.insert(number, value)?;
@@ -84,14 +78,12 @@ fn inserts(map: &mut MarkedMap<u32>, number: u32, value: u32) -> Result<(), Fail
     Ok(())
 }
 
-/// Overwrites the value of a number through `get_mut`, if it has one.
 fn changes_value(map: &mut MarkedMap<u32>, number: u32, value: u32) {
     if let Some(place) = map.get_mut(number) {
         *place = value;
     }
 }
 
-/// Makes the call that a step names, on a map.
 fn makes_call(map: &mut MarkedMap<u32>, step: Step) -> Result<(), Fail> {
     match step {
         Step::Insert(number, value) => inserts(map, number, value)?,
@@ -106,7 +98,6 @@ fn makes_call(map: &mut MarkedMap<u32>, step: Step) -> Result<(), Fail> {
     Ok(())
 }
 
-/// Asserts which numbers are marked, and how many.
 fn assert_marks(
     rt: &impl Abort,
     alloc: Global,
@@ -119,7 +110,6 @@ fn assert_marks(
     Ok(())
 }
 
-/// Makes the call of each row, and asserts the count of values and the marks after it.
 fn assert_steps(
     rt: &impl Abort,
     alloc: Global,
@@ -134,7 +124,6 @@ fn assert_steps(
     Ok(())
 }
 
-/// Asserts the values and the marks of the map after the calls of `CHANGES`.
 fn assert_changed_values(rt: &impl Abort, alloc: Global, map: &MarkedMap<u32>) -> Result<(), Fail> {
     assert!(rt; map.get(20) == Some(&6));
     assert!(rt; map.get(5).is_none());
@@ -144,8 +133,6 @@ fn assert_changed_values(rt: &impl Abort, alloc: Global, map: &MarkedMap<u32>) -
     assert_map(rt, alloc, map.values(), &[1, 8, 4, 4, 20, 6, 30, 7])
 }
 
-/// A new, overwritten or removed value of a map marks its number, and a value that is taken out
-/// takes its mark along.
 #[test]
 fn changes_are_marked(rt: HostRuntime) -> Result<(), Fail> {
     let mut map = MarkedMap::from_values(rt.alloc(), map_of_three(rt.alloc())?)?;
@@ -184,7 +171,6 @@ fn marks_each(map: &mut MarkedMap<u32>, falling: bool) {
     }
 }
 
-/// Takes out each third number together with its mark.
 fn takes_thirds(map: &mut MarkedMap<u32>) {
     for third in 1..MANY / 3 + 1 {
         map.take_out(third * 3, false);
@@ -210,8 +196,6 @@ fn assert_ascending(rt: &impl Abort, map: &MarkedMap<u32>, thirds: bool, count: 
     }
 }
 
-/// Marks all numbers as `marks_each` does, takes out each third one, inserts these again, clears
-/// all marks, and asserts the marked numbers after each of these.
 fn mix_marks(rt: &impl Abort, map: &mut MarkedMap<u32>, falling: bool) -> Result<(), Fail> {
     map.unmark();
     marks_each(map, falling);
@@ -225,7 +209,6 @@ fn mix_marks(rt: &impl Abort, map: &mut MarkedMap<u32>, falling: bool) -> Result
     Ok(())
 }
 
-/// The marked numbers come in ascending order, in whatever order they were marked.
 #[test]
 fn marks_in_any_order(rt: HostRuntime) -> Result<(), Fail> {
     let mut map = MarkedMap::new(rt.alloc());

@@ -25,7 +25,6 @@ fn assert_markets(
 const OF_WOOD: &str =
     "[Some(Market { item: 0, price: 7, pays: 5, limit: 30, restock: 20 }), None, None]";
 
-/// The second format reads markets, and the first ignores them.
 #[test]
 fn markets_in_both_formats(rt: HostRuntime) -> Result<(), Fail> {
     let text = with_markets(rt.alloc(), 1)?;
@@ -98,8 +97,6 @@ fn assert_difference(
     Ok(())
 }
 
-/// Asserts for each edit of `CHANGES` whether the world of `text` and the edited one are equal but
-/// for their markets.
 fn assert_differences(rt: &impl Abort, alloc: Global, text: &str) -> Result<(), Fail> {
     let world = read_world(alloc, text)?;
     for (from, to, alone) in CHANGES.iter() {
@@ -109,7 +106,6 @@ fn assert_differences(rt: &impl Abort, alloc: Global, text: &str) -> Result<(), 
     Ok(())
 }
 
-/// `is_same_but_for_markets` tells for each edit of `CHANGES` whether it changes markets at most.
 #[test]
 fn worlds_with_other_markets(rt: HostRuntime) -> Result<(), Fail> {
     let text = with_markets(rt.alloc(), 1)?;

@@ -42,7 +42,6 @@ static TEXTS: [(&str, bool, bool); 26] = [
     ("\u{e9}", false, false),
 ];
 
-/// Asserts for each text whether it may be a name, and whether it may be a pass text.
 fn assert_name_texts(rt: &impl Abort, rows: &[(&str, bool, bool)]) {
     for (text, name, pass) in rows.iter() {
         let actual = (name_ok(text.as_bytes()), pass_ok(text.as_bytes()));
@@ -50,7 +49,6 @@ fn assert_name_texts(rt: &impl Abort, rows: &[(&str, bool, bool)]) {
     }
 }
 
-/// The rules of names and of pass texts accept and refuse each text of `TEXTS` as its row says.
 #[test]
 fn names_and_pass_texts(rt: HostRuntime) {
     assert_name_texts(&rt, &TEXTS);

@@ -82,7 +82,6 @@ fn front_of(alloc: Global, row: &Range, needed: bool) -> Result<String, Fail> {
     }
 }
 
-/// Asserts that replacing a row's line in `text` by `to` makes the fault `fault` at the row's key.
 fn assert_fault_at_key(
     rt: &impl Abort,
     alloc: Global,
@@ -115,8 +114,6 @@ fn assert_number_at_key(
     }
 }
 
-/// Asserts that the reader takes both ends of a row's range at its key, and neither 1.5 nor the
-/// numbers just beyond the ends.
 fn assert_range(
     rt: &impl Abort,
     alloc: Global,

@@ -21,7 +21,6 @@ struct Shown {
     regions: &'static [(u32, &'static str)],
 }
 
-/// All that the small world must hold once read.
 static SMALL_SHOWN: Shown = Shown {
     rules: "[Rules { maintenance: 10, tax_per_man: 10, recruit_price: 50, recruit_fraction: 4, growth: 0, income: 1, \
         start_money: 1000, man_weight: 10, man_carry: 5, observation: None, stealth: None, sailing: None }]",
@@ -41,7 +40,6 @@ static SMALL_SHOWN: Shown = Shown {
     ],
 };
 
-/// All that the island must hold once read.
 static ISLE_SHOWN: Shown = Shown {
     rules: "[Rules { maintenance: 10, tax_per_man: 10, recruit_price: 50, recruit_fraction: 4, growth: 0, income: 1, \
         start_money: 1000, man_weight: 10, man_carry: 5, observation: Some(5), stealth: Some(4), sailing: Some(3) }]",
@@ -89,7 +87,6 @@ static ISLE_SHOWN: Shown = Shown {
     ],
 };
 
-/// Asserts the rules, terrains, items, skills and kinds of a world.
 fn assert_lists(rt: &impl Abort, alloc: Global, world: &World, wanted: &Shown) -> Result<(), Fail> {
     assert_shown(rt, alloc, "rules", &[*world.rules()], wanted.rules)?;
     assert_shown(rt, alloc, "terrains", world.terrains(), wanted.terrains)?;
@@ -112,7 +109,6 @@ fn plan_text(alloc: Global, plan: &RegionPlan) -> Result<String, Fail> {
     )?)
 }
 
-/// The region with a number as `plan_text` prints it, or `none`.
 fn region_text(alloc: Global, world: &World, number: u32) -> Result<String, Fail> {
     match world.region(number) {
         Some(plan) => plan_text(alloc, plan),
@@ -120,8 +116,6 @@ fn region_text(alloc: Global, world: &World, number: u32) -> Result<String, Fail
     }
 }
 
-/// Asserts the numbers of a world's regions with land, how many regions it has, and what some of
-/// them hold.
 fn assert_regions(
     rt: &impl Abort,
     alloc: Global,
@@ -141,14 +135,12 @@ fn assert_regions(
     Ok(())
 }
 
-/// Asserts all that the world of a text holds.
 fn assert_world(rt: &impl Abort, alloc: Global, text: &str, wanted: &Shown) -> Result<(), Fail> {
     let world = read_world(alloc, text)?;
     assert_lists(rt, alloc, &world, wanted)?;
     assert_regions(rt, alloc, &world, wanted)
 }
 
-/// The small world and the island are read in full.
 #[test]
 fn worlds_are_shown(rt: HostRuntime) -> Result<(), Fail> {
     assert_world(&rt, rt.alloc(), SMALL_WORLD, &SMALL_SHOWN)?;

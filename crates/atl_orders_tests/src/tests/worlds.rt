@@ -56,24 +56,20 @@ skill = "sailing"
 level = 1
 "#;
 
-/// The text of the small world with `more` appended.
 pub(crate) fn small_with(alloc: Global, more: &str) -> Result<String, Fail> {
     Ok(format!(in alloc; "{SMALL_WORLD}{more}")?)
 }
 
-/// The text of the small world with `count` equal markets and `ITEM_SKILL_KIND` appended.
 pub(crate) fn with_markets(alloc: Global, count: usize) -> Result<String, Fail> {
     let markets = MARKET.repeat(alloc, count)?;
     Ok(format!(in alloc; "{SMALL_WORLD}{markets}{ITEM_SKILL_KIND}")?)
 }
 
-/// The world of the small world's text with `more` appended.
 pub(crate) fn world_with(alloc: Global, more: &str) -> Result<World, Fail> {
     let text = small_with(alloc, more)?;
     Ok(read_world(alloc, text.as_str())?)
 }
 
-/// The world of a text that is read in a format.
 pub(crate) fn read_in(alloc: Global, format: Format, text: &str) -> Result<World, WorldFault> {
     match format {
         Format::First => read_old_world(alloc, text),
@@ -87,7 +83,6 @@ pub(crate) fn fault(alloc: Global, format: Format, text: &str) -> Result<Text, F
     text_of(alloc, fault.as_ref())
 }
 
-/// A fault as text: its number, name and path; or `none`.
 fn text_of(alloc: Global, fault: Option<&WorldFault>) -> Result<Text, Fail> {
     match fault {
         None => Ok(Text::from_str(alloc, "none")?),
@@ -95,7 +90,6 @@ fn text_of(alloc: Global, fault: Option<&WorldFault>) -> Result<Text, Fail> {
     }
 }
 
-/// A text with the first occurrence of `from` replaced by `to`.
 pub(crate) fn with_replaced(
     alloc: Global,
     text: &str,

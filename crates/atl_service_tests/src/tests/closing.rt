@@ -10,7 +10,6 @@ use super::unchanged::{EVERY_TABLE, assert_unchanged};
 use atl_test_worlds::{NO_WORK_PLACES, SMALL_WORLD};
 use std::test::Fail;
 
-/// The command that closes month 1 of a world with one region.
 pub(crate) const MONTH_ONE: CommandSpec = CommandSpec::Close(1, "gm", &[0]);
 
 /// Avalon's report on a month without mail: the unit works for 12 and pays 10, and 1,000 peasants
@@ -52,7 +51,6 @@ pub(crate) const AFTER_MONTH_ONE: [(&str, Option<i64>); 12] = [
     (MAIL_BYTES, None),
 ];
 
-/// The text of the books after month 1, in which Avalon's unit only works.
 const BOOKS_AFTER_WORK: &str = "money founding 500
 money joining 1000
 money income 1000
@@ -91,14 +89,11 @@ static FIRST_MONTHS: [Course; 2] = [
     },
 ];
 
-/// Closing a month without mail gives the report, books and tables worked out by hand.
 #[test]
 fn a_month_is_closed(rt: HostRuntime) -> Result<(), Fail> {
     play_course(&rt, rt.alloc(), &FIRST_MONTHS[0])
 }
 
-/// Closing a month reports a faulty line of a mailing, carries out the mailing's good order, and
-/// removes the mailing.
 #[test]
 fn a_faulty_line_is_reported_and_the_mail_is_gone(rt: HostRuntime) -> Result<(), Fail> {
     play_course(&rt, rt.alloc(), &FIRST_MONTHS[1])
@@ -116,13 +111,11 @@ static REFUSED: [Step; 7] = [
     Step::Answers(CommandSpec::Close(1, "gm", &[0, 0]), "wrong dice"),
 ];
 
-/// A closing with wrong pass text, month or number of dice words is refused and changes no row.
 #[test]
 fn a_refused_closing_changes_nothing(rt: HostRuntime) -> Result<(), Fail> {
     assert_unchanged(&rt, rt.alloc(), EVERY_TABLE, &REFUSED)
 }
 
-/// SELECTs and what they return after two months in which nobody had joined.
 static AFTER_NOBODY: [(&str, Option<i64>); 5] = [
     (MONTH, Some(2)),
     (FACTIONS, Some(0)),
@@ -131,13 +124,11 @@ static AFTER_NOBODY: [(&str, Option<i64>); 5] = [
     (REGION_MONEY, Some(2500)),
 ];
 
-/// The steps of two months in a campaign that no faction has joined: a closing of each.
 static NOBODY: [Step; 2] = [
     Step::Closed(MONTH_ONE, 1),
     Step::Closed(CommandSpec::Close(2, "gm", &[7]), 2),
 ];
 
-/// Two months are closed in a campaign that no faction has joined: only the region's money grows.
 #[test]
 fn a_month_without_factions(rt: HostRuntime) -> Result<(), Fail> {
     play(&rt, rt.alloc(), SMALL_WORLD, &NOBODY, &AFTER_NOBODY)
@@ -151,7 +142,6 @@ Unit 1, line 0, WORK: done 0.
 Unit 1: 1 starved.
 ";
 
-/// Steps in which a faction starves; afterwards its mail is refused, and its report stays.
 static STARVED: [Step; 6] = [
     Step::Joined(JOIN_OF_AVALON, 1, 1),
     Step::Closed(MONTH_ONE, 1),
@@ -172,7 +162,6 @@ static AFTER_ALL_STARVED: [(&str, Option<i64>); 6] = [
     (REGION_MONEY, Some(2500)),
 ];
 
-/// A faction whose last man starves is gone: its mail is refused, and its report stays.
 #[test]
 fn a_faction_that_starves_is_gone(rt: HostRuntime) -> Result<(), Fail> {
     play(

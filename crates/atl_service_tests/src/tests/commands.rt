@@ -23,7 +23,6 @@ Exits: none.
 * Unit 1 \"Unit 1\": 1 men, 1000 money.
 ";
 
-/// The first report of Bree, when it joins the small world as faction 2.
 pub(crate) const REPORT_OF_BREE: &str = "Atlantis report, month 0, faction 2 \"Bree\".
 Orders:
 None.
@@ -45,55 +44,46 @@ Exits: north 4, west 2.
 /// The command by which Avalon joins, with 0 as the word of the dice.
 pub(crate) const JOIN_OF_AVALON: CommandSpec = CommandSpec::Join("Avalon", "pw", 0);
 
-/// Steps in which one faction joins and asks for its report.
 static ONE_JOINS: [Step; 2] = [
     Step::Joined(JOIN_OF_AVALON, 1, 1),
     Step::Answers(CommandSpec::Report(1, "pw"), FIRST_REPORT),
 ];
 
-/// A faction that joins gets its first report.
 #[test]
 fn first_report(rt: HostRuntime) -> Result<(), Fail> {
     assert_count(&rt, FIRST_REPORT.len(), 161);
     play(&rt, rt.alloc(), SMALL_WORLD, &ONE_JOINS, &AFTER_JOINING)
 }
 
-/// Steps in which two factions join, and the second asks for its report.
 static TWO_JOIN: [Step; 3] = [
     Step::Answers(JOIN_OF_AVALON, "joined"),
     Step::Answers(CommandSpec::Join("Bree", "pb", 0), "joined"),
     Step::Answers(CommandSpec::Report(2, "pb"), REPORT_OF_BREE),
 ];
 
-/// SELECTs and what they return after two factions have joined.
 static AFTER_TWO: [(&str, Option<i64>); 3] = [
     (NEXT, Some(300003)),
     (FACTIONS, Some(2)),
     (UNITS, Some(2)),
 ];
 
-/// The first report of a second faction shows the first faction's unit, but not its money.
 #[test]
 fn another_faction_is_seen_without_money(rt: HostRuntime) -> Result<(), Fail> {
     play(&rt, rt.alloc(), SMALL_WORLD, &TWO_JOIN, &AFTER_TWO)
 }
 
-/// Steps in which a faction joins in the island's second land region, and asks for its report.
 static FAR_JOINS: [Step; 2] = [
     Step::Answers(CommandSpec::Join("Avalon", "pw", 1), "joined"),
     Step::Answers(CommandSpec::Report(1, "pw"), FAR_REPORT),
 ];
 
-/// SELECTs and what they return after a faction joined in the island's second land region.
 static AFTER_FAR: [(&str, Option<i64>); 2] = [(FACTIONS, Some(1)), (UNITS, Some(1))];
 
-/// A faction that joins the island with the dice word 1 begins in the second land region.
 #[test]
 fn the_second_land_region(rt: HostRuntime) -> Result<(), Fail> {
     play(&rt, rt.alloc(), ISLE, &FAR_JOINS, &AFTER_FAR)
 }
 
-/// Steps of a club: joins, mailings and reports, some of them refused.
 const CLUB: [Step; 12] = [
     Step::Answers(CommandSpec::Join(" x", "pw", 0), "bad name"),
     Step::Answers(CommandSpec::Join("Avalon", "a b", 0), "bad pass text"),
@@ -127,7 +117,6 @@ const AFTER_CLUB: [(&str, Option<i64>); 8] = [
     (MAIL_BYTES, Some(19)),
 ];
 
-/// Asserts that there is one answer for each step, and that it is the one that the step wants.
 fn assert_answers(rt: &impl Abort, answers: &[Answer], steps: &[Step]) {
     assert_count(rt, answers.len(), steps.len());
     for (answer, step) in answers.iter().zip(steps.iter()) {
@@ -135,8 +124,6 @@ fn assert_answers(rt: &impl Abort, answers: &[Answer], steps: &[Step]) {
     }
 }
 
-/// Runs the commands of steps as one list, and asserts that each answer is the one that its step
-/// wants.
 fn run_in_one_list(
     rt: &impl Abort,
     service: &mut impl AnyService,
@@ -156,8 +143,6 @@ struct CommandList {
     after: &'static [(&'static str, Option<i64>)],
 }
 
-/// Runs the commands of an `CommandList` as one list in a new campaign, and asserts the answers and
-/// the tables.
 fn run_commands(
     rt: &impl Abort,
     alloc: Global,
@@ -170,8 +155,6 @@ fn run_commands(
     Ok(())
 }
 
-/// Makes the commands of an `CommandList`, runs them as one list in a new campaign, and asserts the
-/// answers and the tables.
 fn run_list(rt: &impl Abort, alloc: Global, list: &CommandList) -> Result<(), Fail> {
     let commands = commands_of(alloc, list.steps)?;
     run_commands(rt, alloc, &commands, list)
@@ -186,7 +169,6 @@ const A_MONTH: [Step; 4] = [
     Step::Answers(CommandSpec::Report(1, "pw"), AFTER_WORK),
 ];
 
-/// Steps whose commands are run as one list, with the wanted answers and the tables afterwards.
 static LISTS: [CommandList; 2] = [
     CommandList {
         steps: &CLUB,
@@ -198,7 +180,6 @@ static LISTS: [CommandList; 2] = [
     },
 ];
 
-/// Runs each list of `LISTS` in a campaign of its own, and asserts the answers and the tables.
 fn run_lists(rt: &impl Abort, alloc: Global) -> Result<(), Fail> {
     for list in LISTS.iter() {
         run_list(rt, alloc, list)?;
@@ -206,8 +187,6 @@ fn run_lists(rt: &impl Abort, alloc: Global) -> Result<(), Fail> {
     Ok(())
 }
 
-/// Commands that are run as one list get the answers that they get one by one, and leave the same
-/// tables.
 #[test]
 fn a_list_is_run_as_one_by_one(rt: HostRuntime) -> Result<(), Fail> {
     play(&rt, rt.alloc(), SMALL_WORLD, LISTS[0].steps, LISTS[0].after)?;

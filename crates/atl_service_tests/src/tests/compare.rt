@@ -2,33 +2,26 @@
 //! written once.
 use std::process::Abort;
 
-/// Asserts that a signed number is the wanted one.
 pub(crate) fn assert_number(rt: &impl Abort, actual: i64, wanted: i64) {
     assert_eq!(rt; actual, wanted);
 }
 
-/// Asserts that a count is the wanted one.
 pub(crate) fn assert_count(rt: &impl Abort, actual: usize, wanted: usize) {
     assert_eq!(rt; actual, wanted);
 }
 
-/// Asserts that the number that a query returned, None if it returned none, is the wanted one.
 pub(crate) fn assert_amount(rt: &impl Abort, actual: Option<i64>, wanted: Option<i64>) {
     assert_eq!(rt; actual, wanted);
 }
 
-/// Asserts the total of a thing in a campaign; None, if there are too many units or regions to be
-/// summed, is a failure.
 pub(crate) fn assert_total(rt: &impl Abort, actual: Option<u64>, wanted: u64) {
     assert_eq!(rt; actual, Some(wanted));
 }
 
-/// Asserts that a text is the wanted one.
 pub(crate) fn assert_text(rt: &impl Abort, actual: &str, wanted: &str) {
     assert_eq!(rt; actual, wanted);
 }
 
-/// Asserts that a list of numbers is the wanted one.
 pub(crate) fn assert_numbers(rt: &impl Abort, actual: &[u32], wanted: &[u32]) {
     assert_eq!(rt; actual, wanted);
 }

@@ -27,10 +27,8 @@ const SECOND_MAIL: CommandSpec = CommandSpec::Mail(
     "#ATLANTIS 1 pw\nUNIT 1\nFORM 1\nEND\nFORM 2\nRECRUIT 1\nNAME UNIT Scouts\nEND\nPAY NEW 1 100\nPAY NEW 2 70\nTAX\n",
 );
 
-/// The command that closes month 2.
 const MONTH_TWO: CommandSpec = CommandSpec::Close(2, "gm", &[0]);
 
-/// The steps of two months: Avalon's join, and two mailings with the closing of their months.
 const TWO_MONTHS: [Step; 5] = [
     Step::Joined(JOIN_OF_AVALON, 1, 1),
     Step::Mailed(FIRST_MAIL, 2, &[]),
@@ -55,18 +53,13 @@ const AFTER_BOTH: [(&str, Option<i64>); 8] = [
     (BOOKS_SUM, Some(4456)),
 ];
 
-/// Two months with GUARD, NAME and FORM orders, without a stopped disk, leave the worked-out
-/// tables.
 #[test]
 fn both_months_are_closed(rt: HostRuntime) -> Result<(), Fail> {
     play_course(&rt, rt.alloc(), &COURSES[0])
 }
 
-/// The command by which Cork joins.
 const JOIN_OF_CORK: CommandSpec = CommandSpec::Join("Cork", "pc", 0);
 
-/// The steps of a month on the island: Cork's join, the mailings of Avalon and Bree, and the
-/// closing.
 const MONTH_OF_TWO: [Step; 4] = [
     Step::Joined(JOIN_OF_CORK, 3, 12),
     Step::Mailed(CommandSpec::Mail(1, "pw", AVALON_MAILING), 18, &[]),
@@ -95,7 +88,6 @@ const AFTER_MONTH_OF_TWO: [(&str, Option<i64>); 12] = [
     (BOOKS_SUM, Some(4872)),
 ];
 
-/// A month with the orders of two factions, without a stopped disk, leaves the worked-out tables.
 #[test]
 fn a_month_of_two_factions_is_closed(rt: HostRuntime) -> Result<(), Fail> {
     play_course(&rt, rt.alloc(), &COURSES[1])

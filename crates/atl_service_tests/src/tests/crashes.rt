@@ -25,7 +25,6 @@ struct Plan {
     stages: Vec<String>,
 }
 
-/// Drops the commands and the rows of a plan.
 impl Drop for Plan {
     fn drop(self) {
         let_go!(self: Plan { course, commands, stages });
@@ -50,7 +49,6 @@ fn set_up(
     Ok(service)
 }
 
-/// Runs the commands, and appends the campaign's rows to `stages` after each command.
 fn run_noted(
     alloc: Global,
     service: &mut impl AnyService,
@@ -64,8 +62,6 @@ fn run_noted(
     Ok(())
 }
 
-/// Plays a course in memory, where no disk stops; appends to `stages` an empty text, and then the
-/// campaign's rows after each write.
 fn note_stages(
     alloc: Global,
     course: &Course,
@@ -77,7 +73,6 @@ fn note_stages(
     run_noted(alloc, &mut service, commands, stages)
 }
 
-/// The plan of a course: its commands, and the campaign's rows after each write if no disk stops.
 fn planned(alloc: Global, course: &Course) -> Result<Plan, Fail> {
     let commands = commands_of(alloc, course.steps)?;
     let mut stages = Vec::new(alloc);
@@ -89,7 +84,6 @@ fn planned(alloc: Global, course: &Course) -> Result<Plan, Fail> {
     })
 }
 
-/// Whether an answer says that a join, a mailing or a closing was done.
 fn is_done(answer: &Answer) -> bool {
     matches!(answer_text(answer), "joined" | "mailed" | "month done")
 }
@@ -143,8 +137,6 @@ fn runs<S: Alter>(
     (done.saturating_add(writings), service.end())
 }
 
-/// Inserts the rows of a plan's course, opens the campaign again, and runs the commands; the result
-/// is how many writes were done, and the connection.
 fn reopen_and_run<S: Alter + Drop>(
     rt: &impl Abort,
     alloc: Global,
@@ -161,8 +153,6 @@ fn reopen_and_run<S: Alter + Drop>(
     }
 }
 
-/// Founds a plan's campaign, inserts the course's rows and runs the commands; the result is how
-/// many writes were done, and the connection.
 fn found_and_run<S: Alter + Drop>(
     rt: &impl Abort,
     alloc: Global,
@@ -184,7 +174,6 @@ fn options() -> Options {
     options
 }
 
-/// Lets both files crash; the result is the files as the crash leaves them.
 fn crashed<D: Crash>(files: Files<D>) -> Files<D> {
     let Files { mut log, mut db } = files;
     log.crash();
@@ -192,7 +181,6 @@ fn crashed<D: Crash>(files: Files<D>) -> Files<D> {
     Files { log, db }
 }
 
-/// Whether `rows` are the campaign's rows that the plan has after `writings` writes.
 fn is_stage(plan: &Plan, writings: usize, rows: &str) -> bool {
     match plan.stages.get(writings) {
         Some(stage) => stage.as_str() == rows,
@@ -247,7 +235,6 @@ enum WhichDisk {
     Database,
 }
 
-/// Empty files on two disks, one of which stops after `calls` calls.
 fn stopping(alloc: Global, which: WhichDisk, calls: u64) -> Files<Fuse<Memory>> {
     let (log, db) = match which {
         WhichDisk::Log => (calls, u64::MAX),
@@ -280,8 +267,6 @@ fn stop_at_each_call(
     Err(Fail::new("stopped each time"))
 }
 
-/// Asserts, for each course of `COURSES`, what a crash leaves after one disk stops at each of its
-/// calls in turn.
 fn assert_stops_of_all(rt: &impl Abort, alloc: Global, which: WhichDisk) -> Result<(), Fail> {
     for course in COURSES.iter() {
         let plan = planned(alloc, course)?;
@@ -290,15 +275,11 @@ fn assert_stops_of_all(rt: &impl Abort, alloc: Global, which: WhichDisk) -> Resu
     Ok(())
 }
 
-/// If the log's disk stops at any of its calls, a crash leaves the campaign before a write or after
-/// it.
 #[test]
 fn the_log_stops(rt: HostRuntime) -> Result<(), Fail> {
     assert_stops_of_all(&rt, rt.alloc(), WhichDisk::Log)
 }
 
-/// If the database's disk stops at any of its calls, a crash leaves the campaign before a write or
-/// after it.
 #[test]
 fn the_database_stops(rt: HostRuntime) -> Result<(), Fail> {
     assert_stops_of_all(&rt, rt.alloc(), WhichDisk::Database)

@@ -11,7 +11,6 @@ use std::alloc::Global;
 use std::process::Abort;
 use std::test::Fail;
 
-/// The outcome of opening a database: opened, or the cause of a refusal.
 #[derive(Clone, Copy, PartialEq, Debug)]
 enum Opening {
     Opens,
@@ -27,7 +26,6 @@ enum Opening {
     Other,
 }
 
-/// The outcome of opening a database, from the cause for which that was refused.
 fn refusal(why: &Cause) -> Opening {
     match why {
         Cause::Damaged(rule) => Opening::Damaged(rule.number()),
@@ -41,7 +39,6 @@ fn refusal(why: &Cause) -> Opening {
     }
 }
 
-/// Opens a database, and returns the outcome.
 fn asked<S: Alter + Drop>(alloc: Global, conn: Connection<S>) -> Opening {
     match open(alloc, conn) {
         Ok(_) => Opening::Opens,
@@ -49,7 +46,6 @@ fn asked<S: Alter + Drop>(alloc: Global, conn: Connection<S>) -> Opening {
     }
 }
 
-/// Asserts the outcome of opening; the message names the statements that changed the database.
 fn assert_opening(rt: &impl Abort, actual: Opening, wanted: Opening, sql: &str) {
     assert_eq!(rt; actual, wanted, "after {sql}");
 }
@@ -259,14 +255,11 @@ static TWO_FAULTS: [(&str, Opening); 16] = [
     ),
 ];
 
-/// The steps by which Avalon and Bree join the island.
 static BOTH_JOIN: [Step; 2] = [
     Step::Joined(CommandSpec::Join("Avalon", "pw", 1), 1, 1),
     Step::Joined(CommandSpec::Join("Bree", "pb", 1), 2, 2),
 ];
 
-/// The database of an island with a market that Avalon and Bree have joined, changed by SQL
-/// statements.
 pub(crate) fn changed<S: Alter + Drop>(
     rt: &impl Abort,
     alloc: Global,
@@ -280,7 +273,6 @@ pub(crate) fn changed<S: Alter + Drop>(
     Ok(conn)
 }
 
-/// Asserts the outcome of opening a changed database after its files were closed and opened.
 fn assert_judgement<D: Disk + Drop>(
     rt: &impl Abort,
     alloc: Global,
@@ -294,7 +286,6 @@ fn assert_judgement<D: Disk + Drop>(
     Ok(())
 }
 
-/// Asserts, for the SQL statements of each case, the outcome of opening the changed database.
 fn assert_openings(rt: &impl Abort, alloc: Global, cases: &[(&str, Opening)]) -> Result<(), Fail> {
     for (sql, wanted) in cases {
         assert_judgement(rt, alloc, new_files(alloc), sql, *wanted)?;
@@ -302,32 +293,26 @@ fn assert_openings(rt: &impl Abort, alloc: Global, cases: &[(&str, Opening)]) ->
     Ok(())
 }
 
-/// Opening a database whose rows break a rule reports the first rule that they break.
 #[test]
 fn the_first_rule_that_rows_break_is_reported(rt: HostRuntime) -> Result<(), Fail> {
     assert_openings(&rt, rt.alloc(), &ROWS)
 }
 
-/// Opening a database reports the rule that its stocks, or an entry 17 of the books, break; a table
-/// of stocks without its key is answered Store.
 #[test]
 fn stocks_that_break_a_rule_are_reported(rt: HostRuntime) -> Result<(), Fail> {
     assert_openings(&rt, rt.alloc(), &STOCKS)
 }
 
-/// Opening a database whose tables or indexes aren't made as a campaign's are is refused.
 #[test]
 fn tables_made_otherwise_are_refused(rt: HostRuntime) -> Result<(), Fail> {
     assert_openings(&rt, rt.alloc(), &SHAPES)
 }
 
-/// Opening a database with two faults reports the one that is checked first.
 #[test]
 fn of_two_faults_the_first_is_reported(rt: HostRuntime) -> Result<(), Fail> {
     assert_openings(&rt, rt.alloc(), &TWO_FAULTS)
 }
 
-/// Opening an empty database is answered NotACampaign.
 #[test]
 fn an_empty_database_is_no_campaign(rt: HostRuntime) -> Result<(), Fail> {
     let conn = Connection::open_in_memory(rt.alloc())?;
@@ -340,7 +325,6 @@ fn an_empty_database_is_no_campaign(rt: HostRuntime) -> Result<(), Fail> {
     Ok(())
 }
 
-/// SQL statements that leave a transaction open, some of them with other faults.
 static BEGUN: [&str; 5] = [
     "BEGIN",
     "BEGIN; DROP TABLE campaign",
@@ -349,16 +333,12 @@ static BEGUN: [&str; 5] = [
     "UPDATE unit SET guard = 1; BEGIN",
 ];
 
-/// Asserts that opening a database is answered Store after SQL statements that leave a transaction
-/// open.
 fn assert_store_in_transaction(rt: &impl Abort, alloc: Global, sql: &str) -> Result<(), Fail> {
     let conn = changed(rt, alloc, Connection::open_in_memory(alloc)?, sql)?;
     assert_opening(rt, asked(alloc, conn), Opening::Store, sql);
     Ok(())
 }
 
-/// Asserts that opening a database is answered Store after the SQL statements of each row of
-/// `BEGUN`.
 fn assert_store_in_transactions(rt: &impl Abort, alloc: Global) -> Result<(), Fail> {
     for sql in BEGUN.iter() {
         assert_store_in_transaction(rt, alloc, sql)?;
@@ -366,7 +346,6 @@ fn assert_store_in_transactions(rt: &impl Abort, alloc: Global) -> Result<(), Fa
     Ok(())
 }
 
-/// Opening a connection in a transaction is answered Store, whatever else is wrong.
 #[test]
 fn a_transaction_is_not_opened(rt: HostRuntime) -> Result<(), Fail> {
     assert_store_in_transactions(&rt, rt.alloc())

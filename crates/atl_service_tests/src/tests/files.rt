@@ -4,7 +4,6 @@ use sqlite_disk::{Disk, Files, Memory};
 use std::alloc::Global;
 use std::test::Fail;
 
-/// The two files of a new database, in memory: an empty log and an empty database.
 pub(crate) fn new_files(alloc: Global) -> Files<Memory> {
     Files {
         log: Memory::new(alloc),
@@ -12,7 +11,6 @@ pub(crate) fn new_files(alloc: Global) -> Files<Memory> {
     }
 }
 
-/// A connection to the two files of a database, or a failure if they can't be used or opened.
 pub(crate) fn connected<D: Disk + Drop>(
     alloc: Global,
     files: Files<D>,

@@ -13,7 +13,6 @@ use std::alloc::Global;
 use std::process::Abort;
 use std::test::Fail;
 
-/// The name of a cause for which a founding, an opening or an upgrade is refused.
 pub(crate) fn cause_text(cause: &Cause) -> &'static str {
     match cause {
         Cause::World(_) => "world",
@@ -80,8 +79,6 @@ static REFUSED: [(&str, &str, &str, &str); 8] = [
     ("BEGIN", SMALL_WORLD, "gm", "store"),
 ];
 
-/// Asserts why a founding by a world and a pass text is refused, and that it changes no row of the
-/// database.
 fn assert_refused_founding<S: Alter + Drop>(
     rt: &impl Abort,
     alloc: Global,
@@ -96,7 +93,6 @@ fn assert_refused_founding<S: Alter + Drop>(
     assert_all_rows(rt, alloc, &mut conn, rows.as_str())
 }
 
-/// Asserts that a founding by one row of `REFUSED` fails the check it names, and changes no row.
 fn assert_refusal(
     rt: &impl Abort,
     alloc: Global,
@@ -108,7 +104,6 @@ fn assert_refusal(
     assert_refused_founding(rt, alloc, conn, (world, pass), words)
 }
 
-/// Asserts that the founding by each row of `REFUSED` fails the check it names.
 fn assert_refusals(rt: &impl Abort, alloc: Global) -> Result<(), Fail> {
     for refused in REFUSED.iter() {
         assert_refusal(rt, alloc, refused)?;
@@ -116,41 +111,33 @@ fn assert_refusals(rt: &impl Abort, alloc: Global) -> Result<(), Fail> {
     Ok(())
 }
 
-/// A refused founding reports the first check that fails, and changes no row.
 #[test]
 fn the_first_check_that_fails_is_reported(rt: HostRuntime) -> Result<(), Fail> {
     assert_refusals(&rt, rt.alloc())
 }
 
-/// Asserts that no second campaign is founded in a database that holds one.
 fn assert_no_second_founding(rt: &impl Abort, alloc: Global) -> Result<(), Fail> {
     let conn = changed(rt, alloc, Connection::open_in_memory(alloc)?, EVERY_TABLE)?;
     assert_refused_founding(rt, alloc, conn, (SMALL_WORLD, "gm"), "not empty")
 }
 
-/// A database that holds a campaign refuses a second founding.
 #[test]
 fn a_campaign_is_founded_once(rt: HostRuntime) -> Result<(), Fail> {
     assert_no_second_founding(&rt, rt.alloc())
 }
 
-/// The SELECT that counts the rows of the books for money under Joining.
 const JOINING_MONEY: &str = "SELECT count(*) FROM books WHERE entry = 2 AND thing = 0";
 
-/// The SELECT that sums the people booked under Joining.
 const JOINING_PEOPLE: &str = "SELECT sum(amount) FROM books WHERE entry = 2 AND thing = 1";
 
-/// The one step by which Avalon joins.
 static AVALON_JOINS: [Step; 1] = [Step::Answers(JOIN_OF_AVALON, "joined")];
 
-/// SELECTs and what they return after a faction joined without money: none is booked under Joining.
 static AFTER_NO_MONEY: [(&str, Option<i64>); 3] = [
     (JOINING_MONEY, Some(0)),
     (JOINING_PEOPLE, Some(1)),
     (MONEY, Some(0)),
 ];
 
-/// A faction that joins without money has no money booked under Joining.
 #[test]
 fn nothing_is_booked_of_no_money(rt: HostRuntime) -> Result<(), Fail> {
     play(

@@ -41,16 +41,12 @@ const FACTIONS_ARE_FULL: &str =
     "INSERT INTO report SELECT number, 'Gone.' FROM faction WHERE gone = 1;
 UPDATE campaign SET next_faction = 10000";
 
-/// SQL that sets the next unit number beyond the last.
 const NUMBERS_ARE_FULL: &str = "UPDATE campaign SET next_unit = 1000000000";
 
-/// The command by which Bree joins.
 const JOIN_OF_BREE: CommandSpec = CommandSpec::Join("Bree", "pb", 0);
 
-/// The one step by which Bree joins.
 const BREE_JOINS: [Step; 1] = [Step::Answers(JOIN_OF_BREE, "joined")];
 
-/// The one step by which Bree tries to join, and is refused as the campaign is full.
 const NOBODY_JOINS: [Step; 1] = [Step::Answers(JOIN_OF_BREE, "full")];
 
 /// A campaign filled by hand, a join in it, and what the tables hold afterwards.
@@ -109,10 +105,8 @@ static FULL_CASES: [FullCase; 4] = [
     },
 ];
 
-/// The one step by which Avalon joins.
 static AVALON_JOINS: [Step; 1] = [Step::Answers(JOIN_OF_AVALON, "joined")];
 
-/// The database of the small world that Avalon has joined.
 fn joined(rt: &impl Abort, alloc: Global) -> Result<Connection<MemStore>, Fail> {
     let mut service = found_in_memory(alloc, SMALL_WORLD)?;
     follow(rt, alloc, &mut service, &AVALON_JOINS)?;
@@ -128,7 +122,6 @@ fn doubled(conn: &mut Connection<MemStore>, sql: &str, last: i64) -> Result<(), 
     Ok(())
 }
 
-/// Fills the campaign of a database by the SQL of a `FullCase`.
 fn fill(conn: &mut Connection<MemStore>, filled: &FullCase) -> Result<(), Fail> {
     if let Some((sql, last)) = filled.more {
         doubled(conn, sql, last)?;
@@ -136,8 +129,6 @@ fn fill(conn: &mut Connection<MemStore>, filled: &FullCase) -> Result<(), Fail> 
     conn.change(filled.then)
 }
 
-/// Runs the join of a `FullCase` in the campaign that it filled, and asserts its answer and what
-/// the tables hold afterwards.
 fn run_join(
     rt: &impl Abort,
     alloc: Global,
@@ -150,14 +141,12 @@ fn run_join(
     done
 }
 
-/// Fills a campaign by a `FullCase`, and asserts the answer to the join in it.
 fn join_is_answered(rt: &impl Abort, alloc: Global, filled: &FullCase) -> Result<(), Fail> {
     let mut conn = joined(rt, alloc)?;
     fill(&mut conn, filled)?;
     run_join(rt, alloc, conn, filled)
 }
 
-/// Fills each campaign of `FULL_CASES`, and asserts the answer to the join in it.
 fn joins_are_answered(rt: &impl Abort, alloc: Global) -> Result<(), Fail> {
     for filled in FULL_CASES.iter() {
         join_is_answered(rt, alloc, filled)?;

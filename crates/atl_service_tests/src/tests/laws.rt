@@ -2,7 +2,6 @@
 //! proved.
 use atl_service::only_the_last_mail_counts;
 
-/// Calls the law `only_the_last_mail_counts` and asserts nothing: its clause is proved.
 #[test]
 fn states_that_only_the_last_mail_counts() {
     only_the_last_mail_counts();

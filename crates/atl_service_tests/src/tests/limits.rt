@@ -3,18 +3,14 @@ use super::script::{CommandSpec, Step};
 use super::unchanged::assert_unchanged;
 use std::test::Fail;
 
-/// SQL that makes month 9,999 the last closed one.
 const LAST_IS_CLOSED: &str = "UPDATE campaign SET month = 9999";
 
-/// Steps by which months 9,999 and 10,000 are to be closed when month 9,999 was the last, all
-/// refused.
 static NO_MONTH_MORE: [Step; 3] = [
     Step::Answers(CommandSpec::Close(9999, "gm", &[0]), "wrong month"),
     Step::Answers(CommandSpec::Close(10000, "gm", &[0]), "month limit"),
     Step::Answers(CommandSpec::Close(10000, "gm", &[]), "month limit"),
 ];
 
-/// After month 9,999 every closing is refused.
 #[test]
 fn no_month_is_closed_after_the_last(rt: HostRuntime) -> Result<(), Fail> {
     assert_unchanged(&rt, rt.alloc(), LAST_IS_CLOSED, &NO_MONTH_MORE)

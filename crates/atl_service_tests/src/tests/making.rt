@@ -6,12 +6,10 @@ use sqlite::{Alter, Connection, MemStore};
 use std::alloc::Global;
 use std::test::Fail;
 
-/// The bytes of a text, as a `Sequence`.
 fn bytes(alloc: Global, text: &str) -> Result<Sequence<u8>, Fail> {
     Ok(Sequence::from_slice(alloc, text.as_bytes())?)
 }
 
-/// The command `Join` with a name, a pass text and a word of the dice.
 pub(crate) fn join(alloc: Global, name: &str, pass: &str, word: u32) -> Result<Command, Fail> {
     Ok(Command::Join {
         name: bytes(alloc, name)?,
@@ -20,7 +18,6 @@ pub(crate) fn join(alloc: Global, name: &str, pass: &str, word: u32) -> Result<C
     })
 }
 
-/// The command `Mail` with a faction's number, a pass text and a mailing.
 pub(crate) fn mail(alloc: Global, faction: u32, pass: &str, text: &str) -> Result<Command, Fail> {
     Ok(Command::Mail {
         faction,
@@ -36,7 +33,6 @@ fn header_and_feeds(alloc: Global, feeds: usize) -> Result<Sequence<u8>, Fail> {
     Ok(Sequence::from_vec(text))
 }
 
-/// The command `Mail` of faction 1 with a header of 11 bytes and `feeds` line feeds.
 pub(crate) fn long_mail(alloc: Global, pass: &str, feeds: usize) -> Result<Command, Fail> {
     Ok(Command::Mail {
         faction: 1,
@@ -45,7 +41,6 @@ pub(crate) fn long_mail(alloc: Global, pass: &str, feeds: usize) -> Result<Comma
     })
 }
 
-/// The command `Close` with a month, a pass text and words of the dice.
 pub(crate) fn close(alloc: Global, month: u32, pass: &str, words: &[u32]) -> Result<Command, Fail> {
     Ok(Command::Close {
         month,
@@ -54,7 +49,6 @@ pub(crate) fn close(alloc: Global, month: u32, pass: &str, words: &[u32]) -> Res
     })
 }
 
-/// The command `Report` with a faction's number and a pass text.
 pub(crate) fn report(alloc: Global, faction: u32, pass: &str) -> Result<Command, Fail> {
     Ok(Command::Report {
         faction,
@@ -62,7 +56,6 @@ pub(crate) fn report(alloc: Global, faction: u32, pass: &str) -> Result<Command,
     })
 }
 
-/// Founds the campaign of a world text in a database; the result is its service.
 pub(crate) fn found_service<S: Alter + Drop>(
     alloc: Global,
     conn: Connection<S>,
@@ -74,12 +67,10 @@ pub(crate) fn found_service<S: Alter + Drop>(
     }
 }
 
-/// Founds the campaign of a world text in a new database in memory; the result is its service.
 pub(crate) fn found_in_memory(alloc: Global, world: &str) -> Result<Service<MemStore>, Fail> {
     found_service(alloc, Connection::open_in_memory(alloc)?, world)
 }
 
-/// Opens the campaign that a database holds; the result is its service.
 pub(crate) fn opened<S: Alter + Drop>(
     alloc: Global,
     conn: Connection<S>,
@@ -90,8 +81,6 @@ pub(crate) fn opened<S: Alter + Drop>(
     }
 }
 
-/// Runs SQL statements on a database, and opens the campaign that it holds; the result is its
-/// service.
 pub(crate) fn open_after_sql<S: Alter + Drop>(
     alloc: Global,
     conn: Connection<S>,

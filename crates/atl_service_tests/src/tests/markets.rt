@@ -16,7 +16,6 @@ Market wood: 0 in stock at 7, 30 wanted at 5.
 * Unit 1 \"Unit 1\": 1 men, 1000 money.
 ";
 
-/// The mailing by which unit 1 buys 3 wood.
 const BUYS: CommandSpec = CommandSpec::Mail(1, "pw", "#ATLANTIS 1\nUNIT 1\nBUY 3 wood\n");
 
 /// Avalon's report on month 2: of 20 wood in stock 3 are bought for 7 each, and then the market is
@@ -31,7 +30,6 @@ Market wood: 30 in stock at 7, 0 wanted at 5.
 * Unit 1 \"Unit 1\": 1 men, 983 money, 3 wood.
 ";
 
-/// The text of the books after month 2, in which unit 1 buys 3 wood.
 const BOOKS_AFTER_BUYING: &str = "money founding 500
 money joining 1000
 money income 2000
@@ -46,7 +44,6 @@ item \"wood\" stocked 33
 item \"wood\" total 33
 ";
 
-/// The mailing by which unit 1 offers 2 wood.
 const SELLS: CommandSpec = CommandSpec::Mail(1, "pw", "#ATLANTIS 1\nUNIT 1\nSELL 2 wood\n");
 
 /// Avalon's report on month 3: the market is full and buys nothing.
@@ -60,31 +57,26 @@ Market wood: 30 in stock at 7, 0 wanted at 5.
 * Unit 1 \"Unit 1\": 1 men, 985 money, 3 wood.
 ";
 
-/// The steps of a month that stocks the market: a join, the report before, and the closing.
 static STOCKED_ONCE: [Step; 3] = [
     Step::Joined(JOIN_OF_AVALON, 1, 1),
     Step::Answers(CommandSpec::Report(1, "pw"), NOTHING_IN_STOCK),
     Step::Closed(MONTH_ONE, 1),
 ];
 
-/// SELECTs and what they return after the month that stocks the market.
 static AFTER_STOCKING: [(&str, Option<i64>); 3] = [
     (FORMAT, Some(2)),
     (STOCKED, Some(1)),
     (STOCK, Some(20)),
 ];
 
-/// SELECTs and what they return before the first month: nothing is in stock.
 static BEFORE_STOCKING: [(&str, Option<i64>); 2] = [(STOCKED, Some(0)), (STOCK, None)];
 
-/// A market is empty before the first month, and stocked after it.
 #[test]
 fn a_market_is_stocked(rt: HostRuntime) -> Result<(), Fail> {
     play(&rt, rt.alloc(), WOOD_MARKET, &[], &BEFORE_STOCKING)?;
     play(&rt, rt.alloc(), WOOD_MARKET, &STOCKED_ONCE, &AFTER_STOCKING)
 }
 
-/// The steps of three months: the market is stocked, a unit buys, and it tries to sell.
 static TRADES: [Step; 9] = [
     Step::Joined(JOIN_OF_AVALON, 1, 1),
     Step::Closed(MONTH_ONE, 1),
@@ -97,7 +89,6 @@ static TRADES: [Step; 9] = [
     Step::Answers(CommandSpec::Report(1, "pw"), AFTER_SELLING),
 ];
 
-/// SELECTs and what they return after the three months of `TRADES`.
 static AFTER_TRADES: [(&str, Option<i64>); 6] = [
     (MONTH, Some(3)),
     (MONEY, Some(985)),
@@ -107,7 +98,6 @@ static AFTER_TRADES: [(&str, Option<i64>); 6] = [
     (STOCK, Some(30)),
 ];
 
-/// A unit buys from a market in stock, and can't sell to it when it is full.
 #[test]
 fn a_unit_trades(rt: HostRuntime) -> Result<(), Fail> {
     play(&rt, rt.alloc(), WOOD_MARKET, &TRADES, &AFTER_TRADES)

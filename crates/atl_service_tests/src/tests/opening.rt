@@ -29,7 +29,6 @@ pub(crate) struct Session {
     pub(crate) after: &'static [(&'static str, Option<i64>)],
 }
 
-/// Steps in which Avalon joins, sends a mailing, and asks for its report.
 const AVALON_COMES: [Step; 3] = [
     Step::Joined(JOIN_OF_AVALON, 1, 1),
     Step::Mailed(
@@ -40,27 +39,23 @@ const AVALON_COMES: [Step; 3] = [
     Step::Answers(CommandSpec::Report(1, "pw"), FIRST_REPORT),
 ];
 
-/// Steps by which Avalon's report and mail are found as Avalon left them, and Bree joins.
 pub(crate) const BREE_COMES: [Step; 3] = [
     Step::Answers(CommandSpec::Report(1, "pw"), FIRST_REPORT),
     Step::Keeps(Some("#ATLANTIS 1\nUNIT 1\nWORK\n")),
     Step::Joined(CommandSpec::Join("Bree", "pb", 0), 2, 2),
 ];
 
-/// Steps by which both factions and their first reports are found again.
 pub(crate) const BOTH_ARE_THERE: [Step; 3] = [
     Step::Numbers(3, 3, 2),
     Step::Answers(CommandSpec::Report(1, "pw"), FIRST_REPORT),
     Step::Answers(CommandSpec::Report(2, "pb"), REPORT_OF_BREE),
 ];
 
-/// Steps in which Avalon joins, and month 1 is closed.
 const A_MONTH: [Step; 2] = [
     Step::Joined(JOIN_OF_AVALON, 1, 1),
     Step::Closed(MONTH_ONE, 1),
 ];
 
-/// Steps by which month 1 is found closed, with its report, and isn't closed again.
 const AFTER_A_MONTH: [Step; 4] = [
     Step::Month(1),
     Step::Answers(MONTH_ONE, "wrong month"),
@@ -68,18 +63,15 @@ const AFTER_A_MONTH: [Step; 4] = [
     Step::Keeps(None),
 ];
 
-/// All rows of a campaign, as `Debug` prints them.
 fn rows_of(alloc: Global, campaign: &Campaign) -> Result<String, Fail> {
     let parts = campaign.parts()?;
     Ok(format!(in alloc; "{parts:?}")?)
 }
 
-/// All rows of a service's campaign, as `Debug` prints them.
 pub(crate) fn rows_in(alloc: Global, service: &impl AnyService) -> Result<String, Fail> {
     rows_of(alloc, service.campaign().ok_or("closed")?)
 }
 
-/// Runs steps, asserts what they want, and returns all rows of the service's campaign.
 fn rows_after(
     rt: &impl Abort,
     alloc: Global,
@@ -90,7 +82,6 @@ fn rows_after(
     rows_in(alloc, service)
 }
 
-/// Asserts that all rows of a service's campaign, as `rows_in` prints them, are `rows`.
 pub(crate) fn assert_rows(
     rt: &impl Abort,
     alloc: Global,
@@ -169,7 +160,6 @@ pub(crate) fn play_in_files<D: Disk + Drop>(
     Ok(())
 }
 
-/// The campaign that `check` makes of all rows of a campaign.
 fn checked(alloc: Global, world: &World, campaign: &Campaign) -> Result<Campaign, Fail> {
     match check(alloc, world, campaign.parts()?) {
         Ok(again) => Ok(again),
@@ -177,8 +167,6 @@ fn checked(alloc: Global, world: &World, campaign: &Campaign) -> Result<Campaign
     }
 }
 
-/// Asserts that a campaign has these rows, and that the campaign that `check` makes of them has
-/// them too.
 fn assert_made_of(
     rt: &impl Abort,
     alloc: Global,
@@ -192,8 +180,6 @@ fn assert_made_of(
     Ok(())
 }
 
-/// Opens the campaign of a database, and asserts that it has these rows, and that the campaign that
-/// `check` makes of them has them too.
 fn assert_campaign(
     rt: &impl Abort,
     alloc: Global,
@@ -205,7 +191,6 @@ fn assert_campaign(
     assert_made_of(rt, alloc, service.world(), campaign, rows)
 }
 
-/// Two sessions: one closes month 1, and one finds it closed.
 static MONTH_STAYS_CLOSED: [Session; 2] = [
     Session {
         world: Some(SMALL_WORLD),
@@ -221,16 +206,12 @@ static MONTH_STAYS_CLOSED: [Session; 2] = [
     },
 ];
 
-/// Asserts that neither a second closing nor another founding changes a row after a month was
-/// closed.
 fn assert_month_stays_closed(rt: &impl Abort, alloc: Global) -> Result<(), Fail> {
     let (rows, conn) = play_on_connection(rt, alloc, &MONTH_STAYS_CLOSED)?;
     let conn = assert_refused(rt, found(alloc, conn, SMALL_WORLD, b"gm"), "not empty");
     assert_campaign(rt, alloc, conn, rows.as_str())
 }
 
-/// A campaign opened after a closing has the rows that the closing left, and the month isn't closed
-/// again.
 #[test]
 fn a_closed_month_is_opened_again(rt: HostRuntime) -> Result<(), Fail> {
     assert_month_stays_closed(&rt, rt.alloc())
@@ -259,21 +240,17 @@ static REOPENED_TWICE: [Session; 3] = [
     },
 ];
 
-/// Asserts that a campaign is opened twice on its connection, and that no second campaign is
-/// founded there.
 fn assert_reopened_twice(rt: &impl Abort, alloc: Global) -> Result<(), Fail> {
     let (_, conn) = play_on_connection(rt, alloc, &REOPENED_TWICE)?;
     assert_refused(rt, found(alloc, conn, SMALL_WORLD, b"gm"), "not empty");
     Ok(())
 }
 
-/// A campaign opened again on its connection has the rows that it had before.
 #[test]
 fn a_campaign_is_opened_on_its_connection(rt: HostRuntime) -> Result<(), Fail> {
     assert_reopened_twice(&rt, rt.alloc())
 }
 
-/// A campaign opened again from its files has the rows that it had before.
 #[test]
 fn a_campaign_is_opened_from_its_files(rt: HostRuntime) -> Result<(), Fail> {
     play_in_files(&rt, rt.alloc(), new_files(rt.alloc()), &REOPENED_TWICE)
@@ -284,7 +261,6 @@ const NOTES: &str = "CREATE TABLE notes (number INTEGER NOT NULL, words TEXT NOT
 CREATE INDEX notes_by_words ON notes (words);
 INSERT INTO notes (number, words) VALUES (7, 'pay the printer')";
 
-/// Queries that find the note of `NOTES`, and what they return.
 pub(crate) const NOTED: [(&str, Option<i64>); 2] = [
     ("SELECT count(*) FROM notes", Some(1)),
     (
@@ -293,7 +269,6 @@ pub(crate) const NOTED: [(&str, Option<i64>); 2] = [
     ),
 ];
 
-/// The sessions of `REOPENED_TWICE`, in a database with a table of a person's own.
 static WITH_NOTES: [Session; 3] = [
     Session {
         world: Some(SMALL_WORLD),
@@ -315,7 +290,6 @@ static WITH_NOTES: [Session; 3] = [
     },
 ];
 
-/// A table that a person added to the database stays as it is.
 #[test]
 fn a_table_of_a_persons_own_is_carried_along(rt: HostRuntime) -> Result<(), Fail> {
     play_in_files(&rt, rt.alloc(), new_files(rt.alloc()), &WITH_NOTES)

@@ -30,7 +30,6 @@ Exits: none.
 * Unit 1 \"Unit 1\": 1 men, 1002 money.
 ";
 
-/// The steps of the month with FORM: a join, the mailing, the closing and the report.
 static NOBODY_COMES: [Step; 5] = [
     Step::Joined(JOIN_OF_AVALON, 1, 1),
     Step::Mailed(CommandSpec::Mail(1, "pw", FORMED), 3, &[]),
@@ -39,7 +38,6 @@ static NOBODY_COMES: [Step; 5] = [
     Step::Numbers(2, 3, 1),
 ];
 
-/// SELECTs and what they return after the month in which the formed unit is swept.
 static AFTER_NOBODY_CAME: [(&str, Option<i64>); 4] = [
     (NEXT, Some(200003)),
     (UNITS, Some(1)),
@@ -47,7 +45,6 @@ static AFTER_NOBODY_CAME: [(&str, Option<i64>); 4] = [
     (REGION_MONEY, Some(503)),
 ];
 
-/// A unit formed in a region with three peasants gets no recruit, and is swept.
 #[test]
 fn nobody_is_recruited_of_three_peasants(rt: HostRuntime) -> Result<(), Fail> {
     play(
@@ -66,7 +63,6 @@ QUIT 2
 QUIT 1
 ";
 
-/// Avalon's report on the month in which it quits.
 const AFTER_QUITTING: &str = "Atlantis report, month 1, faction 1 \"Avalon\".
 Orders:
 Unit 1, line 3, QUIT: fault 11 WrongNumber.
@@ -85,8 +81,6 @@ people left -1
 people total 1000
 ";
 
-/// The steps of a month in which the faction quits; afterwards its mail is refused, and its report
-/// is still answered.
 static IT_QUITS: [Step; 6] = [
     Step::Joined(JOIN_OF_AVALON, 1, 1),
     Step::Mailed(CommandSpec::Mail(1, "pw", QUITS), 2, &[]),
@@ -96,7 +90,6 @@ static IT_QUITS: [Step; 6] = [
     Step::Books(BOOKS_AFTER_QUITTING),
 ];
 
-/// SELECTs and what they return after the month in which the faction quits.
 static AFTER_IT_QUIT: [(&str, Option<i64>); 4] = [
     (MONTH, Some(1)),
     (FACTIONS, Some(1)),
@@ -104,7 +97,6 @@ static AFTER_IT_QUIT: [(&str, Option<i64>); 4] = [
     (MAILINGS, Some(0)),
 ];
 
-/// A faction that quits is gone after the month: its mail is refused, and its report stays.
 #[test]
 fn a_faction_quits(rt: HostRuntime) -> Result<(), Fail> {
     play(&rt, rt.alloc(), SMALL_WORLD, &IT_QUITS, &AFTER_IT_QUIT)

@@ -8,10 +8,8 @@ use atl_service::Refusal;
 use atl_test_worlds::SMALL_WORLD;
 use std::test::Fail;
 
-/// The one step by which Avalon joins.
 static JOINS_ONCE: [Step; 1] = [Step::Answers(JOIN_OF_AVALON, "joined")];
 
-/// Steps in which Avalon joins, and is refused the second time.
 static JOINS_TWICE: [Step; 5] = [
     Step::Answers(JOIN_OF_AVALON, "joined"),
     Step::Numbers(2, 2, 1),
@@ -20,7 +18,6 @@ static JOINS_TWICE: [Step; 5] = [
     Step::Answers(CommandSpec::Report(1, "pw"), FIRST_REPORT),
 ];
 
-/// A second join under the name Avalon is refused.
 #[test]
 fn a_name_is_taken_once(rt: HostRuntime) -> Result<(), Fail> {
     play(&rt, rt.alloc(), SMALL_WORLD, &JOINS_ONCE, &AFTER_JOINING)?;
@@ -38,13 +35,11 @@ static REFUSED: [Step; 6] = [
     Step::Answers(CommandSpec::Report(1, "no"), "wrong pass"),
 ];
 
-/// Refused joins and reports change no row, neither of the campaign nor of the tables.
 #[test]
 fn refused_joinings_and_reports_change_nothing(rt: HostRuntime) -> Result<(), Fail> {
     assert_unchanged(&rt, rt.alloc(), EVERY_TABLE, &REFUSED)
 }
 
-/// Each refusal and its number.
 static NUMBERS: [(Refusal, u8); 14] = [
     (Refusal::BadName, 1),
     (Refusal::BadPassText, 2),

@@ -7,7 +7,6 @@ use sqlite_disk::{Disk, Files, Memory};
 use std::alloc::Global;
 use std::test::Fail;
 
-/// The length, in bytes, of the file that sqlite3 wrote.
 const LENGTH: usize = 11776;
 
 /// The file that sqlite3 wrote, as runs of bytes with their offsets; all other bytes are 0. It has
@@ -103,7 +102,6 @@ static PIECES: [(usize, &[u8]); 28] = [
     (11757, b"\x12\x03+\x09pay the printer"),
 ];
 
-/// Writes bytes at an offset of a disk.
 fn put<D: Disk>(disk: &mut D, place: usize, piece: &[u8]) -> Result<(), Fail> {
     if !disk.may_be_used() {
         return Err(Fail::new("the disk can't be used"));
@@ -114,7 +112,6 @@ fn put<D: Disk>(disk: &mut D, place: usize, piece: &[u8]) -> Result<(), Fail> {
     }
 }
 
-/// Writes the whole file of `PIECES` to a disk.
 fn fill<D: Disk>(disk: &mut D) -> Result<(), Fail> {
     put(disk, LENGTH - 1, &[0])?;
     for (place, piece) in PIECES.iter() {
@@ -123,17 +120,14 @@ fn fill<D: Disk>(disk: &mut D) -> Result<(), Fail> {
     Ok(())
 }
 
-/// The file that sqlite3 wrote, in memory, with an empty log.
 fn remade(alloc: Global) -> Result<Files<Memory>, Fail> {
     let mut files = new_files(alloc);
     fill(&mut files.db)?;
     Ok(files)
 }
 
-/// The one step that asserts that the campaign has Avalon and its unit, by the next numbers.
 const AVALON_IS_THERE: [Step; 1] = [Step::Numbers(2, 2, 1)];
 
-/// Sessions in which the campaign of the file is opened, played on, and opened once more.
 static GOES_ON: [Session; 3] = [
     Session {
         world: None,
@@ -155,7 +149,6 @@ static GOES_ON: [Session; 3] = [
     },
 ];
 
-/// A file that sqlite3 wrote is opened, played on, and opened once more.
 #[test]
 fn a_database_that_sqlite3_wrote_is_opened(rt: HostRuntime) -> Result<(), Fail> {
     play_in_files(&rt, rt.alloc(), remade(rt.alloc())?, &GOES_ON)

@@ -36,17 +36,14 @@ pub(crate) enum Step {
     Mailed(CommandSpec, usize, &'static [(u32, u32)]),
     /// A closing, and the month that it answers and that the campaign then has.
     Closed(CommandSpec, u32),
-    /// The month last closed.
     Month(u32),
     /// The numbers of the faction and the unit that come next, and how many units there are.
     Numbers(u32, u32, usize),
     /// What the campaign keeps of the first faction's mail.
     Keeps(Option<&'static str>),
-    /// The text of the books.
     Books(&'static str),
 }
 
-/// The command that an `CommandSpec` describes.
 fn command_of(alloc: Global, asked: &CommandSpec) -> Result<Command, Fail> {
     match asked {
         CommandSpec::Join(name, pass, word) => join(alloc, name, pass, *word),
@@ -57,7 +54,6 @@ fn command_of(alloc: Global, asked: &CommandSpec) -> Result<Command, Fail> {
     }
 }
 
-/// The command of a step, or None if it only asserts something.
 fn command_in(step: &Step) -> Option<&CommandSpec> {
     match step {
         Step::Answers(asked, _)
@@ -68,7 +64,6 @@ fn command_in(step: &Step) -> Option<&CommandSpec> {
     }
 }
 
-/// Appends to `commands` the command of each step that has one.
 fn fill(alloc: Global, commands: &mut Vec<Command>, steps: &[Step]) -> Result<(), Fail> {
     for step in steps {
         if let Some(asked) = command_in(step) {
@@ -78,14 +73,12 @@ fn fill(alloc: Global, commands: &mut Vec<Command>, steps: &[Step]) -> Result<()
     Ok(())
 }
 
-/// The commands of the steps that have one, in their order.
 pub(crate) fn commands_of(alloc: Global, steps: &[Step]) -> Result<Vec<Command>, Fail> {
     let mut commands = Vec::new(alloc);
     fill(alloc, &mut commands, steps)?;
     Ok(commands)
 }
 
-/// Runs the command that an `CommandSpec` describes, and returns its answer.
 fn answered(
     alloc: Global,
     service: &mut impl AnyService,
@@ -95,7 +88,6 @@ fn answered(
     Ok(service.run(&command))
 }
 
-/// Asserts that a join is answered with the numbers of a faction (`first`) and a unit (`member`).
 fn assert_joined(rt: &impl Abort, answer: &Answer, first: u32, member: u32) {
     match answer {
         Answer::Joined { faction, unit } => {
@@ -106,8 +98,6 @@ fn assert_joined(rt: &impl Abort, answer: &Answer, first: u32, member: u32) {
     }
 }
 
-/// Asserts that a mailing is answered with this many orders (`wanted`) and these faulty lines, each
-/// a line's number and its fault's.
 fn assert_mailed(rt: &impl Abort, answer: &Answer, wanted: usize, faulty: &[(u32, u32)]) {
     match answer {
         Answer::Mailed { orders, faults } => {
@@ -122,7 +112,6 @@ fn assert_mailed(rt: &impl Abort, answer: &Answer, wanted: usize, faulty: &[(u32
     }
 }
 
-/// Asserts that a closing is answered with this month.
 fn assert_closed(rt: &impl Abort, answer: &Answer, wanted: u32) {
     match answer {
         Answer::MonthDone { month } => assert_number(rt, i64::from(*month), i64::from(wanted)),
@@ -130,7 +119,6 @@ fn assert_closed(rt: &impl Abort, answer: &Answer, wanted: u32) {
     }
 }
 
-/// Asserts that this month is the last that was closed in the service's campaign.
 fn assert_month(rt: &impl Abort, service: &impl AnyService, month: u32) {
     match service.campaign() {
         Some(campaign) => assert_number(rt, i64::from(campaign.month()), i64::from(month)),
@@ -138,7 +126,6 @@ fn assert_month(rt: &impl Abort, service: &impl AnyService, month: u32) {
     }
 }
 
-/// Asserts the numbers that the campaign's next faction and unit get, and how many units it has.
 fn assert_next_numbers(
     rt: &impl Abort,
     service: &impl AnyService,
@@ -156,7 +143,6 @@ fn assert_next_numbers(
     }
 }
 
-/// Asserts which mail of faction 1 the campaign keeps; None if it keeps none.
 fn assert_kept_mail(rt: &impl Abort, service: &impl AnyService, text: &Option<&str>) {
     match service.campaign() {
         Some(campaign) => match (campaign.mail_of(1), text) {
@@ -168,7 +154,6 @@ fn assert_kept_mail(rt: &impl Abort, service: &impl AnyService, text: &Option<&s
     }
 }
 
-/// Asserts the text of the books of the service's campaign.
 fn assert_books(rt: &impl Abort, service: &impl AnyService, wanted: &str) -> Result<(), Fail> {
     match service.books() {
         Some(text) => assert_text(rt, text?.as_str(), wanted),
@@ -177,7 +162,6 @@ fn assert_books(rt: &impl Abort, service: &impl AnyService, wanted: &str) -> Res
     Ok(())
 }
 
-/// Asserts that the answer to the command of a step is the one that the step wants.
 pub(crate) fn assert_answer(rt: &impl Abort, answer: &Answer, step: &Step) {
     match step {
         Step::Answers(_, words) => assert_text(rt, answer_text(answer), words),
@@ -188,7 +172,6 @@ pub(crate) fn assert_answer(rt: &impl Abort, answer: &Answer, step: &Step) {
     }
 }
 
-/// Asserts what a step says of the service's campaign, if it says anything.
 fn assert_campaign(rt: &impl Abort, service: &impl AnyService, step: &Step) -> Result<(), Fail> {
     match step {
         Step::Closed(_, month) | Step::Month(month) => assert_month(rt, service, *month),
@@ -202,8 +185,6 @@ fn assert_campaign(rt: &impl Abort, service: &impl AnyService, step: &Step) -> R
     Ok(())
 }
 
-/// Runs the command of a step, if it has one, and asserts the answer and what the step says of the
-/// campaign.
 fn run_step(
     rt: &impl Abort,
     alloc: Global,
@@ -217,8 +198,6 @@ fn run_step(
     assert_campaign(rt, service, step)
 }
 
-/// Runs the command of each step in turn, and asserts the answer and what the step says of the
-/// campaign.
 pub(crate) fn follow(
     rt: &impl Abort,
     alloc: Global,
@@ -231,8 +210,6 @@ pub(crate) fn follow(
     Ok(())
 }
 
-/// Founds a campaign in memory, runs the steps and asserts what they want, and asserts what the
-/// tables hold at the end.
 pub(crate) fn play(
     rt: &impl Abort,
     alloc: Global,

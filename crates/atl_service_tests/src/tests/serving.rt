@@ -8,10 +8,8 @@ use std::test::Fail;
 
 /// A service that runs commands, and shows its campaign and the text of the books.
 pub(crate) trait AnyService {
-    /// Runs one command, and returns its answer.
     fn run(&mut self, command: &Command) -> Answer;
 
-    /// Runs commands in turn, and returns an answer for each.
     fn run_all(&mut self, commands: &[Command]) -> Result<Vec<Answer>, AllocError>;
 
     /// The campaign; None if the service is closed.
@@ -23,22 +21,18 @@ pub(crate) trait AnyService {
 
 /// A service over any store makes each call by its own call of that name.
 impl<S: Alter> AnyService for Service<S> {
-    /// Runs one command, by the call of the service.
     fn run(&mut self, command: &Command) -> Answer {
         Service::run(self, command)
     }
 
-    /// Runs commands in turn, by the call of the service.
     fn run_all(&mut self, commands: &[Command]) -> Result<Vec<Answer>, AllocError> {
         Service::run_all(self, commands)
     }
 
-    /// The campaign, by the call of the service.
     fn campaign(&self) -> Option<&Campaign> {
         Service::campaign(self)
     }
 
-    /// The text of the books, by the call of the service.
     fn books(&self) -> Option<Result<String, AllocError>> {
         Service::books(self)
     }
@@ -55,7 +49,6 @@ pub(crate) trait Tables {
 
 /// A connection runs the SQL; a query that fails, or gives no row or no number, returns None.
 impl<S: Alter> Tables for Connection<S> {
-    /// The number in the first column of the first row of a query, or None.
     fn number(&mut self, sql: &str) -> Option<i64> {
         match self.query_row(sql, &[]) {
             Ok(row) => row.get(0).ok(),
@@ -63,7 +56,6 @@ impl<S: Alter> Tables for Connection<S> {
         }
     }
 
-    /// Runs SQL statements on the connection.
     fn change(&mut self, sql: &str) -> Result<(), Fail> {
         self.execute_batch(sql)?;
         Ok(())

@@ -15,19 +15,16 @@ use std::alloc::{AllocError, Global};
 use std::process::Abort;
 use std::test::Fail;
 
-/// The world that the text `SMALL_WORLD` describes.
 fn small_world(alloc: Global) -> Result<World, Fail> {
     Ok(read_world(alloc, SMALL_WORLD)?)
 }
 
-/// The campaign of the small world just after its founding.
 fn small_campaign(alloc: Global, world: &World) -> Result<Campaign, Fail>
     ensures { IfOk result (λ campaign. IsGood world.now campaign.value) }
 {
     Ok(founded(alloc, world, b"gm")?)
 }
 
-/// Has Avalon join a campaign, with 5 as the word of the dice.
 fn avalon_joins(rt: &impl Abort, world: &World, campaign: &mut Campaign)
     requires { IsGood world.now campaign.old.value }
 {
@@ -35,7 +32,6 @@ fn avalon_joins(rt: &impl Abort, world: &World, campaign: &mut Campaign)
     assert!(rt; done.is_ok());
 }
 
-/// The total of a thing in a campaign, or None if there are too many units or regions to sum.
 fn total(campaign: &Campaign, thing: Thing) -> Option<u64> {
     if campaign.unit_count() > MOST_UNITS || campaign.region_count() > MOST_REGIONS {
         return None;
@@ -43,8 +39,6 @@ fn total(campaign: &Campaign, thing: Thing) -> Option<u64> {
     Some(campaign.total(thing))
 }
 
-/// Asserts the month, the pass text, the next numbers and the totals of the small world's campaign
-/// just after its founding.
 fn assert_founded(rt: &impl Abort, campaign: &Campaign) {
     assert_number(rt, i64::from(campaign.month()), 0);
     assert_text(rt, campaign.pass().as_str(), "gm");
@@ -55,22 +49,18 @@ fn assert_founded(rt: &impl Abort, campaign: &Campaign) {
     assert_total(rt, total(campaign, Thing::People), 1000);
 }
 
-/// Founds the campaign of the small world, and asserts what it holds.
 fn found_small_world(rt: &impl Abort, alloc: Global, world: &World) -> Result<(), Fail> {
     let campaign = small_campaign(alloc, world)?;
     assert_founded(rt, &campaign);
     Ok(())
 }
 
-/// A campaign just founded has the money and people that its world says, and the pass text.
 #[test]
 fn founding(rt: HostRuntime) -> Result<(), Fail> {
     let world = small_world(rt.alloc())?;
     found_small_world(&rt, rt.alloc(), &world)
 }
 
-/// Asserts what the books of the small world's campaign have of money and people after Avalon has
-/// joined.
 fn assert_entries(rt: &impl Abort, campaign: &Campaign) {
     assert_count(rt, campaign.things(), 2);
     if campaign.things() >= 2 {
@@ -85,14 +75,12 @@ fn assert_entries(rt: &impl Abort, campaign: &Campaign) {
     }
 }
 
-/// Asserts the totals of money, people and item 0 after Avalon has joined the small world.
 fn assert_totals(rt: &impl Abort, campaign: &Campaign) {
     assert_total(rt, total(campaign, Thing::Money), 1500);
     assert_total(rt, total(campaign, Thing::People), 1001);
     assert_total(rt, total(campaign, Thing::Item(0)), 0);
 }
 
-/// Asserts that faction 1 has joined as Avalon, and isn't gone.
 fn assert_faction(rt: &impl Abort, campaign: &Campaign) {
     match campaign.faction(1) {
         Some(faction) => {
@@ -104,7 +92,6 @@ fn assert_faction(rt: &impl Abort, campaign: &Campaign) {
     }
 }
 
-/// Asserts that Avalon's unit 1 has one man and is in region 1, and that there is no other unit.
 fn assert_unit(rt: &impl Abort, campaign: &Campaign) {
     match campaign.unit(1) {
         Some(unit) => {
@@ -121,7 +108,6 @@ fn assert_unit(rt: &impl Abort, campaign: &Campaign) {
     assert_count(rt, campaign.unit_count(), 1);
 }
 
-/// Has Avalon join the small world, and asserts the books, the totals, the faction and its unit.
 fn join_small_world(rt: &impl Abort, alloc: Global, world: &World) -> Result<(), Fail> {
     let mut campaign = small_campaign(alloc, world)?;
     avalon_joins(rt, world, &mut campaign);
@@ -132,15 +118,12 @@ fn join_small_world(rt: &impl Abort, alloc: Global, world: &World) -> Result<(),
     Ok(())
 }
 
-/// A join adds a faction, a unit, and entries of the books.
 #[test]
 fn joining(rt: HostRuntime) -> Result<(), Fail> {
     let world = small_world(rt.alloc())?;
     join_small_world(&rt, rt.alloc(), &world)
 }
 
-/// Sets the money of unit 1 to 7 through the holding that the campaign lends, and asserts the total
-/// of money.
 fn lend_holding(rt: &impl Abort, campaign: &mut Campaign) {
     if let Some(holding) = campaign.unit_mut(1) {
         holding.set_money(7);
@@ -148,14 +131,12 @@ fn lend_holding(rt: &impl Abort, campaign: &mut Campaign) {
     assert_total(rt, total(campaign, Thing::Money), 507);
 }
 
-/// The report of what faction 1 sees.
 fn report_of(alloc: Global, world: &World, campaign: &Campaign) -> Result<Text, AllocError> {
     let seen = view(alloc, world, campaign, 1)?;
     let text = report_text(alloc, world, &seen, &[], &[])?;
     Ok(Text::from_string(text))
 }
 
-/// Asserts that the stored report of faction 1 is `FIRST_REPORT`.
 fn assert_report(rt: &impl Abort, campaign: &Campaign) {
     match campaign.report(1) {
         Some(stored) => assert_text(rt, stored.as_str(), FIRST_REPORT),
@@ -163,7 +144,6 @@ fn assert_report(rt: &impl Abort, campaign: &Campaign) {
     }
 }
 
-/// Stores the report of what faction 1 sees, and asserts that `FIRST_REPORT` is then stored.
 fn store_report(
     rt: &impl Abort,
     alloc: Global,
@@ -176,8 +156,6 @@ fn store_report(
     Ok(())
 }
 
-/// Has Avalon join, and asserts that its report is stored, and that money set in a lent unit
-/// changes the total of money.
 fn lends_and_stores(rt: &impl Abort, alloc: Global, world: &World) -> Result<(), Fail> {
     let mut campaign = small_campaign(alloc, world)?;
     avalon_joins(rt, world, &mut campaign);
@@ -186,7 +164,6 @@ fn lends_and_stores(rt: &impl Abort, alloc: Global, world: &World) -> Result<(),
     done
 }
 
-/// Money set in a lent unit changes the total of money, and a report that was stored is found.
 #[test]
 fn lending_and_reporting(rt: HostRuntime) -> Result<(), Fail> {
     let world = small_world(rt.alloc())?;

@@ -25,7 +25,6 @@ UPDATE campaign SET next_unit = 1000000000, next_structure = 2";
 /// A query that returns, for each table of the database, a SELECT of all its rows.
 const QUERIES: &str = "SELECT 'SELECT * FROM ' || name FROM sqlite_schema WHERE type = 'table'";
 
-/// Appends to `text` the SELECT that `query` holds, and all rows that it gives.
 fn add_rows<S: Alter>(
     alloc: Global,
     conn: &mut Connection<S>,
@@ -38,7 +37,6 @@ fn add_rows<S: Alter>(
     Ok(())
 }
 
-/// All rows of all tables of a database, as `Debug` prints them.
 pub(crate) fn all_rows<S: Alter>(alloc: Global, conn: &mut Connection<S>) -> Result<String, Fail> {
     let mut text = String::new(alloc);
     for query in conn.query_all(QUERIES, &[])?.iter() {
@@ -47,7 +45,6 @@ pub(crate) fn all_rows<S: Alter>(alloc: Global, conn: &mut Connection<S>) -> Res
     Ok(text)
 }
 
-/// Asserts that all rows of all tables, as `all_rows` prints them, are `rows`.
 pub(crate) fn assert_all_rows<S: Alter>(
     rt: &impl Abort,
     alloc: Global,
@@ -58,8 +55,6 @@ pub(crate) fn assert_all_rows<S: Alter>(
     Ok(())
 }
 
-/// Runs a step, and asserts its answer, and that the service's campaign has the same rows before
-/// and after.
 fn assert_rows_stay(
     rt: &impl Abort,
     alloc: Global,
@@ -71,8 +66,6 @@ fn assert_rows_stay(
     assert_rows(rt, alloc, service, rows.as_str())
 }
 
-/// Opens the campaign of a database and runs a step; asserts its answer, and that the campaign and
-/// the tables have the same rows before and after.
 fn leaves_all_rows<S: Alter + Drop>(
     rt: &impl Abort,
     alloc: Global,
@@ -89,8 +82,6 @@ fn leaves_all_rows<S: Alter + Drop>(
     Ok(conn)
 }
 
-/// Runs each step in the campaign of a database; asserts its answer, and that it changes no row of
-/// the campaign or of the tables.
 fn leave_all_rows<S: Alter + Drop>(
     rt: &impl Abort,
     alloc: Global,

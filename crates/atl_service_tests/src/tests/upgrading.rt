@@ -24,7 +24,6 @@ struct Story {
     after: &'static [(&'static str, Option<i64>)],
 }
 
-/// A file of the first format with the rows of a service's campaign, changed by SQL.
 fn written_old(
     alloc: Global,
     service: &impl AnyService,
@@ -36,8 +35,6 @@ fn written_old(
     Ok(conn)
 }
 
-/// The file of a story before its upgrade, written from a campaign that was played in a database of
-/// its own.
 fn old_file_of(
     rt: &impl Abort,
     alloc: Global,
@@ -56,7 +53,6 @@ fn rows_wanted(rt: &impl Abort, alloc: Global, story: &Story) -> Result<String, 
     rows_in(alloc, &open_after_sql(alloc, service.end(), story.by_hand)?)
 }
 
-/// Asserts that a database isn't opened, and why; returns the connection.
 fn assert_not_opened(
     rt: &impl Abort,
     alloc: Global,
@@ -66,7 +62,6 @@ fn assert_not_opened(
     assert_refused(rt, open(alloc, conn), words)
 }
 
-/// Asserts that a file isn't upgraded to a world text, and why; returns the connection.
 fn assert_not_upgraded(
     rt: &impl Abort,
     alloc: Global,
@@ -77,8 +72,6 @@ fn assert_not_upgraded(
     assert_refused(rt, upgrade(alloc, conn, world), words)
 }
 
-/// Asserts that a file isn't opened, nor upgraded to two wrong world texts; then upgrades it, and
-/// asserts the campaign's rows.
 fn assert_upgrade(
     rt: &impl Abort,
     alloc: Global,
@@ -97,8 +90,6 @@ fn assert_upgrade(
     }
 }
 
-/// Asserts that the upgraded file isn't upgraded again; opens it, and asserts the campaign's rows,
-/// the answers to the later steps, and the tables at the end.
 fn assert_played_on(
     rt: &impl Abort,
     alloc: Global,
@@ -114,8 +105,6 @@ fn assert_played_on(
     done
 }
 
-/// Asserts that the file of a story is upgraded and keeps its campaign's rows, and is opened and
-/// played on.
 fn assert_upgraded(rt: &impl Abort, alloc: Global, story: &Story) -> Result<(), Fail> {
     let conn = old_file_of(rt, alloc, story)?;
     let rows = rows_wanted(rt, alloc, story)?;
@@ -123,7 +112,6 @@ fn assert_upgraded(rt: &impl Abort, alloc: Global, story: &Story) -> Result<(), 
     assert_played_on(rt, alloc, conn, story, rows.as_str())
 }
 
-/// The one step by which Avalon joins in the island's third region.
 const FAR_JOINS: [Step; 1] = [Step::Joined(CommandSpec::Join("Avalon", "pw", 1), 1, 1)];
 
 /// Avalon's report on month 1: its unit is in the third region, and the market in the first, so BUY
@@ -137,7 +125,6 @@ Exits: north 4, west 2.
 * Unit 1 \"Unit 1\": 1 men, 1000 money.
 ";
 
-/// The command that closes month 1 of the island.
 const MONTH_ONE: CommandSpec = CommandSpec::Close(1, "gm", &[0, 0, 0, 0]);
 
 /// Steps after the upgrade: the report stored before is still answered; then a unit tries to buy,
@@ -153,14 +140,12 @@ const BUYS_NOTHING: [Step; 4] = [
     Step::Answers(CommandSpec::Report(1, "pw"), AFTER_BUYING),
 ];
 
-/// SELECTs and what they return after the month in which nothing is bought.
 const AFTER_NOTHING: [(&str, Option<i64>); 3] = [
     (FORMAT, Some(2)),
     (STOCKED, Some(1)),
     (STOCK, Some(20)),
 ];
 
-/// The story of a file whose one unit doesn't reach the market.
 static FAR_FROM_MARKET: Story = Story {
     before: &FAR_JOINS,
     by_hand: "",
@@ -168,16 +153,13 @@ static FAR_FROM_MARKET: Story = Story {
     after: &AFTER_NOTHING,
 };
 
-/// The mailing by which unit 1 sells 3 wood.
 const SELLS: &str = "#ATLANTIS 1\nUNIT 1\nSELL 3 wood\n";
 
-/// Steps before the upgrade: Avalon joins, and sends a mailing with SELL.
 const SENDS_EARLY: [Step; 2] = [
     Step::Joined(JOIN_OF_AVALON, 1, 1),
     Step::Mailed(CommandSpec::Mail(1, "pw", SELLS), 1, &[]),
 ];
 
-/// SQL that gives 4 wood to unit 1, booked under Joining.
 const HAS_WOOD: &str = "INSERT INTO has VALUES (1, 0, 0, 4); INSERT INTO books VALUES (2, 2, 4)";
 
 /// Avalon's report on month 1: 3 wood are sold to the market, and 20 more come into stock.
@@ -191,7 +173,6 @@ Market wood: 23 in stock at 7, 7 wanted at 5.
 * Unit 1 \"Unit 1\": 1 men, 1017 money, 1 wood.
 ";
 
-/// The text of the books after the month in which unit 1 sells 3 wood.
 const BOOKS_AFTER_SELLING: &str = "money founding 650
 money joining 1000
 money income 1300
@@ -208,7 +189,6 @@ item \"wood\" total 24
 item \"cart\" total 0
 ";
 
-/// Steps after the upgrade: the mailing is still stored, and a closing carries it out.
 const SELLS_THREE: [Step; 4] = [
     Step::Keeps(Some(SELLS)),
     Step::Closed(MONTH_ONE, 1),
@@ -216,10 +196,8 @@ const SELLS_THREE: [Step; 4] = [
     Step::Books(BOOKS_AFTER_SELLING),
 ];
 
-/// SELECTs and what they return after the month in which 3 wood are sold.
 const AFTER_THREE: [(&str, Option<i64>); 2] = [(STOCKED, Some(1)), (STOCK, Some(23))];
 
-/// The story of a file with mail that was sent before the upgrade.
 static WITH_EARLY_MAIL: Story = Story {
     before: &SENDS_EARLY,
     by_hand: HAS_WOOD,
@@ -227,13 +205,11 @@ static WITH_EARLY_MAIL: Story = Story {
     after: &AFTER_THREE,
 };
 
-/// A file of the first format is not opened, is upgraded once, and is then opened and played on.
 #[test]
 fn a_file_is_upgraded_once(rt: HostRuntime) -> Result<(), Fail> {
     assert_upgraded(&rt, rt.alloc(), &FAR_FROM_MARKET)
 }
 
-/// A mailing that was sent before the upgrade is carried out after it.
 #[test]
 fn early_mail_is_carried_out(rt: HostRuntime) -> Result<(), Fail> {
     assert_upgraded(&rt, rt.alloc(), &WITH_EARLY_MAIL)
@@ -252,7 +228,6 @@ static REFUSED: [(&str, &str, &str); 8] = [
     ("BEGIN", "store", "store"),
 ];
 
-/// Asserts for a row of `REFUSED` that the changed file is neither opened nor upgraded, and why.
 fn assert_shut(rt: &impl Abort, alloc: Global, refused: &(&str, &str, &str)) -> Result<(), Fail> {
     let (sql, opening, upgrade) = *refused;
     let mut conn = old_file_of(rt, alloc, &FAR_FROM_MARKET)?;
@@ -263,7 +238,6 @@ fn assert_shut(rt: &impl Abort, alloc: Global, refused: &(&str, &str, &str)) -> 
     Ok(())
 }
 
-/// Asserts for each row of `REFUSED` that the changed file is neither opened nor upgraded, and why.
 fn assert_all_shut(rt: &impl Abort, alloc: Global) -> Result<(), Fail> {
     for refused in REFUSED.iter() {
         assert_shut(rt, alloc, refused)?;
@@ -271,8 +245,6 @@ fn assert_all_shut(rt: &impl Abort, alloc: Global) -> Result<(), Fail> {
     Ok(())
 }
 
-/// A changed file of the first format is neither opened nor upgraded; the first failed check is
-/// reported.
 #[test]
 fn the_first_check_of_an_old_file_is_reported(rt: HostRuntime) -> Result<(), Fail> {
     assert_all_shut(&rt, rt.alloc())

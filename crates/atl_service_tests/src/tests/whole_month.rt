@@ -136,7 +136,6 @@ Exits: south 3.
 * Unit 10 \"Unit 10\": 1 men, 0 money, guard.
 ";
 
-/// The text of the books after the month of ten units.
 const BOOKS_AFTER_MONTH: &str = "money founding 650
 money joining 914
 money income 1299
@@ -156,7 +155,6 @@ item \"wood\" total 23
 item \"cart\" total 0
 ";
 
-/// The steps of the month of ten units: both mailings, the closing, both reports and the books.
 const MONTH_OF_ORDERS: [Step; 6] = [
     Step::Mailed(CommandSpec::Mail(2, "pb", OF_BREE), 7, &[]),
     Step::Mailed(CommandSpec::Mail(1, "pw", OF_AVALON), 16, &[]),
@@ -166,7 +164,6 @@ const MONTH_OF_ORDERS: [Step; 6] = [
     Step::Books(BOOKS_AFTER_MONTH),
 ];
 
-/// SELECTs and what they return after the month of ten units.
 const AFTER_MONTH_OF_TEN: [(&str, Option<i64>); 4] = [
     (MONTH, Some(1)),
     (NEXT, Some(300012)),
@@ -174,7 +171,6 @@ const AFTER_MONTH_OF_TEN: [(&str, Option<i64>); 4] = [
     (MAILINGS, Some(0)),
 ];
 
-/// The course of the month of ten units: its world, rows, steps, and the tables afterwards.
 static MONTH_OF_TEN: Course = Course {
     world: ISLE,
     rows: ROWS_BEFORE,
@@ -182,8 +178,6 @@ static MONTH_OF_TEN: Course = Course {
     after: &AFTER_MONTH_OF_TEN,
 };
 
-/// A month with ten units and every kind of order but SELL and BUY gives the reports, books and
-/// tables worked out by hand.
 #[test]
 fn ten_units_carry_out_all_orders(rt: HostRuntime) -> Result<(), Fail> {
     play_course(&rt, rt.alloc(), &MONTH_OF_TEN)

@@ -8,7 +8,7 @@ ghost use Rattle.atl_sql.specs.Writes.{WritesRow, TakesOut};
 use crate::rows::columns::two_integers;
 use crate::rows::stored::{HasSelect, RowWithId, Stored};
 use crate::statement::run;
-use atl_campaign::parts::StoredBooks;
+use atl_rows::parts::StoredBooks;
 use atl_world::Format;
 use sqlite::{Alter, Error, Row, Transaction, params};
 use std::alloc::Global;
@@ -58,7 +58,6 @@ impl Stored for RowWithId<StoredBooks> {
 
     ghost shown = { books_stored };
 
-    /// Parses a row of `books` and its rowid; an error if a value is no integer.
     fn from_row(_alloc: Global, row: &Row) -> Result<RowWithId<StoredBooks>, Error> {
         let (entry, thing) = two_integers(row, 0)?;
         let (amount, rowid) = two_integers(row, 2)?;
@@ -71,14 +70,11 @@ impl Stored for RowWithId<StoredBooks> {
     }
 }
 
-/// Makes `books` a table that can be read, with the rowids, in the order of entry and thing.
 impl HasSelect for RowWithId<StoredBooks> {
     ghost part = { Books };
 
     ghost columns = { refl };
 
-    /// The SELECT of all rows of `books` with their rowids, after the first format whose files have
-    /// the table: the first.
     fn select_of() -> (Format, &'static str) {
         (
             Format::First,

@@ -15,7 +15,7 @@ use crate::fault::ReadFault;
 use crate::rows::columns::{text_bytes, three_integers, utf8_text};
 use crate::rows::stored::{HasSelect, Stored, select};
 use crate::statement::run;
-use atl_campaign::parts::StoredCampaignRow;
+use atl_rows::parts::StoredCampaignRow;
 use atl_world::Format;
 use sqlite::{Alter, Connection, Error, Row, Transaction, params};
 use std::alloc::Global;
@@ -26,13 +26,9 @@ use std::alloc::Global;
 pub struct CampaignRow<'a> {
     /// The month last closed, 0 before the first.
     pub month: u32,
-    /// The number that the next faction gets.
     pub next_faction: u32,
-    /// The number that the next unit gets.
     pub next_unit: u32,
-    /// The number that the next structure gets.
     pub next_structure: u32,
-    /// The moderator's pass text.
     pub pass: &'a str,
 }
 
@@ -98,15 +94,12 @@ pub struct StoredCampaign {
     pub world: String,
 }
 
-/// Drops the columns of the row and its world text in one call.
 impl Drop for StoredCampaign {
-    /// Drops the columns of the row and its world text.
     fn drop(self) {
         let StoredCampaign { head: _, world: _ } = self;
     }
 }
 
-/// Lets a stored campaign row be read without its world text: the other columns remain.
 impl StoredCampaign {
     /// All columns of the row but the world text, which is dropped.
     pub fn into_campaign_row(self) -> StoredCampaignRow
@@ -144,7 +137,6 @@ impl Stored for StoredCampaign {
 
     ghost shown = { campaign_stored };
 
-    /// Parses a row of `campaign`; an error if a value is of another type, or if memory runs out.
     fn from_row(alloc: Global, row: &Row) -> Result<StoredCampaign, Error> {
         let head = parse_campaign_row(alloc, row)?;
         let world = utf8_text(row, 7)?;
@@ -152,7 +144,6 @@ impl Stored for StoredCampaign {
     }
 }
 
-/// The SELECT of all columns of all rows of `campaign`, in the order of `id`.
 const SELECT_ALL: &str =
     "SELECT id, format, month, next_faction, next_unit, next_structure, pass, world FROM campaign ORDER BY id";
 
@@ -165,14 +156,11 @@ pub fn select_campaign<S: Alter>(conn: &mut Connection<S>) -> Result<Vec<Row>, R
     select(conn, SELECT_ALL)
 }
 
-/// Makes `campaign` a table that can be read, in the order of `id`.
 impl HasSelect for StoredCampaign {
     ghost part = { Own };
 
     ghost columns = { refl };
 
-    /// The SELECT of all rows of `campaign`, after the first format whose files have the table: the
-    /// first.
     fn select_of() -> (Format, &'static str) {
         (Format::First, SELECT_ALL)
     }

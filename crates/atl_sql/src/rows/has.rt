@@ -8,7 +8,7 @@ ghost use Rattle.atl_sql.specs.Writes.{WritesRow, TakesOut};
 use crate::rows::columns::{three_integers, two_integers};
 use crate::rows::stored::{HasSelect, RowWithId, Stored};
 use crate::statement::run;
-use atl_campaign::parts::StoredHas;
+use atl_rows::parts::StoredHas;
 use atl_world::Format;
 use sqlite::{Alter, Error, Row, Transaction, params};
 use std::alloc::Global;
@@ -16,13 +16,10 @@ use std::alloc::Global;
 /// What a row of `has` is about: an item, with an amount, or a skill, with days.
 #[derive(Clone, Copy, Debug, PartialEq, Eq)]
 pub enum ThingKind {
-    /// An amount of an item.
     Item,
-    /// Days of a skill.
     Skill,
 }
 
-/// How a kind of goods (item or skill) is written in the column `sort`.
 impl ThingKind {
     /// The kind's number in the column `sort`: 0 for an item, 1 for a skill.
     pub(crate) fn number(self) -> u32
@@ -38,9 +35,7 @@ impl ThingKind {
 /// A row of `has`: how much a unit has of an item or a skill, which is more than 0.
 #[derive(Clone, Copy, Debug)]
 pub struct HasRow {
-    /// The number of the unit.
     pub unit: u32,
-    /// Whether the row is about an item or a skill.
     pub sort: ThingKind,
     /// The world's number of the item or the skill.
     pub thing: u32,
@@ -91,7 +86,6 @@ impl Stored for RowWithId<StoredHas> {
 
     ghost shown = { has_stored };
 
-    /// Parses a row of `has` and its rowid; an error if a value is no integer.
     fn from_row(_alloc: Global, row: &Row) -> Result<RowWithId<StoredHas>, Error> {
         let (unit, sort) = two_integers(row, 0)?;
         let (thing, amount, rowid) = three_integers(row, 2)?;
@@ -105,14 +99,11 @@ impl Stored for RowWithId<StoredHas> {
     }
 }
 
-/// Makes `has` a table that can be read, with the rowids, in the order of unit, sort and thing.
 impl HasSelect for RowWithId<StoredHas> {
     ghost part = { Goods };
 
     ghost columns = { refl };
 
-    /// The SELECT of all rows of `has` with their rowids, after the first format whose files have
-    /// the table: the first.
     fn select_of() -> (Format, &'static str) {
         (
             Format::First,

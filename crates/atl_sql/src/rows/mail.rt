@@ -4,13 +4,12 @@ ghost use Rattle.atl_sql.specs.Tables.{Mail, mail_table};
 ghost use Rattle.atl_sql.specs.Shown.{mail_row, mail_stored, mail_forms};
 ghost use Rattle.atl_sql.specs.Writes.{WritesRow};
 
-use crate::numbered_rows::{Mapped, NumberedRow};
 use crate::rows::columns::{bytes, integer};
+use crate::rows::numbered::NumberedTable;
 use crate::rows::stored::{HasSelect, Stored};
 use crate::statement::run;
-use atl_campaign::Campaign;
-use atl_campaign::parts::StoredMail;
-use atl_world::{Entries, Format, MarkedNumbers, Sequence};
+use atl_rows::parts::StoredMail;
+use atl_world::Format;
 use sqlite::{Alter, Error, Row, Transaction, params};
 use std::alloc::Global;
 
@@ -30,61 +29,12 @@ pub fn put_mail<S: Alter>(
     )
 }
 
-/// What makes the text of a mailing one row of `mail`: its faction's number, and the text byte for
-/// byte.
-impl NumberedRow for Sequence<u8> {
-    ghost part = { Mail };
-
-    ghost is_numbered = { tt };
-
-    ghost line = { mail_row };
-
-    ghost numbered = { λ n v. refl };
-
-    ghost values = { λ c. c.mail };
-
-    ghost marks = { λ m. m.mail };
-
-    ghost are_rows = { λ own c r. (λ is. is, λ is. is) };
-
-    ghost are_marked = { λ m r. refl };
-
-    /// The mailing of the faction with this number; None if it sent none.
-    fn find_value(campaign: &Campaign, number: u32) -> Option<&Sequence<u8>> {
-        campaign.mail_of(number)
-    }
-
-    /// The numbers of the factions whose rows of `mail` are marked, in rising order.
-    fn marked_numbers(campaign: &Campaign) -> MarkedNumbers<'_> {
-        campaign.marked_mail()
-    }
-
-    /// The text of the DELETE of the row of `mail` with a given faction's number.
-    fn delete_text() -> &'static str {
-        "DELETE FROM mail WHERE faction = ?1"
-    }
-
-    /// Inserts the mailing into `mail` under a faction's number, or replaces the one there.
-    fn put<S: Alter>(&self, tx: &mut Transaction<'_, S>, number: u32) -> Result<(), Error> {
-        put_mail(tx, number, self.as_slice())
-    }
-}
-
-/// Lets a campaign's mailings be listed by the numbers of their factions.
-impl Mapped for Sequence<u8> {
-    /// All mailings of a campaign, in rising order of their factions' numbers.
-    fn all(campaign: &Campaign) -> Entries<'_, Sequence<u8>> {
-        campaign.mail()
-    }
-}
-
 /// Reads a row of `mail`: the faction's number as an integer, and the text as the bytes of a blob.
 impl Stored for StoredMail {
     ghost forms = { mail_forms };
 
     ghost shown = { mail_stored };
 
-    /// Parses a row of `mail`; an error if a value is of another type, or if memory runs out.
     fn from_row(_alloc: Global, row: &Row) -> Result<StoredMail, Error> {
         let faction = integer(row, 0)?;
         let text = bytes(row, 1)?;
@@ -92,18 +42,24 @@ impl Stored for StoredMail {
     }
 }
 
-/// Makes `mail` a table that can be read, in the order of the factions' numbers.
 impl HasSelect for StoredMail {
     ghost part = { Mail };
 
     ghost columns = { refl };
 
-    /// The SELECT of all rows of `mail`, after the first format whose files have the table: the
-    /// first.
     fn select_of() -> (Format, &'static str) {
         (
             Format::First,
             "SELECT faction, text FROM mail ORDER BY faction",
         )
+    }
+}
+
+/// Makes `mail` a table from which a row is deleted by its number.
+impl NumberedTable for StoredMail {
+    ghost is_numbered = { tt };
+
+    fn delete_text() -> &'static str {
+        "DELETE FROM mail WHERE faction = ?1"
     }
 }

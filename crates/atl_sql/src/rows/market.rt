@@ -7,7 +7,7 @@ ghost use Rattle.atl_sql.specs.Writes.{WritesRow, TakesOut};
 use crate::rows::columns::two_integers;
 use crate::rows::stored::{HasSelect, RowWithId, Stored};
 use crate::statement::run;
-use atl_campaign::parts::StoredMarket;
+use atl_rows::parts::StoredMarket;
 use atl_world::Format;
 use sqlite::{Alter, Error, Row, Transaction, params};
 use std::alloc::Global;
@@ -58,7 +58,6 @@ impl Stored for RowWithId<StoredMarket> {
 
     ghost shown = { market_stored };
 
-    /// Parses a row of `market` and its rowid; an error if a value is no integer.
     fn from_row(_alloc: Global, row: &Row) -> Result<RowWithId<StoredMarket>, Error> {
         let (region, item) = two_integers(row, 0)?;
         let (stock, rowid) = two_integers(row, 2)?;
@@ -78,8 +77,6 @@ impl HasSelect for RowWithId<StoredMarket> {
 
     ghost columns = { refl };
 
-    /// The SELECT of all rows of `market` with their rowids, after the first format whose files
-    /// have the table: the second.
     fn select_of() -> (Format, &'static str) {
         (
             Format::Second,

@@ -60,7 +60,6 @@ pub trait HasSelect: Stored {
 /// A row of a table without an INTEGER PRIMARY KEY, with the rowid that the database gave it.
 #[derive(Debug, Drop)]
 pub struct RowWithId<T> {
-    /// The row without its rowid.
     pub row: T,
     /// The row's rowid, which no other row of the table should have.
     pub rowid: i64,

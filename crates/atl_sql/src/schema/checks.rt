@@ -31,21 +31,18 @@ fn sides(node: Option<&Op>) -> Option<(usize, usize)>
     }
 }
 
-/// Whether the node of a CHECK reads the number of the row, which is the column `id`.
 fn is_number(node: Option<&Op>) -> bool
     ensures { IsTrue result ↔ (option_copied node.entry ≡ Some (variant.Column 1 0)) }
 {
     matches!(node, Some(Op::Column(1, 0)))
 }
 
-/// Whether the node of a CHECK is the number 1.
 fn is_one(node: Option<&Op>) -> bool
     ensures { IsTrue result ↔ (option_copied node.entry ≡ Some (variant.Literal (Int (pos 1)))) }
 {
     matches!(node, Some(Op::Literal(Value::Int(1))))
 }
 
-/// Whether the expression whose root is the node at index `root` is `id = 1`.
 fn has_number_one(nodes: &[Op], root: usize) -> bool
     ensures { IsTrue result ↔
         (term_in nodes.now root ≡ op2 (Compare Eq Binary) (col 1 0) (lit (Int (pos 1)))) }

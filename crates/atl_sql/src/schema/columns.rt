@@ -6,7 +6,6 @@ use sqlite_schema::schema::{Column, Kind};
 use sqlite_value::keys::Collation;
 use sqlite_value::value::Value;
 
-/// Whether the column is STRICT and NOT NULL, without a default, with this name and kind.
 fn is_strict_column(column: &Column, name: &[u8], kind: Kind) -> bool
     ensures { IsTrue result ↔ (column.now ≡ strict_column name.now kind) }
 {

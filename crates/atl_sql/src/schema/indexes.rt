@@ -12,7 +12,6 @@ use crate::tables::{
 };
 use sqlite_schema::schema::Index;
 
-/// Whether an index is unique and has this name, tree, table and columns, all ascending by bytes.
 fn is_index(found: &Index, name: &[u8], tree: u32, table: u32, columns: &[usize]) -> bool
     ensures { IsTrue result ↔
         (found.now ≡ record {
@@ -32,7 +31,6 @@ fn is_index(found: &Index, name: &[u8], tree: u32, table: u32, columns: &[usize]
         && found.is_unique
 }
 
-/// Whether an index is the one that the database makes for the only unique key of a table.
 fn is_index_of(
     found: &Index,
     made: &TableDefinition,
@@ -93,8 +91,6 @@ fn is_key_index(found: &Index, position: usize) -> bool
     }
 }
 
-/// Whether a schema's first `count` indexes are the first `count` of the four that the database
-/// makes for the unique keys of the ten tables.
 fn are_first_indexes(indexes: &[Index], count: usize) -> bool
     requires { count ≤ length indexes.now }
     ensures { IsTrue result ↔ (take count indexes.now ≡ take count all_indexes) }
@@ -107,14 +103,12 @@ fn are_first_indexes(indexes: &[Index], count: usize) -> bool
     true
 }
 
-/// Whether a tree, given by its number, is that of one of these tables.
 fn is_among(tree: u32, tables: &[TableDefinition]) -> bool
     ensures { result ≡ list_any (λ t. tree == t.tree) tables.now }
 {
     tables.iter().any(|table| tree == table.tree)
 }
 
-/// Whether a tree, given by its number, is that of one of the first `count` tables of a campaign.
 fn is_campaign_tree(tree: u32, count: usize) -> bool
     requires { count ≤ length all_tables }
     ensures { result ≡ list_any (λ t. tree == t.tree) (take count all_tables) }
@@ -122,7 +116,6 @@ fn is_campaign_tree(tree: u32, count: usize) -> bool
     is_among(tree, &ALL[..count])
 }
 
-/// Whether the index makes nothing unique in the first `count` tables of a campaign.
 fn is_harmless(found: &Index, count: usize) -> bool
     requires { count ≤ length all_tables }
     ensures { IsTrue result ↔ (IsHarmless count found.now) }
@@ -130,7 +123,6 @@ fn is_harmless(found: &Index, count: usize) -> bool
     !found.is_unique || !is_campaign_tree(found.table, count)
 }
 
-/// Whether no index makes anything unique in the first `count` tables of a campaign.
 fn are_harmless(indexes: &[Index], count: usize) -> bool
     requires { count ≤ length all_tables }
     ensures { IsTrue result ↔ (AllByRecursion (IsHarmless count) indexes.now) }

@@ -28,7 +28,6 @@ pub(crate) fn is_under(found: &Table, positions: &[usize]) -> bool
     found.key.is_none() && found.primary.as_slice() == positions
 }
 
-/// Whether the table has no unique key besides the row's number.
 pub(crate) fn has_no_unique(found: &Table) -> bool
     ensures { IsTrue result ↔ ((found.now.uniques ≡ []) × (found.now.orders ≡ [])) }
 {
@@ -42,8 +41,6 @@ pub(crate) fn is_plain(order: &Order) -> bool
     order.digits == 0
 }
 
-/// Whether the list of a table's unique keys has exactly one, with the columns at these indexes of
-/// a stored row.
 fn is_one_key(keys: &[Items<usize>], positions: &[usize]) -> bool
     ensures { IsTrue result ↔ (keys.now ≡ positions.now ∷ []) }
 {
@@ -53,8 +50,6 @@ fn is_one_key(keys: &[Items<usize>], positions: &[usize]) -> bool
     }
 }
 
-/// Whether the list of the sort orders of a table's unique keys has exactly one, in which all
-/// columns ascend by their bytes.
 fn is_one_order(orders: &[Order]) -> bool
     ensures { IsTrue result ↔ (orders.now ≡ plain ∷ []) }
 {

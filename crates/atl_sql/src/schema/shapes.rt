@@ -45,8 +45,6 @@ pub(crate) fn is_strict(found: &Table, made: &TableDefinition) -> bool
         && has_nothing_more(found)
 }
 
-/// Whether tree, name and columns are as defined, and the table has nothing more than keys, so no
-/// check.
 fn is_unchecked(found: &Table, made: &TableDefinition) -> bool
     ensures { IsTrue result ↔
         (found.now ≡ record (table made.now.tree made.now.name.now

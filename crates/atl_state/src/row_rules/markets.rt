@@ -19,14 +19,12 @@ pub(super) fn market_of<'w>(world: &'w World, row: &StoredMarket) -> Option<&'w 
     plan.markets.get(as_u32(row.item))
 }
 
-/// Whether a row of `market` is of a market of the world.
 fn is_of_market(world: &World, row: &StoredMarket) -> bool
     ensures { result ≡ is_of_market world.now row.now }
 {
     market_of(world, row).is_some()
 }
 
-/// Whether each of the given rows of `market` is of a market of the world.
 pub(crate) fn are_of_markets(world: &World, rows: &[StoredMarket]) -> bool
     ensures { result ≡ list_all (is_of_market world.now) rows.now }
 {

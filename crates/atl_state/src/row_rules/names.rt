@@ -10,8 +10,6 @@ use atl_campaign::parts::{Parts, StoredFaction, StoredStructure, StoredUnit};
 use atl_world::{name_ok, pass_ok};
 use std::alloc::{AllocError, Global};
 
-/// Whether the joined name, the shown name and the pass text of a row of `faction` are such as the
-/// rules of names and of pass texts allow.
 fn faction_named(row: &StoredFaction) -> bool
     ensures { result ≡ faction_named row.now }
 {
@@ -20,28 +18,24 @@ fn faction_named(row: &StoredFaction) -> bool
         && pass_ok(row.pass.as_slice())
 }
 
-/// Whether the names and pass texts of all rows of `faction` are allowed.
 fn factions_named(rows: &[StoredFaction]) -> bool
     ensures { result ≡ list_all faction_named rows.now }
 {
     rows.iter().all(|row| faction_named(row))
 }
 
-/// Whether the names of all rows of `unit` are allowed by the rule of names.
 fn units_named(rows: &[StoredUnit]) -> bool
     ensures { result ≡ list_all (λ r. name_ok r.name) rows.now }
 {
     rows.iter().all(|row| name_ok(row.name.as_slice()))
 }
 
-/// Whether the names of all rows of `structure` are allowed by the rule of names.
 fn structures_named(rows: &[StoredStructure]) -> bool
     ensures { result ≡ list_all (λ r. name_ok r.name) rows.now }
 {
     rows.iter().all(|row| name_ok(row.name.as_slice()))
 }
 
-/// Whether all names and pass texts of a campaign's rows are allowed.
 fn are_named(parts: &Parts) -> bool
     requires { length parts.now.campaign ≡ 1 }
     ensures { result ≡ are_named parts.now }
@@ -52,7 +46,6 @@ fn are_named(parts: &Parts) -> bool
         && structures_named(parts.structures.as_slice())
 }
 
-/// The names that factions joined under, in the order of the rows.
 fn joined_names(alloc: Global, rows: &[StoredFaction]) -> Result<Vec<&[u8]>, AllocError>
     ensures { IfOk result (λ names. map (λ name. name.now) names.items
         ≡ map (λ r. r.joined_as) rows.now) }
@@ -64,7 +57,6 @@ fn joined_names(alloc: Global, rows: &[StoredFaction]) -> Result<Vec<&[u8]>, All
     Ok(names)
 }
 
-/// Whether no two factions joined under the same name.
 fn joined_names_differ(alloc: Global, rows: &[StoredFaction]) -> Result<bool, AllocError>
     ensures { IfOk result (λ yes. IsTrue yes ↔ (AreJoinedNamesDistinct rows.now)) }
 {

@@ -31,22 +31,18 @@ fn campaign_row_in_range(head: &StoredCampaignRow) -> bool
         && is_from(1, MOST_STRUCTURES + 1, head.next_structure)
 }
 
-/// Whether the number of a row of `faction` is 1 to LAST_FACTION, and its flag `gone` 0 or 1.
 fn faction_in_range(row: &StoredFaction) -> bool
     ensures { result ≡ faction_in_range row.now }
 {
     is_from(1, LAST_FACTION, row.number) && is_from(0, 1, row.gone)
 }
 
-/// Whether the peasants and the money of a row of `region` are each 0 to MOST_AMOUNT.
 fn region_in_range(row: &StoredRegion) -> bool
     ensures { result ≡ region_in_range row.now }
 {
     is_from(0, MOST_AMOUNT, row.peasants) && is_from(0, MOST_AMOUNT, row.money)
 }
 
-/// Whether the number of a row of `unit` is 1 to LAST_UNIT, its men 1 to MEN_LIMIT, its money 0 to
-/// HOLDING_LIMIT, and its guard flag 0 or 1.
 fn unit_in_range(row: &StoredUnit) -> bool
     ensures { result ≡ unit_in_range row.now }
 {
@@ -73,7 +69,6 @@ fn structure_in_range(world: &World, row: &StoredStructure) -> bool
     is_from(1, MOST_STRUCTURES, row.number) && is_from(1, size, row.done)
 }
 
-/// Whether an amount of the books is not 0, and without its sign at most `bound`.
 fn books_in_range(bound: u128, row: &StoredBooks) -> bool
     ensures { result ≡ books_in_range bound row.now }
 {
@@ -91,57 +86,48 @@ fn market_in_range(world: &World, row: &StoredMarket) -> bool
     is_from(1, limit, row.stock)
 }
 
-/// Whether the number and the flag `gone` of each row of `faction` are in their ranges.
 fn factions_in_range(rows: &[StoredFaction]) -> bool
     ensures { result ≡ list_all faction_in_range rows.now }
 {
     rows.iter().all(|row| faction_in_range(row))
 }
 
-/// Whether peasants and money of each row of `region` are in their ranges.
 fn regions_in_range(rows: &[StoredRegion]) -> bool
     ensures { result ≡ list_all region_in_range rows.now }
 {
     rows.iter().all(|row| region_in_range(row))
 }
 
-/// Whether number, men, money and guard flag of each row of `unit` are in their ranges.
 fn units_in_range(rows: &[StoredUnit]) -> bool
     ensures { result ≡ list_all unit_in_range rows.now }
 {
     rows.iter().all(|row| unit_in_range(row))
 }
 
-/// Whether the sort of each row of `has` is 0 or 1, and the amount of each item in its range.
 fn all_has_in_range(rows: &[StoredHas]) -> bool
     ensures { result ≡ list_all has_in_range rows.now }
 {
     rows.iter().all(|row| has_in_range(row))
 }
 
-/// Whether the number of each row of `structure`, and how much of it is done, are in their ranges.
 fn structures_in_range(world: &World, rows: &[StoredStructure]) -> bool
     ensures { result ≡ list_all (structure_in_range world.now) rows.now }
 {
     rows.iter().all(|row| structure_in_range(world, row))
 }
 
-/// Whether no amount of the given rows of `books` is 0, or above `bound` without its sign.
 fn all_books_in_range(bound: u128, rows: &[StoredBooks]) -> bool
     ensures { result ≡ list_all (books_in_range bound) rows.now }
 {
     rows.iter().all(|row| books_in_range(bound, row))
 }
 
-/// Whether the stock of each row of `market` is in its range.
 fn markets_in_range(world: &World, rows: &[StoredMarket]) -> bool
     ensures { result ≡ list_all (market_in_range world.now) rows.now }
 {
     rows.iter().all(|row| market_in_range(world, row))
 }
 
-/// Whether there are at most LAST_FACTION factions, MOST_REGIONS regions, MOST_UNITS units and
-/// MOST_STRUCTURES structures.
 fn are_few(parts: &Parts) -> bool
     ensures { result ≡ are_few parts.now }
 {
@@ -151,7 +137,6 @@ fn are_few(parts: &Parts) -> bool
         && parts.structures.len() <= MOST_STRUCTURES as usize
 }
 
-/// Whether each row of `faction`, `region`, `unit` and `has` is in its ranges.
 fn first_tables_in_range(parts: &Parts) -> bool
     ensures { result ≡ first_tables_in_range parts.now }
 {

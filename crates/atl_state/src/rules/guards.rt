@@ -7,7 +7,6 @@ ghost use Rattle.atl_campaign.specs.Campaign.{numbers_in_region};
 
 use atl_campaign::Campaign;
 
-/// The faction of the unit with this number, if the unit guards its region; else None.
 fn guard_of(campaign: &Campaign, number: u32) -> Option<u32>
     ensures { result ≡ guard_of campaign.now.value number }
 {
@@ -27,7 +26,6 @@ fn agree(one: Option<u32>, other: Option<u32>) -> bool
     }
 }
 
-/// Whether all units that guard a region are of one faction.
 fn has_one_holder(campaign: &Campaign, region: u32) -> bool
     ensures { result ≡ one_holder (guard_of campaign.now.value) None
         (numbers_in_region region campaign.now.value.units) }

@@ -10,35 +10,30 @@ use atl_campaign::Campaign;
 use atl_records::{Holding, Region, Structure, Unit};
 use atl_world::{Entries, World};
 
-/// Whether a faction of the campaign, gone or not, has this number.
 fn is_faction(campaign: &Campaign, number: u32) -> bool
     ensures { IsTrue result ↔ (HasValue campaign.now.value.factions number) }
 {
     campaign.faction(number).is_some()
 }
 
-/// Whether a region of the campaign has this number.
 fn is_region(campaign: &Campaign, number: u32) -> bool
     ensures { IsTrue result ↔ (HasValue campaign.now.value.regions number) }
 {
     campaign.region(number).is_some()
 }
 
-/// Whether a unit of the campaign has this number.
 fn is_unit(campaign: &Campaign, number: u32) -> bool
     ensures { IsTrue result ↔ (HasValue campaign.now.value.units number) }
 {
     campaign.unit(number).is_some()
 }
 
-/// Whether a region of the world has this number.
 fn is_of_world(world: &World, number: u32) -> bool
     ensures { IsTrue result ↔ (HasValue world.now.regions number) }
 {
     world.region(number).is_some()
 }
 
-/// Whether each region of the campaign is one of the world's.
 fn are_of_world(world: &World, campaign: &Campaign) -> bool
     ensures { IsTrue result ↔
         (Every (λ n r. HasValue world.now.regions n) campaign.now.value.regions) }
@@ -48,7 +43,6 @@ fn are_of_world(world: &World, campaign: &Campaign) -> bool
         .all(|(number, _)| is_of_world(world, number))
 }
 
-/// Whether the campaign has each region of the world.
 fn are_all_there(world: &World, campaign: &Campaign) -> bool
     ensures { IsTrue result ↔
         (Every (λ n p. HasValue campaign.now.value.regions n) world.now.regions) }
@@ -59,7 +53,6 @@ fn are_all_there(world: &World, campaign: &Campaign) -> bool
         .all(|(number, _)| is_region(campaign, number))
 }
 
-/// Whether the campaign's regions are exactly the world's.
 fn are_regions_known(world: &World, campaign: &Campaign) -> bool
     ensures { IsTrue result ↔
         ((n : ℕ) → HasValue campaign.now.value.regions n ↔ HasValue world.now.regions n) }
@@ -67,7 +60,6 @@ fn are_regions_known(world: &World, campaign: &Campaign) -> bool
     are_of_world(world, campaign) && are_all_there(world, campaign)
 }
 
-/// Whether the world has a market for an item in a region.
 fn has_market(world: &World, region: u32, item: u32) -> bool
     ensures { IsTrue result ↔ (IsSome (market_of world.now region item)) }
 {
@@ -77,7 +69,6 @@ fn has_market(world: &World, region: u32, item: u32) -> bool
     }
 }
 
-/// Whether the world has a market in a region for each item that is in stock there.
 fn has_known_markets(world: &World, number: u32, region: &Region) -> bool
     ensures { IsTrue result ↔ (AreOfMarkets world.now number region.now.stocks) }
 {
@@ -87,7 +78,6 @@ fn has_known_markets(world: &World, number: u32, region: &Region) -> bool
         .all(|(item, _)| has_market(world, number, item))
 }
 
-/// Whether the world has a market for each item that is in stock in a region of the campaign.
 fn have_known_markets(world: &World, campaign: &Campaign) -> bool
     ensures { IsTrue result ↔
         (Every (λ n r. AreOfMarkets world.now n r.stocks) campaign.now.value.regions) }
@@ -95,8 +85,6 @@ fn have_known_markets(world: &World, campaign: &Campaign) -> bool
     campaign.regions().all(|(number, region)| has_known_markets(world, number, region))
 }
 
-/// Whether the campaign's regions are exactly the world's, and each item in stock has a market
-/// there.
 fn are_stocks_known(world: &World, campaign: &Campaign) -> bool
     ensures { IsTrue result ↔
         (((n : ℕ) → HasValue campaign.now.value.regions n ↔ HasValue world.now.regions n)
@@ -105,14 +93,12 @@ fn are_stocks_known(world: &World, campaign: &Campaign) -> bool
     are_regions_known(world, campaign) && have_known_markets(world, campaign)
 }
 
-/// Whether the numbers of all given items or skills are below `count`.
 fn are_below(mut entries: Entries<'_, u32>, count: usize) -> bool
     ensures { IsTrue result ↔ (EachEntry (λ n amount. n < count) entries.entry) }
 {
     entries.all(|(number, _)| (number as usize) < count)
 }
 
-/// Whether the world has each item and each skill that is listed of a unit.
 fn holds_known(world: &World, holding: &Holding) -> bool
     ensures { IsTrue result ↔
         (Every (λ i amount. i < length world.now.items) holding.now.items
@@ -139,7 +125,6 @@ fn is_inside_here(campaign: &Campaign, unit: &Unit) -> bool
     }
 }
 
-/// Whether a unit's faction and region exist.
 fn has_known_faction_and_region(campaign: &Campaign, unit: &Unit) -> bool
     ensures { IsTrue result ↔
         (HasValue campaign.now.value.factions unit.now.faction
@@ -148,8 +133,6 @@ fn has_known_faction_and_region(campaign: &Campaign, unit: &Unit) -> bool
     is_faction(campaign, unit.faction) && is_region(campaign, unit.region)
 }
 
-/// Whether the world has all items and skills of a unit, and the unit's structure is 0 (none) or
-/// exists in the unit's region.
 fn has_known_goods_and_structure(world: &World, campaign: &Campaign, unit: &Unit) -> bool
     ensures { IsTrue result ↔
         ((unit.now.structure ≢ 0
@@ -162,8 +145,6 @@ fn has_known_goods_and_structure(world: &World, campaign: &Campaign, unit: &Unit
     is_inside_here(campaign, unit) && holds_known(world, &unit.holding)
 }
 
-/// Whether a unit's faction, region, items and skills exist, and the unit's structure is 0 (none)
-/// or exists in the unit's region.
 fn is_placed(world: &World, campaign: &Campaign, unit: &Unit) -> bool
     ensures { IsTrue result ↔ (IsPlaced world.now campaign.now.value unit.now) }
 {
@@ -171,8 +152,6 @@ fn is_placed(world: &World, campaign: &Campaign, unit: &Unit) -> bool
         && has_known_goods_and_structure(world, campaign, unit)
 }
 
-/// Whether each unit's faction, region, items and skills exist, and the unit's structure is 0
-/// (none) or exists in the unit's region.
 fn are_placed(world: &World, campaign: &Campaign) -> bool
     ensures { IsTrue result ↔
         (Every (λ n u. IsPlaced world.now campaign.now.value u) campaign.now.value.units) }
@@ -182,7 +161,6 @@ fn are_placed(world: &World, campaign: &Campaign) -> bool
         .all(|(_, unit)| is_placed(world, campaign, unit))
 }
 
-/// Whether a structure's kind and region exist.
 fn has_known_kind_and_region(world: &World, campaign: &Campaign, structure: &Structure) -> bool
     ensures { IsTrue result ↔
         ((structure.now.kind < length world.now.kinds)
@@ -191,7 +169,6 @@ fn has_known_kind_and_region(world: &World, campaign: &Campaign, structure: &Str
     usize::from(structure.kind) < world.kinds().len() && is_region(campaign, structure.region)
 }
 
-/// Whether a structure's owner is nobody (0), or a unit that exists.
 fn is_owner_there(campaign: &Campaign, structure: &Structure) -> bool
     ensures { IsTrue result ↔
         (structure.now.owner ≢ 0 → HasValue campaign.now.value.units structure.now.owner) }
@@ -199,7 +176,6 @@ fn is_owner_there(campaign: &Campaign, structure: &Structure) -> bool
     structure.owner == 0 || is_unit(campaign, structure.owner)
 }
 
-/// Whether a structure's kind and region exist, and its owner is nobody or an existing unit.
 fn has_known_kind_region_and_owner(
     world: &World,
     campaign: &Campaign,
@@ -210,7 +186,6 @@ fn has_known_kind_region_and_owner(
     has_known_kind_and_region(world, campaign, structure) && is_owner_there(campaign, structure)
 }
 
-/// Whether each structure's kind and region exist, and its owner is nobody or an existing unit.
 fn are_structures_known(world: &World, campaign: &Campaign) -> bool
     ensures { IsTrue result ↔
         (Every (λ n s. IsBuilt world.now campaign.now.value s) campaign.now.value.structures) }
@@ -220,7 +195,6 @@ fn are_structures_known(world: &World, campaign: &Campaign) -> bool
     ))
 }
 
-/// Whether all mail is of factions that exist.
 fn are_mail_known(campaign: &Campaign) -> bool
     ensures { IsTrue result ↔
         (Every (λ n text. HasValue campaign.now.value.factions n) campaign.now.value.mail) }
@@ -230,7 +204,6 @@ fn are_mail_known(campaign: &Campaign) -> bool
         .all(|(number, _)| is_faction(campaign, number))
 }
 
-/// Whether all reports are of factions that exist.
 fn are_reports_known(campaign: &Campaign) -> bool
     ensures { IsTrue result ↔
         (Every (λ n text. HasValue campaign.now.value.factions n) campaign.now.value.reports) }
@@ -240,8 +213,6 @@ fn are_reports_known(campaign: &Campaign) -> bool
         .all(|(number, _)| is_faction(campaign, number))
 }
 
-/// Whether the campaign's regions are the world's, and all that stocks, units and structures name
-/// exists.
 fn are_stocks_units_and_structures_known(world: &World, campaign: &Campaign) -> bool
     ensures { IsTrue result ↔
         ((((n : ℕ) → HasValue campaign.now.value.regions n ↔ HasValue world.now.regions n)
@@ -253,7 +224,6 @@ fn are_stocks_units_and_structures_known(world: &World, campaign: &Campaign) -> 
         && (are_placed(world, campaign) && are_structures_known(world, campaign))
 }
 
-/// Whether all mail and all reports are of factions that exist.
 fn are_mail_and_reports_known(campaign: &Campaign) -> bool
     ensures { IsTrue result ↔ (ArePosted campaign.now.value) }
 {

@@ -8,7 +8,6 @@ use atl_campaign::Campaign;
 use atl_orders::is_mailing_of;
 use atl_world::Sequence;
 
-/// Whether a faction of the campaign has this number and is not gone.
 fn is_active(campaign: &Campaign, number: u32) -> bool
     ensures { IsTrue result ↔ (IsActive campaign.now.value number) }
 {
@@ -18,7 +17,6 @@ fn is_active(campaign: &Campaign, number: u32) -> bool
     }
 }
 
-/// Whether a text is a mailing of this faction, and the faction exists and is not gone.
 fn is_mailing_of_active(campaign: &Campaign, number: u32, text: &Sequence<u8>) -> bool
     ensures { IsTrue result ↔ (IsMailingOf number text.now × IsActive campaign.now.value number) }
 {

@@ -7,22 +7,18 @@ ghost use Rattle.atl_campaign.specs.Good.{AreNumbered, IsNumbered};
 use atl_campaign::Campaign;
 use atl_world::Entries;
 
-/// Whether the numbers of all given factions, or structures, are at least `least` and below `next`.
 fn are_between<V>(mut entries: Entries<'_, V>, least: u32, next: u32) -> bool
     ensures { IsTrue result ↔ (EachEntry (λ n v. (least ≤ n) × (n < next)) entries.entry) }
 {
     entries.all(|(number, _)| least <= number && number < next)
 }
 
-/// Whether the next number `next` is one more than `count`, how many factions or structures there
-/// are.
 fn is_next_above(next: u32, count: usize) -> bool
     ensures { IsTrue result ↔ (next ≡ count + 1) }
 {
     1 <= next && (next - 1) as usize == count
 }
 
-/// Whether the factions are numbered from 1 to one below the next faction number, without a gap.
 fn are_factions_numbered(campaign: &Campaign) -> bool
     ensures { IsTrue result ↔
         (IsNumbered campaign.now.value.factions campaign.now.value.next_faction) }
@@ -31,7 +27,6 @@ fn are_factions_numbered(campaign: &Campaign) -> bool
     are_between(campaign.factions(), 1, next) && is_next_above(next, campaign.faction_count())
 }
 
-/// Whether the structures are numbered from 1 to one below the next structure number, with no gap.
 fn are_structures_numbered(campaign: &Campaign) -> bool
     ensures { IsTrue result ↔
         (IsNumbered campaign.now.value.structures campaign.now.value.next_structure) }
@@ -40,7 +35,6 @@ fn are_structures_numbered(campaign: &Campaign) -> bool
     are_between(campaign.structures(), 1, next) && is_next_above(next, campaign.structure_count())
 }
 
-/// Whether each unit's number is below the next unit number.
 fn are_units_before(campaign: &Campaign) -> bool
     ensures { IsTrue result ↔
         ((n : ℕ) → campaign.now.value.next_unit ≤ n → map.get campaign.now.value.units n ≡ None) }

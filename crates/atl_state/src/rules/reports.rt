@@ -5,7 +5,6 @@ ghost use Rattle.atl_campaign.specs.Good.{AreReported};
 
 use atl_campaign::Campaign;
 
-/// Whether a campaign has a report of the faction with this number.
 fn has_report(campaign: &Campaign, number: u32) -> bool
     ensures { IsTrue result ↔ (HasValue campaign.now.value.reports number) }
 {

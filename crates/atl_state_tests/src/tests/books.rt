@@ -18,7 +18,6 @@ fn book_wages(books: &mut Books) -> Result<(), Fail> {
     Ok(())
 }
 
-/// Asserts the amount that `book_wages` booked, and that three other amounts are 0.
 fn assert_wages(rt: &impl Abort, books: &Books) -> Result<(), Fail> {
     if books.len() != THINGS {
         return Err(Fail::new("four things"));
@@ -30,7 +29,6 @@ fn assert_wages(rt: &impl Abort, books: &Books) -> Result<(), Fail> {
     Ok(())
 }
 
-/// Tests `Books` alone: amounts that are booked are read back, and the others are 0.
 #[test]
 fn books_of_four_things(rt: HostRuntime) -> Result<(), Fail> {
     let mut books = Books::new(rt.alloc(), THINGS)?;
@@ -49,7 +47,6 @@ static BOOKED: [(BooksEntry, i64); 6] = [
     (BooksEntry::Used, -11),
 ];
 
-/// Books an amount of carts in a campaign.
 fn books_carts(campaign: &mut Campaign, entry: BooksEntry, amount: i64) -> Result<(), Fail> {
     if campaign.things() != THINGS {
         return Err(Fail::new("four things"));
@@ -62,7 +59,6 @@ fn books_carts(campaign: &mut Campaign, entry: BooksEntry, amount: i64) -> Resul
     Ok(())
 }
 
-/// Books each row of `BOOKED`, an entry and an amount of the item cart, in a campaign.
 fn book_all_carts(campaign: &mut Campaign) -> Result<(), Fail> {
     for (entry, amount) in BOOKED.iter() {
         books_carts(campaign, *entry, *amount)?;
@@ -90,8 +86,6 @@ fn assert_booked_carts(rt: &impl Abort, campaign: &Campaign) -> Result<(), Fail>
     Ok(())
 }
 
-/// Tests booking in a campaign: amounts booked are read back, others stay, and one mark is set for
-/// each amount that changed.
 #[test]
 fn booking_in_a_campaign(rt: HostRuntime) -> Result<(), Fail> {
     let mut campaign = founded_by(rt.alloc(), ISLE)?;

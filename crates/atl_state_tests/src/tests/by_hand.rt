@@ -15,7 +15,6 @@ pub(crate) struct Rows {
     /// The format that is asked for, and the number that the campaign's own row has of it.
     pub(crate) asked: Format,
     pub(crate) format: i64,
-    /// The moderator's pass text.
     pub(crate) pass: &'static str,
     /// The number that the next unit gets, as the row of `campaign` says.
     pub(crate) next_unit: i64,
@@ -36,7 +35,6 @@ pub(crate) struct Rows {
     pub(crate) lodge: i64,
     /// The entry under which the money of the joins is booked.
     pub(crate) entry: i64,
-    /// How many reports there are.
     pub(crate) reports: i64,
     /// Region, item and stock of the market's row, and how often the row is there.
     pub(crate) market: i64,
@@ -49,7 +47,6 @@ pub(crate) struct Rows {
     pub(crate) bought: i64,
 }
 
-/// Tables without any row.
 fn no_rows(alloc: Global) -> Parts {
     Parts {
         campaign: Sequence::new(alloc),
@@ -65,7 +62,6 @@ fn no_rows(alloc: Global) -> Parts {
     }
 }
 
-/// Adds the one row of the table `campaign`.
 fn add_head(
     alloc: Global,
     heads: &mut Sequence<StoredCampaignRow>,
@@ -107,7 +103,6 @@ fn add_books(books: &mut Sequence<StoredBooks>, rows: &[[i64; 3]]) -> Result<(),
     Ok(())
 }
 
-/// The row of a faction with the pass text `pw`.
 fn faction(alloc: Global, number: i64, name: &str, gone: i64) -> Result<StoredFaction, Fail> {
     Ok(StoredFaction {
         number,
@@ -155,7 +150,6 @@ fn add_units(alloc: Global, units: &mut Sequence<StoredUnit>, rows: &Rows) -> Re
     Ok(())
 }
 
-/// Adds unit 1's days of lumberjack, if any.
 fn add_days(has: &mut Sequence<StoredHas>, rows: &Rows) -> Result<(), Fail> {
     if rows.days != 0 {
         has.push(StoredHas {
@@ -168,7 +162,6 @@ fn add_days(has: &mut Sequence<StoredHas>, rows: &Rows) -> Result<(), Fail> {
     Ok(())
 }
 
-/// Adds the row of the lodge, if it has an owner.
 fn add_lodge(
     alloc: Global,
     structures: &mut Sequence<StoredStructure>,
@@ -187,7 +180,6 @@ fn add_lodge(
     Ok(())
 }
 
-/// Adds a report for each of the first `rows.reports` factions.
 fn add_reports(
     alloc: Global,
     reports: &mut Sequence<StoredReport>,
@@ -226,7 +218,6 @@ fn add_trade(books: &mut Sequence<StoredBooks>, rows: &Rows) -> Result<(), Fail>
     Ok(())
 }
 
-/// Adds the rows of the campaign, of the factions, and of their units, days of skills and reports.
 fn add_people(alloc: Global, parts: &mut Parts, rows: &Rows) -> Result<(), Fail> {
     add_head(alloc, &mut parts.campaign, rows)?;
     add_factions(alloc, &mut parts.factions, rows)?;
@@ -235,7 +226,6 @@ fn add_people(alloc: Global, parts: &mut Parts, rows: &Rows) -> Result<(), Fail>
     add_reports(alloc, &mut parts.reports, rows)
 }
 
-/// Adds the rows of the regions, the lodge, the market and the books.
 fn add_places(alloc: Global, parts: &mut Parts, rows: &Rows) -> Result<(), Fail> {
     add_regions(
         &mut parts.regions,

@@ -12,7 +12,6 @@ use std::alloc::Global;
 use std::process::Abort;
 use std::test::Fail;
 
-/// The rows of a good campaign in the second format.
 const GOOD: Rows = Rows {
     asked: Format::Second,
     format: 2,
@@ -137,7 +136,6 @@ fn rule_of(checked: Result<Campaign, CheckFault>) -> u64 {
     }
 }
 
-/// Asserts for each case the number of the first rule that its rows break, or 0.
 fn assert_rules(
     rt: &impl Abort,
     alloc: Global,
@@ -159,8 +157,6 @@ pub(crate) fn checked(alloc: Global, world: &World, rows: Parts) -> Result<Campa
     }
 }
 
-/// Asserts the counts and the stock of the campaign that `GOOD` makes, and that nothing of it is
-/// marked.
 fn assert_island(rt: &impl Abort, campaign: &Campaign) {
     assert_count(rt, campaign.unit_count(), 2);
     assert_count(rt, campaign.faction_count(), 2);
@@ -170,7 +166,6 @@ fn assert_island(rt: &impl Abort, campaign: &Campaign) {
     assert_count(rt, campaign.marks(), 0);
 }
 
-/// The only row of the table `market` that the campaign of `GOOD` gives, as `Debug` prints it.
 const STOCK: &str = "[StoredMarket { region: 1, item: 0, stock: 20 }]";
 
 /// Asserts that `check` makes of the rows of a campaign (`first`) a campaign as `assert_island`
@@ -190,22 +185,18 @@ fn assert_rows_come_back(
     Ok(())
 }
 
-/// Asserts that `check` makes a campaign as `assert_island` wants it, first of the rows of `GOOD`,
-/// and then of that campaign's own rows.
 fn assert_checked(rt: &impl Abort, alloc: Global, world: &World) -> Result<(), Fail> {
     let campaign = checked(alloc, world, parts(alloc, &GOOD)?)?;
     assert_island(rt, &campaign);
     assert_rows_come_back(rt, alloc, world, &campaign)
 }
 
-/// Asserts for each case the first broken rule, and that the rows of `GOOD` give their campaign.
 fn assert_judged_rows(rt: &impl Abort, alloc: Global, world: &World) -> Result<(), Fail> {
     assert_rules(rt, alloc, world, &CASES)?;
     assert_rules(rt, alloc, world, &MARKET_CASES)?;
     assert_checked(rt, alloc, world)
 }
 
-/// Tests that `check` reports the first broken rule, and accepts the rows of a good campaign.
 #[test]
 fn the_first_broken_rule_is_reported(rt: HostRuntime) -> Result<(), Fail> {
     let world = read_world(rt.alloc(), ISLE_WITH_MARKET)?;

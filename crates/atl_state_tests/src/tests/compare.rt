@@ -5,12 +5,10 @@ use std::fmt::Debug;
 use std::process::Abort;
 use std::test::Fail;
 
-/// Asserts that a signed number is the wanted one.
 pub(crate) fn assert_number(rt: &impl Abort, actual: i64, wanted: i64) {
     assert_eq!(rt; actual, wanted);
 }
 
-/// Asserts that a number of a thing, an amount or a number of days is the wanted one.
 pub(crate) fn assert_amount(rt: &impl Abort, actual: u32, wanted: u32) {
     assert_eq!(rt; actual, wanted);
 }
@@ -20,17 +18,14 @@ pub(crate) fn assert_row(rt: &impl Abort, row: usize, actual: u64, wanted: u64) 
     assert_eq!(rt; actual, wanted, "at {row}");
 }
 
-/// Asserts that a count is the wanted one.
 pub(crate) fn assert_count(rt: &impl Abort, actual: usize, wanted: usize) {
     assert_eq!(rt; actual, wanted);
 }
 
-/// Asserts that a text is the wanted one.
 pub(crate) fn assert_text(rt: &impl Abort, actual: &str, wanted: &str) {
     assert_eq!(rt; actual, wanted);
 }
 
-/// Asserts that a text is the wanted one; the message names the index of the row.
 pub(crate) fn assert_row_text(rt: &impl Abort, row: usize, actual: &str, wanted: &str) {
     assert_eq!(rt; actual, wanted, "at {row}");
 }
@@ -40,7 +35,6 @@ pub(crate) fn assert_numbers(rt: &impl Abort, row: usize, actual: &[u32], wanted
     assert_eq!(rt; actual, wanted, "at {row}");
 }
 
-/// Asserts that `Debug` prints the rows of a table as `wanted`.
 pub(crate) fn assert_rows<T: Debug>(
     rt: &impl Abort,
     alloc: Global,
@@ -52,7 +46,6 @@ pub(crate) fn assert_rows<T: Debug>(
     Ok(())
 }
 
-/// Asserts that a truth value is true.
 pub(crate) fn assert_true(rt: &impl Abort, actual: bool) {
     assert!(rt; actual);
 }

@@ -3,7 +3,6 @@ use super::compare::{assert_row, assert_text, assert_true};
 use atl_campaign::EventFault;
 use std::process::Abort;
 
-/// The number and the name of each fault of an order.
 static FAULTS: [(u8, &str); 24] = [
     (1, "NotYours"),
     (2, "NotHere"),
@@ -31,7 +30,6 @@ static FAULTS: [(u8, &str); 24] = [
     (24, "NoMarket"),
 ];
 
-/// Asserts that a number gives a fault of an order, which has this number and this name.
 fn assert_name(rt: &impl Abort, row: usize, number: u8, name: &str) {
     match EventFault::of_number(number) {
         Some(fault) => {

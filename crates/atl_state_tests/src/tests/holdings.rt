@@ -7,7 +7,6 @@ use std::alloc::Global;
 use std::process::Abort;
 use std::test::Fail;
 
-/// A call that sets one value of a holding, such as its men or its amount of an item.
 #[derive(Drop, Clone, Copy)]
 enum Set {
     Nothing,
@@ -15,9 +14,7 @@ enum Set {
     Men(u32),
     Money(u32),
     Guard(bool),
-    /// An item and its amount.
     Amount(u32, u32),
-    /// A skill and its days.
     Days(u32, u32),
 }
 
@@ -86,7 +83,6 @@ static CALLS: [(Set, &str); 15] = [
     ),
 ];
 
-/// Makes the call on a holding that a value of `Set` names.
 fn sets(alloc: Global, holding: &mut Holding, part: Set) -> Result<(), Fail> {
     match part {
         Set::Nothing => (),
@@ -125,7 +121,6 @@ fn text_of(alloc: Global, holding: &Holding) -> Result<String, Fail> {
     )?)
 }
 
-/// Makes each call of `CALLS`, and asserts the holding after it.
 fn set_all(rt: &impl Abort, alloc: Global, holding: &mut Holding) -> Result<(), Fail> {
     for (row, (part, wanted)) in CALLS.iter().enumerate() {
         sets(alloc, holding, *part)?;
@@ -134,7 +129,6 @@ fn set_all(rt: &impl Abort, alloc: Global, holding: &mut Holding) -> Result<(), 
     Ok(())
 }
 
-/// Asserts amounts of single items and skills after `CALLS`, some that are listed and some not.
 fn assert_amounts(rt: &impl Abort, holding: &Holding) {
     assert_amount(rt, holding.amount(7), 1);
     assert_amount(rt, holding.amount(2), 0);
@@ -143,7 +137,6 @@ fn assert_amounts(rt: &impl Abort, holding: &Holding) {
     assert_amount(rt, holding.days_of(1), 30);
 }
 
-/// Tests that each call on a holding sets its value and no other, and that amounts are read back.
 #[test]
 fn setting_parts_of_a_holding(rt: HostRuntime) -> Result<(), Fail> {
     let mut holding = one_man(rt.alloc())?;

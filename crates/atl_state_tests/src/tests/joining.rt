@@ -94,8 +94,6 @@ static CALLS: [Row; 14] = [
     (Step::Unmark, Question::Unit(1), "none", "0"),
 ];
 
-/// Asserts that nothing is marked after the founding, that Avalon joins as faction 1 with unit 1,
-/// and what is marked after each call of `CALLS`.
 fn assert_coming_and_going(rt: &impl Abort, alloc: Global, world: &World) -> Result<(), Fail> {
     let mut campaign = founded_in(alloc, world)?;
     assert_count(rt, campaign.marks(), 0);
@@ -105,8 +103,6 @@ fn assert_coming_and_going(rt: &impl Abort, alloc: Global, world: &World) -> Res
     assert_steps(rt, alloc, &mut campaign, &CALLS)
 }
 
-/// Tests that a faction that joins, an added unit or structure, and a unit that is lent or removed
-/// are marked, each with the rows that change with it.
 #[test]
 fn coming_and_going_is_marked(rt: HostRuntime) -> Result<(), Fail> {
     let world = read_world(rt.alloc(), ISLE)?;

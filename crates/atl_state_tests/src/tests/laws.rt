@@ -2,8 +2,6 @@
 //! clause is proved.
 use atl_campaign::good_campaigns_are_early;
 
-/// Calls the law that good and sound campaigns are early, so that they meet what the phases up to
-/// RECRUIT require. Asserts nothing, since the clauses of the law are proved.
 #[test]
 fn states_that_good_campaigns_are_early() {
     good_campaigns_are_early();

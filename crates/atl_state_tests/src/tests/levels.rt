@@ -36,7 +36,6 @@ static LEVELS: [(u32, u32, u32); 22] = [
     (4_294_967_295, 4_294_967_295, 0),
 ];
 
-/// Tests that `level` gives the wanted level for each row of `LEVELS`.
 #[test]
 fn levels_at_their_bounds(rt: HostRuntime) {
     for (row, (days, men, wanted)) in LEVELS.iter().enumerate() {
@@ -108,13 +107,10 @@ static LOADS: [Load; 6] = [
     },
 ];
 
-/// The number of the island's item wood.
 const WOOD: u32 = 0;
 
-/// The number of the island's item cart.
 const CART: u32 = 1;
 
-/// Sets the men, wood and carts of a holding to those of a row.
 fn takes(holding: &mut Holding, row: &Load) -> Result<(), Fail> {
     if row.men > 999_999 || row.wood > 999_999_999 || row.carts > 999_999_999 {
         return Err(Fail::new("within the limits"));
@@ -125,14 +121,12 @@ fn takes(holding: &mut Holding, row: &Load) -> Result<(), Fail> {
     Ok(())
 }
 
-/// Asserts the three weights of a holding that a row of `LOADS` wants; `place` is the row's index.
 fn assert_weights(rt: &impl Abort, world: &World, place: usize, holding: &Holding, row: &Load) {
     assert_row(rt, place, goods(world, holding), row.goods);
     assert_row(rt, place, load(world, holding), row.load);
     assert_row(rt, place, carry(world, holding), row.carry);
 }
 
-/// Asserts the three wanted weights for each row of `LOADS`.
 fn assert_all_weights(rt: &impl Abort, alloc: Global, world: &World) -> Result<(), Fail> {
     let mut holding = one_man(alloc)?;
     for (place, row) in LOADS.iter().enumerate() {
@@ -142,7 +136,6 @@ fn assert_all_weights(rt: &impl Abort, alloc: Global, world: &World) -> Result<(
     Ok(())
 }
 
-/// Tests that goods and units weigh, and units can carry, what the rows of `LOADS` say.
 #[test]
 fn goods_loads_and_carriage(rt: HostRuntime) -> Result<(), Fail> {
     let world = read_world(rt.alloc(), ISLE)?;

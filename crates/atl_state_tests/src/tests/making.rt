@@ -12,13 +12,10 @@ use std::test::Fail;
 /// The number of the island's region Far, a forest by the sea.
 pub(crate) const FAR: u32 = 3;
 
-/// The number of the island's kind `boat`.
 pub(crate) const BOAT: u16 = 0;
 
-/// The number of the island's kind `lodge`.
 pub(crate) const LODGE: u16 = 1;
 
-/// The campaign of a world just after its founding.
 pub(crate) fn founded_in(alloc: Global, world: &World) -> Result<Campaign, Fail>
     ensures { IfOk result (λ campaign. IsGood world.now campaign.value) }
 {
@@ -32,26 +29,22 @@ pub(crate) fn avalon_joins(world: &World, campaign: &mut Campaign) -> Result<(u3
     Ok(campaign.join(world, b"Avalon", b"pw", 1)?)
 }
 
-/// The campaign of a world just after Avalon has joined.
 pub(crate) fn joined_in(alloc: Global, world: &World) -> Result<Campaign, Fail> {
     let mut campaign = founded_in(alloc, world)?;
     avalon_joins(world, &mut campaign)?;
     Ok(campaign)
 }
 
-/// The campaign of a world text just after its founding.
 pub(crate) fn founded_by(alloc: Global, text: &str) -> Result<Campaign, Fail> {
     let world = read_world(alloc, text)?;
     founded_in(alloc, &world)
 }
 
-/// The campaign of a world text just after Avalon has joined.
 pub(crate) fn joined_by(alloc: Global, text: &str) -> Result<Campaign, Fail> {
     let world = read_world(alloc, text)?;
     joined_in(alloc, &world)
 }
 
-/// The holding of a unit of one man with nothing.
 pub(crate) fn one_man(alloc: Global) -> Result<Holding, Fail> {
     let name = Text::from_str(alloc, "A man")?;
     Ok(Holding::new(name, 1, 0, Numbered::new(alloc), Numbered::new(alloc)))

@@ -75,7 +75,6 @@ static CASES: [Case; 13] = [
         faction: &[1, 3],
         marks: 2,
     },
-    // There is no such unit.
     Case {
         step: Step::Unit(9, UnitChange::Place(3, 1)),
         owners: (3, 2),
@@ -144,14 +143,12 @@ fn owner(campaign: &Campaign, structure: u32) -> u64 {
     }
 }
 
-/// Asserts the owners of both structures, and how many parts are marked, as a case wants them.
 fn assert_owners(rt: &impl Abort, row: usize, campaign: &Campaign, case: &Case) {
     assert_row(rt, row, owner(campaign, 1), u64::from(case.owners.0));
     assert_row(rt, row, owner(campaign, 2), u64::from(case.owners.1));
     assert_row(rt, row, campaign.marks() as u64, case.marks as u64);
 }
 
-/// Asserts the units inside each structure, in region 3 and of faction 1, as a case wants them.
 fn assert_lists(rt: &impl Abort, row: usize, campaign: &Campaign, case: &Case) {
     assert_numbers(rt, row, campaign.inside(1), case.inside.0);
     assert_numbers(rt, row, campaign.inside(2), case.inside.1);
@@ -159,7 +156,6 @@ fn assert_lists(rt: &impl Abort, row: usize, campaign: &Campaign, case: &Case) {
     assert_numbers(rt, row, campaign.of_faction(1), case.faction);
 }
 
-/// Clears the marks, makes the step of a case, and asserts all that the case wants after it.
 fn assert_case(
     rt: &impl Abort,
     alloc: Global,
@@ -174,7 +170,6 @@ fn assert_case(
     Ok(())
 }
 
-/// Makes the step of each case in turn, and asserts what the case wants after it.
 fn cases_hold(
     rt: &impl Abort,
     alloc: Global,
@@ -196,7 +191,6 @@ static ARRIVALS: [Step; 5] = [
     Step::Begins(LODGE, 2),
 ];
 
-/// The campaign of the island just founded, after the steps of `ARRIVALS`.
 fn peopled(alloc: Global) -> Result<Campaign, Fail> {
     let mut campaign = founded_by(alloc, ISLE)?;
     make_steps(alloc, &mut campaign, &ARRIVALS)?;
@@ -223,7 +217,6 @@ static ENTERING: [Step; 3] = [
 /// Unit 2 owns the boat, and units 1 and 3 are inside.
 static OWNERS_AFTER: [(u32, u32, u32); 5] = [(1, 2, 1), (1, 1, 2), (1, 3, 2), (2, 1, 0), (9, 1, 0)];
 
-/// Asserts for each row of `OWNERS_AFTER` who would own the structure.
 fn assert_next_owners(rt: &impl Abort, campaign: &Campaign) {
     for (row, (structure, leaving, wanted)) in OWNERS_AFTER.iter().enumerate() {
         let actual = campaign.owner_after(*structure, *leaving);
@@ -267,7 +260,6 @@ static SAILING: [Case; 4] = [
     },
 ];
 
-/// Moves all units into the boat, and then asserts the cases of `OWNERS_AFTER` and of `SAILING`.
 fn sail_all(rt: &impl Abort, alloc: Global, campaign: &mut Campaign) -> Result<(), Fail> {
     make_steps(alloc, campaign, &ENTERING)?;
     assert_next_owners(rt, campaign);

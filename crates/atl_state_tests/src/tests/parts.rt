@@ -20,7 +20,6 @@ static SETTLING: [Step; 7] = [
     Step::Faction(1, FactionChange::Report("A report.\n")),
 ];
 
-/// The rows of the campaign after Avalon has joined and `SETTLING`.
 fn rows(alloc: Global) -> Result<Parts, Fail> {
     let mut campaign = joined_by(alloc, ISLE)?;
     make_steps(alloc, &mut campaign, &SETTLING)?;
@@ -37,7 +36,6 @@ const FACTIONS: &str =
     "[StoredFaction { number: 1, joined_as: Sequence { items: [65, 118, 97, 108, 111, 110] }, \
     name: Sequence { items: [65, 118, 97, 108, 111, 110] }, pass: Sequence { items: [112, 119] }, gone: 0 }]";
 
-/// The wanted rows of the regions.
 const REGIONS: &str = "[StoredRegion { number: 1, peasants: 1000, money: 500 }, \
     StoredRegion { number: 2, peasants: 0, money: 0 }, \
     StoredRegion { number: 3, peasants: 200, money: 100 }, \
@@ -48,7 +46,6 @@ const UNITS: &str =
     "[StoredUnit { number: 1, faction: 1, name: Sequence { items: [85, 110, 105, 116, 32, 49] }, \
     region: 3, structure: 0, men: 1, money: 1000, guard: 1 }]";
 
-/// The wanted rows of goods and skills: 12 wood, and 60 days of sailing.
 const HAS: &str = "[StoredHas { unit: 1, sort: 0, thing: 0, amount: 12 }, \
     StoredHas { unit: 1, sort: 1, thing: 3, amount: 60 }]";
 
@@ -60,7 +57,6 @@ const STRUCTURES: &str = "[StoredStructure { number: 1, kind: 1, \
 const MAIL: &str =
     "[StoredMail { faction: 1, text: Sequence { items: [35, 65, 84, 76, 65, 78, 84, 73, 83, 32, 49] } }]";
 
-/// The wanted row of the report.
 const REPORTS: &str = "[StoredReport { faction: 1, text: Text { string: \"A report.\\n\" } }]";
 
 /// The wanted rows of the books: what the regions held at the founding, and what joining brought.
@@ -69,7 +65,6 @@ const BOOKS: &str = "[StoredBooks { entry: 1, thing: 0, amount: 650 }, \
     StoredBooks { entry: 2, thing: 0, amount: 1000 }, \
     StoredBooks { entry: 2, thing: 1, amount: 1 }]";
 
-/// Asserts the rows of the campaign, factions, units, their goods, and structures.
 fn assert_people_rows(rt: &impl Abort, alloc: Global, parts: &Parts) -> Result<(), Fail> {
     assert_rows(rt, alloc, parts.campaign.as_slice(), HEAD)?;
     assert_rows(rt, alloc, parts.factions.as_slice(), FACTIONS)?;
@@ -78,7 +73,6 @@ fn assert_people_rows(rt: &impl Abort, alloc: Global, parts: &Parts) -> Result<(
     assert_rows(rt, alloc, parts.structures.as_slice(), STRUCTURES)
 }
 
-/// Asserts the rows of the regions, mailings, reports, books and markets.
 fn assert_other_rows(rt: &impl Abort, alloc: Global, parts: &Parts) -> Result<(), Fail> {
     assert_rows(rt, alloc, parts.regions.as_slice(), REGIONS)?;
     assert_rows(rt, alloc, parts.mail.as_slice(), MAIL)?;
@@ -87,7 +81,6 @@ fn assert_other_rows(rt: &impl Abort, alloc: Global, parts: &Parts) -> Result<()
     assert_rows(rt, alloc, parts.markets.as_slice(), "[]")
 }
 
-/// Tests that a campaign gives the wanted rows to each table.
 #[test]
 fn rows_of_a_campaign(rt: HostRuntime) -> Result<(), Fail> {
     let parts = rows(rt.alloc())?;

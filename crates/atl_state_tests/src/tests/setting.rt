@@ -10,7 +10,7 @@ use std::process::Abort;
 use std::test::Fail;
 
 /// Calls that set one part each, and what each marks. Avalon has joined, and a lodge is begun.
-static CALLS: [Row; 18] = [
+static CALLS: [Row; 20] = [
     (Step::Month(12), Question::Month, "12", "1, the campaign"),
     (
         Step::Faction(1, FactionChange::Name("Bree")),
@@ -55,6 +55,18 @@ static CALLS: [Row; 18] = [
         Question::Region(FAR),
         "77 peasants, 88 money",
         "1, regions [3]",
+    ),
+    (
+        Step::Region(FAR, RegionChange::Peasants(77)),
+        Question::Region(FAR),
+        "77 peasants, 88 money",
+        "0",
+    ),
+    (
+        Step::Region(FAR, RegionChange::Money(88)),
+        Question::Region(FAR),
+        "77 peasants, 88 money",
+        "0",
     ),
     (
         Step::Unit(1, UnitChange::Name("Bill")),
@@ -188,16 +200,12 @@ static NOBODY: [Row; 12] = [
     ),
 ];
 
-/// Begins a lodge, as structure 1, makes the calls of `CALLS` and `NOBODY` in turn, and asserts
-/// what each sets and marks.
 fn set_all(rt: &impl Abort, alloc: Global, campaign: &mut Campaign) -> Result<(), Fail> {
     make_step(alloc, campaign, Step::Begins(LODGE, 1))?;
     assert_unmarked_steps(rt, alloc, campaign, &CALLS)?;
     assert_unmarked_steps(rt, alloc, campaign, &NOBODY)
 }
 
-/// Tests that each call sets its part and marks that part alone, and that a number that nothing has
-/// changes nothing.
 #[test]
 fn each_call_sets_one_part(rt: HostRuntime) -> Result<(), Fail> {
     let mut campaign = joined_by(rt.alloc(), ISLE)?;

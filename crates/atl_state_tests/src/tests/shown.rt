@@ -24,13 +24,11 @@ pub(crate) enum Question {
     Region(u32),
     /// How much a region has in stock of an item, and how many stocks it lists.
     Stock(u32, u32),
-    /// The numbers of all units.
     Units,
     Unit(u32),
     /// How much a unit has of an item, and its days of a skill.
     Goods(u32, u32, u32),
     Structure(u32),
-    /// The total of a thing.
     Total(Thing),
 }
 
@@ -39,8 +37,6 @@ fn none(alloc: Global) -> Result<String, Fail> {
     Ok(String::from_str(alloc, "none")?)
 }
 
-/// How many factions, regions, units and structures a campaign has, and the next numbers of a unit
-/// and a structure.
 fn counts_text(alloc: Global, campaign: &Campaign) -> Result<String, Fail> {
     let counts = [
         campaign.faction_count(),
@@ -64,7 +60,6 @@ fn faction_text(alloc: Global, campaign: &Campaign, number: u32) -> Result<Strin
     }
 }
 
-/// The mail of a faction, or `none`, and how many mails there are.
 fn mail_text(alloc: Global, campaign: &Campaign, faction: u32) -> Result<String, Fail> {
     let text = match campaign.mail_of(faction) {
         Some(mail) => str::from_utf8(mail.as_slice()).unwrap_or("no text"),
@@ -74,7 +69,6 @@ fn mail_text(alloc: Global, campaign: &Campaign, faction: u32) -> Result<String,
     Ok(format!(in alloc; "{text} of {count}")?)
 }
 
-/// The report of a faction, or `none`, and how many reports there are.
 fn report_text(alloc: Global, campaign: &Campaign, faction: u32) -> Result<String, Fail> {
     let text = match campaign.report(faction) {
         Some(report) => report.as_str(),
@@ -84,7 +78,6 @@ fn report_text(alloc: Global, campaign: &Campaign, faction: u32) -> Result<Strin
     Ok(format!(in alloc; "{text} of {count}")?)
 }
 
-/// A region's peasants and money; `none` if there is no such region.
 fn region_text(alloc: Global, campaign: &Campaign, number: u32) -> Result<String, Fail> {
     match campaign.region(number) {
         Some(region) => {
@@ -107,7 +100,6 @@ fn stock_text(alloc: Global, campaign: &Campaign, number: u32, item: u32) -> Res
     }
 }
 
-/// The numbers of all units.
 fn units_text(alloc: Global, campaign: &Campaign) -> Result<String, Fail> {
     let mut numbers = Vec::new(alloc);
     for (number, _) in campaign.units() {
@@ -130,7 +122,6 @@ fn unit_text(alloc: Global, campaign: &Campaign, number: u32) -> Result<String, 
     Ok(format!(in alloc; "{name}: {men} men, {money} money, guard: {guard}, {places:?}")?)
 }
 
-/// How much a unit has of an item, and its days of a skill; `none` if there is no such unit.
 fn goods_text(
     alloc: Global,
     campaign: &Campaign,
@@ -158,7 +149,6 @@ fn structure_text(alloc: Global, campaign: &Campaign, number: u32) -> Result<Str
     Ok(format!(in alloc; "{name}: kind {kind}, region {region}, {done} done, owner {owner}")?)
 }
 
-/// A campaign's total of a thing; it is a failure if there are too many units or regions to sum.
 fn total_text(alloc: Global, campaign: &Campaign, thing: Thing) -> Result<String, Fail> {
     if campaign.unit_count() > MOST_UNITS || campaign.region_count() > MOST_REGIONS {
         return Err(Fail::new("few units and regions"));
@@ -167,13 +157,11 @@ fn total_text(alloc: Global, campaign: &Campaign, thing: Thing) -> Result<String
     Ok(format!(in alloc; "{total}")?)
 }
 
-/// The last closed month.
 fn month_text(alloc: Global, campaign: &Campaign) -> Result<String, Fail> {
     let month = campaign.month();
     Ok(format!(in alloc; "{month}")?)
 }
 
-/// A campaign's answer to a question, as text.
 fn text_of(alloc: Global, campaign: &Campaign, ask: Question) -> Result<String, Fail> {
     match ask {
         Question::Month => month_text(alloc, campaign),
@@ -204,7 +192,6 @@ static LISTS: [&str; 9] = [
     "reports",
 ];
 
-/// The marked numbers of the list whose name is at index `place` in `LISTS`.
 fn marked(campaign: &Campaign, place: usize) -> MarkedNumbers<'_> {
     match place {
         0 => campaign.marked_factions(),
@@ -219,7 +206,6 @@ fn marked(campaign: &Campaign, place: usize) -> MarkedNumbers<'_> {
     }
 }
 
-/// Appends to `text` each list of marked numbers that isn't empty, with its name.
 fn add_lists(alloc: Global, text: &mut String, campaign: &Campaign) -> Result<(), Fail> {
     for (place, name) in LISTS.iter().enumerate() {
         let numbers: Vec<u32> = marked(campaign, place).collect(alloc)?;
@@ -255,7 +241,6 @@ static SINGLES: [Singles; 3] = [
     },
 ];
 
-/// The marked items, skills or stocks by their owner: those of the row of `SINGLES` at `index`.
 fn marked_singles(campaign: &Campaign, index: usize) -> Entries<'_, Numbered<()>> {
     match index {
         0 => campaign.marked_items(),
@@ -264,8 +249,6 @@ fn marked_singles(campaign: &Campaign, index: usize) -> Entries<'_, Numbered<()>
     }
 }
 
-/// Appends to `text` the amounts of one kind that are marked by themselves, of the unit or region
-/// `owner`; `numbers` are the numbers of the items or skills.
 fn add_singles(
     alloc: Global,
     text: &mut String,
@@ -281,8 +264,6 @@ fn add_singles(
     Ok(())
 }
 
-/// Appends to `text` the amounts of one kind that are marked by themselves, of all units or
-/// regions.
 fn add_all_singles(
     alloc: Global,
     text: &mut String,
@@ -295,8 +276,6 @@ fn add_all_singles(
     Ok(())
 }
 
-/// Appends to `text` whether the campaign row, and the money and people booked under Joining, are
-/// marked.
 fn add_campaign_marks(text: &mut String, campaign: &Campaign) -> Result<(), Fail> {
     if campaign.is_row_marked() {
         text.push_str(", the campaign")?;
@@ -313,7 +292,6 @@ fn add_campaign_marks(text: &mut String, campaign: &Campaign) -> Result<(), Fail
     Ok(())
 }
 
-/// How many parts of a campaign are marked, and which.
 fn marks_text(alloc: Global, campaign: &Campaign) -> Result<String, Fail> {
     let count = campaign.marks();
     let mut text = format!(in alloc; "{count}")?;
@@ -328,8 +306,6 @@ fn marks_text(alloc: Global, campaign: &Campaign) -> Result<String, Fail> {
 /// A step, a question after it, the answer, and what is marked then (`marks_text`).
 pub(crate) type Row = (Step, Question, &'static str, &'static str);
 
-/// Makes the step of a row, and asserts the answer and the marks that the row wants; `place` is the
-/// row's index.
 fn assert_row_step(
     rt: &impl Abort,
     alloc: Global,

@@ -25,7 +25,6 @@ pub(crate) enum Step {
     Begins(u16, u32),
 }
 
-/// A change of a faction: another name, that it is gone, its mail or its report.
 #[derive(Drop, Clone, Copy)]
 pub(crate) enum FactionChange {
     Name(&'static str),
@@ -34,36 +33,29 @@ pub(crate) enum FactionChange {
     Report(&'static str),
 }
 
-/// A change of a region: its peasants, its money or one of its stocks.
 #[derive(Drop, Clone, Copy)]
 pub(crate) enum RegionChange {
     Peasants(u32),
     Money(u32),
-    /// An item, and how much of it is in stock.
     Stock(u32, u32),
 }
 
-/// A change of a unit: a value of its holding, its place, or its removal.
 #[derive(Drop, Clone, Copy)]
 pub(crate) enum UnitChange {
     Name(&'static str),
     Men(u32),
     Money(u32),
     Guard(bool),
-    /// An item and its amount.
     Item(u32, u32),
-    /// A skill and its days.
     Days(u32, u32),
     /// Money, set through the holding that is lent.
     LentMoney(u32),
     /// An item and its amount, set through the holding that is lent.
     LentItem(u32, u32),
-    /// A region and a structure.
     Place(u32, u32),
     Remove,
 }
 
-/// A change of a structure: its name, its region, how much of it is done, or its owner.
 #[derive(Drop, Clone, Copy)]
 pub(crate) enum StructureChange {
     Name(&'static str),
@@ -72,7 +64,6 @@ pub(crate) enum StructureChange {
     Owner(u32),
 }
 
-/// Makes the call that changes a faction as `change` says.
 fn change_faction(
     alloc: Global,
     campaign: &mut Campaign,
@@ -93,7 +84,6 @@ fn change_faction(
     Ok(())
 }
 
-/// Makes the call that changes a region as `change` says.
 fn change_region(campaign: &mut Campaign, region: u32, change: RegionChange) -> Result<(), Fail> {
     match change {
         RegionChange::Peasants(peasants) => campaign.set_peasants(region, peasants),
@@ -143,7 +133,6 @@ fn change_unit(
     Ok(())
 }
 
-/// Makes the call that changes a structure as `change` says.
 fn change_structure(
     alloc: Global,
     campaign: &mut Campaign,
@@ -189,7 +178,6 @@ pub(crate) fn make_step(alloc: Global, campaign: &mut Campaign, step: Step) -> R
     Ok(())
 }
 
-/// Makes the calls of all steps, one after another.
 pub(crate) fn make_steps(
     alloc: Global,
     campaign: &mut Campaign,

@@ -59,7 +59,6 @@ static WOOD: [Row; 11] = [
     (Step::Nothing, STOCK, "0 of 0", "0"),
 ];
 
-/// Tests that setting a stock changes the totals, and marks that stock alone.
 #[test]
 fn stocks_are_counted(rt: HostRuntime) -> Result<(), Fail> {
     let mut campaign = joined_by(rt.alloc(), WOOD_MARKET)?;

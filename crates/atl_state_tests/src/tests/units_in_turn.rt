@@ -92,8 +92,6 @@ fn assert_made_again(
     assert_steps(rt, alloc, &mut again, &MADE_AGAIN)
 }
 
-/// Makes the steps of `UNITS_IN_TURN`, and asserts the rows of `MARKS`. Then makes the campaign
-/// again from its rows, and asserts `MADE_AGAIN`.
 fn assert_units_in_turn(rt: &impl Abort, alloc: Global, world: &World) -> Result<(), Fail> {
     let mut campaign = joined_in(alloc, world)?;
     make_steps(alloc, &mut campaign, &UNITS_IN_TURN)?;
@@ -101,8 +99,6 @@ fn assert_units_in_turn(rt: &impl Abort, alloc: Global, world: &World) -> Result
     assert_made_again(rt, alloc, world, &campaign)
 }
 
-/// Tests that, as units go and come, those that are there are listed, those that came or went are
-/// marked, and `check` makes the same units of the campaign's rows.
 #[test]
 fn units_go_and_come(rt: HostRuntime) -> Result<(), Fail> {
     let world = read_world(rt.alloc(), ISLE)?;

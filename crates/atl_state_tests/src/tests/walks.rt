@@ -10,7 +10,6 @@ use std::alloc::Global;
 use std::process::Abort;
 use std::test::Fail;
 
-/// Asserts that a walk over the factions gives the only one, Avalon.
 fn assert_faction_walk(rt: &impl Abort, campaign: &Campaign) -> Result<(), Fail> {
     assert_count(rt, campaign.factions().count(), 1);
     let (number, faction) = campaign.factions().next().ok_or("a faction")?;
@@ -19,7 +18,6 @@ fn assert_faction_walk(rt: &impl Abort, campaign: &Campaign) -> Result<(), Fail>
     Ok(())
 }
 
-/// Asserts that a walk over the four regions gives region 1 first.
 fn assert_region_walk(rt: &impl Abort, campaign: &Campaign) -> Result<(), Fail> {
     assert_count(rt, campaign.regions().count(), 4);
     let (number, region) = campaign.regions().next().ok_or("a region")?;
@@ -28,7 +26,6 @@ fn assert_region_walk(rt: &impl Abort, campaign: &Campaign) -> Result<(), Fail> 
     Ok(())
 }
 
-/// Asserts that a walk over the structures gives the only one, a lodge.
 fn assert_structure_walk(rt: &impl Abort, campaign: &Campaign) -> Result<(), Fail> {
     assert_count(rt, campaign.structures().count(), 1);
     let (number, structure) = campaign.structures().next().ok_or("a structure")?;
@@ -62,7 +59,6 @@ static TOTALS: [Row; 6] = [
     (Step::Nothing, Question::Total(Thing::Item(1)), "0", "0"),
 ];
 
-/// Asserts the walks over factions, regions and structures, and the rows of `TOTALS`.
 fn assert_walks(rt: &impl Abort, alloc: Global, campaign: &mut Campaign) -> Result<(), Fail> {
     make_steps(alloc, campaign, &MAKING)?;
     assert_faction_walk(rt, campaign)?;
@@ -71,8 +67,6 @@ fn assert_walks(rt: &impl Abort, alloc: Global, campaign: &mut Campaign) -> Resu
     assert_steps(rt, alloc, campaign, &TOTALS)
 }
 
-/// Tests that walks over factions, regions, units and structures give all of them, and that totals
-/// add up what regions and units have.
 #[test]
 fn walking_over_a_campaign(rt: HostRuntime) -> Result<(), Fail> {
     let mut campaign = joined_by(rt.alloc(), ISLE)?;

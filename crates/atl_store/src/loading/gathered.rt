@@ -62,7 +62,6 @@ fn rows_or_none<T: Drop>(rows: Result<Vec<T>, ReadFault>) -> Result<Option<Vec<T
     }
 }
 
-/// Reads all rows of one table, by its SELECT.
 impl<A: HasSelect> AllRows for Vec<A> {
     ghost parts = { A.HasSelect.part ∷ [] };
 
@@ -72,7 +71,6 @@ impl<A: HasSelect> AllRows for Vec<A> {
 
     ghost of_parts = { λ all. refl };
 
-    /// Reads all rows of the table; None if a value is of another type than its column.
     fn read_all<S: Alter>(
         alloc: Global,
         conn: &mut Connection<S>,
@@ -80,7 +78,6 @@ impl<A: HasSelect> AllRows for Vec<A> {
         rows_or_none(A::read(alloc, conn))
     }
 
-    /// Gives no rows of the table: an empty list.
     fn without_rows(alloc: Global) -> Vec<A> {
         Vec::new(alloc)
     }
@@ -99,8 +96,6 @@ impl<X: AllRows, Y: AllRows> AllRows for (X, Y) {
         (λ parts. parts ++ map (λ read. read.0) (Y.AllRows.rows both.1)) (X.AllRows.of_parts both.0)
         ∙ ap (λ parts. X.AllRows.parts ++ parts) (Y.AllRows.of_parts both.1) };
 
-    /// Reads all rows of `X`, and then of `Y`; None if a value of either is of another type than
-    /// its column.
     fn read_all<S: Alter>(
         alloc: Global,
         conn: &mut Connection<S>,
@@ -110,7 +105,6 @@ impl<X: AllRows, Y: AllRows> AllRows for (X, Y) {
         Ok(some.zip(others))
     }
 
-    /// Gives no rows of the tables of `X`, and none of those of `Y`.
     fn without_rows(alloc: Global) -> (X, Y) {
         (X::without_rows(alloc), Y::without_rows(alloc))
     }
@@ -140,7 +134,6 @@ pub(crate) fn read_by<X: AllRows, Y: AllRows, S: Alter>(
     }
 }
 
-/// The rowids of the rows `placed`, in their order.
 fn rowids_of<T>(alloc: Global, placed: &[RowWithId<T>]) -> Result<Vec<i64>, AllocError>
     ensures { IfOk result (λ rowids. rowids.items ≡ map (λ s. s.rowid) placed.now) }
 {
@@ -151,7 +144,6 @@ fn rowids_of<T>(alloc: Global, placed: &[RowWithId<T>]) -> Result<Vec<i64>, Allo
     Ok(rowids)
 }
 
-/// Whether no two of the rows `placed` have the same rowid.
 fn have_distinct_rowids<T>(alloc: Global, placed: &[RowWithId<T>]) -> Result<bool, AllocError>
     ensures { IfOk result (λ yes. IsTrue yes ↔ (HaveDistinctRowids placed.now)) }
 {
@@ -159,7 +151,6 @@ fn have_distinct_rowids<T>(alloc: Global, placed: &[RowWithId<T>]) -> Result<boo
     are_distinct(alloc, &rowids)
 }
 
-/// The rows `placed` without their rowids.
 fn without_ids<T: Drop>(alloc: Global, placed: Vec<RowWithId<T>>) -> Result<Sequence<T>, AllocError>
     ensures { IfOk result (λ rows. rows ≡ map (λ s. s.row) placed.items) }
 {
@@ -170,7 +161,6 @@ fn without_ids<T: Drop>(alloc: Global, placed: Vec<RowWithId<T>>) -> Result<Sequ
     Ok(Sequence::from_vec(rows))
 }
 
-/// Ok if no two rows of a table have the same rowid (`are_apart`), else the fault Store.
 fn check_apart(are_apart: bool) -> Result<(), LoadFault>
     ensures { result ≡ (if are_apart then Ok tt else Err Store) }
 {

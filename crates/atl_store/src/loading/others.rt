@@ -15,7 +15,6 @@ use atl_world::{Format, Sequence};
 use sqlite::{Alter, Connection};
 use std::alloc::Global;
 
-/// The rows of factions, regions, units, and the items and skills of units.
 type RowsToGoods = (
     Vec<StoredFaction>,
     (
@@ -24,7 +23,6 @@ type RowsToGoods = (
     ),
 );
 
-/// The rows of structures, mail, reports and the books.
 type RowsFromStructures = (
     Vec<StoredStructure>,
     (

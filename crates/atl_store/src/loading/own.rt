@@ -34,7 +34,6 @@ fn campaign_row_fault(fault: ReadFault) -> LoadFault
     }
 }
 
-/// Gives the row of a list of just one campaign row, or None for any other list.
 fn only_row(mut rows: Vec<StoredCampaign>) -> Option<StoredCampaign>
     ensures { result ≡ only_of rows.items }
 {
@@ -42,7 +41,6 @@ fn only_row(mut rows: Vec<StoredCampaign>) -> Option<StoredCampaign>
     if rows.is_empty() { last } else { None }
 }
 
-/// Whether a row of `campaign` has the id 1 and this format.
 fn has_id_and_format(head: &StoredCampaignRow, format: Format) -> bool
     ensures { IsTrue result ↔
         ((head.now.id ≡ pos 1) × (head.now.format ≡ pos (format_number format))) }
@@ -50,7 +48,6 @@ fn has_id_and_format(head: &StoredCampaignRow, format: Format) -> bool
     head.id == 1 && head.format == i64::from(format.number())
 }
 
-/// The world that a world text of this format describes, or why the text describes none.
 fn world_by(alloc: Global, text: &str, format: Format) -> Result<World, WorldFault>
     ensures { Reads (λ w. w) result (world_of_text format text.now) }
 {
@@ -60,7 +57,6 @@ fn world_by(alloc: Global, text: &str, format: Format) -> Result<World, WorldFau
     }
 }
 
-/// The world of a campaign row's text; Damaged by the first rule if it reads as none, or Memory.
 fn world_from(alloc: Global, text: &str, format: Format) -> Result<World, LoadFault>
     ensures { ReadsWorld format text.now result }
 {
@@ -90,9 +86,6 @@ fn check_own_rows(
     Ok((own, world))
 }
 
-/// Parses the rows that SQL shows of `campaign` and judges them by the first rule; gives the row
-/// and its world. Damaged by the first rule: a value is of another type, or there isn't just one
-/// row that keeps the rule. Memory: memory runs out.
 fn judge_rows(
     alloc: Global,
     rows: &[Row],
@@ -117,7 +110,6 @@ fn other_format(format: Format) -> Format
     }
 }
 
-/// Whether a row of `campaign` has the number of this format in its second column, `format`.
 fn has_format(row: &Row, format: Format) -> bool
     ensures { IsTrue result ↔ (column row.now 1 ≡ int (format_number format)) }
 {

@@ -9,7 +9,6 @@ use sqlite::{Alter, Connection};
 use std::alloc::Global;
 use std::test::Fail;
 
-/// Founds the campaign of a world text, and makes its tables by `create`; the result is the answer.
 pub(crate) fn create_answer<S: Alter>(
     alloc: Global,
     conn: &mut Connection<S>,
@@ -34,8 +33,6 @@ pub(crate) fn create_old_answer<S: Alter>(
     done(alloc)
 }
 
-/// Writes by `write_join` that Avalon has joined the campaign of the small world; the result is the
-/// answer.
 pub(crate) fn join_answer<S: Alter>(
     alloc: Global,
     conn: &mut Connection<S>,
@@ -47,7 +44,6 @@ pub(crate) fn join_answer<S: Alter>(
     done_or_fault(alloc, write_join(conn, &campaign, 1))
 }
 
-/// Writes a mailing of faction 1 by `write_mail`; the result is the answer.
 pub(crate) fn mail_answer<S: Alter>(
     alloc: Global,
     conn: &mut Connection<S>,
@@ -58,7 +54,6 @@ pub(crate) fn mail_answer<S: Alter>(
     done_or_fault(alloc, write_mail(conn, 1, b"#ATLANTIS 1"))
 }
 
-/// Writes what is marked of the campaign by `write_changes`; the result is the answer.
 pub(crate) fn write_answer<S: Alter>(
     alloc: Global,
     conn: &mut Connection<S>,

@@ -23,14 +23,12 @@ pub(crate) fn world_text(name: &str) -> &'static str {
     }
 }
 
-/// The campaign of a world just after its founding.
 fn founded_in(alloc: Global, world: &World) -> Result<Campaign, Fail>
     ensures { IfOk result (λ campaign. IsGood world.now campaign.value) }
 {
     Ok(founded(alloc, world, b"gm")?)
 }
 
-/// The campaign of a world text just after its founding.
 pub(crate) fn founded_by(alloc: Global, text: &str) -> Result<Campaign, Fail> {
     let world = read_world(alloc, text)?;
     founded_in(alloc, &world)
@@ -46,14 +44,12 @@ fn welcome(alloc: Global, world: &World, campaign: &mut Campaign) -> Result<(), 
     Ok(())
 }
 
-/// The campaign of a world after Avalon has joined and got its first report.
 fn joined_in(alloc: Global, world: &World) -> Result<Campaign, Fail> {
     let mut campaign = founded_in(alloc, world)?;
     welcome(alloc, world, &mut campaign)?;
     Ok(campaign)
 }
 
-/// The campaign of the small world after Avalon has joined and got its first report.
 pub(crate) fn joined(alloc: Global) -> Result<Campaign, Fail> {
     let world = read_world(alloc, SMALL_WORLD)?;
     joined_in(alloc, &world)

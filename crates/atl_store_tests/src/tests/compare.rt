@@ -7,7 +7,6 @@ pub(crate) fn assert_fault_number(rt: &impl Abort, answer: Option<u8>, wanted: O
     assert_eq!(rt; answer, wanted);
 }
 
-/// Asserts that the answer of a step is the wanted one; the message names the step.
 pub(crate) fn assert_text(rt: &impl Abort, answer: &str, wanted: &str, step: &str) {
     assert_eq!(rt; answer, wanted, "{step}");
 }

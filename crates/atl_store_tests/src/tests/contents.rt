@@ -5,7 +5,6 @@ use sqlite::{Alter, Connection, params};
 use std::alloc::Global;
 use std::test::Fail;
 
-/// Runs SQL statements on a database; the answer is `Done`.
 pub(crate) fn run_statements<S: Alter>(
     alloc: Global,
     conn: &mut Connection<S>,
@@ -21,7 +20,6 @@ pub(crate) fn settle<S: Alter>(alloc: Global, conn: &mut Connection<S>) -> Resul
     run_statements(alloc, conn, MONTH_ROWS)
 }
 
-/// Overwrites the world text in the campaign's row; the answer is `Done`.
 pub(crate) fn set_world_text<S: Alter>(
     alloc: Global,
     conn: &mut Connection<S>,
@@ -42,7 +40,6 @@ pub(crate) fn limit_steps<S: Alter>(
     done(alloc)
 }
 
-/// The number that a SELECT returns, as text.
 pub(crate) fn query_number<S: Alter>(
     alloc: Global,
     conn: &mut Connection<S>,
@@ -53,7 +50,6 @@ pub(crate) fn query_number<S: Alter>(
     text_of(alloc, number)
 }
 
-/// For each of the ten tables of a campaign, a SELECT for all its rows.
 static ALL_ROWS: [&str; 10] = [
     "SELECT * FROM campaign ORDER BY id",
     "SELECT * FROM faction ORDER BY number",

@@ -2,7 +2,6 @@
 use super::script::play_new;
 use std::test::Fail;
 
-/// After a founding the tables have the campaign row, the region and the books, and no other row.
 #[test]
 fn a_founded_campaign_is_kept(rt: HostRuntime) -> Result<(), Fail> {
     let script = r##"create small
@@ -19,7 +18,6 @@ read market -> nothing"##;
     play_new(&rt, rt.alloc(), script)
 }
 
-/// `create` answers NotEmpty if the database has a campaign, and changes no row.
 #[test]
 fn a_second_creation_is_refused(rt: HostRuntime) -> Result<(), Fail> {
     let script = r##"create small
@@ -30,8 +28,6 @@ read books -> 1 0 500, 1 1 1000"##;
     play_new(&rt, rt.alloc(), script)
 }
 
-/// After a join and a mailing the tables have the faction, its unit, report and mail, and what was
-/// booked.
 #[test]
 fn a_join_and_a_mail_are_kept(rt: HostRuntime) -> Result<(), Fail> {
     let script = r##"create small
@@ -45,7 +41,6 @@ read mail -> 1 "#ATLANTIS 1""##;
     play_new(&rt, rt.alloc(), script)
 }
 
-/// Writing a mailing leaves a table and an index that a person added as they are.
 #[test]
 fn other_tables_are_carried_along(rt: HostRuntime) -> Result<(), Fail> {
     let script = r##"create small

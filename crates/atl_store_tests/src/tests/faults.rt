@@ -9,7 +9,6 @@ use std::alloc::Global;
 use std::process::Abort;
 use std::test::Fail;
 
-/// The faults of `load`, each with its number (Memory has none) and its text.
 static OPENINGS: [(StoreFault, Option<u8>, &str); 5] = [
     (StoreFault::Store, Some(1), "Store"),
     (StoreFault::Damaged(Rule::Books), Some(2), "Damaged 11"),
@@ -18,7 +17,6 @@ static OPENINGS: [(StoreFault, Option<u8>, &str); 5] = [
     (StoreFault::Memory, None, "Memory"),
 ];
 
-/// Asserts the number and the text of a fault of `load`.
 fn assert_opening_fault(
     rt: &impl Abort,
     alloc: Global,
@@ -39,7 +37,6 @@ fn faults_of_an_opening_have_their_numbers(rt: HostRuntime) -> Result<(), Fail> 
     Ok(())
 }
 
-/// The numbers of the faults of `upgrade` (Memory has none), and the text of each.
 static UPGRADES: [(Option<u8>, &str); 7] = [
     (Some(1), "Store"),
     (Some(2), "Damaged 11"),
@@ -63,7 +60,6 @@ fn upgrade_fault(number: Option<u8>) -> UpgradeFault {
     }
 }
 
-/// Asserts the number and the text of a fault of `upgrade`.
 fn assert_upgrade_fault(
     rt: &impl Abort,
     alloc: Global,
@@ -76,8 +72,6 @@ fn assert_upgrade_fault(
     Ok(())
 }
 
-/// Each fault of `upgrade` has its number in docs/FORMATS.md, "For developers" (Memory has none),
-/// and its text.
 #[test]
 fn faults_of_an_upgrade_have_their_numbers(rt: HostRuntime) -> Result<(), Fail> {
     for case in UPGRADES.iter() {

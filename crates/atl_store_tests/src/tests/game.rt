@@ -15,7 +15,6 @@ pub(crate) struct Game {
     pub kept: String,
 }
 
-/// Drops the campaign and the kept text.
 impl Drop for Game {
     fn drop(self) {
         let_go!(self: Game { campaign, kept });
@@ -32,30 +31,25 @@ pub(crate) fn new_game(alloc: Global) -> Result<Game, Fail> {
     })
 }
 
-/// All rows of the campaign, as `Debug` prints them.
 fn rows_of(alloc: Global, campaign: &Campaign) -> Result<String, Fail> {
     let parts = campaign.parts()?;
     Ok(format!(in alloc; "{parts:?}")?)
 }
 
-/// Keeps a text for a later step to compare; the answer is `Done`.
 pub(crate) fn keep(alloc: Global, game: &mut Game, text: String) -> Result<String, Fail> {
     game.kept = text;
     done(alloc)
 }
 
-/// Whether a text is the one that was kept, as the answer `yes` or `no`.
 pub(crate) fn is_kept(alloc: Global, game: &Game, text: &str) -> Result<String, Fail> {
     yes_or_no(alloc, game.kept.as_str() == text)
 }
 
-/// Keeps the rows of the campaign as text; the answer is `Done`.
 pub(crate) fn keep_campaign(alloc: Global, game: &mut Game) -> Result<String, Fail> {
     let rows = rows_of(alloc, &game.campaign)?;
     keep(alloc, game, rows)
 }
 
-/// Whether the rows of the campaign are those that were kept, as the answer `yes` or `no`.
 pub(crate) fn is_kept_campaign(alloc: Global, game: &Game) -> Result<String, Fail> {
     let rows = rows_of(alloc, &game.campaign)?;
     is_kept(alloc, game, rows.as_str())

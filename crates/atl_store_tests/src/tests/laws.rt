@@ -2,7 +2,6 @@
 //! clause is proved.
 use atl_store::one_database_holds_one_campaign;
 
-/// Calls the law `one_database_holds_one_campaign` and asserts nothing: its clause is proved.
 #[test]
 fn states_that_one_database_holds_one_campaign() {
     one_database_holds_one_campaign();

@@ -3,7 +3,6 @@
 use super::script::play_new;
 use std::test::Fail;
 
-/// Reading answers OtherType if a unit's money is a word, in a table `unit` without STRICT.
 #[test]
 fn a_value_of_another_type_is_reported(rt: HostRuntime) -> Result<(), Fail> {
     let script = "create small
@@ -15,7 +14,6 @@ read unit -> OtherType";
     play_new(&rt, rt.alloc(), script)
 }
 
-/// Reading a table that was dropped answers Refused, and other tables can still be read.
 #[test]
 fn a_table_that_is_gone_is_refused(rt: HostRuntime) -> Result<(), Fail> {
     let script = r#"create small
@@ -26,7 +24,6 @@ read report -> 1 "A report.\n""#;
     play_new(&rt, rt.alloc(), script)
 }
 
-/// Reading answers Store if SQLite may take no step, and the rows once it may.
 #[test]
 fn a_read_that_takes_too_many_steps_is_reported(rt: HostRuntime) -> Result<(), Fail> {
     let script = r#"create small

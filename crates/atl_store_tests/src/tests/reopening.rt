@@ -9,7 +9,6 @@ use std::alloc::Global;
 use std::process::Abort;
 use std::test::Fail;
 
-/// A new connection to what a crash leaves of a connection's database.
 fn opened_again<D: Crash + Drop>(
     alloc: Global,
     conn: Connection<FileStore<D>>,
@@ -17,7 +16,6 @@ fn opened_again<D: Crash + Drop>(
     Ok(reopen_connection(alloc, conn)?)
 }
 
-/// Asserts that a campaign just founded is loaded unchanged after a crash.
 fn assert_reloaded<D: Crash + Drop>(
     rt: &impl Abort,
     alloc: Global,
@@ -41,7 +39,6 @@ fn assert_reloaded<D: Crash + Drop>(
     )
 }
 
-/// A campaign just founded in files is loaded unchanged after both files crashed.
 #[test]
 fn a_founded_campaign_is_there_after_a_crash(rt: HostRuntime) -> Result<(), Fail> {
     let alloc = rt.alloc();

@@ -20,7 +20,6 @@ fn quote(alloc: Global, bytes: &[u8]) -> Result<String, AllocError> {
     }
 }
 
-/// A row of a table that can be printed.
 trait PrintableRow {
     /// The row's columns as text, with blanks between them; texts are in quotation marks.
     fn columns_text(&self, alloc: Global) -> Result<String, AllocError>;
@@ -29,7 +28,6 @@ trait PrintableRow {
 /// Prints the campaign row: its id, format, month, next numbers of a faction, a unit and a
 /// structure, the pass text, and `small` or `another world` for the world text.
 impl PrintableRow for StoredCampaign {
-    /// The columns of the campaign row, with `small` or `another world` for the world text.
     fn columns_text(&self, alloc: Global) -> Result<String, AllocError> {
         let head = &self.head;
         let pass = quote(alloc, head.pass.as_slice())?;
@@ -47,7 +45,6 @@ impl PrintableRow for StoredCampaign {
 /// Prints a faction: its number, the name under which it joined, its name, its pass text, and 1 if
 /// gone.
 impl PrintableRow for StoredFaction {
-    /// The columns of the faction's row.
     fn columns_text(&self, alloc: Global) -> Result<String, AllocError> {
         let joined_as = quote(alloc, self.joined_as.as_slice())?;
         let name = quote(alloc, self.name.as_slice())?;
@@ -56,9 +53,7 @@ impl PrintableRow for StoredFaction {
     }
 }
 
-/// Prints a region: its number, peasants and money.
 impl PrintableRow for StoredRegion {
-    /// The columns of the region's row.
     fn columns_text(&self, alloc: Global) -> Result<String, AllocError> {
         format!(in alloc; "{} {} {}", self.number, self.peasants, self.money)
     }
@@ -67,7 +62,6 @@ impl PrintableRow for StoredRegion {
 /// Prints a unit: its number, faction, name, region, structure, men, money, and 1 if its guard flag
 /// is on.
 impl PrintableRow for StoredUnit {
-    /// The columns of the unit's row.
     fn columns_text(&self, alloc: Global) -> Result<String, AllocError> {
         let name = quote(alloc, self.name.as_slice())?;
         let place = format!(in alloc; "{} {}", self.region, self.structure)?;
@@ -79,7 +73,6 @@ impl PrintableRow for StoredUnit {
 /// Prints an item or a skill of a unit: the unit, 0 for an item or 1 for a skill, its number, the
 /// amount.
 impl PrintableRow for StoredHas {
-    /// The columns of the row of the table `has`.
     fn columns_text(&self, alloc: Global) -> Result<String, AllocError> {
         format!(in alloc;
             "{} {} {} {}",
@@ -90,7 +83,6 @@ impl PrintableRow for StoredHas {
 
 /// Prints a structure: its number, kind, name, region, how much is done, and its owner.
 impl PrintableRow for StoredStructure {
-    /// The columns of the structure's row.
     fn columns_text(&self, alloc: Global) -> Result<String, AllocError> {
         let name = quote(alloc, self.name.as_slice())?;
         let work = format!(in alloc; "{} {} {}", self.region, self.done, self.owner)?;
@@ -98,18 +90,14 @@ impl PrintableRow for StoredStructure {
     }
 }
 
-/// Prints a mailing: its faction and its text.
 impl PrintableRow for StoredMail {
-    /// The columns of the mailing's row.
     fn columns_text(&self, alloc: Global) -> Result<String, AllocError> {
         let text = quote(alloc, self.text.as_slice())?;
         format!(in alloc; "{} {text}", self.faction)
     }
 }
 
-/// Prints a report: its faction and its text.
 impl PrintableRow for StoredReport {
-    /// The columns of the report's row.
     fn columns_text(&self, alloc: Global) -> Result<String, AllocError> {
         format!(in alloc; "{} {:?}", self.faction, self.text.as_str())
     }
@@ -117,15 +105,12 @@ impl PrintableRow for StoredReport {
 
 /// Prints an amount of the books: the numbers of its entry and its thing, and the amount.
 impl PrintableRow for StoredBooks {
-    /// The columns of the row of the table `books`.
     fn columns_text(&self, alloc: Global) -> Result<String, AllocError> {
         format!(in alloc; "{} {} {}", self.entry, self.thing, self.amount)
     }
 }
 
-/// Prints a stock: its region, its item, and how much there is.
 impl PrintableRow for StoredMarket {
-    /// The columns of the row of the table `market`.
     fn columns_text(&self, alloc: Global) -> Result<String, AllocError> {
         format!(in alloc; "{} {} {}", self.region, self.item, self.stock)
     }
@@ -133,7 +118,6 @@ impl PrintableRow for StoredMarket {
 
 /// Prints a row that was read with its rowid: the columns of the row, without the rowid.
 impl<T: PrintableRow> PrintableRow for RowWithId<T> {
-    /// The columns of the row, without its rowid.
     fn columns_text(&self, alloc: Global) -> Result<String, AllocError> {
         self.row.columns_text(alloc)
     }
@@ -168,7 +152,6 @@ fn rows_of<T: PrintableRow + HasSelect, S: Alter>(
     }
 }
 
-/// The text of all rows of the table with this name, or of the fault of reading them.
 pub(crate) fn read<S: Alter>(
     alloc: Global,
     conn: &mut Connection<S>,

@@ -23,14 +23,12 @@ static CHANGES: [(&str, &str); 8] = [
     ),
 ];
 
-/// Asserts the answer of `has_all_tables` after a founding and the SQL of a row of `CHANGES`.
 fn assert_answer(rt: &impl Abort, alloc: Global, change: &(&str, &str)) -> Result<(), Fail> {
     let (sql, wanted) = *change;
     let script = format!(in alloc; "create small\nsql {sql}\nhas_all_tables -> {wanted}")?;
     play_new(rt, alloc, script.as_str())
 }
 
-/// `has_all_tables` answers as `CHANGES` says after the SQL of each of its rows.
 #[test]
 fn a_schema_is_that_of_a_campaign(rt: HostRuntime) -> Result<(), Fail> {
     for change in CHANGES.iter() {

@@ -39,13 +39,11 @@ fn change(alloc: Global, campaign: &mut Campaign, word: &str, rest: &str) -> Res
     }
 }
 
-/// How much a region has in stock of an item, as text; `text` has the numbers of both.
 fn stock(alloc: Global, campaign: &Campaign, text: &str) -> Result<String, Fail> {
     let [region, item, _] = numbers(text)?;
     text_of(alloc, campaign.stock(region, item))
 }
 
-/// Carries out a step that works on the campaign in memory alone; the result is its answer.
 fn campaign_answer(alloc: Global, game: &mut Game, step: &str) -> Result<String, Fail> {
     let (word, rest) = step.split_once(' ').unwrap_or((step, ""));
     match word {
@@ -60,8 +58,6 @@ fn campaign_answer(alloc: Global, game: &mut Game, step: &str) -> Result<String,
     }
 }
 
-/// Carries out a step by which a person reads or changes the database by hand, and leaves any other
-/// to `campaign_answer`; the result is the answer.
 fn person_answer<S: Alter>(
     alloc: Global,
     conn: &mut Connection<S>,
@@ -85,7 +81,6 @@ fn person_answer<S: Alter>(
     }
 }
 
-/// Carries out any step of a script; the result is its answer.
 pub(crate) fn answer<S: Alter>(
     alloc: Global,
     conn: &mut Connection<S>,
@@ -107,7 +102,6 @@ pub(crate) fn answer<S: Alter>(
     }
 }
 
-/// Carries out the step of a line of a script, and asserts that it is answered as the line says.
 fn play_line<S: Alter>(
     rt: &impl Abort,
     alloc: Global,
@@ -121,8 +115,6 @@ fn play_line<S: Alter>(
     Ok(())
 }
 
-/// Carries out the step of each line of a script in turn, and asserts that it is answered as the
-/// line says.
 pub(crate) fn play<S: Alter>(
     rt: &impl Abort,
     alloc: Global,
@@ -136,7 +128,6 @@ pub(crate) fn play<S: Alter>(
     Ok(())
 }
 
-/// Plays a script on a new database in memory.
 pub(crate) fn play_new(rt: &impl Abort, alloc: Global, script: &str) -> Result<(), Fail> {
     let mut conn = Connection::open_in_memory(alloc)?;
     let mut game = new_game(alloc)?;

@@ -49,8 +49,6 @@ pub(crate) fn set(campaign: &mut Campaign, text: &str) -> Result<(), Fail> {
     Ok(())
 }
 
-/// Sets the money, the days of a skill or the guard flag of a unit's holding, as `what` says;
-/// `nothing` sets none of them.
 fn set_lent(holding: &mut Holding, what: &str, first: u32, second: u32) -> Result<(), Fail> {
     if first > HOLDING_LIMIT {
         return Err(Fail::new("an amount that fits"));
@@ -76,19 +74,16 @@ pub(crate) fn lend(campaign: &mut Campaign, text: &str) -> Result<(), Fail> {
     set_lent(holding, what, first, second)
 }
 
-/// Removes the unit whose number is `text` from the campaign.
 pub(crate) fn remove(campaign: &mut Campaign, text: &str) -> Result<(), Fail> {
     campaign.remove_unit(text.parse::<u32>()?);
     Ok(())
 }
 
-/// Gives faction 1 another name: `name`.
 pub(crate) fn rename(alloc: Global, campaign: &mut Campaign, name: &str) -> Result<(), Fail> {
     campaign.set_faction_name(1, Text::from_str(alloc, name)?);
     Ok(())
 }
 
-/// Gives faction 1 another report, which is the one line `line`.
 pub(crate) fn report(alloc: Global, campaign: &mut Campaign, line: &str) -> Result<(), Fail> {
     let text = Text::from_string(format!(in alloc; "{line}\n")?);
     campaign.set_report(1, text)?;
@@ -112,7 +107,6 @@ pub(crate) fn begin(alloc: Global, campaign: &mut Campaign, name: &str) -> Resul
     Ok(())
 }
 
-/// Books the amount of money that `text` has as income.
 pub(crate) fn book(campaign: &mut Campaign, text: &str) -> Result<(), Fail> {
     let amount = text.parse::<i64>()?;
     if campaign.things() < 2 {

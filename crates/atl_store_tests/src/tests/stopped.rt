@@ -10,7 +10,6 @@ use std::alloc::Global;
 use std::process::Abort;
 use std::test::Fail;
 
-/// The contents of a database as text: the answer of `load`, and the rows of all tables.
 fn contents_left<S: Alter>(
     alloc: Global,
     conn: &mut Connection<S>,
@@ -40,7 +39,6 @@ fn steps_done<S: Alter>(
     Ok(done)
 }
 
-/// What the database holds before the first step of a script and after each, if no disk stops.
 fn contents_after_steps<S: Alter>(
     alloc: Global,
     conn: &mut Connection<S>,
@@ -58,8 +56,6 @@ fn contents_after_steps<S: Alter>(
     Ok(all)
 }
 
-/// What a database in memory holds before and after each step of `script`, after `earlier` was
-/// played.
 fn contents_in_memory(
     alloc: Global,
     game: &mut Game,
@@ -102,7 +98,6 @@ fn play_on_files<D: Disk + Drop>(
     }
 }
 
-/// Lets both files crash; the result is the files as the crash leaves them.
 fn crash<D: Crash>(files: Files<D>) -> Files<D> {
     let Files { mut log, mut db } = files;
     log.crash();
@@ -110,8 +105,6 @@ fn crash<D: Crash>(files: Files<D>) -> Files<D> {
     Files { log, db }
 }
 
-/// Plays a script on files, lets them crash, and opens them again; the result is how many steps
-/// were done, and what the database then holds, as text.
 fn stop_and_reopen<D: Crash + Drop>(
     alloc: Global,
     files: Files<D>,
@@ -125,7 +118,6 @@ fn stop_and_reopen<D: Crash + Drop>(
     Ok((done, left?))
 }
 
-/// The two files of a new database, in memory: an empty log and an empty database.
 pub(crate) fn new_files(alloc: Global) -> Files<Memory> {
     Files {
         log: Memory::new(alloc),
@@ -150,7 +142,6 @@ enum WhichDisk {
     Database,
 }
 
-/// The files on two disks, one of which (`which`) stops after `calls` calls.
 fn stopping_files(files: Files<Memory>, which: WhichDisk, calls: u64) -> Files<Fuse<Memory>> {
     let Files { log, db } = files;
     let (of_log, of_db) = match which {
@@ -163,8 +154,6 @@ fn stopping_files(files: Files<Memory>, which: WhichDisk, calls: u64) -> Files<F
     }
 }
 
-/// Whether a text is the one at the index `number` of `stages`: what the database holds after that
-/// many steps.
 fn is_stage(text: &str, stages: &[String], number: usize) -> bool {
     stages
         .get(number)
@@ -189,8 +178,6 @@ struct Stop<'a> {
     which: WhichDisk,
 }
 
-/// Plays a script while the disk stops after `calls` calls; the result is how many steps were done,
-/// and what the database holds after a crash, as text.
 fn play_stopped(
     alloc: Global,
     game: &mut Game,
@@ -222,8 +209,6 @@ fn stop_at_each_call(
     Err(Fail::new("stopped each time"))
 }
 
-/// Stops each of the two disks at each of its calls while a script is played, and asserts each time
-/// that a crash leaves what the steps done make, or one step more.
 fn stop_each_disk(rt: &impl Abort, alloc: Global, earlier: &str, script: &str) -> Result<(), Fail> {
     let mut game = new_game(alloc)?;
     let stages = contents_in_memory(alloc, &mut game, earlier, script)?;
@@ -240,13 +225,11 @@ fn stop_each_disk(rt: &impl Abort, alloc: Global, earlier: &str, script: &str) -
     stop_at_each_call(rt, alloc, &mut game, database, &stages)
 }
 
-/// A disk that stops at any call of a founding and a join leaves each of them whole or not at all.
 #[test]
 fn a_stopped_disk_leaves_no_part(rt: HostRuntime) -> Result<(), Fail> {
     stop_each_disk(&rt, rt.alloc(), "", "create small\njoin")
 }
 
-/// A disk that stops during an upgrade leaves the file of the first format or the upgraded one.
 #[test]
 fn a_stopped_disk_leaves_the_old_file_or_the_upgraded_one(rt: HostRuntime) -> Result<(), Fail> {
     stop_each_disk(

@@ -135,8 +135,6 @@ fn last_lines_of(alloc: Global, load: &str, upgrade: &str) -> Result<String, Fai
     }
 }
 
-/// Asserts a case's answers of `load` and of `upgrade`, and then that a load is Done, or, if
-/// nothing was upgraded, that the tables are unchanged.
 fn assert_answer(rt: &impl Abort, alloc: Global, case: &Case) -> Result<(), Fail> {
     let (sql, world, load, upgrade) = *case;
     let before = format!(in alloc;
@@ -151,8 +149,6 @@ fn assert_answer(rt: &impl Abort, alloc: Global, case: &Case) -> Result<(), Fail
     play_new(rt, alloc, script.as_str())
 }
 
-/// `load` and `upgrade` answer with the fault of the first check that a file of the first format
-/// fails.
 #[test]
 fn the_first_check_that_fails_is_reported(rt: HostRuntime) -> Result<(), Fail> {
     for case in CASES.iter() {

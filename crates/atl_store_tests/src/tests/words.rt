@@ -3,18 +3,15 @@ use std::alloc::Global;
 use std::fmt::Display;
 use std::test::Fail;
 
-/// The answer `Done`, of a step that was carried out.
 pub(crate) fn done(alloc: Global) -> Result<String, Fail> {
     Ok(String::from_str(alloc, "Done")?)
 }
 
-/// The answer `yes` if a condition holds, else `no`.
 pub(crate) fn yes_or_no(alloc: Global, is_so: bool) -> Result<String, Fail> {
     let word = if is_so { "yes" } else { "no" };
     Ok(String::from_str(alloc, word)?)
 }
 
-/// A value, as a number or a fault, as the text that `Display` makes of it.
 pub(crate) fn text_of<D: Display + Drop>(alloc: Global, value: D) -> Result<String, Fail> {
     Ok(format!(in alloc; "{value}")?)
 }

@@ -32,7 +32,6 @@ SELECT count(*) FROM mail -> 1";
     play_new(&rt, rt.alloc(), script)
 }
 
-/// If a table is missing, the write answers Store, nothing is written, and the marks stay.
 #[test]
 fn nothing_is_written_in_part(rt: HostRuntime) -> Result<(), Fail> {
     let script = "create small
@@ -119,7 +118,6 @@ SELECT count(*) FROM has -> 0";
     play_new(&rt, rt.alloc(), script)
 }
 
-/// An amount of the books that becomes 0 loses its row.
 #[test]
 fn an_amount_of_0_has_no_row(rt: HostRuntime) -> Result<(), Fail> {
     let script = "create small
@@ -243,7 +241,27 @@ SELECT amount FROM has WHERE sort = 0 AND thing = 1 -> 2";
     play_new(&rt, rt.alloc(), script)
 }
 
-/// Stocks that were written are there when their table is read, and when the campaign is loaded.
+/// Only regions whose peasants changed are written. Those of regions 1 and 3 are changed by hand;
+/// then region 1 is set to what the campaign has, which marks nothing, and region 3 to another
+/// number. Region 1 keeps what was set by hand.
+#[test]
+fn only_changed_regions_are_written(rt: HostRuntime) -> Result<(), Fail> {
+    let script = "create isle
+load
+set peasants 1 77
+set peasants 3 78
+write
+sql UPDATE region SET peasants = 5
+set peasants 1 77
+marks -> 0
+set peasants 3 79
+marks -> 1
+write
+SELECT peasants FROM region WHERE number = 1 -> 5
+SELECT peasants FROM region WHERE number = 3 -> 79";
+    play_new(&rt, rt.alloc(), script)
+}
+
 #[test]
 fn stocks_come_back(rt: HostRuntime) -> Result<(), Fail> {
     let script = "create isle with markets

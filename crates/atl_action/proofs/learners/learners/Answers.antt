@@ -6,7 +6,6 @@ use Rattle.atl_phase.proofs.FoldLaws.{fold_ended, fold_mapped}
 use Rattle.atl_action.specs.Learners.{learners, with_learner}
 use Rattle.atl_action.proofs.learners.learners.Goals as goal
 
--- after the loop the map has the units and skills that the definition `learners` gives
 pub returns : goal.returns
 unfolding learners
 returns c =

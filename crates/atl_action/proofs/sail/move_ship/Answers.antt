@@ -9,8 +9,6 @@ use Rattle.atl_action.specs.Sail.{after_sailing}
 use Rattle.atl_action.specs.Walk.{with_unit_moved}
 use Rattle.atl_action.proofs.sail.move_ship.Goals as goal
 
--- after one more unit went along, taking along the units still to come still makes what taking all along makes, and all
--- that changed is marked
 pub loop-unit-preserved : goal.loop-unit-preserved
 loop-unit-preserved c =
     let so_far = c.loop-unit in
@@ -19,8 +17,6 @@ loop-unit-preserved c =
       marks = marks-trans c.args.campaign.now so_far.campaign _ so_far.invariant.marks c.in_ok-put_unit.ensures.marks;
     }
 
--- after the loop, and once the ship goes too, the ship and all units inside it are in the new region, as the definition
--- says (`after_sailing`)
 pub returns-clause-what : goal.returns-clause-what
 unfolding after_sailing
 returns-clause-what c =
@@ -29,7 +25,6 @@ returns-clause-what c =
     c.set_structure_region.ensures.what
     ∙ ap (λ d. with_structure_region d c.args.ship c.args.to) (all ∙ ap (fold move c.args.campaign.now.value) (c.deref-unit-items.ensures.value ∙ c.in_ok-inside.ensures.items_if_clones_equal (λ x y same. same) ∙ c.inside.ensures))
 
--- what changes as the units and then the ship go is marked (`MarksChanges`)
 pub returns-clause-marks : goal.returns-clause-marks
 returns-clause-marks c =
     let gone = c.loop-unit.campaign in

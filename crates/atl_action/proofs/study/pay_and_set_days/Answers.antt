@@ -5,12 +5,9 @@ use Rattle.atl_phase.proofs.MarkLaws.{on_ok_both}
 use Rattle.atl_action.specs.Study.{with_study}
 use Rattle.atl_action.proofs.study.pay_and_set_days.Goals as goal
 
--- where the unit isn't there, nothing changes (`ChangesHolding`)
 pub returns-in_default : goal.returns-in_default
 returns-in_default c = nobody_changes c.args.campaign.now c.args.unit (λ h. with_study h c.args.skill c.args.cost c.args.days) (sym c.in_default.ensures)
 
--- where the unit is there, it pays the cost and has the new days of the skill, and nothing else changes
--- (`ChangesHolding`)
 pub returns : goal.returns
 returns c =
     let old = c.args.campaign.now in

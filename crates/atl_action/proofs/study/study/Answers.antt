@@ -3,7 +3,6 @@ use Rattle.atl_action.specs.Study.{study_fault}
 use Rattle.atl_action.proofs.StudyLaws.{payable_fee}
 use Rattle.atl_action.proofs.study.study.Goals as goal
 
--- if the order has no fault, the unit is there and has the money for the fee, as `put_study` requires
 pub put_study-requires-clause-payable : goal.put_study-requires-clause-payable
 put_study-requires-clause-payable c =
     let u = c.in-Some.unit.now in

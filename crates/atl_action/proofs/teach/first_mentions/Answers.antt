@@ -7,14 +7,11 @@ use Rattle.atl_action.proofs.MentionLaws.{all_new, is_new, first_mention_is_kept
 use Rattle.atl_action.proofs.teach.first_mentions.Goals as goal
 use Rattle.atl_action.proofs.teach.first_mentions.Goals.{then-is_none+in_ok-insert+in_ok-push, else-is_none}
 
--- before the loop the list is empty, no number was seen, and all numbers are still to come
 pub loop-number-init : goal.loop-number-init
 loop-number-init c =
     let all = first_mentions c.args.numbers.now in
     ap (λ l. l ++ filter (is_new c.new-seen.result) all) c.new-list.ensures.items ∙ ap (λ seen. filter (is_new seen) all) c.new-seen.ensures ∙ all_new all
 
--- after one more number, new or not, the list, followed by those numbers left that weren't seen yet, each once, is
--- still `first_mentions` of all numbers
 pub loop-number-preserved : goal.loop-number-preserved
 loop-number-preserved c =
     let xs = c.args.numbers.now in

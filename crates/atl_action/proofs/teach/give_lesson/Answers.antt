@@ -4,6 +4,5 @@ use Rattle.std.specs.List.{IsDistinct}
 use Rattle.atl_action.proofs.TeachLaws.{mentions_distinct}
 use Rattle.atl_action.proofs.teach.give_lesson.Goals as goal
 
--- a list without repetitions has each unit once, as `teach_men` requires
 pub teach_men-requires : goal.teach_men-requires
 teach_men-requires c = subst (IsDistinct nat_eq) (sym (c.deref.ensures.value ∙ c.in_ok-each.ensures)) (mentions_distinct c.args.units.now)

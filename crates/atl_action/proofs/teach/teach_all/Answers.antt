@@ -12,11 +12,9 @@ use Rattle.atl_phase.proofs.FoldLaws.{fold_after_step, fold_ended, fold_mapped}
 use Rattle.atl_action.specs.Teach.{TaughtMen, after_lessons, is_teaching, teach_order}
 use Rattle.atl_action.proofs.teach.teach_all.Goals as goal
 
--- by the empty map no men of any unit were taught
 nobody_yet : amount_of empty ≡ (λ n. 0)
 nobody_yet = fun_ext (λ n. ap (λ (o : Option ℕ). unwrap_or o 0) (get-empty nat_cmp n))
 
--- before the loop nobody was taught, there are no events of TEACH, and all orders are still to come
 pub loop-order-init : goal.loop-order-init
 loop-order-init c =
     let step = teach_order c.args.campaign.now.value c.args.learning.now in
@@ -25,8 +23,6 @@ loop-order-init c =
     ap (λ t. fold (λ p o. step p (task_of o)) (t, with_events m c.new-events.result.items) xs) (ap amount_of c.new-taught.ensures ∙ nobody_yet)
     ∙ ap (λ es. fold (λ p o. step p (task_of o)) ((λ n. 0), with_events m es) xs) c.new-events.ensures.items
 
--- after one more order of TEACH, carrying out the orders still to come still makes the men taught and the month that
--- carrying out all orders makes
 pub loop-order-preserved : goal.loop-order-preserved
 loop-order-preserved c =
     let step = teach_order c.args.campaign.now.value c.args.learning.now in
@@ -35,7 +31,6 @@ loop-order-preserved c =
     let now : (amount_of c.teach.new.taught, with_events c.args.month.now c.push.new.self.items) ≡ one before c.order-item.result = search (rules, append_assoc) in
     fold_after_step one c.deref-order-items.result.now c.loop-order.order-index c.order-item.result before c.loop-order-test.true (now ∙ ap (one before) c.order-item.is) c.loop-order.invariant
 
--- after the loop the men taught and the month are those that `after_lessons` gives
 pub returns-clause-meaning : goal.returns-clause-meaning
 unfolding after_lessons
 returns-clause-meaning c =

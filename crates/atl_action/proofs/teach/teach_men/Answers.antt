@@ -13,8 +13,6 @@ use Rattle.atl_action.specs.Teach.{lesson, taught_in_lesson, untaught_men}
 use Rattle.atl_action.proofs.TeachLaws.{men_so_far, rest_taught, same_sum}
 use Rattle.atl_action.proofs.teach.teach_men.Goals as goal
 
--- after one more unit got its part, the men taught so far and a lesson to the units left are still together the whole
--- lesson
 pub loop-unit-preserved : goal.loop-unit-preserved
 unfolding IsDistinct
 loop-unit-preserved c =
@@ -44,7 +42,6 @@ loop-unit-preserved c =
       distinct = distinct.1;
     }
 
--- after the loop the men taught, and how many they are, are those that `lesson` gives
 pub returns : goal.returns
 returns c =
     let w = c.args.campaign.now.value in

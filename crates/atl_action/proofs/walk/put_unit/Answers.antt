@@ -6,7 +6,6 @@ use Rattle.atl_campaign.proofs.HoldingLaws.{marks-unit_row}
 use Rattle.atl_phase.proofs.MarkLaws.{marks-place, marks_by}
 use Rattle.atl_action.proofs.walk.put_unit.Goals as goal
 
--- what changes as a unit goes to another region is marked (`MarksChanges`)
 pub returns-clause-marks : goal.returns-clause-marks
 returns-clause-marks c =
     let old = c.args.campaign.now in

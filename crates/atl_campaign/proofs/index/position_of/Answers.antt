@@ -4,13 +4,11 @@ use Rattle.atl_campaign.specs.declared.index.IndexEntry.{IndexEntry}
 use Rattle.atl_campaign.proofs.IndexLaws.{found-by_search, missing-by_search}
 use Rattle.atl_campaign.proofs.index.position_of.Goals as goal
 
--- the index that the binary search finds is that of the number's entry
 pub returns-clause-found : goal.returns-clause-found
 returns-clause-found c =
     found-by_search c.args.entries.now c.args.number c.binary_search_by_key.result c.binary_search_by_key.ensures.bound
     (c.binary_search_by_key.ensures.position (λ (p : IndexEntry). p.number) (always_returns_same _ _ _ (λ a r q k. search rules)))
 
--- the index that the binary search returns as Err is where the number belongs
 pub returns-clause-missing : goal.returns-clause-missing
 returns-clause-missing c =
     missing-by_search c.args.entries.now c.args.number c.binary_search_by_key.result c.requires c.binary_search_by_key.ensures.bound

@@ -5,8 +5,6 @@ use Rattle.std.proofs.lemmas.List.Sums.{position_or_len_is}
 use Rattle.atl_campaign.proofs.SortedLaws.{sorted_is_partitioned, not_below, not_above}
 use Rattle.atl_campaign.proofs.numbers.first_not_below.Goals as goal
 
--- the partition point that first_not_below returns is the index of the first number that is not below `number`, or the
--- length where there is none
 pub returns-clause-position : goal.returns-clause-position
 returns-clause-position c =
     let number = c.args.number in

@@ -3,7 +3,6 @@ use Rattle.std.proofs.lemmas.List.{drop_more}
 use Rattle.atl_campaign.proofs.RowLaws.{entry_added}
 use Rattle.atl_campaign.proofs.rows.add_entries.Goals as goal
 
--- after each turn the rows so far, and those of the entries left, are the rows at the start, and those of all entries
 pub loop-entry-preserved : goal.loop-entry-preserved
 loop-entry-preserved c =
     let i = c.loop-entry.entry-index in

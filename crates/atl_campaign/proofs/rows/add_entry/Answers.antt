@@ -2,7 +2,7 @@ use Rattle.std.proofs.Common.{◌≡◌, ◌≢◌, ◌++◌, ◌∷◌, [], Lis
 use Rattle.std.specs.Prelude.{pos}
 use Rattle.std.proofs.lemmas.Int.{ints, to_z-of_z}
 use Rattle.std.proofs.lemmas.List.{append_assoc}
-use Rattle.atl_campaign.specs.declared.parts.StoredBooks.{StoredBooks}
+use Rattle.atl_rows.specs.declared.parts.StoredBooks.{StoredBooks}
 use Rattle.atl_records.specs.Books.{amount_in, thing_at}
 use Rattle.atl_records.specs.Grids.{accounts_under}
 use Rattle.atl_campaign.specs.Rows.{books_row, rows_under}
@@ -10,7 +10,6 @@ use Rattle.atl_campaign.proofs.RowLaws.{rows_under-none, rows_under-some}
 use Rattle.atl_campaign.proofs.rows.add_entry.Goals as goal
 use Rattle.atl_campaign.proofs.rows.add_entry.Goals.{then-amount-ne0+in_ok-push, else-amount-ne0}
 
--- after each turn the rows so far are the rows at the start, and then those of the amounts of the things done, if not 0
 pub loop-number-preserved : goal.loop-number-preserved
 loop-number-preserved c =
     let books = c.args.books.now in

@@ -4,8 +4,6 @@ use Rattle.atl_campaign.specs.Rows.{rows_of_sort, has_row}
 use Rattle.atl_campaign.proofs.RowLaws.{sort_rows_one}
 use Rattle.atl_campaign.proofs.rows.add_sort_rows.Goals as goal
 
--- after a turn that added a row, the rows so far, and those of the things left, are the rows at the start, and then
--- those of all things
 pub loop-thing-preserved-in-Continue-1 : goal.loop-thing-preserved-in-Continue-1
 loop-thing-preserved-in-Continue-1 c =
     let apart : c.in-Some.amount.now ≢ 0 = λ e. omega arith in
@@ -15,7 +13,6 @@ loop-thing-preserved-in-Continue-1 c =
     ap (λ rows. rows ++ rest) c.in_ok-push.ensures.ok ∙ ap (λ r. (c.loop-thing.rows ++ r ∷ []) ++ rest) c.has_row.ensures ∙ append_assoc c.loop-thing.rows (row ∷ []) rest
     ∙ ap (λ rows. c.loop-thing.rows ++ rows) (sym one) ∙ ap (λ es. c.loop-thing.rows ++ rows_of_sort c.args.number c.args.sort es) (sym c.in-Some.ensures.steps) ∙ c.loop-thing.invariant
 
--- add_sort adds a row for each thing of which there is more than 0
 pub returns : goal.returns
 returns c =
     let none : c.loop-thing.thing-iterator ≡ [] = search rules in

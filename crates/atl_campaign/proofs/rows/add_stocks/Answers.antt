@@ -4,8 +4,6 @@ use Rattle.atl_campaign.specs.Rows.{stock_rows, market_row}
 use Rattle.atl_campaign.proofs.RowLaws.{amount_rows_one}
 use Rattle.atl_campaign.proofs.rows.add_stocks.Goals as goal
 
--- after a turn that added a row, the rows so far, and those of the stocks left, are the rows at the start, and then
--- those of all stocks
 pub loop-item-preserved-in-Continue-1 : goal.loop-item-preserved-in-Continue-1
 loop-item-preserved-in-Continue-1 c =
     let apart : c.in-Some.stock.now ≢ 0 = λ e. omega arith in
@@ -15,7 +13,6 @@ loop-item-preserved-in-Continue-1 c =
     ap (λ rows. rows ++ rest) c.in_ok-push.ensures.ok ∙ ap (λ r. (c.loop-item.rows ++ r ∷ []) ++ rest) c.market_row.ensures ∙ append_assoc c.loop-item.rows (row ∷ []) rest
     ∙ ap (λ rows. c.loop-item.rows ++ rows) (sym one) ∙ ap (λ es. c.loop-item.rows ++ stock_rows c.args.region es) (sym c.in-Some.ensures.steps) ∙ c.loop-item.invariant
 
--- add_stocks adds a row for each stock that is not 0
 pub returns : goal.returns
 returns c =
     let none : c.loop-item.item-iterator ≡ [] = search rules in

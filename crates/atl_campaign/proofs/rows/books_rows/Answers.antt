@@ -4,7 +4,6 @@ use Rattle.atl_records.proofs.AmountListLaws.{entries-amounts}
 use Rattle.atl_campaign.specs.Rows.{amounts_rows, rows_under}
 use Rattle.atl_campaign.proofs.rows.books_rows.Goals as goal
 
--- the rows of all entries that books_rows returns are those of the amounts that the books list
 pub returns : goal.returns
 returns c =
     let books = c.args.books.now in

@@ -3,6 +3,5 @@ use Rattle.std.specs.FinMap.{entries}
 use Rattle.atl_campaign.specs.Rows.{has_rows}
 use Rattle.atl_campaign.proofs.rows.has_rows.Given as goal
 
--- the rows so far, and then those of what the units left have, are the rows of what all units have
 abbrev pub invariant-loop-number : goal.invariant-loop-number
 invariant-loop-number l = l.rows ++ has_rows l.number-iterator ≡ has_rows (entries l.campaign.value.units)

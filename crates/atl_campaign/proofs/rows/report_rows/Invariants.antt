@@ -3,6 +3,5 @@ use Rattle.std.specs.FinMap.{entries}
 use Rattle.atl_campaign.specs.Rows.{rows_by, report_row}
 use Rattle.atl_campaign.proofs.rows.report_rows.Given as goal
 
--- the rows so far, and then those of the reports left, are the rows of all reports
 abbrev pub invariant-loop-number : goal.invariant-loop-number
 invariant-loop-number l = l.rows ++ rows_by report_row l.number-iterator ≡ rows_by report_row (entries l.campaign.value.reports)

@@ -5,10 +5,8 @@ use Rattle.atl_http.specs.Checks.{or_problem}
 use Rattle.atl_http.proofs.JsonLaws.{json_read, json_none}
 use Rattle.atl_http.proofs.checks.json_of.Goals as goal
 
--- a body that is not UTF-8 gives BadJson, as the definition `json_of` says
 pub returns-in_default : goal.returns-in_default
 returns-in_default c = ap (or_problem BadJson) (json_none c.args.body.now c.in_default.ensures.cases.0)
 
--- a body that is parsed as JSON has the value that the definition `json_of` gives
 pub returns-in-Ok-from_str : goal.returns-in-Ok-from_str
 returns-in-Ok-from_str c = ap (or_problem BadJson) (json_read c.args.body.now c.in-Ok.ensures.cases.1 ∙ ap read (sym c.in-Ok.ensures.cases.0) ∙ c.in-Ok-from_str.ensures.ok)

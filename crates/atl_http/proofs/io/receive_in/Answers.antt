@@ -4,12 +4,9 @@ use Rattle.atl_http.specs.Heads.{ComesTo, IsShortBy}
 use Rattle.atl_http.proofs.IoLaws as laws
 use Rattle.atl_http.proofs.io.receive_in.Goals as goal
 
--- with fewer than `missing` further bytes the request isn't whole (`IsShortBy`)
 pub progress_if_due-requires : goal.progress_if_due-requires
 progress_if_due-requires g c = laws.short_of_equal c.deref.result.now c.loop-outcome.seen.items c.loop-outcome.missing c.deref.ensures.value c.loop-outcome.invariant.short
 
--- after one more read without a fault, `seen` is what was read, with fewer than `missing` further bytes the request
--- isn't whole, and the reads are within their limit
 pub loop-outcome-preserved : goal.loop-outcome-preserved
 loop-outcome-preserved g c =
     let lacks : ComesTo c.loop-outcome.seen.items (Missing c.in-Missing.count) = laws.missing_of_equal c.deref.result.now c.loop-outcome.seen.items c.in_ok-outcome.field-0 c.in-Missing.count c.deref.ensures.value c.in-Missing.is c.in_ok-outcome.ensures in
@@ -22,7 +19,6 @@ loop-outcome-preserved g c =
       goes_on = c.in-Ok.ensures.ends.1;
     }
 
--- if a read ends in Cut or ReadFault, `seen` has the bytes that were read, and the verdict on them is More (`Receives`)
 pub returns-in-Err-clause-receives : goal.returns-in-Err-clause-receives
 returns-in-Err-clause-receives g c =
     let lacks : ComesTo c.loop-outcome.seen.items (Missing c.in-Missing.count) = laws.missing_of_equal c.deref.result.now c.loop-outcome.seen.items c.in_ok-outcome.field-0 c.in-Missing.count c.deref.ensures.value c.in-Missing.is c.in_ok-outcome.ensures in

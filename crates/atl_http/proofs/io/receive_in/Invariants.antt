@@ -9,20 +9,13 @@ use Rattle.atl_http.proofs.io.receive_in.Given as goal
 -- was interrupted.
 abbrev pub invariant-loop-outcome : goal.invariant-loop-outcome
 invariant-loop-outcome g l = record {
-  -- the bytes that the reader has given are those of `seen`
   consumed : Consumes (g.R.Read.remaining l.fn.reader) (g.R.Read.remaining l.reader) l.seen.items;
-  -- no read was done after the request was whole or refused (`ReadsNoFurther`)
   progress : ReadsNoFurther l.seen.items;
-  -- with fewer than `missing` further bytes the request isn't whole (`IsShortBy`)
   short : IsShortBy l.seen.items l.missing;
-  -- the buffer of a read is as long as one read can fill: most_at_once bytes
   room : length l.room ≡ most_at_once;
-  -- at most `most_reads` reads were done
   few : l.reads.count ≤ most_reads;
-  -- the last read gave a piece or was interrupted, so that another may follow (`GoesOn`)
   goes_on : GoesOn l.reads.last;
 }
 
--- how many further reads are allowed, which falls with each turn of the loop
 abbrev pub decreases-loop-outcome : goal.decreases-loop-outcome
 decreases-loop-outcome g l = most_reads - l.reads.count

@@ -5,8 +5,6 @@ use Rattle.atl_http.specs.Calls.{most_interrupted}
 use Rattle.atl_http.proofs.IoLaws as laws
 use Rattle.atl_http.proofs.io.send.Goals as goal
 
--- after a write that took bytes, the first `sent` bytes, these among them, were written, and still fewer than
--- `most_interrupted` writes were interrupted
 pub loop-sent-preserved-in-Taken-1 : goal.loop-sent-preserved-in-Taken-1
 loop-sent-preserved-in-Taken-1 g c =
     let left : length c.rest_after.result.now ≡ length c.args.bytes.now - c.loop-sent.sent = ap length c.rest_after.ensures ∙ length-drop c.loop-sent.sent c.args.bytes.now in

@@ -6,14 +6,10 @@ use Rattle.atl_http.proofs.io.send.Given as goal
 -- the first `sent` bytes were written, and fewer than `most_interrupted` writes were interrupted
 abbrev pub invariant-loop-sent : goal.invariant-loop-sent
 invariant-loop-sent g l = record {
-  -- `sent` is at most the number of all bytes
   within : l.sent ≤ length l.bytes;
-  -- fewer than `most_interrupted` writes were interrupted
   patient : l.writes.interrupted < most_interrupted;
-  -- the writer has taken the first `sent` bytes (`Appends`)
   written : Appends (g.W.Write.contents l.fn.writer) (g.W.Write.contents l.writer) (take l.sent l.bytes);
 }
 
--- how many bytes are left, plus how many further writes may be interrupted, which falls with each turn of the loop
 abbrev pub decreases-loop-sent : goal.decreases-loop-sent
 decreases-loop-sent g l = (length l.bytes - l.sent) + (most_interrupted - l.writes.interrupted)

@@ -1,7 +1,6 @@
 use Rattle.atl_http.specs.Replies.{head_of}
 use Rattle.atl_http.proofs.message.write_head.Goals as goal
 
--- the status line and the fields Content-Type, Content-Length and Connection are appended, as `head_of` gives them
 pub returns : goal.returns
 unfolding head_of
 returns c = rw (← c.phrase_of-phrase.ensures, ← c.as_u16-number.ensures.value) c.write.ensures.bytes

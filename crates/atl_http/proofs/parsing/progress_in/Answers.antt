@@ -1,10 +1,8 @@
 use Rattle.atl_http.proofs.HeadLaws as laws
 use Rattle.atl_http.proofs.parsing.progress_in.Goals as goal
 
--- a head that isn't whole within fewer than 8,192 bytes lacks at least one byte (`ComesTo`)
 pub returns-in-Partial : goal.returns-in-Partial
 returns-in-Partial c = laws.missing_one c.args.seen.now c.front_of-front.result.now c.front_of-front.ensures.front c.if-seen-lt-MOST_HEAD.true c.in-Partial.ensures.finds
 
--- bytes that no good head begins with have the verdict BadRequest (`Judges`)
 pub returns-in-Refused : goal.returns-in-Refused
 returns-in-Refused c = laws.judges_refused c.args.seen.now c.front_of-front.result.now c.front_of-front.ensures.front c.in-Refused.ensures.finds

@@ -3,8 +3,6 @@ use Rattle.atl_http.specs.Finding.{field_pairs}
 use Rattle.atl_http.proofs.HeadLaws as laws
 use Rattle.atl_http.proofs.parsing.progress_past_head.Goals as goal
 
--- for bytes that begin with a whole head, the progress that is returned is their verdict, or a number of missing bytes
--- (`ComesTo`)
 pub returns : goal.returns
 returns c =
     let found = laws.finds_head c.args.seen.now c.args.front.now c.of-method.result.now c.of-target.result.now c.rest_after-rest.result.now c.args.fields.now c.first_fields-fields.result.now c.args.head.now c.requires.front c.requires.finds c.requires.room c.of-method.ensures c.of-target.ensures c.first_fields-fields.ensures c.rest_after-rest.ensures in

@@ -1,6 +1,5 @@
 use Rattle.atl_http.proofs.PieceLaws as laws
 use Rattle.atl_http.proofs.pieces.pieces_do_not_matter.Goals as goal
 
--- bytes after a final verdict change nothing, and no input has two final verdicts (`PiecesDoNotMatter`)
 pub returns : goal.returns
 returns c = (laws.judged_still, laws.one_verdict)

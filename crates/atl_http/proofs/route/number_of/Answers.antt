@@ -7,7 +7,6 @@ use Rattle.atl_orders.proofs.WordLaws.{one_digit_more}
 use Rattle.atl_http.proofs.DigitLaws.{digit_more}
 use Rattle.atl_http.proofs.route.number_of.Goals as goal
 
--- after one more digit, `value` is still the number that the digits write which the loop has passed
 pub loop-byte-preserved : goal.loop-byte-preserved
 loop-byte-preserved c =
     let bytes = c.args.bytes.now in

@@ -7,10 +7,7 @@ use Rattle.atl_http.proofs.route.number_of.Given as goal
 -- the bytes that the loop has passed are digits, and `value` is the number that they write
 abbrev pub invariant-loop-byte : goal.invariant-loop-byte
 invariant-loop-byte l = record {
-  -- the bytes that the loop has passed are digits
   digits : list_all is_ascii_digit (take l.byte-index l.bytes) ≡ true;
-  -- `value` is the number that the bytes write which the loop has passed
   value : l.value ≡ digits_value 10 (take l.byte-index l.bytes);
-  -- `value` is below 10 to the power of the count of bytes that the loop has passed
   few : l.value < 10 ^ l.byte-index;
 }

@@ -2,7 +2,6 @@ use Rattle.std.proofs.Common.{refl}
 use Rattle.matchit.proofs.OnLiterals.{matchit_on_literals}
 use Rattle.atl_http.proofs.route.router.Goals as goal
 
--- the router made by the four calls of `add` has the four routes (`route_rows`)
 pub returns : goal.returns
 unfolding matchit_on_literals
 returns c =

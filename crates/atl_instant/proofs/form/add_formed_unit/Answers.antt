@@ -4,7 +4,6 @@ use Rattle.atl_phase.proofs.MarkLaws.{marks_by, on_ok_both}
 use Rattle.atl_instant.proofs.FormLaws.{marks-begun}
 use Rattle.atl_instant.proofs.form.add_formed_unit.Goals as goal
 
--- all that changes when a new unit is added is marked
 pub returns-clause-marks : goal.returns-clause-marks
 returns-clause-marks c =
     let old = c.args.campaign.now in

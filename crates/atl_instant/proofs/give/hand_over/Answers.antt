@@ -7,14 +7,12 @@ use Rattle.atl_instant.proofs.EffectLaws.{moved_is}
 use Rattle.atl_instant.proofs.GiveLaws.{held_within}
 use Rattle.atl_instant.proofs.give.hand_over.Goals as goal
 
--- what the giver keeps is within the limit of a holding
 pub set_held-requires : goal.set_held-requires
 set_held-requires c =
     let u = c.in-Some-Some.giver.now in
     let giver = sym c.in-Some-Some.ensures in
     omega (arith, c.held_of.ensures, held_within c.args.gift u.holding (c.requires.limits c.args.from u giver))
 
--- the campaign after the gift is that of the definition (`after_gift`), and all changes are marked
 pub returns : goal.returns
 returns c =
     let before = c.args.campaign.now in

@@ -3,7 +3,6 @@ use Rattle.atl_instant.proofs.GuardingLaws.{can_guard, flag_marks}
 use Rattle.atl_instant.proofs.RegionGuardLaws.{holders_set}
 use Rattle.atl_instant.proofs.guard.guard.Goals as goal
 
--- the map still has exactly the factions that guard (`AreRegionGuards`), after the unit began to guard
 pub returns-clause-held : goal.returns-clause-held
 returns-clause-held c =
     let before = c.args.campaign.now.value in
@@ -11,6 +10,5 @@ returns-clause-held c =
     let (none, men) = can_guard before u (sym (c.in_default-guard_fault.ensures before c.requires.held)) in
     rw (c.set_guard.ensures.what, c.in_ok-set.ensures) (holders_set before c.args.holders.now c.args.order.unit u c.in-Some.ensures.there c.requires.held none men)
 
--- all that changes when the unit begins to guard is marked
 pub returns-clause-marks : goal.returns-clause-marks
 returns-clause-marks c = flag_marks c.args.campaign.now c.set_guard.new.self c.args.order.unit true c.set_guard.ensures.what c.set_guard.ensures.marks

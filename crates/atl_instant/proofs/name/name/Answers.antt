@@ -4,13 +4,11 @@ use Rattle.atl_campaign.proofs.HoldingLaws.{marks-unit_row}
 use Rattle.atl_phase.proofs.MarkLaws.{marks_by}
 use Rattle.atl_instant.proofs.name.name.Goals as goal
 
--- the change of the unit's name is marked
 pub returns-in-Unit-clause-marks : goal.returns-in-Unit-clause-marks
 returns-in-Unit-clause-marks c =
     let set = c.set_unit_name in
     marks_by c.args.campaign.now set.new.self _ set.ensures.what set.ensures.marks (marks-unit_row (λ u. record u { holding = record u.holding { name = c.args.name } }) (λ u. refl) c.args.campaign.now c.args.unit)
 
--- the change of the faction's name is marked
 pub returns-in-Faction-clause-marks : goal.returns-in-Faction-clause-marks
 returns-in-Faction-clause-marks c =
     let set = c.set_faction_name in

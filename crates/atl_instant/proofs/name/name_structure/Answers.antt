@@ -4,7 +4,6 @@ use Rattle.atl_campaign.proofs.LeavingLaws.{marks-structure}
 use Rattle.atl_phase.proofs.MarkLaws.{marks_by}
 use Rattle.atl_instant.proofs.name.name_structure.Goals as goal
 
--- where the order has no fault, the change of the structure's name is marked
 pub returns-in-None-clause-marks : goal.returns-in-None-clause-marks
 returns-in-None-clause-marks c =
     let old = c.args.campaign.now in

@@ -2,7 +2,6 @@ use Rattle.atl_campaign.proofs.LeavingLaws.{marks-structure, owned_by}
 use Rattle.atl_phase.proofs.MarkLaws.{marks_by}
 use Rattle.atl_instant.proofs.place.promote.Goals as goal
 
--- the change of the structure's owner is marked
 pub returns-clause-marks : goal.returns-clause-marks
 returns-clause-marks c =
     let set = c.set_owner in

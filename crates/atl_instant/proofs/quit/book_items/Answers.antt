@@ -7,12 +7,9 @@ use Rattle.atl_instant.specs.Quit.{with_item_loss}
 use Rattle.atl_instant.proofs.QuitLaws.{gone_marks, known_ahead, room_for_item, room_after_loss, room_for_item_and_later}
 use Rattle.atl_instant.proofs.quit.book_items.Goals as goal
 
--- the books have room for the loss of the next item
 pub book_loss-requires-clause-room : goal.book_loss-requires-clause-room
 book_loss-requires-clause-room c = room_for_item c.args.items.now c.loop-item.item-index c.loop-item.campaign.value c.loop-item-test.true c.loop-item.invariant.room
 
--- after one more item is booked as lost, booking the items left still gives what booking all gives, and the books have
--- room for them
 pub loop-item-preserved : goal.loop-item-preserved
 loop-item-preserved c =
     let w = c.args.world.now in

@@ -7,19 +7,16 @@ use Rattle.atl_instant.specs.Quit.{with_loss}
 use Rattle.atl_instant.proofs.QuitLaws.{room_for_loss, gone_marks, room_after_loss}
 use Rattle.atl_instant.proofs.quit.book_off.Goals as goal
 
--- the books have room for the loss of the men
 pub book_loss-requires-clause-room : goal.book_loss-requires-clause-room
 book_loss-requires-clause-room c =
     room_for_loss People c.args.men (both_move (moves_only c.args.money Lost Money) (items_bound c.args.items.now)) c.args.campaign.now.value c.requires.room
 
--- the books, with the men booked, have room for the loss of the money
 pub book_loss-requires-2-clause-room : goal.book_loss-requires-2-clause-room
 book_loss-requires-2-clause-room c =
     let before = c.args.campaign.now.value in
     let rest = both_move (moves_only c.args.money Lost Money) (items_bound c.args.items.now) in
     rw c.book_loss.ensures.what (room_for_loss Money c.args.money (items_bound c.args.items.now) (with_loss before People c.args.men) (room_after_loss People c.args.men rest before c.requires.room))
 
--- the books, with men and money booked, have room for the loss of the items
 pub book_items-requires-clause-room : goal.book_items-requires-clause-room
 book_items-requires-clause-room c =
     let before = c.args.campaign.now.value in
@@ -29,7 +26,6 @@ book_items-requires-clause-room c =
     (room_after_loss Money c.args.money (items_bound c.args.items.now) between
     (room_after_loss People c.args.men rest before c.requires.room))
 
--- all that changes when men, money and items are booked is marked
 pub returns-clause-marks : goal.returns-clause-marks
 returns-clause-marks c =
     let one = c.book_loss.new.campaign in

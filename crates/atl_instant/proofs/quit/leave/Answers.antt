@@ -5,7 +5,6 @@ use Rattle.atl_campaign.proofs.LeavingLaws.{marks-without}
 use Rattle.atl_instant.proofs.QuitLaws.{held_room, known_held}
 use Rattle.atl_instant.proofs.quit.leave.Goals as goal
 
--- the things of the books and the items of the unit are of the world, and the books have room for all that the unit has
 pub book_off-requires : goal.book_off-requires
 book_off-requires c =
     let before = c.args.campaign.now.value in
@@ -18,7 +17,6 @@ book_off-requires c =
       room = rw (list, c.men-men.ensures.value, c.money-money.ensures.value) (held_room before c.args.number u there c.requires.room);
     }
 
--- all that changes when a unit leaves with all that it has is marked
 pub returns-clause-marks : goal.returns-clause-marks
 returns-clause-marks c =
     marks-trans c.args.campaign.now c.book_off.new.campaign c.remove_unit.new.self c.book_off.ensures.marks

@@ -6,8 +6,6 @@ use Rattle.atl_instant.specs.Quit.{after_leaving}
 use Rattle.atl_instant.proofs.QuitLaws.{left_well}
 use Rattle.atl_instant.proofs.quit.leave_all.Goals as goal
 
--- after one more unit left, removing the units left still gives what removing all gives, the campaign is steady, and
--- its books have room for all that may still be booked
 pub loop-number-preserved : goal.loop-number-preserved
 loop-number-preserved c =
     let w = c.args.world.now in

@@ -4,7 +4,6 @@ use Rattle.atl_records.specs.Limits.{most_days}
 use Rattle.atl_records.proofs.EveryLaws.{each-from_every}
 use Rattle.atl_instant.proofs.transfer.days_left.Goals as goal
 
--- before the first skill all of the sender's skills are still to come, each with the days that stay
 pub loop-skill-init : goal.loop-skill-init
 loop-skill-init c =
     let h = c.args.holding.now in

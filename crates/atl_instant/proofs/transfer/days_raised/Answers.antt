@@ -5,14 +5,12 @@ use Rattle.atl_records.proofs.EveryLaws.{each-from_every}
 use Rattle.atl_instant.proofs.TransferLaws.{days_within}
 use Rattle.atl_instant.proofs.transfer.days_raised.Goals as goal
 
--- before the first skill all of the sender's skills are still to come, each with the days that the receiver then has
 pub loop-skill-init : goal.loop-skill-init
 loop-skill-init c =
     let h = c.args.sender.now in
     let all : c.into_iter-skill-iterator.result ≡ entries h.days = search rules in
     (tt, tt, rw all (each-from_every (λ s days. (1 ≤ days) × (days ≤ most_days * h.men)) h.days c.requires.sent), search rules)
 
--- the receiver's days and those that come fit 32 bits together
 pub overflow_add-days_of : goal.overflow_add-days_of
 overflow_add-days_of c =
     let (next, finite, each, whole) = c.loop-skill.invariant in

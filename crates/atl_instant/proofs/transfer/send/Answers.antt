@@ -12,7 +12,6 @@ use Rattle.atl_instant.proofs.DaysLaws.{sender_holding_is, receiver_holding_is}
 use Rattle.atl_instant.proofs.EffectLaws.{moved_is}
 use Rattle.atl_instant.proofs.transfer.send.Goals as goal
 
--- the campaign after the men went is that of the definition (`after_transfer`), and all changes are marked
 pub returns : goal.returns
 returns c =
     let before = c.args.campaign.now in

@@ -3,7 +3,6 @@ use Rattle.atl_market.specs.Build.{begin_fault, size_added}
 use Rattle.atl_market.proofs.BuildLaws.{begin_done, can_begin, can_use, next_within, size_held}
 use Rattle.atl_market.proofs.build.begin.Goals as goal
 
--- begin may call start: the unit can use as much of the kind's material as it adds to the structure
 pub start_structure-requires-clause-uses : goal.start_structure-requires-clause-uses
 start_structure-requires-clause-uses c =
     let w = c.args.world.now in
@@ -12,17 +11,14 @@ start_structure-requires-clause-uses c =
     rw c.size_added-size.ensures
     (can_use w c.args.campaign.now.value c.args.order.unit k.material (size_added k u.holding 0) u c.in-Some.ensures.there (size_held k u.holding 0) (c.requires.can.kinds c.args.number k c.requires.kind).material c.requires.can c.requires.room)
 
--- begin may call begin_fault: the structures are numbered from 1 without a gap
 pub begin_fault-requires : goal.begin_fault-requires
 begin_fault-requires c = c.requires.can.steady.next.structures
 
--- begin may call start: the number of the next structure is at most 10,000
 pub start_structure-requires-clause-room : goal.start_structure-requires-clause-room
 start_structure-requires-clause-room c =
     let none : begin_fault c.args.world.now c.args.campaign.now.value c.in-Some.unit.now c.args.kind.now ≡ None = sym c.in_default-begin_fault.ensures in
     next_within c.args.campaign.now.value c.requires.can.steady.next.structures (can_begin c.args.world.now c.args.campaign.now.value c.in-Some.unit.now c.args.kind.now none).room
 
--- without a fault, campaign and outcome are those of the definition (`begin`)
 pub returns-clause-what : goal.returns-clause-what
 returns-clause-what c =
     let w = c.args.world.now in

@@ -20,7 +20,6 @@ overflow_add-done c =
     let small : s.done + c.size_added-size.result ≤ 999999 = rw c.size_added-size.ensures (done_small u s k none (c.requires.can.kinds s.kind k kind_is).size) in
     omega (arith, small)
 
--- go_on may call use_item: the unit can use as much of the kind's material as it adds to the structure
 pub use_item-requires : goal.use_item-requires
 use_item-requires c =
     let w = c.args.world.now in
@@ -33,7 +32,6 @@ use_item-requires c =
           (can_use w c.args.campaign.now.value c.args.order.unit k.material (size_added k u.holding s.done) u c.in-Some.ensures.there (size_held k u.holding s.done) (c.requires.can.kinds s.kind k kind_is).material c.requires.can c.requires.room);
     }
 
--- without a fault, campaign and outcome are those of the definition (`go_on`)
 pub returns-clause-what : goal.returns-clause-what
 returns-clause-what c =
     let w = c.args.world.now in
@@ -47,7 +45,6 @@ returns-clause-what c =
     let first = c.set_done.ensures.what ∙ ap (λ (d : CampaignValue). with_done d u.structure (s.done + size)) c.in_ok-use_item.ensures.what in
     go_on_done w old c.set_done.new.self.value c.args.order.faction c.args.order.unit u s k size c.from.result (sym c.in-Some.ensures.own) (sym c.in-Some-structure.ensures) kind_is none first c.from.ensures c.size_added-size.ensures
 
--- what the use of the material and the structure's new `done` change is marked
 pub returns-clause-marks : goal.returns-clause-marks
 returns-clause-marks c =
     let mid = c.use_item.new.campaign in

@@ -11,19 +11,16 @@ use Rattle.atl_market.specs.Goods.{with_used}
 use Rattle.atl_market.proofs.BuildUsedLaws.{same_next, same_structures}
 use Rattle.atl_market.proofs.build.start_structure.Goals as goal
 
--- start may call begin_structure: the number of the next structure is still free after the material was used
 pub begin_structure-requires-clause-fresh : goal.begin_structure-requires-clause-fresh
 begin_structure-requires-clause-fresh c =
     let old = c.args.campaign.now.value in
     let item = c.args.kind.now.material in
     rw (c.in_ok-use_item.ensures.what, same_structures old c.args.unit item c.args.size, same_next old c.args.unit item c.args.size) c.requires.fresh
 
--- start may call begin_structure: the number of the next structure is at most 10,000 after the material was used
 pub begin_structure-requires-clause-room : goal.begin_structure-requires-clause-room
 begin_structure-requires-clause-room c =
     rw (c.in_ok-use_item.ensures.what, same_next c.args.campaign.now.value c.args.unit c.args.kind.now.material c.args.size) c.requires.room
 
--- the material is used, the structure is there, and the unit is inside it (`after_start`)
 pub returns-clause-what : goal.returns-clause-what
 returns-clause-what c =
     let old = c.args.campaign.now.value in
@@ -38,7 +35,6 @@ returns-clause-what c =
     ∙ ap (λ (d : CampaignValue). with_place d n c.args.region next) (begun ∙ ap (λ (d : CampaignValue). with_new_structure d c.args.number k c.args.region c.args.size) c.in_ok-use_item.ensures.what)
     ∙ ap (with_place new n c.args.region) number
 
--- all that start changes is marked: the material used, the new structure, and the place of the unit
 pub returns-clause-marks : goal.returns-clause-marks
 returns-clause-marks c =
     let old = c.args.campaign.now in

@@ -10,20 +10,17 @@ use Rattle.atl_phase.proofs.MarkLaws.{booked_marks}
 use Rattle.atl_market.proofs.ThereLaws.{unit_there}
 use Rattle.atl_market.proofs.goods.make_item.Goals as goal
 
--- make_item may call book: the item is one of the things that the books have
 pub book-requires-clause-there : goal.book-requires-clause-there
 book-requires-clause-there c =
     let can = c.requires.can in
     rw (ap (λ (d : CampaignValue). d.books) c.in_ok-set_item.ensures.ok) (omega (arith, can.steady.numbers.books.count, can.known))
 
--- make_item may call book: the amount made fits into the books, added to what was made before
 pub book-requires-clause-fits : goal.book-requires-clause-fits
 book-requires-clause-fits c =
     let same : to_z w64 (of_z w64 c.from-2.result) ≡ c.from-2.result = search (rules, to_z-of_z) in
     rw (same, c.from-2.ensures, ap (λ (d : CampaignValue). d.books) c.in_ok-set_item.ensures.ok)
     (booking_fits (amount_in c.args.campaign.now.value.books Made (Item c.args.item)) (pos c.args.amount) c.args.amount (within-pos c.args.amount c.args.amount (omega arith)) c.requires.can.room)
 
--- the unit has `amount` more of the item, and this is booked as made (`with_made`)
 pub returns-clause-what : goal.returns-clause-what
 returns-clause-what c =
     let can = c.requires.can in
@@ -35,7 +32,6 @@ returns-clause-what c =
     (c.in_ok-set_item.ensures.ok ∙ ap (λ i. with_item old n i (c.held_of.result + c.args.amount)) c.from.ensures ∙ ap (λ a. with_item old n c.args.item (a + c.args.amount)) (c.held_of.ensures can.unit can.there))
     ∙ sym (unit_there old n _ can.unit can.there)
 
--- all that make_item changes is marked
 pub returns-clause-marks : goal.returns-clause-marks
 returns-clause-marks c =
     let can = c.requires.can in

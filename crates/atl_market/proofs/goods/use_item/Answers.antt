@@ -8,17 +8,14 @@ use Rattle.atl_phase.proofs.MarkLaws.{booked_marks}
 use Rattle.atl_market.proofs.ThereLaws.{unit_there}
 use Rattle.atl_market.proofs.goods.use_item.Goals as goal
 
--- use_item may call book_taken: the item is one of the things that the books have
 pub book_taken-requires-clause-there : goal.book_taken-requires-clause-there
 book_taken-requires-clause-there c =
     let can = c.requires.can in
     rw (ap (λ (d : CampaignValue). d.books) c.in_ok-set_item.ensures.ok) (omega (arith, can.steady.numbers.books.count, can.known))
 
--- use_item may call book_taken: the books have room for the amount used
 pub book_taken-requires-clause-room : goal.book_taken-requires-clause-room
 book_taken-requires-clause-room c = rw (ap (λ (d : CampaignValue). d.books) c.in_ok-set_item.ensures.ok) c.requires.can.room
 
--- the unit has `amount` less of the item, and this is booked as used (`with_used`)
 pub returns-clause-what : goal.returns-clause-what
 returns-clause-what c =
     let can = c.requires.can in
@@ -29,7 +26,6 @@ returns-clause-what c =
     (c.in_ok-set_item.ensures.ok ∙ ap (λ i. with_item old n i (c.held_of.result - c.args.amount)) c.from.ensures ∙ ap (λ a. with_item old n c.args.item (a - c.args.amount)) (c.held_of.ensures can.unit can.there))
     ∙ sym (unit_there old n _ can.unit can.there)
 
--- all that use_item changes is marked
 pub returns-clause-marks : goal.returns-clause-marks
 returns-clause-marks c =
     let can = c.requires.can in

@@ -2,7 +2,6 @@ use Rattle.std.proofs.Common.{◌≡◌, [], rules}
 use Rattle.atl_market.proofs.ItemPotLaws.{all_items_put}
 use Rattle.atl_market.proofs.item_pots.item_shares.Goals as goal
 
--- the map that the loop over the regions leaves has under each unit its share by the definition (`item_share`)
 pub returns : goal.returns
 returns g c =
     let none : c.loop-region.region-iterator ≡ [] = search rules in

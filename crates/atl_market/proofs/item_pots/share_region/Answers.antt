@@ -6,8 +6,6 @@ use Rattle.atl_market.proofs.ItemPotLaws.{nothing_put}
 use Rattle.atl_market.proofs.PotLaws.{none_asked}
 use Rattle.atl_market.proofs.item_pots.share_region.Goals as goal
 
--- where no unit of the region has a want (`asked`), the map stays as it is, as the region has no shares
--- (`region_shares`)
 pub returns-then-is_none : goal.returns-then-is_none
 returns-then-is_none g c =
     let free : is_some (get (regions_with_wants c.args.wants.now c.args.campaign.now.value) c.args.region) ≡ false = search rules in

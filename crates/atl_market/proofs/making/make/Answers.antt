@@ -1,6 +1,5 @@
 use Rattle.atl_campaign.proofs.CoverLaws.{marks-trans}
 use Rattle.atl_market.proofs.making.make.Goals as goal
 
--- all that make changes is marked: what was used, and then what was made
 pub returns-clause-marks : goal.returns-clause-marks
 returns-clause-marks c = marks-trans c.args.campaign.now c.use_raw.new.campaign c.make_item.new.campaign c.in_ok-use_raw.ensures.marks c.in_ok-make_item.ensures.marks

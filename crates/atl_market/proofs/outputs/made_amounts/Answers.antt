@@ -4,7 +4,6 @@ use Rattle.atl_market.specs.Puts.{with_entries}
 use Rattle.atl_market.proofs.MakesLaws.{makes_are}
 use Rattle.atl_market.proofs.outputs.made_amounts.Goals as goal
 
--- the map that the loop over the wants leaves is that of the definition (`made_amounts`)
 pub returns : goal.returns
 returns c =
     let none : c.loop-unit.unit-iterator ≡ [] = search rules in

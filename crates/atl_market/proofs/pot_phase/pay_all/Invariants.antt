@@ -10,10 +10,7 @@ use Rattle.atl_market.proofs.pot_phase.pay_all.Given as goal
 -- changes so far are marked
 abbrev pub invariant-loop-unit : goal.invariant-loop-unit
 invariant-loop-unit g l = record {
-  -- the shares still to come can be paid in turn, from the campaign so far
   can : CanInTurn (g.P.PotPhase.can_pay l.phase l.items l.world) (PotMeaning.paid (g.P.PotPhase.meaning l.phase) l.items l.world) l.campaign.value l.unit-iterator;
-  -- paying the shares still to come from the campaign so far gives what paying all shares from the first gives
   what : fold (PotMeaning.paid (g.P.PotPhase.meaning l.phase) l.items l.world) l.campaign.value l.unit-iterator ≡ fold (PotMeaning.paid (g.P.PotPhase.meaning l.phase) l.items l.world) l.fn.campaign.value (entries l.given);
-  -- all that has changed of the campaign so far is marked
   marks : MarksChanges l.fn.campaign l.campaign;
 }

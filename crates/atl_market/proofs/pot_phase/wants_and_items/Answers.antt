@@ -8,8 +8,6 @@ use Rattle.atl_market.specs.Puts.{with_entries}
 use Rattle.atl_market.proofs.PotLaws.{put_in_turn}
 use Rattle.atl_market.proofs.pot_phase.wants_and_items.Goals as goal
 
--- Before the first order: what all orders want and name, put into empty maps, makes `wants_by` and `items_by`; and the
--- empty map has no want above 999,999,999.
 pub loop-order-init : goal.loop-order-init
 loop-order-init g c =
     let p = g.P.PotPhase.meaning c.args.phase.now in

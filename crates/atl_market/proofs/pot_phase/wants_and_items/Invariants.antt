@@ -9,10 +9,7 @@ use Rattle.atl_market.proofs.pot_phase.wants_and_items.Given as goal
 -- the maps so far, with what the orders to come put into them, are what the units want and the items that orders name
 abbrev pub invariant-loop-order : goal.invariant-loop-order
 invariant-loop-order g l = record {
-  -- the map `wants` so far, with the wants of the orders still to come put in, is what all orders want (`wants_by`)
   wants : with_entries l.wants (filter_map (want_by (g.P.PotPhase.meaning l.phase) l.world l.campaign.value) (map task_of (drop l.order-index l.orders))) ≡ wants_by (g.P.PotPhase.meaning l.phase) l.world l.campaign.value (map task_of l.orders);
-  -- each want in the map so far is at most 999,999,999
   bound : AreWants l.wants;
-  -- the map `items` so far, with the items of the orders still to come put in, is what all name (`items_by`)
   items : with_entries l.items (filter_map (item_by (g.P.PotPhase.meaning l.phase) l.world l.campaign.value) (map task_of (drop l.order-index l.orders))) ≡ items_by (g.P.PotPhase.meaning l.phase) l.world l.campaign.value (map task_of l.orders);
 }

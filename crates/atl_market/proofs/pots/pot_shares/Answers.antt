@@ -2,7 +2,6 @@ use Rattle.std.proofs.Common.{◌≡◌, [], rules}
 use Rattle.atl_market.proofs.PotLaws.{all_put}
 use Rattle.atl_market.proofs.pots.pot_shares.Goals as goal
 
--- the map that the loop over the regions leaves is that of the definition (`pot_shares`)
 pub returns : goal.returns
 returns g c =
     let none : c.loop-region.region-iterator ≡ [] = search rules in

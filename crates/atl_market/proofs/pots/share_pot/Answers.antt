@@ -4,7 +4,6 @@ use Rattle.atl_market.specs.Pots.{want_of}
 use Rattle.atl_shares.proofs.ShareLaws.{length-shares}
 use Rattle.atl_market.proofs.pots.share_pot.Goals as goal
 
--- share_pot may call put_shares: there are as many shares as units that share the pot (`takers`)
 pub put_shares-requires-clause-length : goal.put_shares-requires-clause-length
 put_shares-requires-clause-length c =
     ap length c.deref-2.ensures.value ∙ ap length c.in_ok-shares.ensures.definition

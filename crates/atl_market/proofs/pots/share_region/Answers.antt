@@ -8,20 +8,16 @@ use Rattle.atl_market.specs.Puts.{with_entries}
 use Rattle.atl_shares.specs.Share.{shares}
 use Rattle.atl_market.proofs.pots.share_region.Goals as goal
 
--- for `returns-then-is_empty`: a list of length 0 is empty
 empty_list : {X : Type 0} (xs : List X) → length xs ≡ 0 → xs ≡ []
 empty_list [] h = refl
 empty_list (x ∷ xs) h = absurd (omega arith)
 
--- where none of the region's units has a want (`takers`), the map stays as it is, as the region has no shares
--- (`shares_in`)
 pub returns-then-is_empty : goal.returns-then-is_empty
 returns-then-is_empty g c =
     let empty : c.in_ok-takers.takers.items ≡ [] = empty_list c.in_ok-takers.takers.items (search rules) in
     let none : takers_in c.args.wants.now c.args.campaign.now.value.units c.args.region ≡ [] = sym (search rules) ∙ empty in
     ap (λ takers. with_entries c.args.given.now (zip takers (shares (g.P.Pots.pot_of c.args.pots.now c.args.region) (map (want_of c.args.wants.now) takers)))) (sym none)
 
--- where no unit of the region has a want (`asked`), the map stays as it is, as the region has no shares (`shares_in`)
 pub returns-then-is_none : goal.returns-then-is_none
 returns-then-is_none g c =
     let free : is_some (get (regions_with_wants c.args.wants.now c.args.campaign.now.value) c.args.region) ≡ false = search rules in

@@ -5,8 +5,6 @@ use Rattle.atl_market.proofs.pots.wants_of.Given as goal
 -- the wants so far are those of the takers that the loop has passed, and each is at most 999,999,999
 abbrev pub invariant-loop-number : goal.invariant-loop-number
 invariant-loop-number l = record {
-  -- the list so far has the wants of the takers that the loop has passed, in their order
   value : l.wanted.items ≡ map (want_of l.wants) (take l.number-index l.takers);
-  -- each want in the list so far is at most 999,999,999
   bound : All (λ want. want ≤ 999999999) l.wanted.items;
 }

@@ -1,6 +1,5 @@
 use Rattle.atl_market.proofs.AfterPotsLaws as laws
 use Rattle.atl_market.proofs.produce.units_produce_all_at_once.Goals as goal
 
--- the law that all units produce at once is proved in AfterPotsLaws
 pub returns : goal.returns
 returns c = laws.produces_at_once

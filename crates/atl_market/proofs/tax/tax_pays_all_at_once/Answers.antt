@@ -1,6 +1,5 @@
 use Rattle.atl_market.proofs.AfterPotsLaws as laws
 use Rattle.atl_market.proofs.tax.tax_pays_all_at_once.Goals as goal
 
--- the law that all units take their tax at once is proved in AfterPotsLaws
 pub returns : goal.returns
 returns c = laws.taxes_at_once

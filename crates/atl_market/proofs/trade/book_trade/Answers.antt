@@ -16,14 +16,12 @@ use Rattle.atl_market.specs.declared.trade.TradeResult.{TradeResult}
 use Rattle.atl_market.proofs.TradeLaws.{traded_books, traded_marks, traded_what}
 use Rattle.atl_market.proofs.trade.book_trade.Goals as goal
 
--- setting a unit's money and then its amount of an item changes its holding by what a trade leaves (`ChangesHolding`)
 goods_set : (a b c : MarkedCampaign) (n item : ℕ) (d : TradeResult) → b.value ≡ with_money a.value n d.money → b.marks ≡ mark_unit_row a n
     → c.value ≡ with_item b.value n item d.amount → c.marks ≡ mark_item b n item d.amount → ChangesHolding a c n (λ h. with_trade_result h item d)
 goods_set a b c n item d b_is b_marks c_is c_marks =
     then_changes a b c n (λ h. record h { money = d.money }) (λ h. record h { items = with_amount_of h.items item d.amount })
     (money_changes a b n d.money b_is b_marks) (item_changes b c n item d.amount c_is c_marks)
 
--- book_trade may call book: money is one of the things that the books have
 pub book-requires-clause-there : goal.book-requires-clause-there
 book-requires-clause-there c =
     let can = c.requires in
@@ -31,7 +29,6 @@ book-requires-clause-there c =
     let books = traded_books c.args.campaign.now c.set_item.new.self c.set_stock.new.self c.args.number c.args.region c.args.item c.args.deal.stock _ set c.in_ok-set_stock.ensures.ok in
     rw books (omega (arith, can.things))
 
--- book_trade may call book: the money of the trade fits into the books, added to what was booked before
 pub book-requires-clause-fits : goal.book-requires-clause-fits
 book-requires-clause-fits c =
     let can = c.requires in
@@ -40,7 +37,6 @@ book-requires-clause-fits c =
     let same : to_z w64 (of_z w64 c.args.deal.booked) ≡ c.args.deal.booked = search (rules, to_z-of_z) in
     rw (same, books) (booking_fits (amount_in c.args.campaign.now.value.books c.args.entry Money) c.args.deal.booked holding_limit can.small can.room)
 
--- unit, stock and books are as the result of the trade leaves them (`with_trade_booked`)
 pub returns-clause-what : goal.returns-clause-what
 returns-clause-what c = λ u is at.
     let deal = c.args.deal in
@@ -51,7 +47,6 @@ returns-clause-what c = λ u is at.
     (traded_what c.args.campaign.now c.set_item.new.self c.set_stock.new.self c.args.number c.args.region c.args.item deal.stock (λ h. with_trade_result h c.args.item deal) set c.in_ok-set_stock.ensures.ok u is
     ∙ sym (ap (λ r. with_stock (with_holding c.args.campaign.now.value c.args.number (with_trade_result u.holding c.args.item deal)) r c.args.item deal.stock) at))
 
--- all that book_trade changes is marked
 pub returns-clause-marks : goal.returns-clause-marks
 returns-clause-marks c =
     let old = c.args.campaign.now in

@@ -2,7 +2,6 @@ use Rattle.std.proofs.Common.{◌≡◌, Some, rules}
 use Rattle.std.specs.FinMap.{get}
 use Rattle.atl_market.proofs.trade.limit_of.Goals as goal
 
--- the limit of a market that the region has is at most 999,999,999
 pub returns-in-Some-get-clause-bound : goal.returns-in-Some-get-clause-bound
 returns-in-Some-get-clause-bound c =
     let plan : get c.args.world.now.regions c.args.region ≡ Some c.in-Some.plan.now = search rules in

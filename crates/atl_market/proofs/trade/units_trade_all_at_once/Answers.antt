@@ -1,6 +1,5 @@
 use Rattle.atl_market.proofs.AfterTradeLaws as laws
 use Rattle.atl_market.proofs.trade.units_trade_all_at_once.Goals as goal
 
--- the law that all units sell at once, and all buy at once, is proved in AfterTradeLaws
 pub returns : goal.returns
 returns c = laws.trades_at_once

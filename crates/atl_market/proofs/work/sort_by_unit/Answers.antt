@@ -4,6 +4,5 @@ use Rattle.atl_phase.specs.PhaseOrders.{key_of, task_of}
 use Rattle.atl_phase.specs.declared.phase_order.Arrangement.TheVariants.{ByUnit}
 use Rattle.atl_market.proofs.work.sort_by_unit.Goals as goal
 
--- the list of orders is sorted by unit, line, faction and index in the mailing (`key_of`)
 pub returns-clause-sorted : goal.returns-clause-sorted
 returns-clause-sorted c = c.sort_unstable_by_key.ensures.sorted (λ o. key_of ByUnit (task_of o)) (always_returns_same _ _ _ (λ a r q k. search rules))

@@ -5,7 +5,6 @@ use Rattle.atl_market.specs.Idle.{all_work}
 use Rattle.atl_market.proofs.WorkOrderLaws.{work_sorted}
 use Rattle.atl_market.proofs.work.work_orders.Goals as goal
 
--- the sorted list has the orders of the phase WORK by the definition (`work_orders`)
 pub returns : goal.returns
 returns c =
     let all : map task_of c.add_idle_orders.new.list.items ≡ all_work c.args.campaign.now.value (orders_by_unit is_month_long c.args.month.now) = search rules in

@@ -1,6 +1,5 @@
 use Rattle.atl_market.proofs.AfterPotsLaws as laws
 use Rattle.atl_market.proofs.work.work_pays_all_at_once.Goals as goal
 
--- the law that all units are paid their wages at once is proved in AfterPotsLaws
 pub returns : goal.returns
 returns c = laws.works_at_once

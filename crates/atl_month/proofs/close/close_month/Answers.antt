@@ -14,20 +14,15 @@ use Rattle.atl_month.proofs.close.close_month.Goals as goal
 pub returns-clause-good : goal.returns-clause-good
 returns-clause-good c = finished_good c.args.world.now c.args.campaign.value c.in_ok-campaign.campaign.value phases_bound phases_little c.requires.month c.in_ok-campaign.ensures.leaves c.requires.good
 
--- the number of the month last closed, the reports and the set of factions stay (`IsSameMonth`)
 pub returns-clause-same : goal.returns-clause-same
 returns-clause-same c = c.in_ok-campaign.ensures.leaves.same_month
 
--- each faction that the campaign had before the month is still there
 pub returns-clause-factions : goal.returns-clause-factions
 returns-clause-factions c = factions_stay c.args.world.now c.args.campaign.value c.in_ok-campaign.campaign.value c.in_ok-campaign.ensures.leaves
 
--- each amount of the books moves by at most 10^14 - 1 for each phase that may move it (`month_moves`)
 pub returns-clause-books : goal.returns-clause-books
 returns-clause-books c = books_near c.args.world.now c.args.campaign.value c.in_ok-campaign.campaign.value c.in_ok-campaign.ensures.leaves
 
--- each phase of the month left alone what its specification says, over the campaigns before and after it
--- (`month_keeps`)
 pub returns-clause-keeps : goal.returns-clause-keeps
 returns-clause-keeps c =
     let is : c.new-month.result ≡ new_month (by_faction (map reading_of c.args.mailings.items)) c.args.words.now = search rules in
@@ -39,11 +34,9 @@ pub run-requires-clause-needs : goal.run-requires-clause-needs
 run-requires-clause-needs c =
     (sound_early c.args.world.now c.args.campaign.value c.requires.good.sound, λ w d h. (h, λ w d h. (h, λ w d h. (h, λ w d h. h))))
 
--- close_month may call `run` of the phases: the books of a good campaign have room for all phases of a month
 pub run-requires-clause-room : goal.run-requires-clause-room
 run-requires-clause-room c = phases_room c.args.world.now c.args.campaign.value c.requires.good.sound
 
--- close_month may call `run` of the phases: the mailings that the phases get can be read with the world
 pub run-requires-clause-read : goal.run-requires-clause-read
 run-requires-clause-read c =
     let ms = c.args.mailings.items in
@@ -51,15 +44,12 @@ run-requires-clause-read c =
     let is : by_faction (map reading_of ms) ≡ c.new-month.result.readings = search rules in
     subst (AreFit w) is (read_fit w ms (recursion_from_All (IsReadWith w) ms c.requires.read))
 
--- the campaign and the events are those of the definition of a month (`month_of`)
 pub returns-clause-definition : goal.returns-clause-definition
 returns-clause-definition c =
     let is : c.new-month.result ≡ new_month (by_faction (map reading_of c.args.mailings.items)) c.args.words.now = search rules in
     month_is c.args.world.now c.args.campaign.value c.in_ok-campaign.campaign.value c.new-month.result c.in_ok-campaign.month (by_faction (map reading_of c.args.mailings.items)) c.args.words.now c.into_events.result.items
     c.in_ok-campaign.ensures.meaning is c.into_events.ensures
 
--- each unit of a faction without a mailing, unless all its men starved, has its name, no less of any item, and all men
--- who didn't starve (`UnmailedAreLeft`)
 pub returns-clause-unmailed : goal.returns-clause-unmailed
 returns-clause-unmailed c =
     unmailed_left c.args.world.now c.args.campaign.value c.in_ok-campaign.campaign.value c.args.mailings.items c.args.words.now c.into_events.result.items (returns-clause-definition c) (returns-clause-keeps c)

@@ -1,6 +1,5 @@
 use Rattle.atl_phase.proofs.RoomLaws.{one_phase_has_room}
 use Rattle.atl_month.proofs.close.one_phase_has_room.Goals as goal
 
--- books in which no amount passes 9*10^18 have room for one phase (`OnePhaseHasRoom`)
 pub returns : goal.returns
 returns c = one_phase_has_room

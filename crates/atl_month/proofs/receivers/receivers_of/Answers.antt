@@ -10,8 +10,6 @@ use Rattle.atl_month.specs.Sweep.{receives}
 use Rattle.atl_month.proofs.ReceiverLaws.{all_noted, noted_goes_on, nothing_noted}
 use Rattle.atl_month.proofs.receivers.receivers_of.Goals as goal
 
--- Before the loop the map is empty, and all units are still to come: of these, the first that can receive for a faction
--- in a region is its receiver there.
 pub loop-number-init : goal.loop-number-init
 loop-number-init c =
     let what = c.args.campaign.now.value in
@@ -22,8 +20,6 @@ loop-number-init c =
       rw is (each-from_every (λ n u. 1 ≤ n) what.units c.requires),
     )
 
--- After one more unit, the receiver is still the unit in the map, or if there is none, the first that can receive among
--- the units still to come.
 pub loop-number-preserved : goal.loop-number-preserved
 loop-number-preserved c =
     let (_, _, rest, low) = c.loop-number.invariant in
@@ -39,7 +35,6 @@ loop-number-preserved c =
       least.1,
     )
 
--- after the loop the map has the receivers of the campaign (`AreReceivers`)
 pub returns : goal.returns
 returns c =
     let (_, _, rest, low) = c.loop-number.invariant in

@@ -8,7 +8,6 @@ use Rattle.atl_phase.proofs.BookingLaws.{booking_fits, within-pos}
 use Rattle.atl_month.proofs.RestockLaws.{market_marks, restock_small, room_alone}
 use Rattle.atl_month.proofs.restock.restock_market.Goals as goal
 
--- restock_market may call book: the item's amount under Stocked fits 64 bits with the new goods
 pub book-requires-clause-fits : goal.book-requires-clause-fits
 book-requires-clause-fits c =
     let before = c.args.campaign.now.value in
@@ -18,7 +17,6 @@ book-requires-clause-fits c =
     (within-pos c.restock-more.result most_amount (rw c.restock-more.ensures (restock_small c.args.market.now c.stock-stock.result c.requires.known.limit)))
     (room_alone before c.args.item c.requires.room))
 
--- all that the market's new goods change is marked
 pub returns-clause-marks : goal.returns-clause-marks
 returns-clause-marks c =
     let more : to_z w64 (of_z w64 c.from.result) ≡ pos c.restock-more.result = search (rules, to_z-of_z, c.from.ensures) in

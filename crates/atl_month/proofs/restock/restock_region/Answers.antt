@@ -12,12 +12,9 @@ use Rattle.atl_month.specs.Restock.{after_market_restock, after_restock, stocks_
 use Rattle.atl_month.proofs.RestockLaws.{IsMarketOf, markets_are, markets_there, none_of, one_leaves_well, room_for_later_markets, room_for_market, stocking_bound, stocks_little}
 use Rattle.atl_month.proofs.restock.restock_region.Goals as goal
 
--- restocking a region that the world doesn't have changes nothing
 pub returns-in-None-clause-what : goal.returns-in-None-clause-what
 returns-in-None-clause-what c = sym (none_of c.args.world.now c.region.ensures.world c.args.region c.args.campaign.now.value (sym c.in-None.ensures.value))
 
--- Before the first market all markets are still to come, the campaign is steady, and the books have room for all new
--- goods.
 pub loop-item-init : goal.loop-item-init
 loop-item-init c =
     let w = c.args.world.now in
@@ -38,14 +35,11 @@ loop-item-init c =
       marks = marks-refl before;
     }
 
--- restock_region may call restock_market: the books have room for the new goods of the next market
 pub restock_market-requires-clause-room : goal.restock_market-requires-clause-room
 restock_market-requires-clause-room c =
     room_for_market (c.in-Some-2.item, c.in-Some-2.market.now) c.next.new.self c.loop-item.campaign.value
     (subst (λ (es : List (ℕ × Market)). HaveRoom (stocking_bound es) c.loop-item.campaign.value) c.in-Some-2.ensures.steps c.loop-item.invariant.room)
 
--- After one more market got its new goods, restocking the markets still to come still makes what restocking all makes.
--- The campaign is steady, its books have room, and all changes are marked.
 pub loop-item-preserved : goal.loop-item-preserved
 loop-item-preserved c =
     let w = c.args.world.now in

@@ -13,18 +13,11 @@ use Rattle.atl_month.proofs.restock.restock_region.Given as goal
 -- have room, and all changes are marked
 abbrev pub invariant-loop-item : goal.invariant-loop-item
 invariant-loop-item l = record {
-  -- the iterator can give the next market
   can_next : (goal.iterator-loop-item).can_next l.item-iterator;
-  -- the iterator ends after some number of markets
   is_finite : (goal.iterator-loop-item).is_finite l.item-iterator;
-  -- restocking the markets still to come makes the campaign that restocking all of them makes
   rest : fold (after_market_restock l.region) l.campaign.value l.item-iterator ≡ after_restock l.region l.initial.campaign.value (entries (markets_of l.world l.region));
-  -- each market still to come is the world's market of the region for its item
   each : EachEntry (IsMarketOf l.world l.region) l.item-iterator;
-  -- the campaign is steady
   steady : IsSteady l.world l.campaign.value;
-  -- the books have room for the new goods of the markets still to come
   room : HaveRoom (stocking_bound l.item-iterator) l.campaign.value;
-  -- no mark is lost and all that changed is marked (`MarksChanges`)
   marks : MarksChanges l.initial.campaign l.campaign;
 }

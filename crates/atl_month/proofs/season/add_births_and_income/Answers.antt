@@ -9,7 +9,6 @@ use Rattle.atl_phase.proofs.BookingLaws.{booked-room, booking_fits, within-pos}
 use Rattle.atl_month.proofs.SeasonLaws.{births_first, growth_marks}
 use Rattle.atl_month.proofs.season.add_births_and_income.Goals as goal
 
--- add_births_and_income may call book: the amount of people under Births fits 64 bits with those born
 pub book-requires-clause-fits : goal.book-requires-clause-fits
 book-requires-clause-fits c =
     let same : to_z w64 (of_z w64 c.from.result) ≡ c.from.result = search (rules, to_z-of_z) in
@@ -17,7 +16,6 @@ book-requires-clause-fits c =
     rw (same, c.from.ensures, c.set_region_money.ensures.what, c.set_peasants.ensures.what)
     (booking_fits (amount_in before.books Births People) (pos c.args.born) most_amount (within-pos c.args.born most_amount (omega (arith, c.requires.peasants))) (c.requires.room Births People))
 
--- add_births_and_income may call book again: the amount of money under Income fits 64 bits with the income
 pub book-requires-2-clause-fits : goal.book-requires-2-clause-fits
 book-requires-2-clause-fits c =
     let one : to_z w64 (of_z w64 c.from.result) ≡ c.from.result = search (rules, to_z-of_z) in
@@ -27,7 +25,6 @@ book-requires-2-clause-fits c =
     (booking_fits _ (pos c.args.earned) most_amount (within-pos c.args.earned most_amount (omega (arith, c.requires.money)))
     (booked-room books Births People (pos c.args.born) most_amount (within-pos c.args.born most_amount (omega (arith, c.requires.peasants))) (moves_only most_amount Income Money) (births_first c.args.campaign.now.value c.requires.room) Income Money))
 
--- all that births and income change is marked
 pub returns-clause-marks : goal.returns-clause-marks
 returns-clause-marks c =
     let one : to_z w64 (of_z w64 c.from.result) ≡ pos c.args.born = search (rules, c.from.ensures) in

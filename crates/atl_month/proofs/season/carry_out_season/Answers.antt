@@ -8,7 +8,6 @@ use Rattle.atl_month.specs.Season.{grows_by, season_moves}
 use Rattle.atl_month.proofs.SeasonLaws.{births_fit, income_fits, limits_fit, region_grows_well}
 use Rattle.atl_month.proofs.season.carry_out_season.Goals as goal
 
--- carry_out_season may call add_births_and_income: the region's peasants with those born are at most 999,999,999
 pub add_births_and_income-requires-clause-peasants : goal.add_births_and_income-requires-clause-peasants
 add_births_and_income-requires-clause-peasants c =
     let region = c.in-Some-region.region.now in
@@ -18,7 +17,6 @@ add_births_and_income-requires-clause-peasants c =
     (limits_fit c.args.world.now c.args.number terrain c.rules-rules.ensures.world (sym c.in-Some.ensures.value)).0
     (c.requires.steady.numbers.regions c.args.number region (sym c.in-Some-region.ensures)).peasants)
 
--- carry_out_season may call add_births_and_income: the region's money with its income is at most 999,999,999
 pub add_births_and_income-requires-clause-money : goal.add_births_and_income-requires-clause-money
 add_births_and_income-requires-clause-money c =
     let region = c.in-Some-region.region.now in
@@ -28,19 +26,15 @@ add_births_and_income-requires-clause-money c =
     (limits_fit c.args.world.now c.args.number terrain c.rules-rules.ensures.world (sym c.in-Some.ensures.value)).1
     (c.requires.steady.numbers.regions c.args.number region (sym c.in-Some-region.ensures)).money)
 
--- carry_out_season may call add_births_and_income: the books have room for births and income
 pub add_births_and_income-requires-clause-room : goal.add_births_and_income-requires-clause-room
 add_births_and_income-requires-clause-room c = room_less (grows_by most_amount) (season_moves most_amount) c.args.campaign.now.value (λ e t. omega arith) c.requires.room
 
--- carry_out_season may call restock_region: the campaign is steady after births and income
 pub restock_region-requires-clause-steady : goal.restock_region-requires-clause-steady
 restock_region-requires-clause-steady c =
     let growth = region_grows_well c.args.world.now c.rules-rules.ensures.world c.args.campaign.now.value c.args.number c.args.word c.in-Some.terrain.now c.in-Some-region.region.now
     (sym c.in-Some.ensures.value) (sym c.in-Some-region.ensures) c.requires.steady in
     rw (c.add_births_and_income.ensures.what, c.income-earned.ensures, c.births-born.ensures, c.rules-rules.ensures.value) growth.leaves_it
 
--- carry_out_season may call restock_region: after births and income, the books have room for the new goods of the
--- markets
 pub restock_region-requires-clause-room : goal.restock_region-requires-clause-room
 restock_region-requires-clause-room c =
     let growth = region_grows_well c.args.world.now c.rules-rules.ensures.world c.args.campaign.now.value c.args.number c.args.word c.in-Some.terrain.now c.in-Some-region.region.now
@@ -48,6 +42,5 @@ restock_region-requires-clause-room c =
     rw (c.add_births_and_income.ensures.what, c.income-earned.ensures, c.births-born.ensures, c.rules-rules.ensures.value)
     (room_for_second (grows_by most_amount) (stocks_by most_amount) c.args.world.now c.args.campaign.now.value _ growth c.requires.room)
 
--- all that the season of the region changes is marked
 pub returns-clause-marks : goal.returns-clause-marks
 returns-clause-marks c = on_ok_weaker c.restock_region.result (marks-trans c.args.campaign.now c.add_births_and_income.new.campaign c.restock_region.new.campaign c.add_births_and_income.ensures.marks) c.restock_region.ensures.marks

@@ -11,8 +11,6 @@ use Rattle.atl_month.specs.Season.{season_moves, season_at}
 use Rattle.atl_month.proofs.SeasonLaws.{season_little, room_for_later_seasons, room_for_first_season, season_at_leaves_well, season_goes_on}
 use Rattle.atl_month.proofs.season.carry_out_seasons.Goals as goal
 
--- Before the first region all regions are still to come, the campaign is steady, and the books have room for their
--- season.
 pub loop-number-init : goal.loop-number-init
 loop-number-init c =
     let listed : c.into_iter-number-iterator.result ≡ entries c.args.world.now.regions = search rules in
@@ -25,8 +23,6 @@ loop-number-init c =
       marks-refl c.args.campaign.now,
     )
 
--- After the season of one more region, the season of the regions still to come still makes the campaign of the whole
--- season. The campaign is steady, its books have room, and all changes are marked.
 pub loop-number-preserved : goal.loop-number-preserved
 loop-number-preserved c =
     let w = c.args.world.now in
@@ -51,7 +47,6 @@ loop-number-preserved c =
       marks-trans c.args.campaign.now c.loop-number.campaign c.carry_out_season.new.campaign marks c.in_ok-carry_out_season-in-Some-get.ensures.marks,
     )
 
--- turn_regions may call carry_out_season: the books have room for the season of the next region
 pub carry_out_season-requires-clause-room : goal.carry_out_season-requires-clause-room
 carry_out_season-requires-clause-room c =
     let (_, _, whole, steady, room, marks) = c.loop-number.invariant in

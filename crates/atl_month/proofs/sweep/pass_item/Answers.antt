@@ -11,7 +11,6 @@ use Rattle.atl_phase.proofs.MeaningLaws.{amount_room_for_less}
 use Rattle.atl_month.proofs.SweepLaws.{passed_item_is}
 use Rattle.atl_month.proofs.sweep.pass_item.Goals as goal
 
--- pass_item may call book_taken: the item is a thing of the books, which have room for what is lost of it
 pub book_taken-requires : goal.book_taken-requires
 book_taken-requires c =
     let books = ap (λ (s : CampaignValue). s.books) c.in_ok-set_item-in-Some.ensures.ok in
@@ -23,7 +22,6 @@ book_taken-requires c =
           (omega arith) c.requires.room);
     }
 
--- where the unit is there, the item is passed on as the definition says, and all changes are marked
 pub returns-in_ok-set_item-in-Some : goal.returns-in_ok-set_item-in-Some
 returns-in_ok-set_item-in-Some c =
     let u = c.in-Some.unit.now in
@@ -41,7 +39,6 @@ returns-in_ok-set_item-in-Some c =
           c.book_taken.ensures.what c.book_taken.ensures.marks;
     }
 
--- where the unit isn't there, the loss that is booked is marked
 pub returns-in-None-clause-marks : goal.returns-in-None-clause-marks
 returns-in-None-clause-marks c =
     booked_marks c.args.campaign.now c.args.campaign.now c.book_taken-in-None.new.campaign Lost (Item c.args.item) (neg_ℤ (pos c.args.amount))

@@ -6,12 +6,9 @@ use Rattle.atl_month.specs.Sweep.{after_passing_item}
 use Rattle.atl_month.proofs.SweepLaws.{item_passes, rest_room}
 use Rattle.atl_month.proofs.sweep.pass_items.Goals as goal
 
--- pass_items may call pass_item: the books have room for what may be lost of the next item
 pub pass_item-requires-clause-room : goal.pass_item-requires-clause-room
 pass_item-requires-clause-room c = room_for_item c.args.items.now c.loop-item.item-index c.loop-item.campaign.value c.loop-item-test.true c.loop-item.invariant.room
 
--- After one more item was passed on, passing on the items still to come still makes what passing on all makes. The
--- campaign is steady, its books have room, and all changes are marked.
 pub loop-item-preserved : goal.loop-item-preserved
 loop-item-preserved c =
     let w = c.args.world.now in

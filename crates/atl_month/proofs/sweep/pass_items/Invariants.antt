@@ -11,14 +11,9 @@ use Rattle.atl_month.proofs.sweep.pass_items.Given as goal
 -- have room, and all changes are marked
 abbrev pub invariant-loop-item : goal.invariant-loop-item
 invariant-loop-item l = record {
-  -- passing on the items still to come makes the campaign that passing on all of them makes
   rest : fold (after_passing_item l.to) l.campaign.value (drop l.item-index l.items) ≡ fold (after_passing_item l.to) l.initial.campaign.value l.items;
-  -- the campaign is steady
   steady : IsSteady l.world l.campaign.value;
-  -- the items still to come are items of the world
   known : EachEntry (λ i amount. i < length l.world.items) (drop l.item-index l.items);
-  -- the books have room for what may be lost of the items still to come
   room : HaveRoom (items_bound (drop l.item-index l.items)) l.campaign.value;
-  -- no mark is lost and all that changed is marked (`MarksChanges`)
   marks : MarksChanges l.initial.campaign l.campaign;
 }

@@ -7,7 +7,6 @@ use Rattle.atl_phase.proofs.ChangeLaws.{money_changes}
 use Rattle.atl_phase.proofs.MarkLaws.{booked_marks}
 use Rattle.atl_month.proofs.sweep.pass_money.Goals as goal
 
--- where the unit is there, its money and the loss that is booked are marked
 pub returns-in-Some-clause-marks : goal.returns-in-Some-clause-marks
 returns-in-Some-clause-marks c =
     let old = c.args.campaign.now in
@@ -15,7 +14,6 @@ returns-in-Some-clause-marks c =
     booked_marks old mid c.book_taken.new.campaign Lost Money (neg_ℤ (pos (c.args.amount - c.accepted_of-taken.result)))
     (money_changes old mid c.args.to _ c.set_money.ensures.what c.set_money.ensures.marks).marks c.book_taken.ensures.what c.book_taken.ensures.marks
 
--- where the unit isn't there, the loss that is booked is marked
 pub returns-in-None-clause-marks : goal.returns-in-None-clause-marks
 returns-in-None-clause-marks c =
     booked_marks c.args.campaign.now c.args.campaign.now c.book_taken-in-None.new.campaign Lost Money (neg_ℤ (pos c.args.amount))

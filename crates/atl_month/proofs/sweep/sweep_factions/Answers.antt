@@ -3,8 +3,6 @@ use Rattle.atl_phase.proofs.FoldLaws.{fold_after_step}
 use Rattle.atl_month.specs.Sweep.{after_sweeping_faction}
 use Rattle.atl_month.proofs.sweep.sweep_factions.Goals as goal
 
--- After one more faction was swept, sweeping those still to come still makes what sweeping all makes, and all changes
--- are marked.
 pub loop-number-preserved : goal.loop-number-preserved
 loop-number-preserved c = record {
   rest = fold_after_step after_sweeping_faction c.args.numbers.now c.loop-number.number-index 0 c.loop-number.campaign.value c.loop-number-test.true c.sweep_faction.ensures.what c.loop-number.invariant.rest;

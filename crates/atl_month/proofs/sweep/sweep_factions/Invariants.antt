@@ -7,8 +7,6 @@ use Rattle.atl_month.proofs.sweep.sweep_factions.Given as goal
 -- before each faction: sweeping those still to come makes what sweeping all makes, and all changes are marked
 abbrev pub invariant-loop-number : goal.invariant-loop-number
 invariant-loop-number l = record {
-  -- sweeping the factions still to come makes the campaign that sweeping all of them makes
   rest : fold after_sweeping_faction l.campaign.value (drop l.number-index l.numbers) ≡ fold after_sweeping_faction l.initial.campaign.value l.numbers;
-  -- no mark is lost and all that changed is marked (`MarksChanges`)
   marks : MarksChanges l.initial.campaign l.campaign;
 }

@@ -11,14 +11,11 @@ use Rattle.atl_instant.proofs.QuitLaws.{known_held}
 use Rattle.atl_month.proofs.SweepLaws.{items_room, money_steady}
 use Rattle.atl_month.proofs.sweep.sweep_unit.Goals as goal
 
--- sweep_unit may call pass_money: the books have room for what may be lost of the unit's money
 pub pass_money-requires-clause-room : goal.pass_money-requires-clause-room
 pass_money-requires-clause-room c =
     amount_room_for_less c.money-money.result most_amount (amount_in c.args.campaign.now.value.books Lost Money)
     (omega (arith, c.money-money.ensures.value, c.money-money.ensures.fits)) (c.requires.room Lost Money)
 
--- sweep_unit may call pass_items: after the money was passed on, the campaign is steady, the items are of the world,
--- and the books have room for them
 pub pass_items-requires : goal.pass_items-requires
 pass_items-requires c =
     let w = c.args.world.now in
@@ -34,7 +31,6 @@ pass_items-requires c =
       room = rw (list, c.pass_money.ensures.what, c.money-money.ensures.value) (items_room w before c.requires.steady c.args.number to u there none c.requires.room);
     }
 
--- all that sweeping the unit changes is marked
 pub returns-clause-marks : goal.returns-clause-marks
 returns-clause-marks c =
     marks-trans c.args.campaign.now c.pass_money.new.campaign c.remove_unit.new.self c.pass_money.ensures.marks

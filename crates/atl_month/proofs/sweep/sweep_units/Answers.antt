@@ -10,7 +10,6 @@ use Rattle.atl_month.proofs.ReceiverLaws.{receiver_stays}
 use Rattle.atl_month.proofs.SweepAllLaws.{swept_at_leaves_well}
 use Rattle.atl_month.proofs.sweep.sweep_units.Goals as goal
 
--- sweep_units may call sweep_unit: the books have room for what the next unit may lose
 pub sweep_unit-requires-clause-room : goal.sweep_unit-requires-clause-room
 sweep_unit-requires-clause-room c =
     let w = c.args.world.now in
@@ -21,8 +20,6 @@ sweep_unit-requires-clause-room c =
     room_for_one (loses_by most_amount) w after_sweeping_unit (λ d m. swept_at_leaves_well w d m) c.loop-number.campaign.value n (drop (i + 1) list)
     (subst (λ (l : List ℕ). HaveRoom (moved_times (length l) (loses_by most_amount)) c.loop-number.campaign.value) after c.loop-number.invariant.room)
 
--- After one more unit was swept, sweeping the units still to come still makes what sweeping all makes. The campaign is
--- steady, the map has its receivers, its books have room, and all changes are marked.
 pub loop-number-preserved : goal.loop-number-preserved
 loop-number-preserved c =
     let w = c.args.world.now in

@@ -12,14 +12,9 @@ use Rattle.atl_month.proofs.sweep.sweep_units.Given as goal
 -- receivers, its books have room, and all changes are marked
 abbrev pub invariant-loop-number : goal.invariant-loop-number
 invariant-loop-number l = record {
-  -- sweeping the units still to come makes the campaign that sweeping all of them makes
   rest : fold after_sweeping_unit l.campaign.value (drop l.number-index l.numbers) ≡ fold after_sweeping_unit l.initial.campaign.value l.numbers;
-  -- the campaign is steady
   steady : IsSteady l.world l.campaign.value;
-  -- the map has the receivers of the campaign as it is now
   receivers : AreReceivers l.campaign.value l.receivers;
-  -- the books have room for what the units still to come may lose
   room : HaveRoom (moved_times (length (drop l.number-index l.numbers)) (loses_by most_amount)) l.campaign.value;
-  -- no mark is lost and all that changed is marked (`MarksChanges`)
   marks : MarksChanges l.initial.campaign l.campaign;
 }

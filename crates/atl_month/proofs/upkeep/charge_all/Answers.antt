@@ -9,7 +9,6 @@ use Rattle.atl_month.specs.UpkeepTaken.{CanPayUpkeep}
 use Rattle.atl_month.specs.Upkeep.{upkeep_at}
 use Rattle.atl_month.proofs.upkeep.charge_all.Goals as goal
 
--- charge_all may call charge_upkeep: the next unit can pay what upkeep takes from it
 pub charge_upkeep-requires : goal.charge_upkeep-requires
 charge_upkeep-requires c =
     let list = c.args.list.now in
@@ -19,8 +18,6 @@ charge_upkeep-requires c =
     let (w, can) = c.loop-upkeep_result.invariant.can in
     (w, (subst (CanInTurn (CanPayUpkeep w) upkeep_at c.loop-upkeep_result.campaign.value) later can).0)
 
--- After the upkeep of one more unit, the upkeep of the units still to come still makes the campaign that the upkeep of
--- all makes. Each of these units can pay in turn, and all changes are marked.
 pub loop-upkeep_result-preserved : goal.loop-upkeep_result-preserved
 loop-upkeep_result-preserved c =
     let list = c.args.list.now in

@@ -11,10 +11,7 @@ use Rattle.atl_month.proofs.upkeep.charge_all.Given as goal
 -- these units can pay in turn, and all changes are marked.
 abbrev pub invariant-loop-upkeep_result : goal.invariant-loop-upkeep_result
 invariant-loop-upkeep_result l = record {
-  -- the upkeep of the units still to come makes the campaign that the upkeep of all makes
   rest : fold upkeep_at l.campaign.value (drop l.upkeep_result-index l.list) ≡ upkeep l.initial.campaign.value l.list;
-  -- each unit still to come can pay what upkeep takes from it when its turn comes
   can : (w : WorldValue) × CanInTurn (CanPayUpkeep w) upkeep_at l.campaign.value (drop l.upkeep_result-index l.list);
-  -- no mark is lost and all that changed is marked (`MarksChanges`)
   marks : MarksChanges l.initial.campaign l.campaign;
 }

@@ -12,7 +12,6 @@ use Rattle.atl_phase.proofs.MeaningLaws.{amount_room_for_less}
 use Rattle.atl_month.proofs.UpkeepLaws.{few_paid, few_starved, upkeep_at_is}
 use Rattle.atl_month.proofs.upkeep.charge_upkeep.Goals as goal
 
--- charge_upkeep may call book_taken: money is a thing of the books, which have room for what the unit pays
 pub book_taken-requires : goal.book_taken-requires
 book_taken-requires c =
     let (w, can) = c.requires in
@@ -26,8 +25,6 @@ book_taken-requires c =
       room = rw (ap (λ (s : CampaignValue). s.books) what) (amount_room_for_less s.paid most_amount (amount_in before.books Upkeep Money) few (can.room Upkeep Money));
     }
 
--- charge_upkeep may call book_taken again: people are a thing of the books, which have room for those who starve after
--- the money was booked
 pub book_taken-requires-2 : goal.book_taken-requires-2
 book_taken-requires-2 c =
     let (w, can) = c.requires in
@@ -47,14 +44,12 @@ book_taken-requires-2 c =
           (within-neg s.paid most_amount paid) (moves_only most_amount Starved People) can.room Starved People));
     }
 
--- taking the upkeep and booking it makes the campaign of the definition (`upkeep_at`)
 pub returns-clause-what : goal.returns-clause-what
 returns-clause-what c =
     let (w, can) = c.requires in
     let what = c.in_ok-take_upkeep.ensures.what can.unit can.there in
     rw (c.book_taken-2.ensures.what, c.book_taken.ensures.what, what) (sym (upkeep_at_is c.args.campaign.now.value c.args.upkeep_result.now can.unit can.there))
 
--- all that the upkeep of the unit changes is marked
 pub returns-clause-marks : goal.returns-clause-marks
 returns-clause-marks c =
     let old = c.args.campaign.now in

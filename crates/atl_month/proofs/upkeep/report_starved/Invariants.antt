@@ -6,13 +6,9 @@ use Rattle.atl_month.proofs.upkeep.report_starved.Given as goal
 -- make. The month's readings, aliases and words stay.
 abbrev pub invariant-loop-upkeep_result : goal.invariant-loop-upkeep_result
 invariant-loop-upkeep_result l = record {
-  -- the month's readings are as before the loop
   readings : l.month.readings ≡ l.initial.month.readings;
-  -- the month's aliases are as before the loop
   aliases : l.month.aliases ≡ l.initial.month.aliases;
-  -- the month's words of the dice are as before the loop
   words : l.month.words ≡ l.initial.month.words;
-  -- the events so far, with those of the results still to come, are those before the loop with those of all results
   rest :
       l.month.events ++ map starved_event (filter starves (drop l.upkeep_result-index l.list))
       ≡ l.initial.month.events ++ map starved_event (filter starves l.list);

@@ -15,7 +15,6 @@ use Rattle.atl_month.specs.Upkeep.{after_upkeep}
 use Rattle.atl_month.proofs.UpkeepLaws.{starving_sets_holding}
 use Rattle.atl_month.proofs.upkeep.starve.Goals as goal
 
--- the unit has what its upkeep leaves it, all changes are marked, and none of its items is marked
 pub returns : goal.returns
 returns c =
     let (w, can) = c.requires.can in

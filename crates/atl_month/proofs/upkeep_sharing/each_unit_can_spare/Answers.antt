@@ -1,6 +1,5 @@
 use Rattle.atl_month.proofs.UpkeepSharingLaws.{can_spare}
 use Rattle.atl_month.proofs.upkeep_sharing.each_unit_can_spare.Goals as goal
 
--- upkeep takes no more from a unit than its money and its men (`EachCanSpare`)
 pub returns : goal.returns
 returns c = can_spare

@@ -9,15 +9,12 @@ use Rattle.atl_month.specs.UpkeepSharing.{left_of, short_of}
 use Rattle.atl_month.proofs.UpkeepSharingLaws.{few_more, no_accounts, none_few, opened_more}
 use Rattle.atl_month.proofs.upkeep_sharing.open_accounts.Goals as goal
 
--- before the first unit is counted, each account is that of no units
 pub loop-input-init : goal.loop-input-init
 loop-input-init c = record {
   each = λ s g. rw c.new-accounts.ensures (no_accounts c.args.maintenance s g);
   few = λ s g. rw c.new-accounts.ensures (none_few s g);
 }
 
--- After one more unit was counted, each account is that of the units counted so far, and within what so many units may
--- have.
 pub loop-input-preserved : goal.loop-input-preserved
 loop-input-preserved c =
     let m = c.args.maintenance in

@@ -6,8 +6,6 @@ use Rattle.atl_month.proofs.UpkeepSharingLaws.{IsAccountWithin}
 -- before each unit: each account is that of the units counted so far, and within what so many units may have
 abbrev pub invariant-loop-input : goal.invariant-loop-input
 invariant-loop-input l = record {
-  -- each account is that of the units counted so far, of which none had its turn (`account_of`)
   each : (region faction : ℕ) → account_at l.accounts region faction ≡ account_of l.maintenance (take l.input-index l.inputs) [] region faction;
-  -- the sums of each account are within those of as many units as were counted (`IsAccountWithin`)
   few : (region faction : ℕ) → IsAccountWithin l.input-index (account_at l.accounts region faction);
 }

@@ -7,8 +7,6 @@ use Rattle.atl_month.specs.UpkeepSharing.{peers_of, upkeep_result_among}
 use Rattle.atl_month.proofs.UpkeepSharingLaws.{lower_first, upkeep_result_is, upkeep_result_more}
 use Rattle.atl_month.proofs.upkeep_sharing.upkeep_payments.Goals as goal
 
--- After one more unit had its turn, the accounts are those after the turns so far, and the list has what upkeep takes
--- from these units.
 pub loop-input-preserved : goal.loop-input-preserved
 loop-input-preserved c =
     let m = c.args.maintenance in

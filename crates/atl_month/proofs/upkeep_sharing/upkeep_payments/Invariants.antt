@@ -8,8 +8,6 @@ use Rattle.atl_month.proofs.upkeep_sharing.upkeep_payments.Given as goal
 -- that had one
 abbrev pub invariant-loop-input : goal.invariant-loop-input
 invariant-loop-input l = record {
-  -- each account is that of all units, of which those before the next one had their turn (`account_of`)
   each : (region faction : ℕ) → account_at l.accounts region faction ≡ account_of l.maintenance l.inputs (take l.input-index l.inputs) region faction;
-  -- the list has what upkeep takes from each of the units that had their turn
   list : l.list.items ≡ map (λ (p : UpkeepInput). upkeep_result_among l.maintenance (peers_of p.region p.faction l.inputs) p) (take l.input-index l.inputs);
 }

@@ -24,7 +24,6 @@ pub(crate) struct PlainGood {
     pub amount: u64,
 }
 
-/// A region: its number, peasants and money.
 #[derive(Clone, Copy, Drop, PartialEq, Eq)]
 pub(crate) struct PlainRegion {
     pub number: u32,
@@ -32,7 +31,6 @@ pub(crate) struct PlainRegion {
     pub money: u64,
 }
 
-/// How much a region has in stock of an item.
 #[derive(Clone, Copy, Drop, PartialEq, Eq)]
 pub(crate) struct Stock {
     pub region: u32,
@@ -58,14 +56,12 @@ pub(crate) struct PlainCampaign {
     pub events: Vec<Event>,
 }
 
-/// Drops all lists of the reference's campaign.
 impl Drop for PlainCampaign {
     fn drop(self) {
         let_go!(self: PlainCampaign { people, goods, lands, stocks, books, events });
     }
 }
 
-/// A unit of the program as a `PlainUnit`, without its goods.
 fn plain_unit_of(number: u32, unit: &Unit) -> PlainUnit {
     PlainUnit {
         number,
@@ -77,7 +73,6 @@ fn plain_unit_of(number: u32, unit: &Unit) -> PlainUnit {
     }
 }
 
-/// All units of a campaign, each as a `PlainUnit`, without their goods.
 fn plain_units_of(alloc: Global, campaign: &Campaign) -> Result<Vec<PlainUnit>, AllocError> {
     let mut people = Vec::new(alloc);
     for (number, unit) in campaign.units() {
@@ -86,7 +81,6 @@ fn plain_units_of(alloc: Global, campaign: &Campaign) -> Result<Vec<PlainUnit>, 
     Ok(people)
 }
 
-/// Appends the items of a unit to the list of goods.
 fn add_items(number: u32, unit: &Unit, goods: &mut Vec<PlainGood>) -> Result<(), AllocError> {
     for (thing, amount) in unit.holding.items() {
         goods.push(PlainGood {
@@ -99,7 +93,6 @@ fn add_items(number: u32, unit: &Unit, goods: &mut Vec<PlainGood>) -> Result<(),
     Ok(())
 }
 
-/// Appends a unit's days of study to the list of goods.
 fn add_days(number: u32, unit: &Unit, goods: &mut Vec<PlainGood>) -> Result<(), AllocError> {
     for (thing, days) in unit.holding.days() {
         goods.push(PlainGood {
@@ -112,7 +105,6 @@ fn add_days(number: u32, unit: &Unit, goods: &mut Vec<PlainGood>) -> Result<(), 
     Ok(())
 }
 
-/// The items and days of study of all units of a campaign.
 fn goods_of(alloc: Global, campaign: &Campaign) -> Result<Vec<PlainGood>, AllocError> {
     let mut goods = Vec::new(alloc);
     for (number, unit) in campaign.units() {
@@ -122,7 +114,6 @@ fn goods_of(alloc: Global, campaign: &Campaign) -> Result<Vec<PlainGood>, AllocE
     Ok(goods)
 }
 
-/// All regions of a campaign: number, peasants and money of each.
 fn plain_regions_of(alloc: Global, campaign: &Campaign) -> Result<Vec<PlainRegion>, AllocError> {
     let mut lands = Vec::new(alloc);
     for (number, region) in campaign.regions() {
@@ -135,7 +126,6 @@ fn plain_regions_of(alloc: Global, campaign: &Campaign) -> Result<Vec<PlainRegio
     Ok(lands)
 }
 
-/// Appends the stocks of a region's markets to the list of stocks.
 fn add_stocks(number: u32, region: &Region, stocks: &mut Vec<Stock>) -> Result<(), AllocError> {
     for (item, amount) in region.stocks.iter() {
         stocks.push(Stock {
@@ -147,7 +137,6 @@ fn add_stocks(number: u32, region: &Region, stocks: &mut Vec<Stock>) -> Result<(
     Ok(())
 }
 
-/// All stocks of a campaign.
 fn stocks_of(alloc: Global, campaign: &Campaign) -> Result<Vec<Stock>, AllocError> {
     let mut stocks = Vec::new(alloc);
     for (number, region) in campaign.regions() {
@@ -156,7 +145,6 @@ fn stocks_of(alloc: Global, campaign: &Campaign) -> Result<Vec<Stock>, AllocErro
     Ok(stocks)
 }
 
-/// All amounts of a campaign's books that aren't 0.
 fn books_of(alloc: Global, campaign: &Campaign) -> Result<Vec<PlainBooking>, AllocError> {
     let mut books = Vec::new(alloc);
     let rows = campaign.parts()?;
@@ -177,9 +165,7 @@ fn rise(before: u64, after: u64) -> i64 {
     after.wrapping_sub(before)
 }
 
-/// Makes the lists of a campaign, looks things up in them, and changes them.
 impl PlainCampaign {
-    /// A campaign as lists, with no events yet.
     pub fn from_campaign(alloc: Global, campaign: &Campaign) -> Result<PlainCampaign, AllocError> {
         let people = plain_units_of(alloc, campaign)?;
         let goods = goods_of(alloc, campaign)?;
@@ -196,7 +182,6 @@ impl PlainCampaign {
         })
     }
 
-    /// The unit with a number, or None if there is none.
     pub fn find_unit(&self, number: u32) -> Option<PlainUnit> {
         for person in self.people.iter() {
             if person.number == number {
@@ -206,7 +191,6 @@ impl PlainCampaign {
         None
     }
 
-    /// The region with a number, or None if there is none.
     pub fn find_region(&self, number: u32) -> Option<PlainRegion> {
         for land in self.lands.iter() {
             if land.number == number {
@@ -226,7 +210,6 @@ impl PlainCampaign {
         0
     }
 
-    /// How much a region has in stock of an item; 0 if it has none.
     pub fn stock(&self, region: u32, item: u32) -> u64 {
         for stock in self.stocks.iter() {
             if stock.region == region && stock.item == item {
@@ -236,7 +219,6 @@ impl PlainCampaign {
         0
     }
 
-    /// Sets the men and the money of a unit.
     pub fn set_men_and_money(&mut self, number: u32, men: u64, money: u64) {
         for person in self.people.iter_mut() {
             if person.number == number {
@@ -246,7 +228,6 @@ impl PlainCampaign {
         }
     }
 
-    /// Sets the peasants and the money of a region.
     pub fn set_peasants_and_money(&mut self, number: u32, peasants: u64, money: u64) {
         for land in self.lands.iter_mut() {
             if land.number == number {
@@ -288,7 +269,6 @@ impl PlainCampaign {
         Ok(())
     }
 
-    /// Books the change of an amount of a thing from `before` to `after` under an entry.
     pub fn book(
         &mut self,
         entry: BooksEntry,

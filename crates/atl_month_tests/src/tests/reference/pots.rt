@@ -22,14 +22,12 @@ pub(crate) enum Claim {
     Want(u32, u64),
 }
 
-/// An order with what it asks for, or its fault (`Claim`).
 #[derive(Clone, Copy, Drop)]
 pub(crate) struct Claimed<'m> {
     pub order: PhaseOrder<'m>,
     pub claim: Claim,
 }
 
-/// What a unit gets of a pot: how much of which thing.
 #[derive(Clone, Copy, Drop)]
 pub(crate) struct UnitShare {
     pub unit: u32,
@@ -79,8 +77,6 @@ fn note_taker(
     Ok(())
 }
 
-/// Splits a pot among the units of its region that want its thing, and appends to `given` what each
-/// gets.
 fn add_shares(
     alloc: Global,
     plain: &PlainCampaign,
@@ -96,7 +92,6 @@ fn add_shares(
     add_given(pot, &takers, &share(alloc, pot.size, &wants)?, given)
 }
 
-/// Appends what each unit of `takers` gets of a pot: the amount at its index in `shares`.
 fn add_given(
     pot: Pot,
     takers: &[u32],
@@ -113,7 +108,6 @@ fn add_given(
     Ok(())
 }
 
-/// What the units get of all pots, pot by pot.
 pub(crate) fn shared(
     alloc: Global,
     plain: &PlainCampaign,
@@ -137,7 +131,6 @@ pub(crate) fn given_to(given: &[UnitShare], unit: u32) -> u64 {
     0
 }
 
-/// The outcome of an order in its event: its fault, or Done with a given number.
 pub(crate) fn outcome(claim: Claim, done: u64) -> Outcome {
     match claim {
         Claim::Fault(fault) => Outcome::Fault(fault.number()),

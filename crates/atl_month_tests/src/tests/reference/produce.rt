@@ -9,10 +9,8 @@ use atl_phase::PhaseOrder;
 use atl_world::{Item, World};
 use std::alloc::AllocError;
 
-/// The most that a unit may have of an item.
 const MOST_PIECES: u64 = MOST_MONEY;
 
-/// The highest level of a skill.
 const MOST_LEVEL: u64 = 5;
 
 /// The factor in the rule of levels: level `n` of a skill takes this times n * (n + 1) days for
@@ -68,7 +66,6 @@ fn want(plain: &PlainCampaign, person: PlainUnit, number: u32, item: &Item) -> u
     }
 }
 
-/// Why a unit can't produce an item; None if it can.
 fn fault(plain: &PlainCampaign, person: PlainUnit, item: &Item) -> Option<EventFault> {
     if person.men == 0 {
         Some(EventFault::NoMen)
@@ -81,7 +78,6 @@ fn fault(plain: &PlainCampaign, person: PlainUnit, item: &Item) -> Option<EventF
     }
 }
 
-/// How many of which item a PRODUCE order asks for, or its fault.
 pub(crate) fn claim(world: &World, plain: &PlainCampaign, order: PhaseOrder<'_>) -> Claim {
     let number = item_of(order);
     let (Some(person), Some(item)) = (own_unit(plain, order), world.items().get(number as usize))
@@ -94,8 +90,6 @@ pub(crate) fn claim(world: &World, plain: &PlainCampaign, order: PhaseOrder<'_>)
     }
 }
 
-/// How many of an item the terrain of a region yields in a month; 0 if there is no such terrain or
-/// item.
 fn output(world: &World, region: u32, item: u32) -> u64 {
     let Some(terrain) = world.terrain_of(region) else {
         return 0;
@@ -125,7 +119,6 @@ pub(crate) fn add_pots(world: &World, region: u32, pots: &mut Vec<Pot>) -> Resul
     Ok(())
 }
 
-/// Sets how much a unit has of an item, and books by how much that is more or less than before.
 fn set_item(
     plain: &mut PlainCampaign,
     unit: u32,
@@ -144,8 +137,6 @@ fn set_item(
     })
 }
 
-/// Gives a unit what it made, which is booked under Made, and takes the raw items that it used,
-/// which are booked under Used.
 pub(crate) fn pay(
     world: &World,
     plain: &mut PlainCampaign,

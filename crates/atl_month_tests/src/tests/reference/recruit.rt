@@ -8,13 +8,11 @@ use atl_phase::PhaseOrder;
 use atl_world::World;
 use std::alloc::AllocError;
 
-/// The most men that a unit may have.
 const MOST_MEN: u64 = 999_999;
 
 /// The number of the only thing that RECRUIT shares: people.
 const PEOPLE: u32 = 0;
 
-/// The price of a recruit in a world.
 fn price(world: &World) -> u64 {
     u64::from(world.rules().recruit_price)
 }
@@ -27,15 +25,12 @@ fn asked(order: PhaseOrder<'_>) -> u64 {
     }
 }
 
-/// How many men a unit wants: what its order asks for, as far as its money and its room for men
-/// allow.
 fn want(world: &World, person: PlainUnit, order: PhaseOrder<'_>) -> u64 {
     let payable = person.money.checked_div(price(world)).unwrap_or(0);
     let room = MOST_MEN.saturating_sub(person.men);
     asked(order).min(payable).min(room)
 }
 
-/// How many men a RECRUIT order asks for, as far as the unit can pay and has room, or its fault.
 pub(crate) fn claim(world: &World, plain: &PlainCampaign, order: PhaseOrder<'_>) -> Claim {
     let Some(person) = own_unit(plain, order) else {
         return Claim::Fault(EventFault::NotYours);
@@ -46,7 +41,6 @@ pub(crate) fn claim(world: &World, plain: &PlainCampaign, order: PhaseOrder<'_>)
     Claim::Want(PEOPLE, want(world, person, order))
 }
 
-/// The pot of a region in RECRUIT: how many of its peasants can be recruited.
 pub(crate) fn pot(world: &World, land: PlainRegion) -> Pot {
     let fraction = u64::from(world.rules().recruit_fraction);
     Pot {
@@ -56,7 +50,6 @@ pub(crate) fn pot(world: &World, land: PlainRegion) -> Pot {
     }
 }
 
-/// Moves a unit's recruits out of the region, takes their price from the unit, and books the price.
 pub(crate) fn pay(
     world: &World,
     plain: &mut PlainCampaign,

@@ -1,7 +1,6 @@
 //! Splits a pot in the reference calculation, by prefix sums (docs/RULES.md, "Shares").
 use std::alloc::{AllocError, Global};
 
-/// The sum of all wants.
 fn sum_of(wants: &[u64]) -> u128 {
     let mut total: u128 = 0;
     for want in wants {
@@ -18,15 +17,12 @@ fn given_to_first(pot: u64, wants: &[u64], count: usize, total: u128) -> u128 {
     due.checked_div(total).unwrap_or(0)
 }
 
-/// What the want with the index `place` gets of a pot that is less than `total`, the sum of all
-/// wants.
 fn share_at(pot: u64, wants: &[u64], place: usize, total: u128) -> u64 {
     let with = given_to_first(pot, wants, place.wrapping_add(1), total);
     let before = given_to_first(pot, wants, place, total);
     u64::try_from(with.wrapping_sub(before)).unwrap_or(0)
 }
 
-/// What each want gets of a pot, in the order of the wants.
 pub(crate) fn share(alloc: Global, pot: u64, wants: &[u64]) -> Result<Vec<u64>, AllocError> {
     let total = sum_of(wants);
     let mut given = Vec::new(alloc);

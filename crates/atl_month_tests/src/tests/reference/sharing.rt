@@ -10,7 +10,6 @@ use atl_phase::{Arrangement, Month, MonthLongVerbs, PhaseOrder};
 use atl_world::{Sequence, World};
 use std::alloc::{AllocError, Global};
 
-/// A phase that shares pots.
 #[derive(Clone, Copy, Drop)]
 pub(crate) enum SharingPhase {
     Trade(PlainTrade),
@@ -42,7 +41,6 @@ fn orders<'m>(
     }
 }
 
-/// What an order of a phase asks for, or its fault.
 fn claim(
     sharing: SharingPhase,
     world: &World,
@@ -58,7 +56,6 @@ fn claim(
     }
 }
 
-/// Each order of a phase with what it asks for, or its fault.
 fn claims<'m>(
     alloc: Global,
     sharing: SharingPhase,
@@ -77,7 +74,6 @@ fn claims<'m>(
     Ok(claims)
 }
 
-/// Appends the pots that a region has in a phase.
 fn add_pots(
     sharing: SharingPhase,
     world: &World,
@@ -102,7 +98,6 @@ fn add_pots(
     Ok(())
 }
 
-/// The pots of all regions in a phase.
 fn pots(
     alloc: Global,
     sharing: SharingPhase,
@@ -131,7 +126,6 @@ fn number_done(
     }
 }
 
-/// Adds the event of each order of a phase to the reference's campaign.
 fn add_events(
     sharing: SharingPhase,
     world: &World,
@@ -148,7 +142,6 @@ fn add_events(
     Ok(())
 }
 
-/// Gives a unit its share in a phase, and takes what the share costs.
 fn pay(
     sharing: SharingPhase,
     world: &World,
@@ -165,7 +158,6 @@ fn pay(
     Ok(())
 }
 
-/// Gives each unit its share in a phase, and takes what the shares cost.
 fn pay_all(
     sharing: SharingPhase,
     world: &World,
@@ -178,7 +170,6 @@ fn pay_all(
     Ok(())
 }
 
-/// Plays a phase that shares pots on the reference's campaign, and adds its events.
 pub(crate) fn play(
     alloc: Global,
     sharing: SharingPhase,

@@ -5,13 +5,11 @@ use atl_campaign::EventFault;
 use atl_phase::PhaseOrder;
 use atl_world::World;
 
-/// The most money that a unit may have.
 pub(crate) const MOST_MONEY: u64 = 999_999_999;
 
 /// The number of the only thing that TAX shares: money.
 const MONEY: u32 = 0;
 
-/// How much money a TAX order asks for, or its fault.
 pub(crate) fn claim(world: &World, plain: &PlainCampaign, order: PhaseOrder<'_>) -> Claim {
     let Some(person) = own_unit(plain, order) else {
         return Claim::Fault(EventFault::NotYours);
@@ -28,7 +26,6 @@ pub(crate) fn claim(world: &World, plain: &PlainCampaign, order: PhaseOrder<'_>)
     Claim::Want(MONEY, due.min(MOST_MONEY.saturating_sub(person.money)))
 }
 
-/// The pot of a region in TAX: its money.
 pub(crate) fn pot(land: PlainRegion) -> Pot {
     Pot {
         region: land.number,
@@ -37,7 +34,6 @@ pub(crate) fn pot(land: PlainRegion) -> Pot {
     }
 }
 
-/// Moves a unit's share of the tax from the region to the unit.
 pub(crate) fn pay(plain: &mut PlainCampaign, given: UnitShare) {
     let Some(person) = plain.find_unit(given.unit) else {
         return;

@@ -9,17 +9,14 @@ use atl_phase::PhaseOrder;
 use atl_world::{Market, World};
 use std::alloc::AllocError;
 
-/// The most that a unit may have of an item.
 const MOST_PIECES: u64 = MOST_MONEY;
 
-/// Which of the two phases of trade: SELL or BUY.
 #[derive(Clone, Copy, Drop)]
 pub(crate) enum PlainTrade {
     Sell,
     Buy,
 }
 
-/// How many of which item an order of SELL or BUY names in its text.
 fn asked(order: PhaseOrder<'_>) -> (u64, u16) {
     match &order.order.operands {
         Operands::Goods { amount, item } => (u64::from(*amount), *item),
@@ -35,7 +32,6 @@ fn most_sold(plain: &PlainCampaign, person: PlainUnit, market: &Market) -> u64 {
     held.min(room.checked_div(u64::from(market.pays)).unwrap_or(0))
 }
 
-/// How many of a market's item a unit can buy, as far as its money and its room for items allow.
 fn most_bought(plain: &PlainCampaign, person: PlainUnit, market: &Market) -> u64 {
     let held = plain.amount(person.number, false, u32::from(market.item));
     let payable = person
@@ -45,7 +41,6 @@ fn most_bought(plain: &PlainCampaign, person: PlainUnit, market: &Market) -> u64
     payable.min(MOST_PIECES.saturating_sub(held))
 }
 
-/// Whether a unit has none of a market's item to sell (SELL), or not the money to buy one (BUY).
 fn is_short(trade: PlainTrade, plain: &PlainCampaign, person: PlainUnit, market: &Market) -> bool {
     match trade {
         PlainTrade::Sell => plain.amount(person.number, false, u32::from(market.item)) == 0,
@@ -53,8 +48,6 @@ fn is_short(trade: PlainTrade, plain: &PlainCampaign, person: PlainUnit, market:
     }
 }
 
-/// How many of which item an order of SELL or BUY asks for, as far as the unit can trade, or its
-/// fault.
 pub(crate) fn claim(
     trade: PlainTrade,
     world: &World,
@@ -78,7 +71,6 @@ pub(crate) fn claim(
     Claim::Want(u32::from(item), amount.min(most))
 }
 
-/// The pot of a market: how much more it has room for (SELL), or its stock (BUY).
 fn pot(trade: PlainTrade, plain: &PlainCampaign, region: u32, market: &Market) -> Pot {
     let thing = u32::from(market.item);
     let stock = plain.stock(region, thing);
@@ -92,7 +84,6 @@ fn pot(trade: PlainTrade, plain: &PlainCampaign, region: u32, market: &Market) -
     }
 }
 
-/// Appends a region's pots in SELL or BUY, one for each of its markets.
 pub(crate) fn add_pots(
     trade: PlainTrade,
     world: &World,
@@ -117,7 +108,6 @@ fn moved(trade: PlainTrade, held: u64, stock: u64, pieces: u64) -> (u64, u64) {
     }
 }
 
-/// The money of a unit after it sold or bought `pieces` at a market.
 fn money_after(trade: PlainTrade, person: PlainUnit, market: &Market, pieces: u64) -> u64 {
     match trade {
         PlainTrade::Sell => person
@@ -129,7 +119,6 @@ fn money_after(trade: PlainTrade, person: PlainUnit, market: &Market, pieces: u6
     }
 }
 
-/// The entry of the books under which the money of SELL or BUY is booked.
 fn entry_of(trade: PlainTrade) -> BooksEntry {
     match trade {
         PlainTrade::Sell => BooksEntry::Sold,
@@ -137,7 +126,6 @@ fn entry_of(trade: PlainTrade) -> BooksEntry {
     }
 }
 
-/// Carries out a unit's trade: moves the items and the money, and books the money.
 pub(crate) fn pay(
     trade: PlainTrade,
     world: &World,

@@ -16,7 +16,6 @@ struct UpkeepSums {
     short_before: u64,
 }
 
-/// What upkeep takes from a unit: money, and men who starve.
 #[derive(Clone, Copy, Drop)]
 struct UpkeepTaken {
     person: PlainUnit,
@@ -24,13 +23,11 @@ struct UpkeepTaken {
     starved: u64,
 }
 
-/// The money that a unit has left after its own upkeep.
 fn left_of(maintenance: u64, person: PlainUnit) -> u64 {
     let due = maintenance.wrapping_mul(person.men);
     person.money.saturating_sub(due)
 }
 
-/// The money that a unit lacks for its own upkeep.
 fn short_of(maintenance: u64, person: PlainUnit) -> u64 {
     let due = maintenance.wrapping_mul(person.men);
     due.saturating_sub(person.money)
@@ -55,8 +52,6 @@ fn add_to_sums(
     }
 }
 
-/// The sums for the unit `one`: over its faction's units in its region, and over those of them with
-/// lower numbers.
 fn sums_of(maintenance: u64, plain: &PlainCampaign, one: PlainUnit) -> UpkeepSums {
     let mut sums = UpkeepSums {
         left: 0,
@@ -79,7 +74,6 @@ fn share_in_turn(amount: u64, before: u64, own: u64) -> u64 {
     amount.min(with).wrapping_sub(amount.min(before))
 }
 
-/// How much money upkeep takes from a unit, and how many of its men starve.
 fn taken_from(maintenance: u64, plain: &PlainCampaign, person: PlainUnit) -> UpkeepTaken {
     let sums = sums_of(maintenance, plain, person);
     let amount = sums.left.min(sums.short);
@@ -96,7 +90,6 @@ fn taken_from(maintenance: u64, plain: &PlainCampaign, person: PlainUnit) -> Upk
     }
 }
 
-/// How much money upkeep takes from each unit, and how many of its men starve.
 fn all_taken(
     alloc: Global,
     maintenance: u64,
@@ -121,8 +114,6 @@ fn reduce_days(plain: &mut PlainCampaign, one: UpkeepTaken) {
     }
 }
 
-/// Takes the upkeep of a unit, removes its men who starve and the days that they had, and books the
-/// money and the men.
 fn take(plain: &mut PlainCampaign, one: UpkeepTaken) -> Result<(), AllocError> {
     let person = one.person;
     let men = person.men.wrapping_sub(one.starved);
@@ -133,7 +124,6 @@ fn take(plain: &mut PlainCampaign, one: UpkeepTaken) -> Result<(), AllocError> {
     plain.book(BooksEntry::Starved, Thing::People, person.men, men)
 }
 
-/// Takes the upkeep of each unit, removes the men who starve, and books the money and the men.
 fn take_all(plain: &mut PlainCampaign, all: &[UpkeepTaken]) -> Result<(), AllocError> {
     for one in all {
         take(plain, *one)?;
@@ -141,7 +131,6 @@ fn take_all(plain: &mut PlainCampaign, all: &[UpkeepTaken]) -> Result<(), AllocE
     Ok(())
 }
 
-/// Adds an event for each unit some of whose men starve.
 fn add_events(plain: &mut PlainCampaign, all: &[UpkeepTaken]) -> Result<(), AllocError> {
     for one in all {
         if one.starved != 0 {
@@ -157,7 +146,6 @@ fn add_events(plain: &mut PlainCampaign, all: &[UpkeepTaken]) -> Result<(), Allo
     Ok(())
 }
 
-/// Plays upkeep on the reference's campaign, and adds its events.
 pub(crate) fn play(
     alloc: Global,
     world: &World,

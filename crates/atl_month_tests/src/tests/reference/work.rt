@@ -11,7 +11,6 @@ use std::alloc::{AllocError, Global};
 /// The number of the only thing that WORK shares: jobs.
 const PLACES: u32 = 0;
 
-/// What a job in a region pays; 0 if the region has no terrain.
 fn wage(world: &World, region: u32) -> u64 {
     match world.terrain_of(region) {
         Some(terrain) => u64::from(terrain.wage),
@@ -19,7 +18,6 @@ fn wage(world: &World, region: u32) -> u64 {
     }
 }
 
-/// How many jobs a region has; 0 if the region has no terrain.
 fn places(world: &World, region: u32) -> u64 {
     match world.terrain_of(region) {
         Some(terrain) => u64::from(terrain.places),
@@ -27,8 +25,6 @@ fn places(world: &World, region: u32) -> u64 {
     }
 }
 
-/// How many jobs a WORK order asks for, one for each man as far as there is room for the wages, or
-/// the order's fault.
 pub(crate) fn claim(world: &World, plain: &PlainCampaign, order: PhaseOrder<'_>) -> Claim {
     let Some(person) = own_unit(plain, order) else {
         return Claim::Fault(EventFault::NotYours);
@@ -99,7 +95,6 @@ pub(crate) fn tasks<'m>(
     Ok(tasks)
 }
 
-/// The pot of a region in WORK: its jobs.
 pub(crate) fn pot(world: &World, region: u32) -> Pot {
     Pot {
         region,
@@ -116,7 +111,6 @@ pub(crate) fn earned(world: &World, plain: &PlainCampaign, given: &[UnitShare], 
     }
 }
 
-/// Pays a unit the wages of its jobs, and books them.
 pub(crate) fn pay(
     world: &World,
     plain: &mut PlainCampaign,

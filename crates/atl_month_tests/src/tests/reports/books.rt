@@ -30,7 +30,6 @@ const FIRST_MONTH: Scene = Scene {
     ..NOBODY
 };
 
-/// The text of the books of `FIRST_MONTH`.
 const OF_FIRST_MONTH: &str = "money founding 500
 money joining 1000
 money income 1000
@@ -58,7 +57,6 @@ const QUITTING: Scene = Scene {
     ..NOBODY
 };
 
-/// The text of the books of `QUITTING`.
 const OF_QUITTING: &str = "money founding 500
 money joining 1000
 money income 1000
@@ -95,7 +93,6 @@ const EVERY_ENTRY: Scene = Scene {
     ..NOBODY
 };
 
-/// The text of the books of `EVERY_ENTRY`.
 const OF_EVERY_ENTRY: &str = "money founding 500
 money joining 1
 money income 199999999999999
@@ -152,7 +149,6 @@ const PRODUCTION: Scene = Scene {
     ..NOBODY
 };
 
-/// The text of the books of `PRODUCTION`.
 const OF_PRODUCTION: &str = "money founding 650
 money total 650
 people founding 1300
@@ -185,7 +181,6 @@ static OF_SMALL: [(Scene, &str); 3] = [
 /// Scenes of the island, and the wanted text of the books of each.
 static OF_ISLE: [(Scene, &str); 2] = [(PRODUCTION, OF_PRODUCTION), (NOBODY, OF_THE_ISLE)];
 
-/// Asserts that the text of a campaign's books is the wanted one.
 fn assert_text_of(
     rt: &impl Abort,
     alloc: Global,
@@ -200,7 +195,6 @@ fn assert_text_of(
     Ok(())
 }
 
-/// Asserts that the text of the books of a scene's campaign is the wanted one.
 fn assert_case(
     rt: &impl Abort,
     alloc: Global,
@@ -212,7 +206,6 @@ fn assert_case(
     assert_text_of(rt, alloc, world, &campaign, wanted)
 }
 
-/// Asserts, for each scene, that the text of the books of its campaign is the wanted one.
 fn assert_cases(
     rt: &impl Abort,
     alloc: Global,
@@ -225,8 +218,6 @@ fn assert_cases(
     Ok(())
 }
 
-/// The text of the books lists the amounts of money and of people that aren't 0, by entry, and
-/// their totals.
 #[test]
 fn books_of_money_and_people(rt: HostRuntime) -> Result<(), Fail> {
     let world = read_world(rt.alloc(), SMALL_WORLD)?;

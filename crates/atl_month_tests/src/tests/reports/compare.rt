@@ -2,7 +2,6 @@
 //! once.
 use std::process::Abort;
 
-/// Asserts that a text is the wanted one.
 pub(crate) fn assert_text(rt: &impl Abort, actual: &str, wanted: &str) {
     assert_eq!(rt; actual, wanted);
 }

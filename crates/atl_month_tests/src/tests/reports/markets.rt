@@ -28,7 +28,6 @@ restock = 20
 /// A unit of one man in region 4, which has the markets.
 const MERCHANT: SceneUnit = SceneUnit { region: 4, ..MAN };
 
-/// A scene, and the report that faction 1 has to get of what the faction sees there.
 #[derive(Clone, Copy)]
 struct Case {
     scene: Scene,
@@ -115,7 +114,6 @@ Exits: east 2.
     },
 ];
 
-/// Asserts the report of faction 1 on the scene of a case.
 fn assert_case(rt: &impl Abort, alloc: Global, world: &World, case: &Case) -> Result<(), Fail> {
     let campaign = campaign_of(alloc, world, &case.scene)?;
     let seen = view(alloc, world, &campaign, 1)?;
@@ -124,7 +122,6 @@ fn assert_case(rt: &impl Abort, alloc: Global, world: &World, case: &Case) -> Re
     Ok(())
 }
 
-/// Asserts the report of faction 1 on the scene of each case.
 fn assert_cases(rt: &impl Abort, alloc: Global, world: &World) -> Result<(), Fail> {
     for case in CASES.iter() {
         assert_case(rt, alloc, world, case)?;

@@ -92,7 +92,6 @@ const OF_ANOTHER: Event = Event {
     outcome: Outcome::Done(50),
 };
 
-/// Faulty lines and events, and the wanted report of faction 1 on each.
 static CASES: [Case; 9] = [
     Case {
         faults: &[],
@@ -184,7 +183,6 @@ fn empty_view(alloc: Global) -> Result<View, Fail> {
     })
 }
 
-/// Asserts the report that the faulty lines and events of a case give.
 fn assert_case(
     rt: &impl Abort,
     alloc: Global,
@@ -197,7 +195,6 @@ fn assert_case(
     Ok(())
 }
 
-/// Asserts, for each case, the report that its faulty lines and events give.
 fn assert_cases(rt: &impl Abort, alloc: Global, world: &World) -> Result<(), Fail> {
     let view = empty_view(alloc)?;
     for case in CASES.iter() {
@@ -206,8 +203,6 @@ fn assert_cases(rt: &impl Abort, alloc: Global, world: &World) -> Result<(), Fai
     Ok(())
 }
 
-/// A report lists a mailing's faulty lines and the faction's own events, or says `None.` if there
-/// is neither.
 #[test]
 fn faults_and_events(rt: HostRuntime) -> Result<(), Fail> {
     let world = read_world(rt.alloc(), SMALL_WORLD)?;

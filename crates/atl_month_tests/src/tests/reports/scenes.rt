@@ -13,46 +13,33 @@ use atl_world::{Format, Sequence, Text, World};
 use std::alloc::Global;
 use std::test::Fail;
 
-/// The number of the second format, in the column `format` of the table `campaign`.
 const SECOND_FORMAT: i64 = 2;
 
-/// The number of Joining among the entries of the books.
 const JOINING: i64 = 2;
 
-/// The number of Stocked among the entries of the books.
 const STOCKED: i64 = 16;
 
-/// The number of the first item among the things of the books.
 const FIRST_ITEM: i64 = 2;
 
-/// The value of the column `sort` of the table `has` for an item.
 const ITEM: i64 = 0;
 
-/// The value of the column `sort` of the table `has` for a skill.
 const SKILL: i64 = 1;
 
 /// The item wood, as the columns `sort` and `thing` of the table `has`.
 pub(crate) const WOOD: (i64, i64) = (ITEM, 0);
 
-/// The item cart, as the columns `sort` and `thing` of the table `has`.
 pub(crate) const CART: (i64, i64) = (ITEM, 1);
 
-/// The skill lumberjack, as the columns `sort` and `thing` of the table `has`.
 pub(crate) const LUMBERJACK: (i64, i64) = (SKILL, 0);
 
-/// The skill sailing, as the columns `sort` and `thing` of the table `has`.
 pub(crate) const SAILING: (i64, i64) = (SKILL, 3);
 
-/// The skill stealth, as the columns `sort` and `thing` of the table `has`.
 pub(crate) const STEALTH: (i64, i64) = (SKILL, 4);
 
-/// The skill observation, as the columns `sort` and `thing` of the table `has`.
 pub(crate) const OBSERVATION: (i64, i64) = (SKILL, 5);
 
-/// The number of the boat among the island's kinds of structures.
 pub(crate) const BOAT: i64 = 0;
 
-/// The number of the lodge among the island's kinds of structures.
 pub(crate) const LODGE: i64 = 1;
 
 /// A unit of faction 1 or 2 with all that it has; its name is the one that new units get.
@@ -68,7 +55,6 @@ pub(crate) struct SceneUnit {
     pub has: &'static [((i64, i64), i64)],
 }
 
-/// A unit of one man of faction 1 in region 1, with nothing else.
 pub(crate) const MAN: SceneUnit = SceneUnit {
     faction: 1,
     region: 1,
@@ -116,7 +102,6 @@ pub(crate) const NOBODY: Scene = Scene {
     books: &[],
 };
 
-/// The rows of the table `campaign`: the one row of a scene's campaign.
 fn heads(alloc: Global, scene: &Scene) -> Result<Sequence<StoredCampaignRow>, Fail> {
     let mut all = Sequence::new(alloc);
     all.push(StoredCampaignRow {
@@ -143,7 +128,6 @@ fn faction(alloc: Global, number: i64, name: &str, scene: &Scene) -> Result<Stor
     })
 }
 
-/// The rows of factions 1 and 2 in the table `faction`.
 fn factions(alloc: Global, scene: &Scene) -> Result<Sequence<StoredFaction>, Fail> {
     let mut all = Sequence::new(alloc);
     all.push(faction(alloc, 1, "Avalon", scene)?)?;
@@ -151,7 +135,6 @@ fn factions(alloc: Global, scene: &Scene) -> Result<Sequence<StoredFaction>, Fai
     Ok(all)
 }
 
-/// The rows of the table `report` for factions 1 and 2, both with the same text.
 fn reports(alloc: Global) -> Result<Sequence<StoredReport>, Fail> {
     let mut all = Sequence::new(alloc);
     for faction in 1..=2i64 {
@@ -163,7 +146,6 @@ fn reports(alloc: Global) -> Result<Sequence<StoredReport>, Fail> {
     Ok(all)
 }
 
-/// The row of a unit in the table `unit`.
 fn unit(alloc: Global, number: i64, person: &SceneUnit) -> Result<StoredUnit, Fail> {
     let name = format!(in alloc; "Unit {number}")?;
     Ok(StoredUnit {
@@ -178,7 +160,6 @@ fn unit(alloc: Global, number: i64, person: &SceneUnit) -> Result<StoredUnit, Fa
     })
 }
 
-/// The rows of all units in the table `unit`, numbered from 1.
 fn units(alloc: Global, people: &[SceneUnit]) -> Result<Sequence<StoredUnit>, Fail> {
     let mut all = Sequence::new(alloc);
     let mut number: i64 = 0;
@@ -189,7 +170,6 @@ fn units(alloc: Global, people: &[SceneUnit]) -> Result<Sequence<StoredUnit>, Fa
     Ok(all)
 }
 
-/// Adds a unit's rows of the table `has`: its amounts of items and days of skills.
 fn has_of(all: &mut Sequence<StoredHas>, unit: i64, has: &[((i64, i64), i64)]) -> Result<(), Fail> {
     for ((sort, thing), amount) in has {
         all.push(StoredHas {
@@ -202,7 +182,6 @@ fn has_of(all: &mut Sequence<StoredHas>, unit: i64, has: &[((i64, i64), i64)]) -
     Ok(())
 }
 
-/// The rows of the table `has` for all units, which are numbered from 1.
 fn has(alloc: Global, people: &[SceneUnit]) -> Result<Sequence<StoredHas>, Fail> {
     let mut all = Sequence::new(alloc);
     let mut number: i64 = 0;
@@ -213,7 +192,6 @@ fn has(alloc: Global, people: &[SceneUnit]) -> Result<Sequence<StoredHas>, Fail>
     Ok(all)
 }
 
-/// The row of a structure in the table `structure`.
 fn structure(alloc: Global, number: i64, built: &Built) -> Result<StoredStructure, Fail> {
     Ok(StoredStructure {
         number,
@@ -225,7 +203,6 @@ fn structure(alloc: Global, number: i64, built: &Built) -> Result<StoredStructur
     })
 }
 
-/// The rows of the structures, numbered from 1.
 fn structures(alloc: Global, built: &[Built]) -> Result<Sequence<StoredStructure>, Fail> {
     let mut all = Sequence::new(alloc);
     let mut number: i64 = 0;
@@ -236,7 +213,6 @@ fn structures(alloc: Global, built: &[Built]) -> Result<Sequence<StoredStructure
     Ok(all)
 }
 
-/// The rows of the table `region`, from number, peasants and money.
 fn regions(alloc: Global, rows: &[(i64, i64, i64)]) -> Result<Sequence<StoredRegion>, Fail> {
     let mut all = Sequence::new(alloc);
     for (number, peasants, money) in rows {
@@ -249,7 +225,6 @@ fn regions(alloc: Global, rows: &[(i64, i64, i64)]) -> Result<Sequence<StoredReg
     Ok(all)
 }
 
-/// The rows of the table `market`, from region, item and stock.
 fn markets(alloc: Global, rows: &[(i64, i64, i64)]) -> Result<Sequence<StoredMarket>, Fail> {
     let mut all = Sequence::new(alloc);
     for (region, item, stock) in rows {
@@ -262,7 +237,6 @@ fn markets(alloc: Global, rows: &[(i64, i64, i64)]) -> Result<Sequence<StoredMar
     Ok(all)
 }
 
-/// The rows of the table `books`, from entry, thing and amount.
 fn books(alloc: Global, rows: &[(i64, i64, i64)]) -> Result<Sequence<StoredBooks>, Fail> {
     let mut all = Sequence::new(alloc);
     for (entry, thing, amount) in rows {
@@ -275,7 +249,6 @@ fn books(alloc: Global, rows: &[(i64, i64, i64)]) -> Result<Sequence<StoredBooks
     Ok(all)
 }
 
-/// How much of an item (its number) a unit of a scene has.
 fn held(person: &SceneUnit, item: i64) -> i64 {
     let mut sum: i64 = 0;
     for ((sort, thing), amount) in person.has {
@@ -328,7 +301,6 @@ fn book_stocks(stocks: &[(i64, i64, i64)], all: &mut Sequence<StoredBooks>) -> R
     Ok(())
 }
 
-/// All rows of a scene's campaign: those of a founding, with all that the scene has put in.
 fn rows_of(alloc: Global, world: &World, scene: &Scene) -> Result<Parts, Fail> {
     let mut parts = founded(alloc, world, b"gm")?.parts()?;
     book_joining(scene.people, &mut parts.books)?;

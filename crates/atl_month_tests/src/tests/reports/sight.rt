@@ -28,7 +28,6 @@ struct Case {
     wanted: &'static str,
 }
 
-/// A case that others are made of: faction 1's report, with no units, faulty lines and events.
 const BLANK: Case = Case {
     scene: NOBODY,
     empty: &[],
@@ -60,7 +59,6 @@ const HIDER: SceneUnit = SceneUnit {
     ..MAN
 };
 
-/// Scenes with units that hide, and the wanted report of faction 1 or 2.
 static HIDDEN: [Case; 9] = [
     // A unit with stealth 2 is hidden from observation 1.
     Case {
@@ -339,13 +337,11 @@ Exits: north 4, west 2.
     },
 ];
 
-/// A faulty line of faction 1's mailing.
 const FAULTS: [FaultyLine; 1] = [FaultyLine {
     line: 5,
     fault: LineFault::UnknownOrder,
 }];
 
-/// Events of a month: three of faction 1, and one of faction 2.
 const EVENTS: [Event; 4] = [
     Event {
         faction: 1,
@@ -529,21 +525,18 @@ Structure 3 \"Ship 1\", boat, 10 of 10, owner 5.
     },
 ];
 
-/// Takes all men from a unit, if it exists.
 fn empty(campaign: &mut Campaign, number: u32) {
     if let Some(holding) = campaign.unit_mut(number) {
         holding.set_men(0);
     }
 }
 
-/// Takes all men from each unit of a list.
 fn empty_all(campaign: &mut Campaign, numbers: &[u32]) {
     for number in numbers {
         empty(campaign, *number);
     }
 }
 
-/// Asserts the report of a case's faction on a campaign, with the case's faulty lines and events.
 fn assert_report(
     rt: &impl Abort,
     alloc: Global,
@@ -557,15 +550,12 @@ fn assert_report(
     Ok(())
 }
 
-/// Asserts the report of a case's faction on its scene, after the units of `empty` have lost their
-/// men.
 fn assert_case(rt: &impl Abort, alloc: Global, world: &World, case: &Case) -> Result<(), Fail> {
     let mut campaign = campaign_of(alloc, world, &case.scene)?;
     empty_all(&mut campaign, case.empty);
     assert_report(rt, alloc, world, &campaign, case)
 }
 
-/// Asserts, for each case, the report that its faction has to get.
 fn assert_cases(rt: &impl Abort, alloc: Global, cases: &[Case]) -> Result<(), Fail> {
     let world = read_world(alloc, ISLE)?;
     for case in cases {
@@ -581,14 +571,11 @@ fn hidden_units(rt: HostRuntime) -> Result<(), Fail> {
     assert_cases(&rt, rt.alloc(), &HIDDEN)
 }
 
-/// A unit without men has no level, doesn't guard, and lets its faction see nothing.
 #[test]
 fn units_without_men(rt: HostRuntime) -> Result<(), Fail> {
     assert_cases(&rt, rt.alloc(), &EMPTY)
 }
 
-/// Whole reports with structures, units, items, skills, faulty lines and events are as worked out
-/// by hand.
 #[test]
 fn all_sorts_of_lines(rt: HostRuntime) -> Result<(), Fail> {
     assert_cases(&rt, rt.alloc(), &WHOLE)

@@ -13,7 +13,6 @@ use std::alloc::Global;
 use std::process::Abort;
 use std::test::Fail;
 
-/// A faulty line of faction 1's mailing.
 static FAULTS: [FaultyLine; 1] = [FaultyLine {
     line: 5,
     fault: LineFault::UnknownOrder,
@@ -47,22 +46,18 @@ Exits: none.
 * Unit 1 \"Unit 1\": 1 men, 1000 money.
 ";
 
-/// The campaign of a world, just after its founding.
 fn founded_in(alloc: Global, world: &World) -> Result<Campaign, Fail>
     ensures { IfOk result (λ campaign. IsGood world.now campaign.value) }
 {
     Ok(founded(alloc, world, b"gm")?)
 }
 
-/// Makes the faction Avalon join, with 0 as the word of the dice; the result is the number of the
-/// faction and that of its unit.
 fn avalon_joins(world: &World, campaign: &mut Campaign) -> Result<(u32, u32), Fail>
     requires { IsGood world.now campaign.old.value }
 {
     Ok(campaign.join(world, b"Avalon", b"pw", 0)?)
 }
 
-/// Asserts that the report of faction 1 on a campaign is `WHOLE`.
 fn assert_report(
     rt: &impl Abort,
     alloc: Global,
@@ -75,14 +70,12 @@ fn assert_report(
     Ok(())
 }
 
-/// Has Avalon join a campaign just founded, and asserts its report.
 fn join_and_read(rt: &impl Abort, alloc: Global, world: &World) -> Result<(), Fail> {
     let mut campaign = founded_in(alloc, world)?;
     avalon_joins(world, &mut campaign)?;
     assert_report(rt, alloc, world, &campaign)
 }
 
-/// A report has the faction's faulty lines and events, and then its region with its unit.
 #[test]
 fn orders_and_regions(rt: HostRuntime) -> Result<(), Fail> {
     let world = read_world(rt.alloc(), SMALL_WORLD)?;

@@ -15,6 +15,5 @@ invariant-loop-rest l = record {
   small : l.next + rest_size (option_copied l.rest) ≤ length l.text + 2;
 }
 
--- how much of the text is left to read, less after each turn, so the loop ends
 abbrev pub decreases-loop-rest : goal.decreases-loop-rest
 decreases-loop-rest l = rest_size (option_copied l.rest)

@@ -4,7 +4,6 @@ use Rattle.atl_orders.specs.Mailing.{effects}
 use Rattle.atl_orders.proofs.LineLaws.{rest_further}
 use Rattle.atl_orders.proofs.mailing.read_body.Goals as goal
 
--- after one more line is read, the orders and faulty lines so far and those of the lines left are those of all lines
 pub loop-rest-preserved : goal.loop-rest-preserved
 unfolding effects
 loop-rest-preserved c = record {

@@ -23,6 +23,5 @@ invariant-loop-rest l =
       small : l.number + rest_size (option_copied l.rest) < 2 ^ 32;
     }
 
--- how much of the text is left to read, less after each turn, so the loop ends
 abbrev pub decreases-loop-rest : goal.decreases-loop-rest
 decreases-loop-rest l = rest_size (option_copied l.rest)

@@ -3,6 +3,5 @@ use Rattle.atl_orders.specs.Words.{words}
 use Rattle.atl_orders.proofs.UnitLaws.{fault_stays}
 use Rattle.atl_orders.proofs.operands.units_of.Goals as goal
 
--- a fault in reading one unit is the fault of the whole line
 pub returns-in-Err : goal.returns-in-Err
 returns-in-Err c = sym c.words.invariant ∙ fault_stays c.words.units (words c.words.rest.now) c.in-Err.fault (omega (arith, ap length c.in-Some.ensures.words)) c.in-Err.ensures

@@ -8,6 +8,5 @@ use Rattle.atl_orders.proofs.operands.units_of.Given as goal
 abbrev pub invariant-words : goal.invariant-words
 invariant-words l = with_units l.units (units_of (words l.rest)) ≡ units_of (words l.line)
 
--- how many words of the line are left, fewer after each turn, so the loop ends
 abbrev pub decreases-words : goal.decreases-words
 decreases-words l = length (words l.rest)

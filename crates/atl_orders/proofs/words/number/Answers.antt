@@ -6,7 +6,6 @@ use Rattle.std.specs.Char.{is_ascii_digit}
 use Rattle.atl_orders.proofs.WordLaws.{one_digit_more}
 use Rattle.atl_orders.proofs.words.number.Goals as goal
 
--- after one more digit, `value` is still the number that the digits so far write, or `most` + 1 if it is above `most`
 pub loop-byte-preserved : goal.loop-byte-preserved
 loop-byte-preserved c =
     let bytes = c.args.bytes.now in

@@ -2,13 +2,11 @@ use Rattle.atl_orders.proofs.WordLaws.{found_or_len, words-quoted, after_closing
 use Rattle.atl_orders.specs.Words.{is_quote}
 use Rattle.atl_orders.proofs.words.quoted_word.Goals as goal
 
--- from an opening quote on, the words are the word in quotes and the words after the closing quote
 pub returns-clause-words : goal.returns-clause-words
 returns-clause-words c =
     rw (after_closing c.split_at.result.1.now c.min-closing.result c.min-closing.ensures, c.split_at.ensures.front, c.split_at.ensures.back, c.unwrap_or-end.ensures, c.first_quote.ensures, found_or_len is_quote c.args.after.now)
     (words-quoted c.args.after.now)
 
--- what follows the closing quote is an end of what follows the opening one
 pub returns-clause-rest : goal.returns-clause-rest
 returns-clause-rest c =
     ends_further c.args.after.now c.split_at.result.1.now _

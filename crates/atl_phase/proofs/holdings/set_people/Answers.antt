@@ -10,15 +10,12 @@ use Rattle.atl_phase.specs.Holdings.{with_days}
 use Rattle.atl_phase.proofs.ChangeLaws.{changed_twice, men_changes, identity_changes_nothing, skill_changes, then_changes}
 use Rattle.atl_phase.proofs.holdings.set_people.Goals as goal
 
--- the unit with the days of each listed skill set, one skill after another
 abbrev set_all : List (ℕ × ℕ) → Unit → Unit
 set_all list u = record u { holding = record u.holding { days = with_days u.holding.days list } }
 
--- before the first skill the loop's invariant holds: all days are still to be set, and all that changed is marked
 pub loop-skill-init : goal.loop-skill-init
 loop-skill-init c = record { value = refl; marks = marks-refl c.set_men.new.self; goods = refl; items = refl }
 
--- after one more skill is set, setting the days left still makes what setting all makes, and all that changed is marked
 pub loop-skill-preserved : goal.loop-skill-preserved
 loop-skill-preserved c =
     let list = c.args.days.now in
@@ -40,8 +37,6 @@ loop-skill-preserved c =
       items = ap (λ (m : Marks). m.items) c.in_ok-set_days.ensures.marks ∙ old.items;
     }
 
--- after the loop the unit has the new number of men and the days of all listed skills, and the changes are marked
--- (`ChangesHolding`)
 pub returns-clause-what : goal.returns-clause-what
 returns-clause-what c =
     let days = c.args.days.now in
@@ -56,6 +51,5 @@ returns-clause-what c =
       goods = old.goods;
     })
 
--- setting men and days marks no items: the marks of single items are those from before
 pub returns-clause-items : goal.returns-clause-items
 returns-clause-items c = c.loop-skill.invariant.items ∙ ap (λ (m : Marks). m.items) c.set_men.ensures.marks

@@ -3,7 +3,6 @@ use Rattle.std.specs.FinMap.{entries}
 use Rattle.atl_records.proofs.EveryLaws.{each-from_every}
 use Rattle.atl_phase.proofs.items.items_of.Goals as goal
 
--- before the first item the list is empty, and all items of the holding are still to come, each one of the world's
 pub loop-item-init : goal.loop-item-init
 loop-item-init c =
     let w = c.args.world.now in

@@ -7,12 +7,9 @@ use Rattle.atl_phase.proofs.LastLineLaws as laws
 use Rattle.atl_phase.proofs.last_lines.last_lines.Goals as goal
 use Rattle.atl_phase.proofs.last_lines.last_lines.Goals.{in-Some+in_ok-note, in_default}
 
--- before the first order no line is noted, so for each slot and unit the greatest line of the mailing is still to come
 pub loop-entry-init : goal.loop-entry-init
 loop-entry-init c slot unit = laws.none_noted c.new-lines.result (slot_number slot) unit _ c.new-lines.ensures
 
--- after one more order, with a slot or without, the greater of the noted line and the greatest one still to come is
--- that of the mailing, for each slot and unit
 pub loop-entry-preserved : goal.loop-entry-preserved
 loop-entry-preserved c slot unit =
     let m = c.args.mailing.now in

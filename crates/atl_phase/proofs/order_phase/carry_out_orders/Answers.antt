@@ -17,7 +17,6 @@ use Rattle.atl_phase.proofs.PhaseOrderLaws.{orders_have_verbs}
 use Rattle.atl_phase.proofs.OrderEffectLaws.{leaves_well, order_well, orders_fit, orders_leave_others, room_left, well_same, well_twice}
 use Rattle.atl_phase.proofs.order_phase.carry_out_orders.Goals as goal
 
--- before the first order the loop's invariant holds: all orders are still to come, and nothing has changed
 pub loop-order-init : goal.loop-order-init
 loop-order-init g c =
     let P = g.P.OrderPhase in
@@ -28,7 +27,6 @@ loop-order-init g c =
       marks = marks-refl c.args.campaign.now;
     }
 
--- the books have room for all that the orders may still book, before the next order
 pub carry_one-requires-clause-room : goal.carry_one-requires-clause-room
 carry_one-requires-clause-room g c =
     let P = g.P.OrderPhase in
@@ -47,7 +45,6 @@ carry_one-requires-clause-verb g c =
     (All-from_recursion (λ t. is_of t.order_value.verb ≡ true) (orders_by_unit is_of m) (orders_have_verbs is_of ByUnit m.aliases m.readings))
     c.loop-order.order-index o c.loop-order-test.true)
 
--- the next order can be read with the world
 pub carry_one-requires-clause-fit : goal.carry_one-requires-clause-fit
 carry_one-requires-clause-fit g c =
     let w = c.args.world.now in
@@ -58,8 +55,6 @@ carry_one-requires-clause-fit g c =
     (ap (map task_of) c.deref-order-items.ensures.value ∙ c.in_ok-orders.ensures) (orders_fit w m.aliases m.readings c.requires.read g.P.PhaseVerbs.is_of)
     c.loop-order.order-index o c.loop-order-test.true)
 
--- After one more order the loop's invariant still holds: the orders left make what all make. The steps so far kept the
--- phase's condition, month and balance, and moved each amount by at most what its remaining bound fell (`StepsWell`).
 pub loop-order-preserved : goal.loop-order-preserved
 loop-order-preserved g c =
     let P = g.P.OrderPhase in
@@ -84,7 +79,6 @@ loop-order-preserved g c =
       marks = marks-trans c.args.campaign.now c.loop-order.campaign _ c.loop-order.invariant.marks c.in_ok-carry_one.ensures.marks;
     }
 
--- after the loop, campaign and month are what the orders make one by one (`meaning_by_orders`)
 pub returns-clause-meaning : goal.returns-clause-meaning
 unfolding meaning_by_orders
 returns-clause-meaning g c =
@@ -104,14 +98,11 @@ returns-clause-meaning g c =
     ∙ ap (fold step start) (ap (map task_of) c.deref-order-items.ensures.value ∙ c.in_ok-orders.ensures)
     ∙ ap (λ p. fold step p (orders_by_unit g.P.PhaseVerbs.is_of m)) none
 
--- after the loop the phase's condition holds, the books balance, and each amount moved within its bound (`LeavesWell`)
 pub returns-clause-leaves : goal.returns-clause-leaves
 returns-clause-leaves g c =
     leaves_well c.args.world.now c.args.campaign.now.value c.loop-order.campaign.value
     (c.is_orderly.ensures.bounded c.args.world.now c.args.campaign.now.value c.requires.holds) c.loop-order.invariant.well
 
--- each unit that no order of the phase affects is there after all of them, and `unaffected` relates what it was to what
--- it is then (`others_unaffected`)
 pub returns-clause-keeps : goal.returns-clause-keeps
 unfolding meaning_by_orders
 returns-clause-keeps g c =

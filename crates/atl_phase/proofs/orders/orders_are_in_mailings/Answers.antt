@@ -1,6 +1,5 @@
 use Rattle.atl_phase.proofs.PhaseOrderLaws as laws
 use Rattle.atl_phase.proofs.orders.orders_are_in_mailings.Goals as goal
 
--- each order of a phase is an entry of the mailing of its faction (`OrdersAreInMailings`)
 pub returns : goal.returns
 returns c = laws.orders_are_in_mailings

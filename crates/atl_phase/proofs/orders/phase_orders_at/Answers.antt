@@ -5,8 +5,6 @@ use Rattle.atl_phase.proofs.PickedLaws.{picked_more}
 use Rattle.atl_phase.proofs.orders.phase_orders_at.Goals as goal
 use Rattle.atl_phase.proofs.orders.phase_orders_at.Goals.{then-has+in_ok-push, else-has}
 
--- after one more index, whether its order has a verb of the phase or not, the list has those orders with a verb of the
--- phase that the indices so far name
 pub loop-placed-preserved : goal.loop-placed-preserved
 loop-placed-preserved g c =
     let is_of = g.P.PhaseVerbs.is_of in

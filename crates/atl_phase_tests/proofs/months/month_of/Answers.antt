@@ -6,8 +6,6 @@ use Rattle.atl_phase.specs.Fit.{AreFit}
 use Rattle.atl_phase.proofs.FitLaws.{read_fit}
 use Rattle.atl_phase_tests.proofs.months.month_of.Goals as goal
 
--- the clause of `month_of`: what was read of the month's mailings is in bounds for the world (`AreFit`), as each was
--- read with it
 pub returns : goal.returns
 returns c =
     let w = c.args.world.now in

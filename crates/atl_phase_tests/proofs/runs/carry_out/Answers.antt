@@ -1,10 +1,8 @@
 use Rattle.atl_phase_tests.proofs.RunLaws.{room_for_orders}
 use Rattle.atl_phase_tests.proofs.runs.carry_out.Goals as goal
 
--- the campaign is early, as the phases from FORM to PRODUCE need
 pub run-requires-clause-needs : goal.run-requires-clause-needs
 run-requires-clause-needs c = c.requires.early
 
--- roomy books (`IsRoomy`) have room for all that the phases from FORM to PRODUCE may book
 pub run-requires-clause-room : goal.run-requires-clause-room
 run-requires-clause-room c = room_for_orders c.args.campaign.value c.requires.room

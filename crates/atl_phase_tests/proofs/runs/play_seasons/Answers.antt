@@ -5,6 +5,5 @@ use Rattle.atl_phase_tests.proofs.runs.play_seasons.Goals as goal
 pub run-requires-clause-needs : goal.run-requires-clause-needs
 run-requires-clause-needs c = (c.requires.early.steady, λ w d steady. steady)
 
--- roomy books (`IsRoomy`) have room for all that two seasons may book
 pub run-requires-clause-room : goal.run-requires-clause-room
 run-requires-clause-room c = room_for_seasons c.args.campaign.value c.requires.room

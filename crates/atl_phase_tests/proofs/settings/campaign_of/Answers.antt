@@ -2,7 +2,6 @@ use Rattle.atl_campaign.proofs.GoodLaws.{IsEarly-good}
 use Rattle.atl_phase_tests.proofs.RunLaws.{roomy_when_good}
 use Rattle.atl_phase_tests.proofs.settings.campaign_of.Goals as goal
 
--- a good campaign is early, as `empty_units` requires
 pub empty_units-requires : goal.empty_units-requires
 empty_units-requires c = record { early = IsEarly-good c.args.world.now c.in_ok-campaign.campaign.value c.in_ok-campaign.ensures }
 

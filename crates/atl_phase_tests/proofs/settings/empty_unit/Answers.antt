@@ -12,17 +12,13 @@ use Rattle.atl_records.proofs.EveryLaws.{every-empty}
 use Rattle.atl_campaign.proofs.HoldingLaws.{MayHaveWithoutNewGuard, of_one_faction_kept, steady-new_holding}
 use Rattle.atl_phase_tests.proofs.settings.empty_unit.Goals as goal
 
--- a unit's holding with neither men nor days of study, and otherwise as it is
 abbrev without_men : HoldingValue → HoldingValue
 without_men h = record h { men = 0; days = empty }
 
--- `b && false` is never true: from the claim that it is, any other follows
 and_false_is_not_true : (b : Bool) {P : Type 0} → (b && false) ≡ true → P
 and_false_is_not_true true h = absurd (false≢true h)
 and_false_is_not_true false h = absurd (false≢true h)
 
--- in a steady campaign each unit may get its own holding without the men and the days of study
--- (`MayHaveWithoutNewGuard`)
 may_lose_men : (w : WorldValue) (c : CampaignValue) (n : ℕ) (u : Unit) → get c.units n ≡ Some u → IsSteady w c → MayHaveWithoutNewGuard w u (without_men u.holding)
 may_lose_men w c n u is steady =
     let location = steady.known.units n u is in
@@ -36,11 +32,9 @@ may_lose_men w c n u is steady =
       guard = and_false_is_not_true u.holding.guard;
     }
 
--- an early campaign stays early if unit `n` loses its men and days of study: its holding `before` becomes `after`
 stays_early_without_men : (w : WorldValue) (c : CampaignValue) (n : ℕ) (before after : HoldingValue) → Some before ≡ option_map (λ (u : Unit). u.holding) (get c.units n) → after ≡ without_men before → IsEarly w c → IsEarly w (with_holding c n after)
 stays_early_without_men w c n before after was is early = by_unit (get c.units n) refl was
   where
-    -- where unit n gets the holding `after`, the campaign stays early; `o` is that unit, or None if it isn't there
     by_unit : (o : Option Unit) → get c.units n ≡ o → Some before ≡ option_map (λ (u : Unit). u.holding) o → IsEarly w (with_holding_at c n after o)
     by_unit None there e = early
     by_unit (Some u) there e =
@@ -51,7 +45,6 @@ stays_early_without_men w c n before after was is early = by_unit (get c.units n
           flags = of_one_faction_kept w c n u after there (λ x. x.holding.guard) (λ g. ap (λ (h : HoldingValue). h.guard) held ∙ g) early.flags;
         }
 
--- an early campaign stays early after a unit that is there has lost its men and its days of study
 pub returns-in-Some-clause-early : goal.returns-in-Some-clause-early
 returns-in-Some-clause-early c =
     let after : c.set_all_days.new.self ≡ without_men c.in-Some.holding.now = search rules in

@@ -5,8 +5,6 @@ use Rattle.atl_phase_tests.proofs.settings.empty_units.Given as goal
 -- before each unit of the list: the campaign is early, and has the books that it had before the loop
 abbrev pub invariant-loop-number : goal.invariant-loop-number
 invariant-loop-number l = record {
-  -- the campaign is early (`IsEarly`) after each unit that has lost its men so far
   early : IsEarly l.world l.campaign.value;
-  -- the campaign's books are those from before the loop
   books : l.campaign.value.books ≡ l.fn.campaign.value.books;
 }

@@ -7,7 +7,6 @@ use Rattle.atl_records.specs.Levels.{measure_of}
 use Rattle.atl_records.proofs.LevelLaws.{total_stays, fits_next, weightless_pieces}
 use Rattle.atl_records.proofs.levels.goods_measure.Goals as goal
 
--- before the first item is counted, the sum is 0, and all items are still to be counted
 pub loop-item-init : goal.loop-item-init
 loop-item-init c =
     let all : c.into_iter-item-iterator.result ≡ entries c.args.holding.now.items = c.into_iter-item-iterator.ensures.into_iter_gives ∙ c.items-item-items.ensures in
@@ -17,8 +16,6 @@ loop-item-init c =
       fits = (0, omega arith, omega arith, begins_zero (entries c.args.holding.now.items));
     }
 
--- after one more item, `sum` and what the items after it add are together the whole sum, and `sum` is within its new
--- bound
 pub loop-item-preserved : goal.loop-item-preserved
 loop-item-preserved c =
     let e : ℕ × ℕ = (c.in-Some.item, c.in-Some.amount.now) in

@@ -6,7 +6,6 @@ use Rattle.atl_records.proofs.LevelLaws.{greatest_here, greatest_below, unreache
 use Rattle.atl_records.proofs.EveryLaws.{other_number}
 use Rattle.atl_records.proofs.levels.level.Goals as goal
 
--- if the days do not reach `level`, the greatest level that they reach is the greatest up to the next lower one
 pub loop-level-preserved : goal.loop-level-preserved
 loop-level-preserved c =
     let passes : ℕ → Bool = λ n. nat_le (days_for n c.args.men) c.args.days in
@@ -17,7 +16,6 @@ loop-level-preserved c =
       small = omega (arith, c.loop-level.invariant.small);
     }
 
--- the level where the loop ends is the greatest that the days reach (`level_of`)
 pub returns-clause-value : goal.returns-clause-value
 unfolding level_of
 returns-clause-value c =

@@ -10,6 +10,5 @@ invariant-loop-level l = record {
   small : l.level ≤ last_level;
 }
 
--- the level, which falls with each turn of the loop
 abbrev pub decreases-loop-level : goal.decreases-loop-level
 decreases-loop-level l = l.level

@@ -6,13 +6,11 @@ use Rattle.std.specs.Option.{option_map_or}
 use Rattle.atl_world.specs.declared.world.Item.{Item}
 use Rattle.atl_records.proofs.levels.weight.Goals as goal
 
--- what a piece of an item of the world weighs is at most `most_weight`
 pub returns-in-Some-clause-small : goal.returns-in-Some-clause-small
 returns-in-Some-clause-small c =
     let is : slice_get c.items.result.now c.args.item ≡ Some c.in-Some.found.now = grind (arith, common_steps, gets) in
     (c.items.ensures.world.items c.args.item c.in-Some.found.now (rw c.items.ensures.value at is)).weight
 
--- for an item that the world does not have, the definition (`weight_of`) gives 0, as the code does
 pub returns-in-None-clause-value : goal.returns-in-None-clause-value
 returns-in-None-clause-value c =
     let none : slice_get c.items.result.now c.args.item ≡ None = grind (arith, common_steps, gets) in

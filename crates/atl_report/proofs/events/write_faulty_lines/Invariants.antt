@@ -2,7 +2,5 @@ use Rattle.std.proofs.Common.{◌≡◌, ◌++◌, drop, string_bytes}
 use Rattle.atl_report.specs.Events.{faulty_lines}
 use Rattle.atl_report.proofs.events.write_faulty_lines.Given as goal
 
--- the text so far, with the lines for the faulty lines still to come, is the text before the loop with the lines for
--- all faulty lines
 abbrev pub invariant-loop-faulty : goal.invariant-loop-faulty
 invariant-loop-faulty l = string_bytes l.out ++ faulty_lines (drop l.faulty-index l.faults) ≡ string_bytes l.fn.out ++ faulty_lines l.faults

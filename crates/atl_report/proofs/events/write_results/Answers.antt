@@ -3,7 +3,6 @@ use Rattle.std.proofs.lemmas.List.{append_assoc}
 use Rattle.atl_report.proofs.EventLaws.{results_lines}
 use Rattle.atl_report.proofs.events.write_results.Goals as goal
 
--- where there are faulty lines or own events, their lines are the text of the definition (`results_text`)
 pub returns : goal.returns
 returns c =
     let results_text = results_lines c.args.faction c.args.faults.now c.args.events.now (sym c.has_no_results.ensures ∙ c.if-has_no_results.false) in

@@ -2,6 +2,5 @@ use Rattle.std.proofs.Common.{append_assoc, rules}
 use Rattle.atl_report.proofs.ExitLaws.{joined_in_turn}
 use Rattle.atl_report.proofs.report.write_directions.Goals as goal
 
--- the exits written one after another are the text of the definition: the exits joined by commas
 pub returns : goal.returns
 returns c = rw (joined_in_turn c.args.plan.now) (search (rules, append_assoc))

@@ -5,7 +5,6 @@ use Rattle.atl_report.specs.Gathering.{with_all_watched}
 use Rattle.atl_report.proofs.SightLaws.{entries-with_all_watched}
 use Rattle.atl_report.proofs.sight.regions_seen.Goals as goal
 
--- the numbers gathered from all units of the faction are those of the regions that it sees, in rising order
 pub returns : goal.returns
 returns c =
     let campaign = c.args.campaign.now.value in

@@ -2,6 +2,5 @@ use Rattle.std.proofs.Common.{◌≡◌, ◌++◌, map}
 use Rattle.atl_report.specs.Sight.{skill_view, skill_views}
 use Rattle.atl_report.proofs.sight.skill_views.Given as goal
 
--- the views made so far, followed by those of the skills still to come, are the views of all skills of the unit
 abbrev pub invariant-loop-skill : goal.invariant-loop-skill
 invariant-loop-skill l = l.skills ++ map (skill_view l.men) l.skill-iterator ≡ skill_views l.holding

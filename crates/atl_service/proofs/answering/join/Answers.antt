@@ -18,24 +18,18 @@ use Rattle.atl_campaign.proofs.GoodLaws.{IsGood-joined}
 use Rattle.atl_service.proofs.JoinStepLaws.{bad_name, bad_pass, is_taken, is_too_full, steps_on, joining_is, arrives}
 use Rattle.atl_service.proofs.answering.join.Goals as goal
 
--- a join whose name breaks the rule of names is refused with BadName, as `step` refuses it, and nothing changes
--- (`Answers`)
 pub returns-then-not-name_ok-clause-ok : goal.returns-then-not-name_ok-clause-ok
 returns-then-not-name_ok-clause-ok g c =
     let w = c.args.world.now in
     let old = c.args.campaign.now.value in
     is_refused g.S.Store w old c.args.conn.now (Join c.args.name.now c.args.pass.now c.args.word) why.BadName (bad_name w old c.args.name.now c.args.pass.now c.args.word (cc)) c.requires.good
 
--- a join whose pass text breaks the rule of pass texts is refused with BadPassText, as `step` refuses it, and nothing
--- changes (`Answers`)
 pub returns-then-not-pass_ok-clause-ok : goal.returns-then-not-pass_ok-clause-ok
 returns-then-not-pass_ok-clause-ok g c =
     let w = c.args.world.now in
     let old = c.args.campaign.now.value in
     is_refused g.S.Store w old c.args.conn.now (Join c.args.name.now c.args.pass.now c.args.word) why.BadPassText (bad_pass w old c.args.name.now c.args.pass.now c.args.word (cc) (cc)) c.requires.good
 
--- a join for which the campaign gives NameTaken is refused with NameTaken, as `step` refuses it, and nothing changes
--- (`Answers`)
 pub returns-in-Err-NameTaken-clause-ok : goal.returns-in-Err-NameTaken-clause-ok
 returns-in-Err-NameTaken-clause-ok g c =
     let w = c.args.world.now in
@@ -43,7 +37,6 @@ returns-in-Err-NameTaken-clause-ok g c =
     let refused = rw (c.as_slice-3.ensures, c.as_slice-4.ensures) at (rw c.in-Err-NameTaken.field-0-is at c.in-Err-NameTaken.ensures.definition) in
     rw refused.1 (is_refused g.S.Store w old c.args.conn.now (Join c.args.name.now c.args.pass.now c.args.word) why.NameTaken (is_taken w old c.args.name.now c.args.pass.now c.args.word (cc) (cc) refused.0) c.requires.good)
 
--- a join for which the campaign gives Full is refused with Full, as `step` refuses it, and nothing changes (`Answers`)
 pub returns-in-Err-Full-clause-ok : goal.returns-in-Err-Full-clause-ok
 returns-in-Err-Full-clause-ok g c =
     let w = c.args.world.now in
@@ -51,7 +44,6 @@ returns-in-Err-Full-clause-ok g c =
     let refused = rw (c.as_slice-3.ensures, c.as_slice-4.ensures) at (rw c.in-Err-Full.field-0-is at c.in-Err-Full.ensures.definition) in
     rw refused.1 (is_refused g.S.Store w old c.args.conn.now (Join c.args.name.now c.args.pass.now c.args.word) why.Full (is_too_full w old c.args.name.now c.args.pass.now c.args.word (cc) (cc) refused.0) c.requires.good)
 
--- a join that succeeds leaves the campaign of `step`, on a clean disk also in the tables (`Answers`)
 pub returns-clause-ok : goal.returns-clause-ok
 returns-clause-ok g c =
     let w = c.args.world.now in
@@ -68,8 +60,6 @@ returns-clause-ok g c =
       tables = λ clean text keeps. rw same (c.in_ok-write_join.ensures.ok clean text old keeps (rw done is_joining));
     }
 
--- If `write_join` fails, on a clean disk the tables keep the campaign before the join. A crash leaves this campaign or
--- the one after the join, which then is good (`CommandLeavesAfterFault`).
 pub returns-in_err-write_join-clause-err : goal.returns-in_err-write_join-clause-err
 returns-in_err-write_join-clause-err g c = on_err _ (CommandLeavesAfterFault g.S.Store c.args.world.now c.args.campaign.now.value c.args.conn.now (Join c.args.name.now c.args.pass.now c.args.word) c.write_join.new.conn) (λ clean text keeps.
     let w = c.args.world.now in
@@ -82,8 +72,6 @@ returns-in_err-write_join-clause-err g c = on_err _ (CommandLeavesAfterFault g.S
     (c.in_err-write_join.ensures.err clean text old keeps (rw done (joining_is w c.args.name.now c.args.pass.now c.args.word old c.join.new.self.value c.in-Ok.numbers.0 c.in-Ok.numbers.1 c.requires.good is))) in
     subst (λ (after : CampaignValue). LeavesGood w (state g.S.Store c.args.conn.now).faults (state g.S.Store c.write_join.new.conn) text old after) (done ∙ sym (ap (λ p. p.0) steps)) stops)
 
--- `write_join` gets a campaign with the new faction, its unit and its report, and with money and people among the
--- things of the books (`HasArrival`)
 pub write_join-requires-clause-arrived : goal.write_join-requires-clause-arrived
 write_join-requires-clause-arrived g c =
     let w = c.args.world.now in
@@ -92,8 +80,6 @@ write_join-requires-clause-arrived g c =
     let done : c.store_first_report.new.campaign.value ≡ reported w c.join.new.self.value c.in-Ok.numbers.0 = c.in_ok-store_first_report.ensures.ok in
     rw done (arrives w c.args.name.now c.args.pass.now c.args.word old c.join.new.self.value c.in-Ok.numbers.0 c.in-Ok.numbers.1 c.requires.good is)
 
--- if `write_join` fails, on a clean disk an error of one of its calls is the cause of the fault of the join
--- (`HasCause`)
 pub returns-in_err-write_join-clause-cause : goal.returns-in_err-write_join-clause-cause
 returns-in_err-write_join-clause-cause g c =
     let w = c.args.world.now in

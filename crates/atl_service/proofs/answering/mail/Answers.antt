@@ -13,7 +13,6 @@ use Rattle.atl_service.proofs.AnswerLaws.{leaves_good}
 use Rattle.atl_service.proofs.CauseLaws.{call_has_cause}
 use Rattle.atl_service.proofs.answering.mail.Goals as goal
 
--- a mailing that is stored leaves the campaign of `step`, on a clean disk also in the tables (`Answers`)
 pub returns-clause-ok : goal.returns-clause-ok
 returns-clause-ok g c =
     let old = c.args.campaign.now.value in
@@ -26,8 +25,6 @@ returns-clause-ok g c =
       tables = λ clean text keeps. rw done (rw c.as_slice.ensures at (c.in_ok-write_mail.ensures.ok clean text old keeps));
     }
 
--- If `write_mail` fails, on a clean disk the tables keep the campaign before the mailing. A crash leaves this campaign
--- or the one after the mailing, which then is good (`CommandLeavesAfterFault`).
 pub returns-in_err-write_mail-clause-err : goal.returns-in_err-write_mail-clause-err
 returns-in_err-write_mail-clause-err g c = on_err _ (CommandLeavesAfterFault g.S.Store c.args.world.now c.args.campaign.now.value c.args.conn.now (Mail c.args.faction c.args.pass.now c.args.text.now) c.write_mail.new.conn) (λ clean text keeps.
     let w = c.args.world.now in
@@ -36,8 +33,6 @@ returns-in_err-write_mail-clause-err g c = on_err _ (CommandLeavesAfterFault g.S
     let stops = leaves_good w (state g.S.Store c.args.conn.now).faults (state g.S.Store c.write_mail.new.conn) text old (with_mail old c.args.faction c.args.text.now) c.requires.good good (rw c.as_slice.ensures at (c.in_err-write_mail.ensures.err clean text old keeps)) in
     subst (λ (after : CampaignValue). LeavesGood w (state g.S.Store c.args.conn.now).faults (state g.S.Store c.write_mail.new.conn) text old after) (sym (ap (λ p. p.0) c.in-Ok.ensures.step)) stops)
 
--- if `write_mail` fails, on a clean disk an error of one of its calls is the cause of the fault of the mailing
--- (`HasCause`)
 pub returns-in_err-write_mail-clause-cause : goal.returns-in_err-write_mail-clause-cause
 returns-in_err-write_mail-clause-cause g c =
     call_has_cause g.S.Store (OfMail c.args.faction c.args.text.now) c.args.conn.now c.write_mail.new.conn _ c.from_residual-in_err-write_mail.result c.from_residual-in_err-write_mail.ensures.1

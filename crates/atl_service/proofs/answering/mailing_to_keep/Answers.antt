@@ -4,7 +4,6 @@ use Rattle.atl_orders.specs.Mailing.{reading_of, IsMailingOf}
 use Rattle.atl_orders.proofs.SenderLaws.{read_is_mailing}
 use Rattle.atl_service.proofs.answering.mailing_to_keep.Goals as goal
 
--- a mailing that is accepted is one of the faction that sent it (`IsMailingOf`)
 pub returns-clause-own : goal.returns-clause-own
 returns-clause-own c =
     let own : c.in_ok-mailing.mailing.faction ≡ c.args.faction = grind (arith, nat_tests) in

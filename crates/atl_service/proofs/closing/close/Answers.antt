@@ -15,7 +15,6 @@ use Rattle.atl_service.proofs.CauseLaws.{call_has_cause}
 use Rattle.atl_service.proofs.CloseLaws.{closed_after_reports, few_things}
 use Rattle.atl_service.proofs.closing.close.Goals as goal
 
--- `write_changes` gets a campaign whose books have at most `most_things` things
 pub write_changes-requires-clause-things : goal.write_changes-requires-clause-things
 write_changes-requires-clause-things g c =
     let w = c.args.world.now in
@@ -23,8 +22,6 @@ write_changes-requires-clause-things g c =
     let done = closed_after_reports w c.args.campaign.now.value c.turn_month.new.campaign.value after c.as_slice.result.now c.in_ok-outcome.outcome c.in_ok-outcome.ensures.outcome c.in_ok-report_to_all.ensures.what c.in_ok-outcome.ensures.there c.in_ok-outcome.ensures.good in
     few_things w after c.in_default.ensures.ok.world done.1
 
--- If `write_changes` fails, on a clean disk the tables keep the campaign before the close. A crash leaves this campaign
--- or the one after the close, which then is good (`CommandLeavesAfterFault`).
 pub returns-in_err-write_changes-clause-err : goal.returns-in_err-write_changes-clause-err
 returns-in_err-write_changes-clause-err g c = on_err _ (CommandLeavesAfterFault g.S.Store c.args.world.now c.args.campaign.now.value c.args.conn.now (Close c.args.month c.args.pass.now c.args.words.now) c.write_changes.new.conn) (λ clean text keeps.
     let old = c.args.campaign.now.value in
@@ -34,7 +31,6 @@ returns-in_err-write_changes-clause-err g c = on_err _ (CommandLeavesAfterFault 
     let stops = leaves_good c.args.world.now (state g.S.Store c.args.conn.now).faults (state g.S.Store c.write_changes.new.conn) text old after c.requires.good done.1 (c.in_err-write_changes.ensures.err clean text old keeps marks.covers) in
     subst (λ (a : CampaignValue). LeavesGood c.args.world.now (state g.S.Store c.args.conn.now).faults (state g.S.Store c.write_changes.new.conn) text old a) (done.0 ∙ sym (ap (λ p. p.0) c.in_default.ensures.ok.step_is)) stops)
 
--- a close that succeeds leaves the campaign of `step`, on a clean disk also in the tables (`Answers`)
 pub returns-clause-ok : goal.returns-clause-ok
 returns-clause-ok g c =
     let w = c.args.world.now in
@@ -51,8 +47,6 @@ returns-clause-ok g c =
       tables = λ clean text keeps. rw written (c.in_ok-write_changes.ensures.ok clean text old keeps marks.covers);
     }
 
--- if `write_changes` fails, on a clean disk an error of one of its calls is the cause of the fault of the close
--- (`HasCause`)
 pub returns-in_err-write_changes-clause-cause : goal.returns-in_err-write_changes-clause-cause
 returns-in_err-write_changes-clause-cause g c =
     let w = c.args.world.now in

@@ -3,11 +3,9 @@ use Rattle.atl_month.specs.Month.{after_month}
 use Rattle.atl_service.proofs.CloseLaws.{active_there, closed_is, own_factions, turned_marked}
 use Rattle.atl_service.proofs.closing.turn_month.Goals as goal
 
--- no two of the mailings that `close_month` gets are of one faction (`HaveOwnFactions`)
 pub close_month-requires-clause-own : goal.close_month-requires-clause-own
 close_month-requires-clause-own c = own_factions c.args.world.now c.args.campaign.now.value c.in_ok-mailings.field-0.mailings.items c.requires.good c.in_ok-mailings.ensures.readings_are
 
--- storing a report for each faction that the result lists makes the campaign of `closed`
 pub returns-clause-outcome : goal.returns-clause-outcome
 returns-clause-outcome c =
     let after = c.in_ok-after.after.value in
@@ -15,7 +13,6 @@ returns-clause-outcome c =
     rw (done, c.in_ok-factions.ensures)
     (closed_is c.args.world.now c.args.campaign.now.value after c.in_ok-after.events.items c.args.words.now c.in_ok-mailings.field-0.faults (rw (← c.in_ok-mailings.ensures.readings_are, ← c.replace-before.ensures.value) c.in_ok-after.ensures.definition) c.in_ok-mailings.ensures.faults)
 
--- the factions that the result lists are in the campaign after the month (`AreFactions`)
 pub returns-clause-there : goal.returns-clause-there
 returns-clause-there c =
     let after = c.in_ok-after.after.value in
@@ -23,7 +20,6 @@ returns-clause-there c =
     rw (done, c.in_ok-factions.ensures)
     (active_there c.args.campaign.now.value after (rw (← c.replace-before.ensures.value) c.in_ok-after.ensures.factions))
 
--- turning the month loses no mark of the campaign, and marks all that it changes (`MarksChanges`)
 pub returns-clause-marks : goal.returns-clause-marks
 returns-clause-marks c =
     rw (← c.replace-before.ensures.value)

@@ -2,7 +2,6 @@ use Rattle.std.proofs.Common.{◌≡◌, false}
 use Rattle.atl_world.specs.Names.{pass_ok}
 use Rattle.atl_service.proofs.founding.world_and_campaign.Goals as goal
 
--- BadPassText is the cause for a world text that is a world and a pass text that isn't good (`MayBeCause`)
 pub returns-then-not-pass_ok-clause-err : goal.returns-then-not-pass_ok-clause-err
 returns-then-not-pass_ok-clause-err c is_there =
     let bad : pass_ok c.args.pass.now ≡ false = cc in

@@ -1,18 +1,14 @@
 use Rattle.atl_service.proofs.OpenLaws.{is_idle, is_busy, refused_in_transaction, opens, comes_back, opened_consistent}
 use Rattle.atl_service.proofs.service.open.Goals as goal
 
--- opening refuses a connection in a transaction with Store, and leaves the connection unchanged (`RefusesOpening`)
 pub returns-then-not-is_autocommit-clause-err : goal.returns-then-not-is_autocommit-clause-err
 returns-then-not-is_autocommit-clause-err g c = refused_in_transaction g.S.Store c.args.conn (is_busy c.is_autocommit.result _ c.is_autocommit.ensures.value c.if-not-is_autocommit.true)
 
--- the service of the loaded campaign is consistent, and its dirty set empty (`IsService`)
 pub opened-requires : goal.opened-requires
 opened-requires g c = opened_consistent g.S.Store c.args.conn c.load.new.conn c.load.ensures.alone c.in-Ok.world c.in-Ok.campaign c.in-Ok.ensures.ok (is_idle c.is_autocommit.result _ c.is_autocommit.ensures.value c.if-not-is_autocommit.false)
 
--- if the campaign is loaded, the service is open with the campaign, and on a clean disk nothing is changed (`Opens`)
 pub returns-in-Ok-clause-ok : goal.returns-in-Ok-clause-ok
 returns-in-Ok-clause-ok g c = rw c.opened.ensures (opens g.S.Store c.args.conn c.load.new.conn c.load.ensures.alone c.in-Ok.world c.in-Ok.campaign c.in-Ok.ensures.ok)
 
--- on a clean disk the text, world and campaign that were stored come back (`ComesBack`)
 pub returns-in-Ok-clause-back : goal.returns-in-Ok-clause-back
 returns-in-Ok-clause-back g c = rw c.opened.ensures (comes_back g.S.Store c.args.conn c.load.new.conn c.load.ensures.alone c.in-Ok.world c.in-Ok.campaign c.in-Ok.ensures.ok)

@@ -3,10 +3,8 @@ use Rattle.atl_report.specs.Events.{own_events}
 use Rattle.atl_service.proofs.SortLaws.{none_sorted, sorted_on}
 use Rattle.atl_service.proofs.sorting.events_by_faction.Goals as goal
 
--- before the first event is sorted, each faction's own events are all among those that are left
 pub loop-event-init : goal.loop-event-init
 loop-event-init c = λ n. ap (λ l. l ++ own_events n c.args.events.now) (none_sorted c.new-sorted.result c.new-sorted.ensures n)
 
--- after one more event is added to its faction's list, each list and the events left still have the faction's own ones
 pub loop-event-preserved : goal.loop-event-preserved
 loop-event-preserved c = λ n. sorted_on c.loop-event.sorted c.add_event.new.sorted c.args.events.now c.loop-event.event-index _ (own_events n c.args.events.now) n c.loop-event-test.true c.in_ok-add_event.ensures (c.loop-event.invariant n)

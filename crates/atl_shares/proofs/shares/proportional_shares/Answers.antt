@@ -6,7 +6,6 @@ use Rattle.atl_shares.specs.Share.{share_upto}
 use Rattle.atl_shares.proofs.ShareLaws.{next_share, next_left}
 use Rattle.atl_shares.proofs.shares.proportional_shares.Goals as goal
 
--- the invariant of the loop over wants holds after one more want got its share
 pub loop-want-preserved : goal.loop-want-preserved
 loop-want-preserved c =
     let wants = c.args.wants.now in

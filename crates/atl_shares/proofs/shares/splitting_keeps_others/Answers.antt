@@ -1,6 +1,5 @@
 use Rattle.atl_shares.proofs.ShareLaws as laws
 use Rattle.atl_shares.proofs.shares.splitting_keeps_others.Goals as goal
 
--- the law that splitting a want changes no other share is proved in ShareLaws
 pub returns : goal.returns
 returns c = laws.splitting_keeps_others

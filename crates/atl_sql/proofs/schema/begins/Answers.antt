@@ -3,8 +3,6 @@ use Rattle.atl_sql.specs.Tables.{AreTables, AreIndexes}
 use Rattle.atl_sql.proofs.SchemaLaws.{begins_made, its_tables, its_indexes, no_views}
 use Rattle.atl_sql.proofs.schema.begins.Goals as goal
 
--- if tables and indexes pass their tests, the schema begins with a campaign's tables (`Begins`) exactly if it has no
--- view
 pub returns : goal.returns
 returns c =
     let count = c.args.tables in
@@ -16,14 +14,12 @@ returns c =
       λ begins. c.is_empty.ensures.1 (no_views count keys schema begins),
     )
 
--- if the tables fail the test `are_tables`, the schema doesn't begin with a campaign's tables (`Begins`)
 pub returns-then-not-are_tables : goal.returns-then-not-are_tables
 returns-then-not-are_tables c = (
   λ no. absurd (cc),
   λ begins. sym c.if-not-are_tables.true ∙ c.are_tables.ensures.1 (subst (AreTables c.args.tables) (sym c.as_slice.ensures) (its_tables c.args.tables c.args.keys c.args.schema.now begins)),
 )
 
--- if the indexes fail the test `are_indexes`, the schema doesn't begin with a campaign's indexes (`Begins`)
 pub returns-then-not-are_indexes : goal.returns-then-not-are_indexes
 returns-then-not-are_indexes c = (
   λ no. absurd (cc),

@@ -1,13 +1,11 @@
 use Rattle.atl_sql.proofs.WriteLaws.{runs, fails}
 use Rattle.atl_sql.proofs.statement.run.Goals as goal
 
--- a statement that ran without an error is a write by this statement alone (`Writes`)
 pub returns : goal.returns
 returns g c =
     let ran = c.in_ok-execute.ensures in
     runs g.S.Store _ _ _ _ ran.same_reference ran.survives _ tt ran.ended ran.runs
 
--- a statement that failed hands on its error and commits nothing (`Writes`)
 pub returns-in_err-execute : goal.returns-in_err-execute
 returns-in_err-execute g c =
     let ran = c.in_err-execute.ensures in

@@ -5,23 +5,19 @@ use Rattle.atl_sql.proofs.MakingLaws.{makes_all, makes_more, makes_none}
 use Rattle.atl_sql.proofs.WriteLaws.{begins, goes_on, stops_second, weaker}
 use Rattle.atl_sql.proofs.tables.create_each.Goals as goal
 
--- before the first CREATE text is run, no table is made (`MakesFirst`)
 pub loop-table-init : goal.loop-table-init
 loop-table-init g c = begins g.S.Store makes_none
 
--- running the next CREATE text makes one table more, and no table made so far has a row (`MakesFirst`)
 pub loop-table-preserved : goal.loop-table-preserved
 loop-table-preserved g c =
     let i = c.loop-table.table-index in
     goes_on g.S.Store (makes_more i) c.loop-table.invariant (made_by g.S.Store _ (makes_next (λ (t : TableDefinition). t.text.now) c.args.tables.now c.requires i _ (omega (arith, c.loop-table-test.true))) c.in_ok-run.ensures)
 
--- if running a CREATE text fails, making the tables ends with this error
 pub returns-in_err-run : goal.returns-in_err-run
 returns-in_err-run g c =
     let i = c.loop-table.table-index in
     stops_second g.S.Store c.loop-table.invariant (creating g.S.Store _ (makes_next (λ (t : TableDefinition). t.text.now) c.args.tables.now c.requires i _ (omega (arith, c.loop-table-test.true))) c.in_err-run.ensures) c.from_residual.ensures
 
--- when all texts have run, the ten tables are made, all empty (`AreEmpty`)
 pub returns : goal.returns
 returns g c =
     let all = as_many (λ (t : TableDefinition). t.text.now) c.args.tables.now c.requires in

@@ -7,19 +7,15 @@ use Rattle.atl_state.specs.declared.checking.Rule.TheVariants.{Names}
 use Rattle.atl_state.proofs.CheckLaws.{one-said, people-said, checked-rows, checked-fits, checked-good}
 use Rattle.atl_state.proofs.checking.check_parts.Goals as goal
 
--- what `assemble` requires: rows that keep rules 1 to 3 have exactly one campaign row
 pub assemble-requires-clause-one : goal.assemble-requires-clause-one
 assemble-requires-clause-one c = one-said c.args.format c.args.world.now c.args.parts c.in_ok-check_rows.ensures
 
--- what `assemble` requires: names and pass texts of rows that keep rules 1 to 3 are allowed
 pub assemble-requires-clause-named : goal.assemble-requires-clause-named
 assemble-requires-clause-named c = let before : KeepsRulesBelow c.args.format c.args.world.now c.args.parts 4 = c.in_ok-check_rows.ensures in (before Names (omega arith)).texts
 
--- what `assemble` requires: rows of `faction`, `region`, `unit` and `has` are in their ranges
 pub assemble-requires-clause-people : goal.assemble-requires-clause-people
 assemble-requires-clause-people c = people-said c.args.format c.args.world.now c.args.parts c.in_ok-check_rows.ensures
 
--- rows that keep all rules give a good campaign with just these rows (`IsChecked`)
 pub returns : goal.returns
 returns c =
     let w = c.args.world.now in

@@ -6,11 +6,9 @@ use Rattle.atl_state.specs.declared.checking.Rule.TheVariants.{Owners, Water, Gu
 use Rattle.atl_state.proofs.CheckLaws.{below_next, places-said}
 use Rattle.atl_state.proofs.checking.check_rules_8_to_12.Goals as goal
 
--- what `are_guarded` requires: the region of each unit read from the rows exists
 pub are_guarded-requires : goal.are_guarded-requires
 are_guarded-requires c = subst (λ (s : CampaignValue). Every (λ n u. HasValue s.regions u.region) s.units) (sym c.requires.what) (places-said c.args.format c.args.world.now c.args.parts.now c.requires.before)
 
--- rows that keep rules 1 to 7, and pass the tests of rules 8 to 12, keep all twelve rules
 pub returns : goal.returns
 returns c =
     let w = c.args.world.now in

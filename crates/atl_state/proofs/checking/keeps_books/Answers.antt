@@ -8,21 +8,16 @@ use Rattle.atl_campaign.specs.Totals.{IsCountable}
 use Rattle.atl_state.proofs.CheckLaws.{few-said, books-said, items-said, stocks-said}
 use Rattle.atl_state.proofs.checking.keeps_books.Goals as goal
 
--- what `are_balanced` requires: the campaign has few enough units and regions to count totals
 pub are_balanced-requires-clause-few : goal.are_balanced-requires-clause-few
 are_balanced-requires-clause-few c = subst IsCountable (sym c.requires.what) (few-said c.args.format c.args.world.now c.args.parts.now c.requires.before)
 
--- what `are_balanced` requires: the books have as many things as the world, and each listed amount is of one of these
--- things and not 0
 pub are_balanced-requires-clause-books : goal.are_balanced-requires-clause-books
 are_balanced-requires-clause-books c = subst (λ (s : CampaignValue). AreBooks (thing_count c.args.world.now) s.books) (sym c.requires.what) (books-said c.args.format c.args.world.now c.args.parts.now c.requires.before)
 
--- what `are_balanced` requires: the units hold only items of the world
 pub are_balanced-requires-clause-items : goal.are_balanced-requires-clause-items
 are_balanced-requires-clause-items c =
     subst (λ (s : CampaignValue). Every (λ n u. Every (λ i amount. i < length c.args.world.now.items) u.holding.items) s.units) (sym c.requires.what) (items-said c.args.format c.args.world.now c.args.parts.now c.requires.before)
 
--- what `are_balanced` requires: the regions have stocks only of their markets
 pub are_balanced-requires-clause-stocks : goal.are_balanced-requires-clause-stocks
 are_balanced-requires-clause-stocks c =
     subst (λ (s : CampaignValue). Every (λ n r. AreOfMarkets c.args.world.now n r.stocks) s.regions) (sym c.requires.what) (stocks-said c.args.format c.args.world.now c.args.parts.now c.requires.before)

@@ -4,7 +4,6 @@ use Rattle.atl_store.proofs.HasTableLaws.{is_not_zero}
 use Rattle.atl_sql.proofs.PuttingLaws.{none_written, one_written}
 use Rattle.atl_store.proofs.amounts.put_nonzero.Goals as goal
 
--- the row of an amount other than 0 is put
 pub returns : goal.returns
 returns g c =
     let row = g.O.AmountWriter.line c.args.owner c.args.thing c.args.amount in

@@ -7,7 +7,6 @@ use Rattle.atl_store.proofs.WholeLaws.{done_as, then_done}
 use Rattle.atl_sql.proofs.WriteLaws.{stops}
 use Rattle.atl_store.proofs.changing.rewrite_parts.Goals as goal
 
--- rewriting the campaign row and then all other parts writes the changes of the campaign (`WritesChanges`)
 pub returns : goal.returns
 returns g c =
     let campaign = c.args.campaign.now in
@@ -15,6 +14,5 @@ returns g c =
     (then_done g.S.Store (own_then_rewritten campaign (Own ∷ []) written_parts refl)
     (done_as g.S.Store (own_rewritten campaign) c.in_ok-rewrite_campaign_row.ensures) (done_as g.S.Store (in_turn_changed (Becomes campaign) written_parts refl) c.rewrite.ensures))
 
--- if the campaign row can't be written, the write of the changes ends with this error
 pub returns-in_err-rewrite_campaign_row : goal.returns-in_err-rewrite_campaign_row
 returns-in_err-rewrite_campaign_row g c = stops g.S.Store c.in_err-rewrite_campaign_row.ensures c.from_residual.ensures

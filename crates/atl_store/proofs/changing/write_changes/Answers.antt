@@ -7,7 +7,6 @@ use Rattle.atl_store.proofs.ChangeLaws.{changes_held, unmarked_held}
 use Rattle.atl_store.proofs.StayLaws.{commits_keeps, leaves_stops, may_found, commit_leaves_others, leaves_others, survives_is_later, on_err, error_of}
 use Rattle.atl_store.proofs.changing.write_changes.Goals as goal
 
--- Ok: the connection keeps the changed campaign, if it kept the campaign before and the marks cover all changes
 pub returns-clause-ok : goal.returns-clause-ok
 returns-clause-ok g c clean text before keeps covers =
     let old = state g.S.Store c.args.conn.now in
@@ -16,7 +15,6 @@ returns-clause-ok g c clean text before keeps covers =
     commits_keeps old new text (λ db up. g.met.S.Store.settled c.write_marked.new.conn.store db up) HasTables (WritesChanges campaign) campaign.value (c.in_ok-write_marked.ensures.ok clean) keeps.tables
     (λ did. changes_held campaign old.now new.now did text before covers keeps.rows)
 
--- after a fault the connection keeps the campaign before; a crash leaves that or the one after (`LeavesAfterFault`)
 pub returns-in_err-write_marked-clause-err : goal.returns-in_err-write_marked-clause-err
 returns-in_err-write_marked-clause-err g c clean = on_err c.from_residual.result _ (λ text before keeps covers.
     let old = state g.S.Store c.args.conn.now in
@@ -25,29 +23,21 @@ returns-in_err-write_marked-clause-err g c clean = on_err c.from_residual.result
     leaves_stops old new text (λ db up. g.met.S.Store.settled c.write_marked.new.conn.store db up) (WritesChanges campaign) before campaign.value clean (c.in_err-write_marked.ensures.err clean) c.write_marked.ensures.crash keeps
     (λ db did. changes_held campaign old.now db did text before covers keeps.rows))
 
--- Ok: the rows under marked keys are the campaign's, and all other rows are as they were (`WritesChanges`)
 pub returns-clause-marked : goal.returns-clause-marked
 returns-clause-marked g c clean tables = ((c.in_ok-write_marked.ensures.ok clean).does tables).does
 
--- Ok leaves the tables that aren't the campaign's as they were
 pub returns-clause-others : goal.returns-clause-others
 returns-clause-others g c clean = commit_leaves_others (state g.S.Store c.args.conn.now) (state g.S.Store c.write_marked.new.conn) HasTables (WritesChanges c.args.campaign.now) (c.in_ok-write_marked.ensures.ok clean) (λ has. has)
 
--- a fault leaves the tables that aren't the campaign's as they were
 pub returns-in_err-write_marked-clause-others : goal.returns-in_err-write_marked-clause-others
 returns-in_err-write_marked-clause-others g c clean = leaves_others (state g.S.Store c.args.conn.now) (state g.S.Store c.write_marked.new.conn) (c.in_err-write_marked.ensures.err clean)
 
--- after Ok a disk that is clean was clean before, no failure is forgotten, and reads tested by digests stay so
--- (`IsLater`)
 pub returns-clause-later : goal.returns-clause-later
 returns-clause-later g c = survives_is_later (state g.S.Store c.args.conn.now) (state g.S.Store c.write_marked.new.conn) _ c.write_marked.ensures.crash
 
--- after a fault a disk that is clean was clean before, no failure is forgotten, and reads tested by digests stay so
--- (`IsLater`)
 pub returns-in_err-write_marked-clause-later : goal.returns-in_err-write_marked-clause-later
 returns-in_err-write_marked-clause-later g c = survives_is_later (state g.S.Store c.args.conn.now) (state g.S.Store c.write_marked.new.conn) _ c.write_marked.ensures.crash
 
--- Ok: the connection keeps the campaign, if its tables held all that isn't marked of it
 pub returns-clause-unmarked : goal.returns-clause-unmarked
 returns-clause-unmarked g c clean text tables rest =
     let old = state g.S.Store c.args.conn.now in
@@ -56,15 +46,12 @@ returns-clause-unmarked g c clean text tables rest =
     commits_keeps old new text (λ db up. g.met.S.Store.settled c.write_marked.new.conn.store db up) HasTables (WritesChanges campaign) campaign.value (c.in_ok-write_marked.ensures.ok clean) tables
     (λ did. unmarked_held campaign old.now new.now did text rest)
 
--- the fault is that of an error that a statement of the change, or the commit, gave
 pub returns-in_err-write_marked-clause-reports_error : goal.returns-in_err-write_marked-clause-reports_error
 returns-in_err-write_marked-clause-reports_error g c clean = error_of g.S.Store (OfChange c.args.campaign.now.value) write_fault c.args.conn.now c.write_marked.new.conn _ c.from_residual.result c.from_residual.ensures.1 (c.in_err-write_marked.ensures.error_given clean)
 
--- after a fault the tables are again those of the last commit, whatever they held (`LeavesOff`)
 pub returns-in_err-write_marked-clause-left : goal.returns-in_err-write_marked-clause-left
 returns-in_err-write_marked-clause-left g c clean = on_err c.from_residual.result _ (c.in_err-write_marked.ensures.err clean)
 
--- a crash after a fault leaves what it could have left before, or the campaign (`MayLeaveCampaign`)
 pub returns-in_err-write_marked-clause-crash : goal.returns-in_err-write_marked-clause-crash
 returns-in_err-write_marked-clause-crash g c clean = on_err c.from_residual.result _ (λ text tables rest.
     let old = state g.S.Store c.args.conn.now in

@@ -4,14 +4,12 @@ use Rattle.atl_sql.specs.Inside.{HasTables}
 use Rattle.atl_store.proofs.WholeLaws.{committed, left_off}
 use Rattle.atl_store.proofs.changing.write_marked.Goals as goal
 
--- once all changes are written, the result of the commit is that of the whole transaction (`Transacts`)
 pub returns : goal.returns
 returns g c =
     let whole = committed g.S.Store c.args.conn.now c.transaction-tx.result.conn c.rewrite_parts.new.tx.conn c.transaction-tx.ensures.begun HasTables (WritesChanges c.args.campaign.now) c.commit.new.self.0 c.commit.ensures.ended c.commit.result
     c.in_ok-rewrite_parts.ensures c.commit.ensures.ok c.commit.ensures.err c.commit.ensures.survives in
     search (rules, whole)
 
--- if the changes can't be written, the whole is a transaction that fails with this error (`Transacts`)
 pub returns-in_err-rewrite_parts : goal.returns-in_err-rewrite_parts
 returns-in_err-rewrite_parts g c =
     let whole = left_off g.S.Store c.args.conn.now c.transaction-tx.result.conn c.rewrite_parts.new.tx.conn c.transaction-tx.ensures.begun HasTables (WritesChanges c.args.campaign.now) c.drop-tx.new.self.0 c.drop-tx.ensures.ended c.from_residual.result

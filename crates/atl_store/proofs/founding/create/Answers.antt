@@ -6,7 +6,6 @@ use Rattle.atl_store.proofs.StayLaws.{commits_keeps, may_found, failed_changes_n
 use Rattle.atl_store.specs.Keeps.{FailsToCreate}
 use Rattle.atl_store.proofs.founding.create.Goals as goal
 
--- Ok: there was no table `campaign`, and the connection holds the campaign (`Creates`)
 pub returns-clause-ok : goal.returns-clause-ok
 returns-clause-ok g c =
     let old = state g.S.Store c.args.conn.now in
@@ -18,8 +17,6 @@ returns-clause-ok g c =
           (c.is_ready.ensures.ready.0 c.if-not-is_ready.false).0 (λ did. did);
     }
 
--- an error of the transaction is returned as its fault, Store or Memory; on a clean disk nothing is changed
--- (`RefusesToCreate`)
 pub returns-in_err-write_founding-clause-err : goal.returns-in_err-write_founding-clause-err
 returns-in_err-write_founding-clause-err g c =
     let old = state g.S.Store c.args.conn.now in
@@ -32,7 +29,6 @@ returns-in_err-write_founding-clause-err g c =
     } in
     refused_with g.S.Store c.args.world_text.now c.args.campaign.now.value c.args.conn.now c.write_founding.new.conn ready fails _ c.from_residual.result c.from_residual.ensures.1 c.in_err-write_founding.ensures.error_given
 
--- if the database isn't ready, the fault is Store and nothing at all is changed (`RefusesToCreate`)
 pub returns-then-not-is_ready-clause-err : goal.returns-then-not-is_ready-clause-err
 returns-then-not-is_ready-clause-err g c = (
   record {
@@ -43,12 +39,8 @@ returns-then-not-is_ready-clause-err g c = (
   inl (λ ready. true≢false (sym (c.is_ready.ensures.ready.1 ready) ∙ c.if-not-is_ready.true), refl),
 )
 
--- after Ok a disk that is clean was clean before, no failure is forgotten, and reads tested by digests stay so
--- (`IsLater`)
 pub returns-clause-later : goal.returns-clause-later
 returns-clause-later g c = survives_is_later (state g.S.Store c.args.conn.now) (state g.S.Store c.write_founding.new.conn) _ c.write_founding.ensures.crash
 
--- after an error a disk that is clean was clean before, no failure is forgotten, and reads tested by digests stay so
--- (`IsLater`)
 pub returns-in_err-write_founding-clause-later : goal.returns-in_err-write_founding-clause-later
 returns-in_err-write_founding-clause-later g c = survives_is_later (state g.S.Store c.args.conn.now) (state g.S.Store c.write_founding.new.conn) _ c.write_founding.ensures.crash

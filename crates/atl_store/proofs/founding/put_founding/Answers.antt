@@ -8,7 +8,6 @@ use Rattle.atl_store.proofs.WholeLaws.{done_as, then_done}
 use Rattle.atl_sql.proofs.WriteLaws.{writes_among_more, among_only, two_steps, stops, stops_second}
 use Rattle.atl_store.proofs.founding.put_founding.Goals as goal
 
--- making the tables, putting the campaign row and filling all other parts writes the founding (`WritesFounding`)
 pub returns : goal.returns
 returns g c =
     let campaign = c.args.campaign.now.value in
@@ -18,11 +17,9 @@ returns g c =
     (done_as g.S.Store (own_filled campaign text) (among_only g.S.Store _ _ founds_head c.in_ok-put_campaign_row.ensures))
     (done_as g.S.Store (in_turn_changed (Fills campaign) written_parts refl) (writes_among_more g.S.Store (λ _ _. founds_row) c.fill.ensures)))
 
--- if the tables can't be made, the founding ends with this error
 pub returns-in_err-create_tables : goal.returns-in_err-create_tables
 returns-in_err-create_tables g c = stops g.S.Store (writes_among_more g.S.Store (λ _ _. founds_tables) c.in_err-create_tables.ensures) c.from_residual.ensures
 
--- if the campaign row can't be put, the founding ends with this error
 pub returns-in_err-put_campaign_row : goal.returns-in_err-put_campaign_row
 returns-in_err-put_campaign_row g c =
     stops_second g.S.Store (writes_among_more g.S.Store (λ _ _. founds_tables) c.in_ok-create_tables.ensures) (among_only g.S.Store _ _ founds_head c.in_err-put_campaign_row.ensures) c.from_residual-in_err-put_campaign_row.ensures

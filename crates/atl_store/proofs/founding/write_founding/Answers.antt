@@ -4,14 +4,12 @@ use Rattle.atl_store.specs.Filling.{WritesFounding}
 use Rattle.atl_store.proofs.WholeLaws.{committed, left_off}
 use Rattle.atl_store.proofs.founding.write_founding.Goals as goal
 
--- once the founding is put, the result of the commit is that of the whole transaction (`Transacts`)
 pub returns : goal.returns
 returns g c =
     let whole = committed g.S.Store c.args.conn.now c.transaction-tx.result.conn c.put_founding.new.tx.conn c.transaction-tx.ensures.begun IsBlank (WritesFounding c.args.text.now c.args.campaign.now.value) c.commit.new.self.0 c.commit.ensures.ended c.commit.result
     c.in_ok-put_founding.ensures c.commit.ensures.ok c.commit.ensures.err c.commit.ensures.survives in
     search (rules, whole)
 
--- if the founding can't be put, the whole is a transaction that fails with this error (`Transacts`)
 pub returns-in_err-put_founding : goal.returns-in_err-put_founding
 returns-in_err-put_founding g c =
     let whole = left_off g.S.Store c.args.conn.now c.transaction-tx.result.conn c.put_founding.new.tx.conn c.transaction-tx.ensures.begun IsBlank (WritesFounding c.args.text.now c.args.campaign.now.value) c.drop-tx.new.self.0 c.drop-tx.ensures.ended c.from_residual.result

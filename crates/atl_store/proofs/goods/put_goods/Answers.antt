@@ -6,7 +6,6 @@ use Rattle.atl_store.specs.GroupedRows.{kind_lines}
 use Rattle.atl_sql.proofs.PuttingLaws.{same_written, both_written, first_failed}
 use Rattle.atl_store.proofs.goods.put_goods.Goals as goal
 
--- putting the rows of a unit's items and then of its skills puts all rows of the unit in `has`
 pub returns : goal.returns
 returns g c =
     let items = kind_lines c.args.unit Item in
@@ -14,7 +13,6 @@ returns g c =
     both_written g.S.Store has_table 3 (items (entries c.args.holding.now.items)) (days (entries c.args.holding.now.days))
     (same_written g.S.Store has_table 3 _ _ (ap items c.items.ensures) c.in_ok-put_amounts.ensures) (same_written g.S.Store has_table 3 _ _ (ap days c.days.ensures) c.put_amounts-2.ensures)
 
--- if the rows of the unit's items can't be put, the write of the unit's rows ends with this error
 pub returns-in_err-put_amounts : goal.returns-in_err-put_amounts
 returns-in_err-put_amounts g c =
     let items = kind_lines c.args.unit Item in

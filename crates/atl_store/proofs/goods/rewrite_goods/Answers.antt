@@ -1,7 +1,7 @@
 use Rattle.atl_sql.specs.declared.rows.has.ThingKind.TheVariants.{Item, Skill}
 use Rattle.atl_sql.specs.Tables.{has_table}
-use Rattle.atl_sql.specs.Rows.{HasRowsOf}
-use Rattle.atl_sql.specs.Marked.{begins_marked, has_thing, unit_and_thing_pass}
+use Rattle.atl_store.specs.Rows.{HasRowsOf}
+use Rattle.atl_store.specs.Marked.{begins_marked, has_thing, unit_and_thing_pass}
 use Rattle.atl_store.proofs.HasTableLaws.{goods_grouped}
 use Rattle.atl_store.proofs.RewriteLaws.{both_rewritten}
 use Rattle.atl_store.proofs.ThingLaws.{finds_things}
@@ -9,19 +9,15 @@ use Rattle.atl_store.proofs.WholeLaws.{then_done}
 use Rattle.atl_sql.proofs.WriteLaws.{stops, stops_second}
 use Rattle.atl_store.proofs.goods.rewrite_goods.Goals as goal
 
--- what `rewrite_marked_groups` requires: the rows of `has` come in groups, one for each unit (`AreGroups`)
 pub rewrite_marked_groups-requires : goal.rewrite_marked_groups-requires
 rewrite_marked_groups-requires g c = goods_grouped c.args.campaign.now.value.units
 
--- what `rewrite_singles` requires of items: rows of `has` are found by unit and item (`FindsByNumbers`)
 pub rewrite_singles-requires : goal.rewrite_singles-requires
 rewrite_singles-requires g c = finds_things Item
 
--- what `rewrite_singles` requires of skills: rows of `has` are found by unit and skill (`FindsByNumbers`)
 pub rewrite_singles-requires-2 : goal.rewrite_singles-requires-2
 rewrite_singles-requires-2 g c = finds_things Skill
 
--- rewriting marked units, then marked items and then marked skills rewrites all marked rows of `has` (`RewritesGoods`)
 pub returns : goal.returns
 returns g c =
     let marks = c.args.campaign.now.marks in
@@ -29,10 +25,8 @@ returns g c =
     then_done g.S.Store (both _ (unit_and_thing_pass Skill (has_thing marks.skills))) (then_done g.S.Store (both (begins_marked marks.goods) (unit_and_thing_pass Item (has_thing marks.items))) c.in_ok-rewrite_marked_groups.ensures c.in_ok-rewrite_singles.ensures)
     c.rewrite_singles-2.ensures
 
--- if the rows of marked units can't be rewritten, the write of `has` ends with this error
 pub returns-in_err-rewrite_marked_groups : goal.returns-in_err-rewrite_marked_groups
 returns-in_err-rewrite_marked_groups g c = stops g.S.Store c.in_err-rewrite_marked_groups.ensures c.from_residual.ensures
 
--- if the marked items can't be rewritten, the write of `has` ends with this error
 pub returns-in_err-rewrite_singles : goal.returns-in_err-rewrite_singles
 returns-in_err-rewrite_singles g c = stops_second g.S.Store c.in_ok-rewrite_marked_groups.ensures c.in_err-rewrite_singles.ensures c.from_residual-in_err-rewrite_singles.ensures

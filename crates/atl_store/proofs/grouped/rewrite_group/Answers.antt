@@ -6,11 +6,9 @@ use Rattle.atl_store.proofs.GroupRowLaws.{lines_done, bare_done, puts_wanted}
 use Rattle.atl_sql.proofs.WriteLaws.{two_steps, stops, weaker, among_only, among_each}
 use Rattle.atl_store.proofs.grouped.rewrite_group.Goals as goal
 
--- if the number's rows can't be deleted, the rewrite of the number ends with this error
 pub returns-in_err-drop_rows : goal.returns-in_err-drop_rows
 returns-in_err-drop_rows g c = stops g.S.Store (among_only g.S.Store _ _ (drops_group g.V.Grouped.part g.V.Grouped.is_grouped) c.in_err-drop_rows.ensures) c.from_residual.ensures
 
--- if a unit or region has the number, deleting its rows and putting them again rewrites them (`RewritesGroup`)
 pub returns-in-Some : goal.returns-in-Some
 returns-in-Some g c =
     let values = g.V.NumberedRow.values c.args.campaign.now.value in
@@ -21,7 +19,6 @@ returns-in-Some g c =
     (among_only g.S.Store _ _ (drops_group g.V.Grouped.part g.V.Grouped.is_grouped) c.in_ok-drop_rows.ensures)
     (among_each g.S.Store _ _ (λ row there. changes_row (puts_wanted g.V.Grouped.part g.V.Grouped.more g.V.Grouped.is_key g.V.Grouped.wanted g.V.Grouped.are_rows c.args.campaign.now.value row (c.requires.wanted c.args.number value got row there))) c.put_rows.ensures)
 
--- if no unit or region has the number, deleting the number's rows rewrites them (`RewritesGroup`)
 pub returns-in-None : goal.returns-in-None
 returns-in-None g c =
     let values = g.V.NumberedRow.values c.args.campaign.now.value in

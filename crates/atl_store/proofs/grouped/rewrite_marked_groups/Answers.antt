@@ -5,21 +5,17 @@ use Rattle.atl_store.proofs.RewriteLaws.{all_remaining, one_less_number, numbers
 use Rattle.atl_sql.proofs.WriteLaws.{begins, goes_on, stops_second, weaker}
 use Rattle.atl_store.proofs.grouped.rewrite_marked_groups.Goals as goal
 
--- before the first marked number, of a unit or a region, the rows of all marked numbers are still to rewrite
 pub loop-number-init : goal.loop-number-init
 loop-number-init g c = begins g.S.Store (all_remaining (table_of g.V.Grouped.part) (g.V.Grouped.wanted c.args.campaign.now.value) _ _ (λ r. refl))
 
--- once a number's rows are rewritten, only those of the later marked numbers are still to rewrite
 pub loop-number-preserved : goal.loop-number-preserved
 loop-number-preserved g c =
     let wanted = g.V.Grouped.wanted c.args.campaign.now.value in
     goes_on g.S.Store (one_less_number (table_of g.V.Grouped.part) wanted c.in-Some.number c.loop-number.number-iterator c.next.new.self c.into_iter-number-iterator.result c.in-Some.ensures.steps) c.loop-number.invariant c.in_ok-rewrite_group.ensures
 
--- if a number's rows can't be rewritten, the write of all marked numbers ends with this error
 pub returns-in_err-rewrite_group : goal.returns-in_err-rewrite_group
 returns-in_err-rewrite_group g c = stops_second g.S.Store c.loop-number.invariant c.in_err-rewrite_group.ensures c.from_residual.ensures
 
--- when no marked number is left, the rows of all marked numbers are rewritten (`RewritesGroups`)
 pub returns : goal.returns
 returns g c =
     let wanted = g.V.Grouped.wanted c.args.campaign.now.value in

@@ -3,16 +3,13 @@ use Rattle.atl_store.proofs.JoinLaws.{reporting_done}
 use Rattle.atl_sql.proofs.WriteLaws.{writes_among_more, among_only, three_steps, stops, stops_second}
 use Rattle.atl_store.proofs.joining.put_report_and_amounts.Goals as goal
 
--- writing the report's row and the amounts of money and people one after another writes report and amounts (`DoesBoth`)
 pub returns : goal.returns
 returns g c = three_steps g.S.Store (reporting_done c.args.arrival.now.number c.args.arrival.now.report.now c.args.campaign.now.value)
     (among_only g.S.Store _ _ (joins_report c.requires.report_is) c.in_ok-put.ensures) (writes_among_more g.S.Store (λ _ _. joins_money) c.in_ok-write_amount.ensures) (writes_among_more g.S.Store (λ _ _. joins_people) c.write_amount-2.ensures)
 
--- if the report's row can't be put, the write of report and amounts ends with this error
 pub returns-in_err-put : goal.returns-in_err-put
 returns-in_err-put g c = stops g.S.Store (among_only g.S.Store _ _ (joins_report c.requires.report_is) c.in_err-put.ensures) c.from_residual.ensures
 
--- if the amount of money can't be written, the write of report and amounts ends with this error
 pub returns-in_err-write_amount : goal.returns-in_err-write_amount
 returns-in_err-write_amount g c =
     stops_second g.S.Store (among_only g.S.Store _ _ (joins_report c.requires.report_is) c.in_ok-put.ensures) (writes_among_more g.S.Store (λ _ _. joins_money) c.in_err-write_amount.ensures) c.from_residual-in_err-write_amount.ensures

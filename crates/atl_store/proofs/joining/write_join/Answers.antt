@@ -10,7 +10,6 @@ use Rattle.atl_store.proofs.JoinLaws.{join_held}
 use Rattle.atl_store.proofs.StayLaws.{commits_keeps, leaves_stops, commit_leaves_others, leaves_others, survives_is_later, on_err, error_of}
 use Rattle.atl_store.proofs.joining.write_join.Goals as goal
 
--- Ok: the connection keeps the campaign after the join, if it kept the one before
 pub returns-clause-ok : goal.returns-clause-ok
 returns-clause-ok g c clean text before keeps joining =
     let old = state g.S.Store c.args.conn.now in
@@ -20,7 +19,6 @@ returns-clause-ok g c clean text before keeps joining =
     commits_keeps old new text (λ db up. g.met.S.Store.settled c.write_joining.new.conn.store db up) HasTables (WritesJoin c.arrival_of-arrival.result.number after) after (c.in_ok-write_joining.ensures.ok clean) keeps.tables
     (λ did. join_held _ _ _ _ _ after c.arrival_of-arrival.ensures.found old.now new.now did text before joins keeps.rows)
 
--- after a fault the connection keeps the campaign before; a crash leaves that or the one after (`LeavesAfterFault`)
 pub returns-in_err-write_joining-clause-err : goal.returns-in_err-write_joining-clause-err
 returns-in_err-write_joining-clause-err g c clean = on_err c.from_residual.result _ (λ text before keeps joining.
     let old = state g.S.Store c.args.conn.now in
@@ -30,32 +28,24 @@ returns-in_err-write_joining-clause-err g c clean = on_err c.from_residual.resul
     leaves_stops old new text (λ db up. g.met.S.Store.settled c.write_joining.new.conn.store db up) (WritesJoin c.arrival_of-arrival.result.number after) before after clean (c.in_err-write_joining.ensures.err clean) c.write_joining.ensures.crash keeps
     (λ db did. join_held _ _ _ _ _ after c.arrival_of-arrival.ensures.found old.now db did text before joins keeps.rows))
 
--- Ok leaves the tables that aren't the campaign's as they were
 pub returns-clause-others : goal.returns-clause-others
 returns-clause-others g c clean = commit_leaves_others (state g.S.Store c.args.conn.now) (state g.S.Store c.write_joining.new.conn) HasTables (WritesJoin c.arrival_of-arrival.result.number c.args.campaign.now.value) (c.in_ok-write_joining.ensures.ok clean) (λ has. has)
 
--- a fault leaves the tables that aren't the campaign's as they were
 pub returns-in_err-write_joining-clause-others : goal.returns-in_err-write_joining-clause-others
 returns-in_err-write_joining-clause-others g c clean = leaves_others (state g.S.Store c.args.conn.now) (state g.S.Store c.write_joining.new.conn) (c.in_err-write_joining.ensures.err clean)
 
--- after Ok a disk that is clean was clean before, no failure is forgotten, and reads tested by digests stay so
--- (`IsLater`)
 pub returns-clause-later : goal.returns-clause-later
 returns-clause-later g c = survives_is_later (state g.S.Store c.args.conn.now) (state g.S.Store c.write_joining.new.conn) _ c.write_joining.ensures.crash
 
--- after a fault a disk that is clean was clean before, no failure is forgotten, and reads tested by digests stay so
--- (`IsLater`)
 pub returns-in_err-write_joining-clause-later : goal.returns-in_err-write_joining-clause-later
 returns-in_err-write_joining-clause-later g c = survives_is_later (state g.S.Store c.args.conn.now) (state g.S.Store c.write_joining.new.conn) _ c.write_joining.ensures.crash
 
--- Ok: whatever the tables held, the write touched the rows of the join alone (`WritesJoin`)
 pub returns-clause-own : goal.returns-clause-own
 returns-clause-own g c clean tables =
     let old = state g.S.Store c.args.conn.now in
     let new = state g.S.Store c.write_joining.new.conn in
     subst (λ n. WritesJoin n c.args.campaign.now.value old.now new.now) c.arrival_of-arrival.ensures.number ((c.in_ok-write_joining.ensures.ok clean).does tables).does
 
--- the fault is that of an error that a statement of the join, or the commit, gave
 pub returns-in_err-write_joining-clause-reports_error : goal.returns-in_err-write_joining-clause-reports_error
 returns-in_err-write_joining-clause-reports_error g c clean =
     let old = c.args.conn.now in
@@ -64,6 +54,5 @@ returns-in_err-write_joining-clause-reports_error g c clean =
     subst (λ n. IfErr c.from_residual.result (IsFaultOfError g.S.Store (OfJoining n after) write_fault old new)) c.arrival_of-arrival.ensures.number
     (error_of g.S.Store (OfJoining c.arrival_of-arrival.result.number after) write_fault old new _ c.from_residual.result c.from_residual.ensures.1 (c.in_err-write_joining.ensures.error_given clean))
 
--- after a fault the tables are again those of the last commit, whatever they held (`LeavesOff`)
 pub returns-in_err-write_joining-clause-left : goal.returns-in_err-write_joining-clause-left
 returns-in_err-write_joining-clause-left g c clean = on_err c.from_residual.result _ (c.in_err-write_joining.ensures.err clean)

@@ -6,13 +6,11 @@ use Rattle.atl_store.specs.GroupedRows.{entries_lines, things_lines}
 use Rattle.atl_sql.proofs.PuttingLaws.{same_written, putting_begins, putting_more, putting_failed, putting_ends}
 use Rattle.atl_store.proofs.ledger.put_all_books.Goals as goal
 
--- before the first thing the rows of all things are still to put (`HasPutSome`)
 pub loop-number-init : goal.loop-number-init
 loop-number-init g c =
     let whole : c.args.campaign.now.value.books.things - 0 ≡ c.args.campaign.now.value.books.things = omega arith in
     putting_begins g.S.Store books_table 2 _ _ (ap (λ n. things_lines c.args.campaign.now.value (range_with_len 0 n)) whole)
 
--- once a thing's rows are put, only the rows of the later things are still to put (`HasPutSome`)
 pub loop-number-preserved : goal.loop-number-preserved
 loop-number-preserved g c =
     let campaign = c.args.campaign.now.value in
@@ -22,7 +20,6 @@ loop-number-preserved g c =
     putting_more g.S.Store books_table 2 (entries_lines campaign (thing_at i) all_entries) (things_lines campaign (range_with_len (i + 1) (count - (i + 1)))) _ _ (ap (λ n. things_lines campaign (range_with_len i n)) left) c.loop-number.invariant
     (same_written g.S.Store books_table 2 _ _ (ap (λ thing. entries_lines campaign thing all_entries) c.of_number.ensures) c.in_ok-put_entries.ensures)
 
--- if a thing's rows can't be put, the write of all rows of the books ends with this error
 pub returns-in_err-put_entries-clause-rows : goal.returns-in_err-put_entries-clause-rows
 returns-in_err-put_entries-clause-rows g c =
     let campaign = c.args.campaign.now.value in
@@ -32,16 +29,13 @@ returns-in_err-put_entries-clause-rows g c =
     putting_failed g.S.Store books_table 2 (entries_lines campaign (thing_at i) all_entries) (things_lines campaign (range_with_len (i + 1) (count - (i + 1)))) _ _ (ap (λ n. things_lines campaign (range_with_len i n)) left) c.loop-number.invariant
     (same_written g.S.Store books_table 2 _ _ (ap (λ thing. entries_lines campaign thing all_entries) c.of_number.ensures) c.in_err-put_entries.ensures) c.from_residual.ensures
 
--- after an error too, each listed amount of the books is of one of their things, and is not 0 (`AreBooks`)
 pub returns-in_err-put_entries-clause-books : goal.returns-in_err-put_entries-clause-books
 returns-in_err-put_entries-clause-books g c = subst (λ n. AreBooks n c.args.campaign.now.value.books) c.things-number-end.ensures.count c.things-number-end.ensures.books
 
--- when no thing is left, all rows of the books are written
 pub returns-clause-rows : goal.returns-clause-rows
 returns-clause-rows g c =
     let none : c.args.campaign.now.value.books.things - c.loop-number.number ≡ 0 = omega (arith, c.loop-number-test.false, c.things-number-end.ensures.count) in
     putting_ends g.S.Store books_table 2 _ _ (ap (λ n. things_lines c.args.campaign.now.value (range_with_len c.loop-number.number n)) none) c.loop-number.invariant
 
--- after Ok, each listed amount of the books is of one of their things, and is not 0 (`AreBooks`)
 pub returns-clause-books : goal.returns-clause-books
 returns-clause-books g c = subst (λ n. AreBooks n c.args.campaign.now.value.books) c.things-number-end.ensures.count c.things-number-end.ensures.books

@@ -6,7 +6,6 @@ use Rattle.atl_store.proofs.LedgerLaws.{amount_is}
 use Rattle.atl_sql.proofs.PuttingLaws.{one_written}
 use Rattle.atl_store.proofs.ledger.put_amount.Goals as goal
 
--- the row of an amount other than 0 is put
 pub returns : goal.returns
 returns g c =
     let cast = to_z-of_z w64 c.booked-amount.result (search rules) in

@@ -5,11 +5,9 @@ use Rattle.atl_store.specs.GroupedRows.{entries_lines}
 use Rattle.atl_sql.proofs.PuttingLaws.{putting_begins, putting_more, putting_failed, putting_ends}
 use Rattle.atl_store.proofs.ledger.put_entries.Goals as goal
 
--- before the first entry the thing's rows under all listed entries are still to put (`HasPutSome`)
 pub loop-entry-init : goal.loop-entry-init
 loop-entry-init g c = putting_begins g.S.Store books_table 2 _ _ refl
 
--- once the row of an entry's amount is put, only the rows of the later entries are still to put (`HasPutSome`)
 pub loop-entry-preserved : goal.loop-entry-preserved
 loop-entry-preserved g c =
     let i = c.loop-entry.entry-index in
@@ -17,7 +15,6 @@ loop-entry-preserved g c =
     let lines = entries_lines c.args.campaign.now.value c.args.thing in
     putting_more g.S.Store books_table 2 _ (lines (drop (i + 1) entries)) _ _ (ap lines (drop_more entries i _ (omega (arith, c.loop-entry-test.true)))) c.loop-entry.invariant c.in_ok-put_amount.ensures
 
--- if the row of an entry's amount can't be put, the write of the thing's rows ends with this error
 pub returns-in_err-put_amount : goal.returns-in_err-put_amount
 returns-in_err-put_amount g c =
     let i = c.loop-entry.entry-index in
@@ -25,6 +22,5 @@ returns-in_err-put_amount g c =
     let lines = entries_lines c.args.campaign.now.value c.args.thing in
     putting_failed g.S.Store books_table 2 _ (lines (drop (i + 1) entries)) _ _ (ap lines (drop_more entries i _ (omega (arith, c.loop-entry-test.true)))) c.loop-entry.invariant c.in_err-put_amount.ensures c.from_residual.ensures
 
--- when no entry is left, the thing's rows under all listed entries are written
 pub returns : goal.returns
 returns g c = putting_ends g.S.Store books_table 2 _ _ (at_drop_all (entries_lines c.args.campaign.now.value c.args.thing) c.args.entries.now c.loop-entry.entry-index c.loop-entry-test.false) c.loop-entry.invariant

@@ -1,7 +1,7 @@
 use Rattle.std.proofs.Common.{sym, ◌∙◌}
 use Rattle.atl_records.specs.Books.{entry_index, thing_index}
 use Rattle.atl_sql.specs.Tables.{books_table}
-use Rattle.atl_sql.specs.Rows.{BooksRowsOf}
+use Rattle.atl_store.specs.Rows.{BooksRowsOf}
 use Rattle.atl_store.specs.Rewriting.{equals_number, is_of_marked_amount}
 use Rattle.atl_store.proofs.ArriveLaws.{amount_changes}
 use Rattle.atl_store.proofs.BooksRewriteLaws.{amount_is_rewritten_inside, unmarked_none}
@@ -9,12 +9,10 @@ use Rattle.atl_store.proofs.RewriteLaws.{none_chosen}
 use Rattle.atl_sql.proofs.WriteLaws.{begins, weaker, writes_among_more}
 use Rattle.atl_store.proofs.ledger.rewrite_amount.Goals as goal
 
--- writing a marked amount rewrites its row alone (`RewritesAmounts`), by a statement that a write of changes may run
 pub returns-then-is_amount_marked : goal.returns-then-is_amount_marked
 returns-then-is_amount_marked g c = weaker g.S.Store (amount_is_rewritten_inside c.args.campaign.now c.args.entry c.args.thing (sym c.is_amount_marked.ensures ∙ c.if-is_amount_marked.true))
     (writes_among_more g.S.Store (amount_changes c.args.campaign.now.value c.args.entry c.args.thing) c.write_amount.ensures)
 
--- if the amount isn't marked, nothing is to be written
 pub returns : goal.returns
 returns g c =
     let campaign = c.args.campaign.now in

@@ -11,14 +11,12 @@ use Rattle.atl_store.proofs.RewriteLaws.{all_remaining}
 use Rattle.atl_sql.proofs.WriteLaws.{begins, goes_on, stops_second, weaker}
 use Rattle.atl_store.proofs.ledger.rewrite_books.Goals as goal
 
--- before the first thing all marked amounts of the books are still to rewrite (`RemainingThings`)
 pub loop-number-init : goal.loop-number-init
 loop-number-init g c =
     let count = c.args.campaign.now.value.books.things in
     let whole : count - 0 ≡ count = omega arith in
     begins g.S.Store (all_remaining books_table _ _ _ (λ r. ap (λ n. is_of_marked_amount c.args.campaign.now.marks.books (is_among (map entry_index all_entries)) (is_among (range_with_len 0 n)) r) whole))
 
--- once a thing's marked amounts are rewritten, only those of the later things are still to rewrite
 pub loop-number-preserved : goal.loop-number-preserved
 loop-number-preserved g c =
     let campaign = c.args.campaign.now in
@@ -30,11 +28,9 @@ loop-number-preserved g c =
     (subst (λ t. DoesInside HasTables (RewritesAmounts campaign (is_among (map entry_index all_entries)) (equals_number t)) mid new) index more))
     c.loop-number.invariant c.in_ok-rewrite_entries.ensures
 
--- if a thing's marked amounts can't be rewritten, the write of the books ends with this error
 pub returns-in_err-rewrite_entries : goal.returns-in_err-rewrite_entries
 returns-in_err-rewrite_entries g c = stops_second g.S.Store c.loop-number.invariant c.in_err-rewrite_entries.ensures c.from_residual.ensures
 
--- when no thing is left, all marked amounts of the books are rewritten (`RewritesBooks`)
 pub returns : goal.returns
 returns g c =
     let campaign = c.args.campaign.now in

@@ -8,22 +8,18 @@ use Rattle.atl_store.proofs.RewriteLaws.{all_remaining}
 use Rattle.atl_sql.proofs.WriteLaws.{begins, goes_on, stops_second, weaker}
 use Rattle.atl_store.proofs.ledger.rewrite_entries.Goals as goal
 
--- before the first entry the thing's marked amounts under all listed entries are still to rewrite
 pub loop-entry-init : goal.loop-entry-init
 loop-entry-init g c = begins g.S.Store (all_remaining books_table _ _ _ (λ r. refl))
 
--- once the amount of an entry is rewritten, only those of the later entries are still to rewrite
 pub loop-entry-preserved : goal.loop-entry-preserved
 loop-entry-preserved g c =
     let i = c.loop-entry.entry-index in
     let entries = c.args.entries.now in
     goes_on g.S.Store (one_less_entry c.args.campaign.now (equals_number (thing_index c.args.thing)) _ (drop i entries) (drop (i + 1) entries) entries (drop_more entries i _ (omega (arith, c.loop-entry-test.true)))) c.loop-entry.invariant c.in_ok-rewrite_amount.ensures
 
--- if an amount can't be rewritten, the write of the thing's marked amounts ends with this error
 pub returns-in_err-rewrite_amount : goal.returns-in_err-rewrite_amount
 returns-in_err-rewrite_amount g c = stops_second g.S.Store c.loop-entry.invariant c.in_err-rewrite_amount.ensures c.from_residual.ensures
 
--- when no entry is left, the thing's marked amounts under all listed entries are rewritten
 pub returns : goal.returns
 returns g c =
     let entries = c.args.entries.now in

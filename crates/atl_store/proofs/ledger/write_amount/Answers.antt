@@ -10,7 +10,6 @@ use Rattle.atl_store.proofs.WholeLaws.{inside_weaker}
 use Rattle.atl_sql.proofs.WriteLaws.{weaker, among_only}
 use Rattle.atl_store.proofs.ledger.write_amount.Goals as goal
 
--- deleting the row of an amount of 0 writes the amount (`WritesAmount`)
 pub returns-then-amount-eq0 : goal.returns-then-amount-eq0
 returns-then-amount-eq0 g c =
     let campaign = c.args.campaign.now.value in
@@ -21,7 +20,6 @@ returns-then-amount-eq0 g c =
     weaker g.S.Store (λ old new. inside_weaker HasTables (Drops books_table 2 (books_key n k)) (WritesAmount campaign c.args.entry c.args.thing) old new (λ has did. drop_writes_amount campaign c.args.entry c.args.thing n k c.number.ensures.value c.number-then-amount-eq0.ensures.value old.now new.now (sym c.booked-amount.ensures ∙ zero) did))
     (among_only g.S.Store _ _ (amount_taken campaign c.args.entry c.args.thing n k c.number.ensures.value c.number-then-amount-eq0.ensures.value (sym c.booked-amount.ensures ∙ zero)) c.drop_books.ensures)
 
--- putting the row of an amount other than 0 writes the amount (`WritesAmount`)
 pub returns : goal.returns
 returns g c =
     let campaign = c.args.campaign.now.value in

@@ -6,7 +6,6 @@ use Rattle.atl_store.proofs.GatherLaws.{leaves_then}
 use Rattle.atl_store.proofs.LoadedLaws.{unconfirmed_refuses, judged_damaged, holds_of_error, confirmed_before}
 use Rattle.atl_store.proofs.loading.load_idle.Goals as goal
 
--- a fault of testing the schema after the reads refuses the load (`RefusesToLoadIn`)
 pub returns-in_err-confirm-clause-err : goal.returns-in_err-confirm-clause-err
 returns-in_err-confirm-clause-err g c clean =
     let f = c.args.format in
@@ -17,7 +16,6 @@ returns-in_err-confirm-clause-err g c clean =
     holds_of_error g.S.Store (RefusesToLoadIn f g.S.Store old) c.in_err-confirm.field-0.0 c.from_residual-in_err-confirm.result c.from_residual-in_err-confirm.ensures.1
     (unconfirmed_refuses f g.S.Store old mid gathered.one c.gather.ensures.leaves clean_mid c.requires.idle gathered.typed c.in_err-confirm.field-0.0 (c.in_err-confirm.ensures.fails clean))
 
--- a fault of the check of the rows refuses the load (`RefusesToLoadIn`)
 pub returns-in_err-campaign-clause-err : goal.returns-in_err-campaign-clause-err
 returns-in_err-campaign-clause-err g c clean =
     let f = c.args.format in
@@ -29,7 +27,6 @@ returns-in_err-campaign-clause-err g c clean =
     (judged_damaged f g.S.Store old c.requires.idle c.in_ok-world.world c.in_ok-world.parts (c.in_ok-world.ensures.ok gathered) (confirmed_before g.S.Store f old mid new c.gather.ensures.leaves c.confirm.ensures.leaves gathered clean (c.in_ok-confirm.ensures.ok clean)).begins
     c.in_err-campaign.field-0.0 c.in_err-campaign.ensures.rules)
 
--- if the rows of all tables were read, confirmed and checked, the campaign made of them is loaded (`IsLoaded`)
 pub returns-clause-ok : goal.returns-clause-ok
 returns-clause-ok g c =
     let f = c.args.format in
@@ -43,6 +40,5 @@ returns-clause-ok g c =
       checked = c.in_ok-campaign.ensures.rules;
     }
 
--- after the reads and the test of the schema the tables are as they were (`AfterReads`)
 pub returns-clause-leaves : goal.returns-clause-leaves
 returns-clause-leaves g c = leaves_then g.S.Store c.args.conn.now c.gather.new.conn c.confirm.new.conn c.gather.ensures.leaves c.confirm.ensures.leaves

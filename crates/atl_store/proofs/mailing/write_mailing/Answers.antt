@@ -4,14 +4,12 @@ use Rattle.atl_store.specs.Arriving.{WritesMail}
 use Rattle.atl_store.proofs.WholeLaws.{committed, left_off}
 use Rattle.atl_store.proofs.mailing.write_mailing.Goals as goal
 
--- once the mailing's row is put, the result of the commit is that of the whole transaction (`Transacts`)
 pub returns : goal.returns
 returns g c =
     let whole = committed g.S.Store c.args.conn.now c.transaction-tx.result.conn c.put_mail.new.tx.conn c.transaction-tx.ensures.begun HasTables (WritesMail c.args.faction c.args.text.now) c.commit.new.self.0 c.commit.ensures.ended c.commit.result
     c.in_ok-put_mail.ensures c.commit.ensures.ok c.commit.ensures.err c.commit.ensures.survives in
     search (rules, whole)
 
--- if the mailing's row can't be put, the whole is a transaction that fails with this error (`Transacts`)
 pub returns-in_err-put_mail : goal.returns-in_err-put_mail
 returns-in_err-put_mail g c =
     let whole = left_off g.S.Store c.args.conn.now c.transaction-tx.result.conn c.put_mail.new.tx.conn c.transaction-tx.ensures.begun HasTables (WritesMail c.args.faction c.args.text.now) c.drop-tx.new.self.0 c.drop-tx.ensures.ended c.from_residual.result

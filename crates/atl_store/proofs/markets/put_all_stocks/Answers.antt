@@ -4,22 +4,18 @@ use Rattle.atl_store.specs.GroupedRows.{region_stock_lines, all_stocks_lines}
 use Rattle.atl_sql.proofs.PuttingLaws.{putting_begins, putting_more, putting_failed, putting_ends}
 use Rattle.atl_store.proofs.markets.put_all_stocks.Goals as goal
 
--- before the first region the rows of all regions' stocks are still to put (`HasPutSome`)
 pub loop-number-init : goal.loop-number-init
 loop-number-init g c = putting_begins g.S.Store market_table 2 _ _ (ap all_stocks_lines c.into_iter-number-iterator.ensures.into_iter_gives)
 
--- once a region's rows are put, only the rows of the later regions are still to put (`HasPutSome`)
 pub loop-number-preserved : goal.loop-number-preserved
 loop-number-preserved g c =
     let stocks = region_stock_lines c.in-Some.number c.in-Some.region.now in
     putting_more g.S.Store market_table 2 stocks (all_stocks_lines c.next.new.self) _ _ (ap all_stocks_lines c.in-Some.ensures.steps) c.loop-number.invariant c.in_ok-put_stocks.ensures
 
--- if a region's rows can't be put, the write of all regions' rows ends with this error
 pub returns-in_err-put_stocks : goal.returns-in_err-put_stocks
 returns-in_err-put_stocks g c =
     let stocks = region_stock_lines c.in-Some.number c.in-Some.region.now in
     putting_failed g.S.Store market_table 2 stocks (all_stocks_lines c.next.new.self) _ _ (ap all_stocks_lines c.in-Some.ensures.steps) c.loop-number.invariant c.in_err-put_stocks.ensures c.from_residual.ensures
 
--- when no region is left, the rows of all regions' stocks are written
 pub returns : goal.returns
 returns g c = putting_ends g.S.Store market_table 2 _ _ (ap all_stocks_lines c.in-None.ensures.steps.0) c.loop-number.invariant

@@ -5,6 +5,5 @@ use Rattle.atl_store.specs.GroupedRows.{amount_rows}
 use Rattle.atl_sql.proofs.PuttingLaws.{same_written}
 use Rattle.atl_store.proofs.markets.put_stocks.Goals as goal
 
--- putting the rows made of the region's stocks puts all its rows of `market`
 pub returns : goal.returns
 returns g c = same_written g.S.Store market_table 2 _ _ (ap (amount_rows (market_row c.args.number)) c.iter.ensures) c.put_amounts.ensures

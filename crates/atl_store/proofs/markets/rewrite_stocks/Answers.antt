@@ -1,26 +1,22 @@
 use Rattle.atl_sql.specs.Tables.{market_table}
-use Rattle.atl_sql.specs.Rows.{MarketRowsOf}
-use Rattle.atl_sql.specs.Marked.{begins_marked, has_thing, region_and_item_pass}
+use Rattle.atl_store.specs.Rows.{MarketRowsOf}
+use Rattle.atl_store.specs.Marked.{begins_marked, has_thing, region_and_item_pass}
 use Rattle.atl_store.proofs.MarketLaws.{finds_stocks, stocks_grouped}
 use Rattle.atl_store.proofs.RewriteLaws.{both_rewritten}
 use Rattle.atl_store.proofs.WholeLaws.{then_done}
 use Rattle.atl_sql.proofs.WriteLaws.{stops}
 use Rattle.atl_store.proofs.markets.rewrite_stocks.Goals as goal
 
--- what `rewrite_marked_groups` requires: the rows of `market` come in groups, one for each region (`AreGroups`)
 pub rewrite_marked_groups-requires : goal.rewrite_marked_groups-requires
 rewrite_marked_groups-requires g c = stocks_grouped c.args.campaign.now.value.regions
 
--- what `rewrite_singles` requires: rows of `market` are found by region and item (`FindsByNumbers`)
 pub rewrite_singles-requires : goal.rewrite_singles-requires
 rewrite_singles-requires g c = finds_stocks
 
--- rewriting marked regions and then marked single stocks rewrites all marked rows of `market` (`RewritesStocks`)
 pub returns : goal.returns
 returns g c =
     let marks = c.args.campaign.now.marks in
     then_done g.S.Store (both_rewritten market_table (MarketRowsOf c.args.campaign.now.value.regions) (begins_marked marks.stocks) (region_and_item_pass (has_thing marks.stock_items))) c.in_ok-rewrite_marked_groups.ensures c.rewrite_singles.ensures
 
--- if the rows of marked regions can't be rewritten, the write of `market` ends with this error
 pub returns-in_err-rewrite_marked_groups : goal.returns-in_err-rewrite_marked_groups
 returns-in_err-rewrite_marked_groups g c = stops g.S.Store c.in_err-rewrite_marked_groups.ensures c.from_residual.ensures

@@ -4,7 +4,6 @@ use Rattle.sqlite_trees.specs.View.{IsClean}
 use Rattle.atl_store.proofs.ReopenLaws.{keeps_stored, kept_again, stopped_again}
 use Rattle.atl_store.proofs.reopening.reopen_connection.Goals as goal
 
--- the connection opened again has tables that a crash could leave (`Reopens`)
 pub returns-in-Ok-over-clause-found : goal.returns-in-Ok-over-clause-found
 returns-in-Ok-over-clause-found g c =
     let old = c.args.conn in
@@ -20,10 +19,8 @@ returns-in-Ok-over-clause-found g c =
           keeps_stored g.S.Store new opens.0 opens.1 (λ db may. g.met.S.Store.settled new.store db opens.0.is_open may);
     }
 
--- a campaign that was held before the crash is held by the connection that is opened again
 pub returns-in-Ok-over-clause-kept : goal.returns-in-Ok-over-clause-kept
 returns-in-Ok-over-clause-kept g c = kept_again g.S.Store c.args.conn c.in-Ok-over.conn (returns-in-Ok-over-clause-found g c)
 
--- after a write that failed, the connection opened again keeps the campaign before it or after it
 pub returns-in-Ok-over-clause-stopped : goal.returns-in-Ok-over-clause-stopped
 returns-in-Ok-over-clause-stopped g c = stopped_again g.S.Store c.args.conn c.in-Ok-over.conn (returns-in-Ok-over-clause-found g c)

@@ -6,8 +6,6 @@ use Rattle.atl_store.proofs.RewriteLaws.{put_done, drop_done}
 use Rattle.atl_sql.proofs.WriteLaws.{weaker, among_only}
 use Rattle.atl_store.proofs.rewriting.rewrite.Goals as goal
 
--- if the campaign has a value under the number, as a faction or a unit, putting its row rewrites the number's row
--- (`RewritesNumber`)
 pub returns-in-Some : goal.returns-in-Some
 returns-in-Some g c =
     let campaign = c.args.campaign.now.value in
@@ -17,7 +15,6 @@ returns-in-Some g c =
     weaker g.S.Store (put_done (table_of g.V.NumberedRow.part) g.V.NumberedRow.line g.V.NumberedRow.numbered (g.V.NumberedRow.values campaign) c.args.number value got)
     (among_only g.S.Store _ _ (changes_row (puts_line g.V.NumberedRow.part g.V.NumberedRow.line g.V.NumberedRow.values g.V.NumberedRow.are_rows key campaign _ (c.args.number, value, got, refl))) c.put.ensures)
 
--- if the campaign has no value under the number, deleting the number's row rewrites it (`RewritesNumber`)
 pub returns-in-None : goal.returns-in-None
 returns-in-None g c =
     let campaign = c.args.campaign.now.value in

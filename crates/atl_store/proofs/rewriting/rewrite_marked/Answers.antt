@@ -1,26 +1,22 @@
 use Rattle.std.proofs.Common.{refl, ap, ◌∙◌}
 use Rattle.std.specs.FinSet.{from_list}
 use Rattle.atl_sql.specs.Tables.{table_of}
-use Rattle.atl_sql.specs.Rows.{RowsOf}
+use Rattle.atl_store.specs.Rows.{RowsOf}
 use Rattle.atl_store.proofs.RewriteLaws.{all_remaining, one_less_number, numbers_rewritten}
 use Rattle.atl_sql.proofs.WriteLaws.{begins, goes_on, stops_second, weaker}
 use Rattle.atl_store.proofs.rewriting.rewrite_marked.Goals as goal
 
--- before the first marked number the rows of all marked numbers are still to rewrite
 pub loop-number-init : goal.loop-number-init
 loop-number-init g c = begins g.S.Store (all_remaining (table_of g.V.NumberedRow.part) (RowsOf g.V.NumberedRow.line (g.V.NumberedRow.values c.args.campaign.now.value)) _ _ (λ r. refl))
 
--- once a number's row is rewritten, only those of the later marked numbers are still to rewrite
 pub loop-number-preserved : goal.loop-number-preserved
 loop-number-preserved g c =
     let wanted = RowsOf g.V.NumberedRow.line (g.V.NumberedRow.values c.args.campaign.now.value) in
     goes_on g.S.Store (one_less_number (table_of g.V.NumberedRow.part) wanted c.in-Some.number c.loop-number.number-iterator c.next.new.self c.into_iter-number-iterator.result c.in-Some.ensures.steps) c.loop-number.invariant c.in_ok-rewrite.ensures
 
--- if a number's row can't be rewritten, the write of all marked numbers ends with this error
 pub returns-in_err-rewrite : goal.returns-in_err-rewrite
 returns-in_err-rewrite g c = stops_second g.S.Store c.loop-number.invariant c.in_err-rewrite.ensures c.from_residual.ensures
 
--- when no marked number is left, the rows of all marked numbers are rewritten (`RewritesMarked`)
 pub returns : goal.returns
 returns g c =
     let wanted = RowsOf g.V.NumberedRow.line (g.V.NumberedRow.values c.args.campaign.now.value) in

@@ -6,8 +6,6 @@ use Rattle.atl_store.proofs.ThingLaws.{zero_amount_has_no_row, thing_put, thing_
 use Rattle.atl_sql.proofs.WriteLaws.{weaker, among_only}
 use Rattle.atl_store.proofs.things.rewrite_thing.Goals as goal
 
--- putting the row of an amount other than 0 rewrites the unit's item or skill, by a statement that a write of changes
--- may run
 pub returns : goal.returns
 returns g c =
     let campaign = c.args.campaign.now.value in
@@ -15,7 +13,6 @@ returns g c =
     weaker g.S.Store (thing_put c.args.unit c.args.sort c.args.thing campaign amount.result amount.ensures c.if-amount-eq0.false)
     (among_only g.S.Store _ _ (changes_row (puts_row Goods (λ own. amount_has_row campaign.units c.args.unit c.args.sort c.args.thing amount.result amount.ensures c.if-amount-eq0.false))) c.put_has.ensures)
 
--- deleting the row of an amount of 0 rewrites the unit's item or skill, by a statement that a write of changes may run
 pub returns-then-amount-eq0 : goal.returns-then-amount-eq0
 returns-then-amount-eq0 g c =
     let amount = c.amount_of-amount in

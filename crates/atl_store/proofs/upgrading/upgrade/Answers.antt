@@ -5,7 +5,6 @@ use Rattle.atl_store.specs.Upgrading.{RefusesToUpgrade}
 use Rattle.atl_store.proofs.UpgradedLaws.{has_more, later_both, refused_after, refused_before, holds_of_error, upgrades}
 use Rattle.atl_store.proofs.upgrading.upgrade.Goals as goal
 
--- a check that fails before the transaction refuses the upgrade, and nothing is changed (`RefusesToUpgrade`)
 pub returns-in_err-world-clause-err : goal.returns-in_err-world-clause-err
 returns-in_err-world-clause-err g c =
     let old = c.args.conn.now in
@@ -14,7 +13,6 @@ returns-in_err-world-clause-err g c =
     let fault = c.in_err-world.field-0.0 in
     holds_of_error (RefusesToUpgrade g.S.Store text old mid) c.from_residual.result fault c.from_residual.ensures.1 (refused_before g.S.Store text old mid fault c.in_err-world.ensures.err c.world_and_campaign.ensures.alone)
 
--- more tables or indexes than those of the first format refuse the upgrade with Store (`RefusesToUpgrade`)
 pub returns-then-not-is_first_format_only-clause-err : goal.returns-then-not-is_first_format_only-clause-err
 returns-then-not-is_first_format_only-clause-err g c =
     let old = c.args.conn.now in
@@ -24,7 +22,6 @@ returns-then-not-is_first_format_only-clause-err g c =
     (λ clean. inr (has_more g.S.Store text old mid c.world_and_campaign.ensures.alone clean c.in_ok-world.world c.in_ok-world.campaign c.in_ok-world.ensures.ok (λ just. true≢false (sym (c.is_first_format_only.ensures.1 (c.schema.ensures.value ∙ just)) ∙ c.if-not-is_first_format_only.true))))
     c.world_and_campaign.ensures.alone
 
--- an error of the transaction refuses the upgrade with the error's fault (`RefusesToUpgrade`)
 pub returns-in_err-write_upgrade-clause-err : goal.returns-in_err-write_upgrade-clause-err
 returns-in_err-write_upgrade-clause-err g c =
     let old = c.args.conn.now in
@@ -36,18 +33,13 @@ returns-in_err-write_upgrade-clause-err g c =
     (refused_after g.S.Store text old mid new c.in_ok-world.world c.in_ok-world.campaign c.world_and_campaign.ensures.alone c.in_ok-world.ensures.ok
     (sym c.schema.ensures.value ∙ c.is_first_format_only.ensures.0 c.if-not-is_first_format_only.false) c.in_ok-world.ensures.idle c.in_err-write_upgrade.ensures.err c.write_upgrade.ensures.crash error c.in_err-write_upgrade.ensures.error_given)
 
--- Ok: the connection keeps the campaign of the first format, with the new text (`Upgrades`)
 pub returns-clause-ok : goal.returns-clause-ok
 returns-clause-ok g c =
     upgrades g.S.Store c.args.new_world.now c.args.conn.now c.world_and_campaign.new.conn c.write_upgrade.new.conn c.in_ok-world.world c.in_ok-world.campaign c.world_and_campaign.ensures.alone c.in_ok-world.ensures.ok
     (λ db up. g.met.S.Store.settled c.write_upgrade.new.conn.store db up) (sym c.schema.ensures.value ∙ c.is_first_format_only.ensures.0 c.if-not-is_first_format_only.false) c.in_ok-write_upgrade.ensures.ok c.write_upgrade.ensures.crash c.write_upgrade.ensures.idle
 
--- after Ok a disk that is clean was clean before, no failure is forgotten, and reads tested by digests stay so
--- (`IsLater`)
 pub returns-clause-later : goal.returns-clause-later
 returns-clause-later g c = later_both (state g.S.Store c.args.conn.now) (state g.S.Store c.world_and_campaign.new.conn) (state g.S.Store c.write_upgrade.new.conn) _ _ c.world_and_campaign.ensures.alone.survives c.write_upgrade.ensures.crash
 
--- after an error a disk that is clean was clean before, no failure is forgotten, and reads tested by digests stay so
--- (`IsLater`)
 pub returns-in_err-write_upgrade-clause-later : goal.returns-in_err-write_upgrade-clause-later
 returns-in_err-write_upgrade-clause-later g c = later_both (state g.S.Store c.args.conn.now) (state g.S.Store c.world_and_campaign.new.conn) (state g.S.Store c.write_upgrade.new.conn) _ _ c.world_and_campaign.ensures.alone.survives c.write_upgrade.ensures.crash

@@ -4,8 +4,6 @@ use Rattle.atl_store.specs.Upgrading.{FailsCheck}
 use Rattle.atl_store.proofs.UpgradedLaws.{fails_to_read, loaded_old, other_world, holds_of_error, fails_to_load}
 use Rattle.atl_store.proofs.upgrading.world_and_campaign.Goals as goal
 
--- a fault of loading in the first format makes a check of the upgrade fail, with `upgrade`'s fault for it
--- (`FailsCheck`)
 pub returns-in_err-old_world-clause-err : goal.returns-in_err-old_world-clause-err
 returns-in_err-old_world-clause-err g c clean =
     let old = c.args.conn.now in
@@ -14,8 +12,6 @@ returns-in_err-old_world-clause-err g c clean =
     let fault = c.in_err-old_world.field-0.0 in
     holds_of_error (FailsCheck g.S.Store text old mid) c.from_residual.result (first_format_fault fault) c.from_residual.ensures.1 (fails_to_load g.S.Store text old mid fault (c.in_err-old_world.ensures.err clean))
 
--- a fault of the new world text makes a check of the upgrade fail, with World and this fault, or with Memory if memory
--- ran out (`FailsCheck`)
 pub returns-in_err-world-clause-err : goal.returns-in_err-world-clause-err
 returns-in_err-world-clause-err g c clean =
     let old = c.args.conn.now in
@@ -28,13 +24,11 @@ returns-in_err-world-clause-err g c clean =
       loaded_old g.S.Store text old mid c.load_as.ensures.alone clean c.in_ok-old_world.old_world c.in_ok-old_world.campaign c.in_ok-old_world.ensures.ok,
     ))
 
--- a new world that differs in more than markets makes a check fail, with the fault Differs (`FailsCheck`)
 pub returns-then-not-is_same_but_for_markets-clause-err : goal.returns-then-not-is_same_but_for_markets-clause-err
 returns-then-not-is_same_but_for_markets-clause-err g c clean =
     other_world g.S.Store c.args.new_world.now c.args.conn.now c.load_as.new.conn c.load_as.ensures.alone clean c.in_ok-old_world.old_world c.in_ok-world.world c.in_ok-old_world.campaign c.in_ok-old_world.ensures.ok c.in_ok-world.ensures.definition
     (λ same. true≢false (sym (c.is_same_but_for_markets.ensures.1 same) ∙ c.if-not-is_same_but_for_markets.true))
 
--- Ok: the campaign is loaded, and the new world differs from the old one in markets alone (`IsReadyToUpgrade`)
 pub returns-clause-ok : goal.returns-clause-ok
 returns-clause-ok g c = record {
   world = c.in_ok-world.ensures.definition;

@@ -3,14 +3,12 @@ use Rattle.atl_store.specs.UpgradeSteps.{IsFirstFormat, WritesUpgrade}
 use Rattle.atl_store.proofs.WholeLaws.{committed, left_off}
 use Rattle.atl_store.proofs.upgrading.write_upgrade.Goals as goal
 
--- once the upgrade is put, the result of the commit is that of the whole transaction (`Transacts`)
 pub returns : goal.returns
 returns g c =
     let whole = committed g.S.Store c.args.conn.now c.transaction-tx.result.conn c.put_upgrade.new.tx.conn c.transaction-tx.ensures.begun IsFirstFormat (WritesUpgrade c.args.text.now c.args.campaign.now.value) c.commit.new.self.0 c.commit.ensures.ended c.commit.result
     c.in_ok-put_upgrade.ensures c.commit.ensures.ok c.commit.ensures.err c.commit.ensures.survives in
     search (rules, whole)
 
--- if the upgrade can't be put, the whole is a transaction that fails with this error (`Transacts`)
 pub returns-in_err-put_upgrade : goal.returns-in_err-put_upgrade
 returns-in_err-put_upgrade g c =
     let whole = left_off g.S.Store c.args.conn.now c.transaction-tx.result.conn c.put_upgrade.new.tx.conn c.transaction-tx.ensures.begun IsFirstFormat (WritesUpgrade c.args.text.now c.args.campaign.now.value) c.drop-tx.new.self.0 c.drop-tx.ensures.ended c.from_residual.result

@@ -5,15 +5,12 @@ use Rattle.atl_tables.proofs.FaultLaws.{gives_error}
 use Rattle.atl_tables.proofs.ElementLaws.{elements_from_index, later_elements_have_same_fault, error_of_element_is_error_of_all, values_with_one_more_are_all}
 use Rattle.atl_tables.proofs.elements.elements.Goals as goal
 
--- an error in reading one element is the first fault of all elements of the array, or Memory
 pub returns-in_err-one-clause-value : goal.returns-in_err-one-clause-value
 returns-in_err-one-clause-value g c =
     let vs = c.args.values.now.items in
     let here = elements_from_index vs c.loop-i.i c.index.result.now (omega (arith, c.args.values.now.ok.0)) c.index.ensures in
     gives_error _ _ _ _ _ c.from_residual.ensures.1 (error_of_element_is_error_of_all g.E.FromTable.conditions c.args.key.now c.loop-i.i (view c.index.result.now) (items_view (drop (c.loop-i.i + 1) vs)) _ c.in_err-one.field-0.0 (rw here at c.loop-i.invariant.faults) c.in_err-one.ensures.value)
 
--- After one more element the first fault of those after it is still that of the array. The values so far, followed by
--- those of the elements after it, are still all values.
 pub loop-i-preserved : goal.loop-i-preserved
 loop-i-preserved g c =
     let vs = c.args.values.now.items in

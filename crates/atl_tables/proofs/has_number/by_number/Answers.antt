@@ -5,15 +5,12 @@ use Rattle.atl_world.proofs.GeneralLaws.{insert_adds_at_most_one}
 use Rattle.atl_tables.proofs.HasNumberLaws.{len_none}
 use Rattle.atl_tables.proofs.has_number.by_number.Goals as goal
 
--- before the loop the map is empty, which is the map of no values, and no value is taken off the vector yet
 pub loop-value-init : goal.loop-value-init
 loop-value-init g c = record {
   whole = ([], append-nil c.args.values.items, c.new-numbered.ensures);
   few = omega (arith, len_none c.new-numbered.result c.new-numbered.ensures);
 }
 
--- after one more value the map is still that of the values taken off the vector's end, and has no more entries than
--- these
 pub loop-value-preserved : goal.loop-value-preserved
 loop-value-preserved g c =
     let whole = c.loop-value.invariant.whole in

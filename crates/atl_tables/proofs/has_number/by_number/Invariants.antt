@@ -11,6 +11,5 @@ invariant-loop-value g l = record {
   few : len l.numbered + length l.values.items ≤ length l.fn.values.items;
 }
 
--- how many values are still in the vector, one less after each turn, so the loop ends
 abbrev pub decreases-loop-value : goal.decreases-loop-value
 decreases-loop-value g l = length l.values.items

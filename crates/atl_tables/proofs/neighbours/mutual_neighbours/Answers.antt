@@ -9,13 +9,10 @@ use Rattle.atl_tables.proofs.FaultLaws.{gives_error}
 use Rattle.atl_tables.proofs.EachLaws.{rest_has_same_fault_at_index, error_at_index_is_error_of_all}
 use Rattle.atl_tables.proofs.neighbours.mutual_neighbours.Goals as goal
 
--- an error in checking one region is the first fault of all regions, or Memory
 pub returns-in_err-neighbours_of-clause-value : goal.returns-in_err-neighbours_of-clause-value
 returns-in_err-neighbours_of-clause-value c =
     gives_error _ _ _ _ _ c.from_residual.ensures.1 (error_at_index_is_error_of_all (neighbours_at c.args.regions.now) c.args.drafts.now c.loop-i.i c.index-drafts-i.result _ c.loop-i-test.true c.index-drafts-i.is c.loop-i.invariant.faults c.in_err-neighbours_of.field-0.0 c.in_err-neighbours_of.ensures.value)
 
--- After one more region the first fault of the regions after it is still that of all regions. Each region checked so
--- far is on the opposite side of each of its neighbours.
 pub loop-i-preserved : goal.loop-i-preserved
 loop-i-preserved c =
     let regions = c.args.regions.now in
@@ -29,6 +26,5 @@ loop-i-preserved c =
       back = subst (All back) (sym more) (All-push back (take i drafts) draft c.loop-i.invariant.back c.in_ok-neighbours_of.ensures.back);
     }
 
--- after the loop each region is on the opposite side of each of its neighbours
 pub returns-clause-back : goal.returns-clause-back
 returns-clause-back c = rw (take_all c.loop-i.i c.args.drafts.now (omega (arith))) at c.loop-i.invariant.back

@@ -2,33 +2,28 @@ use Rattle.atl_tables.specs.Neighbours.{neighbours_at}
 use Rattle.atl_tables.proofs.FaultLaws.{gives_error, error_of_condition_is_of_list, result_by_condition_is_by_list}
 use Rattle.atl_tables.proofs.neighbours.neighbours_of.Goals as goal
 
--- an error at the neighbour to the north is the region's first fault (`neighbours_at`), or Memory
 pub returns-in_err-check_neighbour-clause-value : goal.returns-in_err-check_neighbour-clause-value
 unfolding neighbours_at
 returns-in_err-check_neighbour-clause-value c =
-    gives_error _ _ _ _ _ c.from_residual-in_err-check_neighbour.ensures.1 (error_of_condition_is_of_list c.in_err-check_neighbour.field-0.0 _ _ (rw (c.as_str-at.ensures, c.in_ok-element.ensures) at c.in_err-check_neighbour.ensures.value))
+    gives_error _ _ _ _ _ c.from_residual.ensures.1 (error_of_condition_is_of_list c.in_err-check_neighbour.field-0.0 _ _ c.in_err-check_neighbour.ensures.value)
 
--- an error at the neighbour to the south is the region's first fault (`neighbours_at`), or Memory
 pub returns-in_err-check_neighbour-2-clause-value : goal.returns-in_err-check_neighbour-2-clause-value
 unfolding neighbours_at
 returns-in_err-check_neighbour-2-clause-value c =
-    let side1 = rw (c.as_str-at.ensures, c.in_ok-element.ensures) at c.in_ok-check_neighbour.ensures.value.0 in
-    rw side1 (gives_error _ _ _ _ _ c.from_residual-in_err-check_neighbour-2.ensures.1 (error_of_condition_is_of_list c.in_err-check_neighbour-2.field-0.0 _ _ (rw (c.as_str-at.ensures, c.in_ok-element.ensures) at c.in_err-check_neighbour-2.ensures.value)))
+    let side1 = c.in_ok-check_neighbour.ensures.value.0 in
+    rw side1 (gives_error _ _ _ _ _ c.from_residual-in_err-check_neighbour-2.ensures.1 (error_of_condition_is_of_list c.in_err-check_neighbour-2.field-0.0 _ _ c.in_err-check_neighbour-2.ensures.value))
 
--- an error at the neighbour to the east is the region's first fault (`neighbours_at`), or Memory
 pub returns-in_err-check_neighbour-3-clause-value : goal.returns-in_err-check_neighbour-3-clause-value
 unfolding neighbours_at
 returns-in_err-check_neighbour-3-clause-value c =
-    let side1 = rw (c.as_str-at.ensures, c.in_ok-element.ensures) at c.in_ok-check_neighbour.ensures.value.0 in
-    let side2 = rw (c.as_str-at.ensures, c.in_ok-element.ensures) at c.in_ok-check_neighbour-2.ensures.value.0 in
-    rw (side1, side2) (gives_error _ _ _ _ _ c.from_residual-in_err-check_neighbour-3.ensures.1 (error_of_condition_is_of_list c.in_err-check_neighbour-3.field-0.0 _ _ (rw (c.as_str-at.ensures, c.in_ok-element.ensures) at c.in_err-check_neighbour-3.ensures.value)))
+    let side1 = c.in_ok-check_neighbour.ensures.value.0 in
+    let side2 = c.in_ok-check_neighbour-2.ensures.value.0 in
+    rw (side1, side2) (gives_error _ _ _ _ _ c.from_residual-in_err-check_neighbour-3.ensures.1 (error_of_condition_is_of_list c.in_err-check_neighbour-3.field-0.0 _ _ c.in_err-check_neighbour-3.ensures.value))
 
--- if the sides before it have no fault, the check of the neighbour to the west, the last side, returns Ok or the
--- region's first fault (`neighbours_at`), or Memory
 pub returns-clause-value : goal.returns-clause-value
 unfolding neighbours_at
 returns-clause-value c =
-    let side1 = rw (c.as_str-at.ensures, c.in_ok-element.ensures) at c.in_ok-check_neighbour.ensures.value.0 in
-    let side2 = rw (c.as_str-at.ensures, c.in_ok-element.ensures) at c.in_ok-check_neighbour-2.ensures.value.0 in
-    let side3 = rw (c.as_str-at.ensures, c.in_ok-element.ensures) at c.in_ok-check_neighbour-3.ensures.value.0 in
-    rw (side1, side2, side3) (result_by_condition_is_by_list (λ u. u) c.check_neighbour-4.result _ _ (rw (c.as_str-at.ensures, c.in_ok-element.ensures) at c.check_neighbour-4.ensures.value))
+    let side1 = c.in_ok-check_neighbour.ensures.value.0 in
+    let side2 = c.in_ok-check_neighbour-2.ensures.value.0 in
+    let side3 = c.in_ok-check_neighbour-3.ensures.value.0 in
+    rw (side1, side2, side3) (result_by_condition_is_by_list (λ u. u) c.check_neighbour-4.result _ _ c.check_neighbour-4.ensures.value)

@@ -11,14 +11,11 @@ use Rattle.atl_tables.proofs.EachLaws.{rest_has_same_fault_at_index, error_at_in
 use Rattle.atl_tables.proofs.SeenLaws.{came_before, comes_first, has_one_more}
 use Rattle.atl_tables.proofs.output_table.no_duplicate_keys.Goals as goal
 
--- the condition on the i-th key of an output is broken (TwoNames) exactly if a key before it is equal, ignoring ASCII
--- case
 duplicate_key_fault : (at : List ℕ) (all : List Output) (i : ℕ) (o : Output) (b : Bool) → list_any (λ p. same_name p.item o.item) (take i all) ≡ b → first_fault (duplicate_key_at at all i o) ≡ cond b (Some (TwoNames (path at o.item))) None
 unfolding duplicate_key_at
 duplicate_key_fault at all i o true h = rw h
 duplicate_key_fault at all i o false h = rw h
 
--- at a key that is equal to one before it, TwoNames at its path is the first fault of all keys
 pub returns-then-not-branch : goal.returns-then-not-branch
 returns-then-not-branch c =
     let o = c.output-item.result in
@@ -28,7 +25,6 @@ returns-then-not-branch c =
     let test = came_before (λ p. p.item) all i o c.loop-output.seen c.loop-output.invariant.seen _ c.in_ok-add_name.ensures.new c.if-not-branch.true in
     rw (c.in_ok-path.ensures, c.as_str.ensures) (error_at_index_is_error_of_all (duplicate_key_at at all) all i o (first_fault (conditions_on_each (duplicate_key_at at all) 0 all)) c.loop-output-test.true c.output-item.is c.loop-output.invariant.faults (TwoNames (path at o.item)) (duplicate_key_fault at all i o true test))
 
--- after a new key, `seen` has all keys checked so far, and the first fault of the keys after it is that of all keys
 pub loop-output-preserved : goal.loop-output-preserved
 loop-output-preserved c =
     let o = c.output-item.result in

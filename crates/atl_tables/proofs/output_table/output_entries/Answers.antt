@@ -8,15 +8,12 @@ use Rattle.atl_tables.specs.OutputTable.{in_byte_order, amount_at}
 use Rattle.atl_tables.proofs.OutputLaws.{entries_view, entries_in_order, later_amounts_have_same_fault, amounts_with_one_more_are_all}
 use Rattle.atl_tables.proofs.output_table.output_entries.Goals as goal
 
--- before the loop no amount is read, and all entries are still to be read, in the byte order of their keys
 pub loop-key-init : goal.loop-key-init
 loop-key-init c =
     let same = c.into_iter-key-iterator.ensures.into_iter_gives ∙ c.iter-key-items.ensures.rest in
     let order : in_byte_order (table_view c.args.table.now) ≡ entries_view c.into_iter-key-iterator.result = entries_in_order c.args.table.now.entries c.iter-key-items.ensures.ordered ∙ ap entries_view (sym same) in
     rw (order, c.new-outputs.ensures) (record { faults = refl; read = refl; sound = search rules })
 
--- After one more amount the first fault of the entries after it is still that of all entries. The amounts so far,
--- followed by those of the entries after it, are still all amounts.
 pub loop-key-preserved : goal.loop-key-preserved
 loop-key-preserved c =
     let at = c.args.at.now in

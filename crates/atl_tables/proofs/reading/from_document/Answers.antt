@@ -3,15 +3,12 @@ use Rattle.atl_tables.specs.World.{document_conditions, keys_conditions, table_c
 use Rattle.atl_tables.proofs.FaultLaws.{gives_error, error_of_first_list_is_of_joined, result_by_second_list_is_by_joined}
 use Rattle.atl_tables.proofs.reading.from_document.Goals as goal
 
--- an error in reading the tables is the first fault of the document (`document_conditions`), or Memory
 pub returns-in_err-all : goal.returns-in_err-all
 unfolding document_conditions
 returns-in_err-all c =
     let doc = table_view c.args.document.now in
     gives_error _ _ _ _ _ c.from_residual.ensures.1 (error_of_first_list_is_of_joined c.in_err-all.field-0.0 (keys_conditions c.args.format doc) (table_conditions (tables_of c.args.format doc)) c.in_err-all.ensures.value)
 
--- if the tables are read without a fault, `from_tables` returns the document's world, the document's first fault, or
--- Memory
 pub returns : goal.returns
 unfolding document_conditions
 returns c =

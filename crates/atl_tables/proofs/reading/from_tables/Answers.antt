@@ -11,28 +11,22 @@ use Rattle.atl_tables.proofs.reading.from_tables.Goals as goal
 abbrev later_conditions : WorldDraft → Conditions
 later_conditions all = neighbours_are_mutual all ++ is_some_land (land_of (world_of_tables all))
 
--- an error in comparing names is the first fault of the tables (`table_conditions`), or Memory
 pub returns-in_err-names_differ : goal.returns-in_err-names_differ
 returns-in_err-names_differ c =
     let all = c.args.all in
     gives_error _ _ _ _ _ c.from_residual.ensures.1 (error_of_first_list_is_of_joined c.in_err-names_differ.field-0.0 (names_differ all) (names_are_known all ++ later_conditions all) c.in_err-names_differ.ensures)
 
--- an error in looking up names is the first fault of the tables (`table_conditions`), or Memory
 pub returns-in_err-parts : goal.returns-in_err-parts
 returns-in_err-parts c =
     let all = c.args.all in
     let e = c.in_err-parts.field-0.0 in
     gives_error _ _ _ _ _ c.from_residual-in_err-parts.ensures.1 (error_of_second_list_is_of_joined e (names_differ all) (names_are_known all ++ later_conditions all) c.in_ok-names_differ.ensures.0 (error_of_first_list_is_of_joined e (names_are_known all) (later_conditions all) c.in_err-parts.ensures.value))
 
--- if names differ and refer to things, what `make_world` returns is the world of the tables, their first fault, or
--- Memory
 pub returns : goal.returns
 returns c =
     let all = c.args.all in
     result_by_second_list_is_by_joined (λ w. w) c.make_world.result (names_differ all) (names_are_known all ++ later_conditions all) (world_of_tables all) c.in_ok-names_differ.ensures.0
     (result_by_second_list_is_by_joined (λ w. w) c.make_world.result (names_are_known all) (later_conditions all) (world_of_tables all) c.in_ok-parts.ensures.value.0 c.make_world.ensures)
 
--- if the check of names finds none twice, no two terrains, no two items, no two skills and no two kinds have the same
--- name, as `make_world` requires
 pub make_world-requires-clause-names : goal.make_world-requires-clause-names
 make_world-requires-clause-names c = thing_names_differ c.args.all c.in_ok-names_differ.ensures.0

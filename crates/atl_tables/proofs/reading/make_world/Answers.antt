@@ -14,11 +14,9 @@ use Rattle.atl_tables.proofs.FaultLaws.{gives_error, error_of_first_list_is_of_j
 use Rattle.atl_tables.proofs.WorldLaws.{is_world}
 use Rattle.atl_tables.proofs.reading.make_world.Goals as goal
 
--- the condition that the terrain of some region is land
 abbrev land_condition : WorldDraft → Conditions
 land_condition all = is_some_land (land_of (world_of_tables all))
 
--- the map of the regions of a world's parts is the map of the regions that the tables of the file give (`regions_of`)
 region_maps_are_same : (all : WorldDraft) (p : WorldParts) (plans : List RegionPlan) → p ≡ world_parts_of all → plans ≡ p.regions → by_number (λ r. r.number) plans ≡ regions_of all
 unfolding regions_of
 region_maps_are_same all p plans e q = ap (by_number (λ r. r.number)) (q ∙ ap (λ (x : WorldParts). x.regions) e)
@@ -27,13 +25,10 @@ region_maps_are_same all p plans e q = ap (by_number (λ r. r.number)) (q ∙ ap
 abbrev made_of : WorldDraft → WorldParts → FinMap nat_cmp RegionPlan → WorldValue
 made_of all p regions = world_of_parts p.rules p.terrains p.items all.skills p.kinds regions
 
--- the world made of the parts and the regions that the tables `all` give is the world that these tables describe
--- (`world_of_tables`)
 made_is_world : (all : WorldDraft) (p : WorldParts) (regions : FinMap nat_cmp RegionPlan) → p ≡ world_parts_of all → regions ≡ regions_of all → made_of all p regions ≡ world_of_tables all
 unfolding world_of_tables
 made_is_world all p regions e q = ap (made_of all p) q ∙ ap (λ (x : WorldParts). made_of all x (regions_of all)) e
 
--- an error in checking the neighbours is the first fault of the conditions on neighbours and land, or Memory
 pub returns-in_err-mutual_neighbours : goal.returns-in_err-mutual_neighbours
 unfolding neighbours_are_mutual
 returns-in_err-mutual_neighbours c =
@@ -41,7 +36,6 @@ returns-in_err-mutual_neighbours c =
     let made = c.in_ok-regions.ensures.value ∙ region_maps_are_same all c.args.parts c.into_vec.result.items c.requires.parts c.into_vec.ensures in
     gives_error _ _ _ _ _ c.from_residual-in_err-mutual_neighbours.ensures.1 (error_of_first_list_is_of_joined c.in_err-mutual_neighbours.field-0.0 (neighbours_are_mutual all) (land_condition all) (rw (c.as_slice.ensures, made) at c.in_err-mutual_neighbours.ensures.value))
 
--- the parts make a world (`IsWorld`) if the terrain of some region is land, as `world_with_land` requires
 pub world_with_land-requires : goal.world_with_land-requires
 world_with_land-requires c =
     let all = c.args.all in
@@ -50,7 +44,6 @@ world_with_land-requires c =
     let back = rw (c.as_slice.ensures, made) at c.in_ok-mutual_neighbours.ensures.back in
     record { world = rw c.into_skills-skills.ensures (subst (λ (w : WorldValue). 0 < length (land_of w) → IsWorld w) (sym e) (is_world all c.requires.all (subst (AreWorldPartsOf all) c.requires.parts c.requires.sound) c.requires.names back)) }
 
--- if neighbours are mutual, `world_with_land` returns the world that the tables describe, the fault NoLand, or Memory
 pub returns : goal.returns
 unfolding neighbours_are_mutual
 returns c =

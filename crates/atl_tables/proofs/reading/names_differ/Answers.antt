@@ -9,20 +9,15 @@ use Rattle.atl_tables.specs.declared.world_draft.WorldDraft.{WorldDraft}
 use Rattle.atl_tables.proofs.FaultLaws.{gives_error, error_of_first_list_is_of_joined, error_of_second_list_is_of_joined, result_by_second_list_is_by_joined}
 use Rattle.atl_tables.proofs.reading.names_differ.Goals as goal
 
--- the conditions that no two regions of the file have the same number
 abbrev region_number_conditions : WorldDraft → Conditions
 region_number_conditions all = duplicate_numbers all.regions
 
--- the conditions that no two keys of one terrain's output are equal, ignoring ASCII case
 abbrev output_key_conditions : WorldDraft → Conditions
 output_key_conditions all = conditions_on_each duplicate_output_keys 0 all.terrains
 
--- the conditions that no two markets of one region are of the same item
 abbrev market_item_conditions : WorldDraft → Conditions
 market_item_conditions all = conditions_on_each duplicate_market_items 0 all.regions
 
--- an error in comparing the names of things is the first fault of the conditions on names and numbers (`names_differ`),
--- or Memory
 pub returns-in_err-titles_differ : goal.returns-in_err-titles_differ
 unfolding names_differ
 returns-in_err-titles_differ c =
@@ -30,8 +25,6 @@ returns-in_err-titles_differ c =
     let e = c.in_err-titles_differ.field-0.0 in
     gives_error _ _ _ _ _ c.from_residual.ensures.1 (error_of_first_list_is_of_joined e (titles_differ t) (region_number_conditions t ++ (output_key_conditions t ++ market_item_conditions t)) c.in_err-titles_differ.ensures)
 
--- an error in comparing the numbers of regions is the first fault of the conditions on names and numbers
--- (`names_differ`), or Memory
 pub returns-in_err-no_duplicate_numbers : goal.returns-in_err-no_duplicate_numbers
 unfolding names_differ
 returns-in_err-no_duplicate_numbers c =
@@ -39,8 +32,6 @@ returns-in_err-no_duplicate_numbers c =
     let e = c.in_err-no_duplicate_numbers.field-0.0 in
     gives_error _ _ _ _ _ c.from_residual-in_err-no_duplicate_numbers.ensures.1 (error_of_second_list_is_of_joined e (titles_differ t) (region_number_conditions t ++ (output_key_conditions t ++ market_item_conditions t)) c.in_ok-titles_differ.ensures.0 (error_of_first_list_is_of_joined e (region_number_conditions t) (output_key_conditions t ++ market_item_conditions t) (rw c.as_slice.ensures at c.in_err-no_duplicate_numbers.ensures)))
 
--- an error in comparing the keys of outputs is the first fault of the conditions on names and numbers (`names_differ`),
--- or Memory
 pub returns-in_err-no_duplicates_inside : goal.returns-in_err-no_duplicates_inside
 unfolding names_differ
 returns-in_err-no_duplicates_inside c =
@@ -48,8 +39,6 @@ returns-in_err-no_duplicates_inside c =
     let e = c.in_err-no_duplicates_inside.field-0.0 in
     gives_error _ _ _ _ _ c.from_residual-in_err-no_duplicates_inside.ensures.1 (error_of_second_list_is_of_joined e (titles_differ t) (region_number_conditions t ++ (output_key_conditions t ++ market_item_conditions t)) c.in_ok-titles_differ.ensures.0 (error_of_second_list_is_of_joined e (region_number_conditions t) (output_key_conditions t ++ market_item_conditions t) (rw c.as_slice.ensures at c.in_ok-no_duplicate_numbers.ensures.0) (error_of_first_list_is_of_joined e (output_key_conditions t) (market_item_conditions t) (rw c.as_slice-2.ensures at c.in_err-no_duplicates_inside.ensures))))
 
--- if no condition before it is broken, the check of the market items, the last one, returns Ok or the first fault of
--- the conditions on names and numbers (`names_differ`), or Memory
 pub returns : goal.returns
 unfolding names_differ
 returns c =

@@ -4,8 +4,6 @@ use Rattle.atl_tables.specs.World.{world_of_text, document_conditions, tables_of
 use Rattle.atl_tables.proofs.FaultLaws.{gives_implies_reads}
 use Rattle.atl_tables.proofs.reading.read.Goals as goal
 
--- if the text is TOML, `from_document` returns the world of the text or the text's first fault (`world_of_text`), or
--- Memory
 pub returns-in-Ok : goal.returns-in-Ok
 unfolding world_of_text
 returns-in-Ok c =

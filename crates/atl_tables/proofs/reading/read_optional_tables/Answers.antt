@@ -12,20 +12,15 @@ use Rattle.atl_tables.specs.World.{optional_conditions, optional_tables_of}
 use Rattle.atl_tables.proofs.FaultLaws.{gives_error, error_of_first_list_is_of_joined, error_of_second_list_is_of_joined, joined_list_has_no_fault}
 use Rattle.atl_tables.proofs.reading.read_optional_tables.Goals as goal
 
--- the conditions on the array of items, which may be missing, and on the keys of its tables
 abbrev item_key_conditions : Members → Conditions
 item_key_conditions doc = list_conditions item_keys (codes "item") (optional_array_at most_items (codes "item") (codes "item") doc)
 
--- the conditions on the array of skills, which may be missing, and on the keys of its tables
 abbrev skill_key_conditions : Members → Conditions
 skill_key_conditions doc = list_conditions skill_keys (codes "skill") (optional_array_at most_skills (codes "skill") (codes "skill") doc)
 
--- the conditions on the array of kinds of structures, which may be missing, and on the keys of its tables
 abbrev kind_key_conditions : Members → Conditions
 kind_key_conditions doc = list_conditions kind_keys (codes "kind") (optional_array_at most_kinds (codes "kind") (codes "kind") doc)
 
--- an error in reading the tables of items is the first fault of the conditions on items, skills and kinds
--- (`optional_conditions`), or Memory
 pub returns-in_err-items-clause-value : goal.returns-in_err-items-clause-value
 unfolding optional_conditions
 returns-in_err-items-clause-value c =
@@ -33,8 +28,6 @@ returns-in_err-items-clause-value c =
     let e = c.in_err-items.field-0.0 in
     gives_error _ _ _ _ _ c.from_residual.ensures.1 (error_of_first_list_is_of_joined e (item_key_conditions t) (skill_key_conditions t ++ kind_key_conditions t) c.in_err-items.ensures.value)
 
--- an error in reading the tables of skills is the first fault of the conditions on items, skills and kinds
--- (`optional_conditions`), or Memory
 pub returns-in_err-skills-clause-value : goal.returns-in_err-skills-clause-value
 unfolding optional_conditions
 returns-in_err-skills-clause-value c =
@@ -42,8 +35,6 @@ returns-in_err-skills-clause-value c =
     let e = c.in_err-skills.field-0.0 in
     gives_error _ _ _ _ _ c.from_residual-in_err-skills.ensures.1 (error_of_second_list_is_of_joined e (item_key_conditions t) (skill_key_conditions t ++ kind_key_conditions t) c.in_ok-items.ensures.value.0 (error_of_first_list_is_of_joined e (skill_key_conditions t) (kind_key_conditions t) c.in_err-skills.ensures.value))
 
--- an error in reading the tables of kinds is the first fault of the conditions on items, skills and kinds
--- (`optional_conditions`), or Memory
 pub returns-in_err-kinds-clause-value : goal.returns-in_err-kinds-clause-value
 unfolding optional_conditions
 returns-in_err-kinds-clause-value c =
@@ -51,7 +42,6 @@ returns-in_err-kinds-clause-value c =
     let e = c.in_err-kinds.field-0.0 in
     gives_error _ _ _ _ _ c.from_residual-in_err-kinds.ensures.1 (error_of_second_list_is_of_joined e (item_key_conditions t) (skill_key_conditions t ++ kind_key_conditions t) c.in_ok-items.ensures.value.0 (error_of_second_list_is_of_joined e (skill_key_conditions t) (kind_key_conditions t) c.in_ok-skills.ensures.value.0 c.in_err-kinds.ensures.value))
 
--- if all tables are read, no condition on them is broken, and they are those of the document (`optional_tables_of`)
 pub returns-clause-value : goal.returns-clause-value
 unfolding optional_conditions optional_tables_of
 returns-clause-value c =

@@ -11,28 +11,21 @@ use Rattle.atl_tables.specs.declared.world_draft.WorldDraft.{WorldDraft}
 use Rattle.atl_tables.proofs.FaultLaws.{gives_error, error_of_first_list_is_of_joined, error_of_second_list_is_of_joined, joined_list_has_no_fault}
 use Rattle.atl_tables.proofs.reading.resolve.Goals as goal
 
--- the conditions that each skill that the rules name is a skill of the file
 abbrev rules_lookup_conditions : WorldDraft → Conditions
 rules_lookup_conditions all = rules_known all
 
--- the conditions that each item that the output of a terrain names is an item of the file
 abbrev terrain_lookup_conditions : WorldDraft → Conditions
 terrain_lookup_conditions all = conditions_on_each (terrain_known all) 0 all.terrains
 
--- the conditions that each skill and each raw item that an item names is one of the file
 abbrev item_lookup_conditions : WorldDraft → Conditions
 item_lookup_conditions all = conditions_on_each (item_known all) 0 all.items
 
--- the conditions that each material and each skill that a kind of structure names is one of the file
 abbrev kind_lookup_conditions : WorldDraft → Conditions
 kind_lookup_conditions all = conditions_on_each (kind_known all) 0 all.kinds
 
--- the conditions that each terrain and each market item that a region names is one of the file
 abbrev region_lookup_conditions : WorldDraft → Conditions
 region_lookup_conditions all = conditions_on_each (region_known all) 0 all.regions
 
--- an error in looking up the names in the rules is the first fault of the conditions that names refer to things
--- (`names_are_known`), or Memory
 pub returns-in_err-rules-clause-value : goal.returns-in_err-rules-clause-value
 unfolding names_are_known
 returns-in_err-rules-clause-value c =
@@ -40,8 +33,6 @@ returns-in_err-rules-clause-value c =
     let e = c.in_err-rules.field-0.0 in
     gives_error _ _ _ _ _ c.from_residual.ensures.1 (error_of_first_list_is_of_joined e (rules_lookup_conditions t) (terrain_lookup_conditions t ++ (item_lookup_conditions t ++ (kind_lookup_conditions t ++ region_lookup_conditions t))) c.in_err-rules.ensures.value)
 
--- an error in looking up the names in terrains is the first fault of the conditions that names refer to things
--- (`names_are_known`), or Memory
 pub returns-in_err-terrains-clause-value : goal.returns-in_err-terrains-clause-value
 unfolding names_are_known
 returns-in_err-terrains-clause-value c =
@@ -49,8 +40,6 @@ returns-in_err-terrains-clause-value c =
     let e = c.in_err-terrains.field-0.0 in
     gives_error _ _ _ _ _ c.from_residual-in_err-terrains.ensures.1 (error_of_second_list_is_of_joined e (rules_lookup_conditions t) (terrain_lookup_conditions t ++ (item_lookup_conditions t ++ (kind_lookup_conditions t ++ region_lookup_conditions t))) c.in_ok-rules.ensures.value.0 (error_of_first_list_is_of_joined e (terrain_lookup_conditions t) (item_lookup_conditions t ++ (kind_lookup_conditions t ++ region_lookup_conditions t)) (rw c.as_slice.ensures at c.in_err-terrains.ensures.value)))
 
--- an error in looking up the names in items is the first fault of the conditions that names refer to things
--- (`names_are_known`), or Memory
 pub returns-in_err-items-clause-value : goal.returns-in_err-items-clause-value
 unfolding names_are_known
 returns-in_err-items-clause-value c =
@@ -58,8 +47,6 @@ returns-in_err-items-clause-value c =
     let e = c.in_err-items.field-0.0 in
     gives_error _ _ _ _ _ c.from_residual-in_err-items.ensures.1 (error_of_second_list_is_of_joined e (rules_lookup_conditions t) (terrain_lookup_conditions t ++ (item_lookup_conditions t ++ (kind_lookup_conditions t ++ region_lookup_conditions t))) c.in_ok-rules.ensures.value.0 (error_of_second_list_is_of_joined e (terrain_lookup_conditions t) (item_lookup_conditions t ++ (kind_lookup_conditions t ++ region_lookup_conditions t)) (rw c.as_slice.ensures at c.in_ok-terrains.ensures.value.0) (error_of_first_list_is_of_joined e (item_lookup_conditions t) (kind_lookup_conditions t ++ region_lookup_conditions t) (rw c.as_slice-2.ensures at c.in_err-items.ensures.value))))
 
--- an error in looking up the names in kinds is the first fault of the conditions that names refer to things
--- (`names_are_known`), or Memory
 pub returns-in_err-kinds-clause-value : goal.returns-in_err-kinds-clause-value
 unfolding names_are_known
 returns-in_err-kinds-clause-value c =
@@ -67,8 +54,6 @@ returns-in_err-kinds-clause-value c =
     let e = c.in_err-kinds.field-0.0 in
     gives_error _ _ _ _ _ c.from_residual-in_err-kinds.ensures.1 (error_of_second_list_is_of_joined e (rules_lookup_conditions t) (terrain_lookup_conditions t ++ (item_lookup_conditions t ++ (kind_lookup_conditions t ++ region_lookup_conditions t))) c.in_ok-rules.ensures.value.0 (error_of_second_list_is_of_joined e (terrain_lookup_conditions t) (item_lookup_conditions t ++ (kind_lookup_conditions t ++ region_lookup_conditions t)) (rw c.as_slice.ensures at c.in_ok-terrains.ensures.value.0) (error_of_second_list_is_of_joined e (item_lookup_conditions t) (kind_lookup_conditions t ++ region_lookup_conditions t) (rw c.as_slice-2.ensures at c.in_ok-items.ensures.value.0) (error_of_first_list_is_of_joined e (kind_lookup_conditions t) (region_lookup_conditions t) (rw c.as_slice-3.ensures at c.in_err-kinds.ensures.value)))))
 
--- an error in looking up the names in regions is the first fault of the conditions that names refer to things
--- (`names_are_known`), or Memory
 pub returns-in_err-regions-clause-value : goal.returns-in_err-regions-clause-value
 unfolding names_are_known
 returns-in_err-regions-clause-value c =
@@ -76,8 +61,6 @@ returns-in_err-regions-clause-value c =
     let e = c.in_err-regions.field-0.0 in
     gives_error _ _ _ _ _ c.from_residual-in_err-regions.ensures.1 (error_of_second_list_is_of_joined e (rules_lookup_conditions t) (terrain_lookup_conditions t ++ (item_lookup_conditions t ++ (kind_lookup_conditions t ++ region_lookup_conditions t))) c.in_ok-rules.ensures.value.0 (error_of_second_list_is_of_joined e (terrain_lookup_conditions t) (item_lookup_conditions t ++ (kind_lookup_conditions t ++ region_lookup_conditions t)) (rw c.as_slice.ensures at c.in_ok-terrains.ensures.value.0) (error_of_second_list_is_of_joined e (item_lookup_conditions t) (kind_lookup_conditions t ++ region_lookup_conditions t) (rw c.as_slice-2.ensures at c.in_ok-items.ensures.value.0) (error_of_second_list_is_of_joined e (kind_lookup_conditions t) (region_lookup_conditions t) (rw c.as_slice-3.ensures at c.in_ok-kinds.ensures.value.0) (rw c.as_slice-4.ensures at c.in_err-regions.ensures.value)))))
 
--- if all names are found, no condition on them is broken, and the parts are those of the world that the tables describe
--- (`world_parts_of`)
 pub returns-clause-value : goal.returns-clause-value
 unfolding names_are_known
 returns-clause-value c =

@@ -12,23 +12,18 @@ use Rattle.atl_world.specs.declared.format.Format.{Format}
 use Rattle.atl_tables.proofs.FaultLaws.{gives_error, error_of_first_list_is_of_joined, error_of_second_list_is_of_joined, joined_list_has_no_fault}
 use Rattle.atl_tables.proofs.reading.tables.Goals as goal
 
--- the conditions on the table `[rules]` of the document and on its keys
 abbrev rules_table_conditions : Members → Conditions
 rules_table_conditions doc = rules_conditions doc
 
--- the conditions on the array of terrains of the document and on the keys of its tables
 abbrev terrain_table_conditions : Members → Conditions
 terrain_table_conditions doc = list_conditions terrain_keys (codes "terrain") (array_at most_terrains (codes "terrain") doc)
 
--- the conditions on the arrays of items, skills and kinds of the document and on the keys of their tables
 abbrev optional_table_conditions : Members → Conditions
 optional_table_conditions doc = optional_conditions doc
 
--- the conditions on the array of regions of the document in a format and on the keys of its tables
 abbrev region_table_conditions : Format → Members → Conditions
 region_table_conditions format doc = regions_conditions format doc
 
--- an error in reading the rules is the first fault of the conditions on keys (`keys_conditions`), or Memory
 pub returns-in_err-rules-clause-value : goal.returns-in_err-rules-clause-value
 unfolding keys_conditions
 returns-in_err-rules-clause-value c =
@@ -36,7 +31,6 @@ returns-in_err-rules-clause-value c =
     let e = c.in_err-rules.field-0.0 in
     gives_error _ _ _ _ _ c.from_residual.ensures.1 (error_of_first_list_is_of_joined e (rules_table_conditions t) (terrain_table_conditions t ++ (optional_table_conditions t ++ region_table_conditions c.args.format t)) c.in_err-rules.ensures.value)
 
--- an error in reading terrains is the first fault of the conditions on keys (`keys_conditions`), or Memory
 pub returns-in_err-terrains-clause-value : goal.returns-in_err-terrains-clause-value
 unfolding keys_conditions
 returns-in_err-terrains-clause-value c =
@@ -44,8 +38,6 @@ returns-in_err-terrains-clause-value c =
     let e = c.in_err-terrains.field-0.0 in
     gives_error _ _ _ _ _ c.from_residual-in_err-terrains.ensures.1 (error_of_second_list_is_of_joined e (rules_table_conditions t) (terrain_table_conditions t ++ (optional_table_conditions t ++ region_table_conditions c.args.format t)) c.in_ok-rules.ensures.value.0 (error_of_first_list_is_of_joined e (terrain_table_conditions t) (optional_table_conditions t ++ region_table_conditions c.args.format t) c.in_err-terrains.ensures.value))
 
--- an error in reading items, skills or kinds is the first fault of the conditions on keys (`keys_conditions`), or
--- Memory
 pub returns-in_err-optional_tables-clause-value : goal.returns-in_err-optional_tables-clause-value
 unfolding keys_conditions
 returns-in_err-optional_tables-clause-value c =
@@ -53,7 +45,6 @@ returns-in_err-optional_tables-clause-value c =
     let e = c.in_err-optional_tables.field-0.0 in
     gives_error _ _ _ _ _ c.from_residual-in_err-optional_tables.ensures.1 (error_of_second_list_is_of_joined e (rules_table_conditions t) (terrain_table_conditions t ++ (optional_table_conditions t ++ region_table_conditions c.args.format t)) c.in_ok-rules.ensures.value.0 (error_of_second_list_is_of_joined e (terrain_table_conditions t) (optional_table_conditions t ++ region_table_conditions c.args.format t) c.in_ok-terrains.ensures.value.0 (error_of_first_list_is_of_joined e (optional_table_conditions t) (region_table_conditions c.args.format t) c.in_err-optional_tables.ensures.value)))
 
--- an error in reading regions is the first fault of the conditions on keys (`keys_conditions`), or Memory
 pub returns-in_err-regions-clause-value : goal.returns-in_err-regions-clause-value
 unfolding keys_conditions
 returns-in_err-regions-clause-value c =
@@ -61,14 +52,12 @@ returns-in_err-regions-clause-value c =
     let e = c.in_err-regions.field-0.0 in
     gives_error _ _ _ _ _ c.from_residual-in_err-regions.ensures.1 (error_of_second_list_is_of_joined e (rules_table_conditions t) (terrain_table_conditions t ++ (optional_table_conditions t ++ region_table_conditions c.args.format t)) c.in_ok-rules.ensures.value.0 (error_of_second_list_is_of_joined e (terrain_table_conditions t) (optional_table_conditions t ++ region_table_conditions c.args.format t) c.in_ok-terrains.ensures.value.0 (error_of_second_list_is_of_joined e (optional_table_conditions t) (region_table_conditions c.args.format t) c.in_ok-optional_tables.ensures.value.0 c.in_err-regions.ensures.value)))
 
--- if all tables are read, no condition on their keys is broken, and they are those of the document (`tables_of`)
 pub returns-clause-value : goal.returns-clause-value
 unfolding keys_conditions tables_of
 returns-clause-value c =
     let t = table_view c.args.document.now in
     rw (c.in_ok-rules.ensures.value.1, c.in_ok-terrains.ensures.value.1, c.in_ok-optional_tables.ensures.value.1, c.in_ok-regions.ensures.value.1) (joined_list_has_no_fault (rules_table_conditions t) (terrain_table_conditions t ++ (optional_table_conditions t ++ region_table_conditions c.args.format t)) c.in_ok-rules.ensures.value.0 (joined_list_has_no_fault (terrain_table_conditions t) (optional_table_conditions t ++ region_table_conditions c.args.format t) c.in_ok-terrains.ensures.value.0 (joined_list_has_no_fault (optional_table_conditions t) (region_table_conditions c.args.format t) c.in_ok-optional_tables.ensures.value.0 c.in_ok-regions.ensures.value.0)), refl)
 
--- the tables read have names by the rule and numbers in their ranges (`IsWorldDraft`)
 pub returns-clause-sound : goal.returns-clause-sound
 returns-clause-sound c = record {
   rules = c.in_ok-rules.ensures.sound;

@@ -6,24 +6,18 @@ use Rattle.atl_tables.specs.declared.world_draft.WorldDraft.{WorldDraft}
 use Rattle.atl_tables.proofs.FaultLaws.{gives_error, error_of_first_list_is_of_joined, error_of_second_list_is_of_joined, result_by_second_list_is_by_joined}
 use Rattle.atl_tables.proofs.reading.titles_differ.Goals as goal
 
--- the conditions that no two terrains of the file have the same name
 abbrev terrain_title_conditions : WorldDraft → Conditions
 terrain_title_conditions all = no_duplicates (λ d. d.name) (codes "terrain") (codes "name") all.terrains
 
--- the conditions that no two items of the file have the same name
 abbrev item_title_conditions : WorldDraft → Conditions
 item_title_conditions all = no_duplicates (λ d. d.name) (codes "item") (codes "name") all.items
 
--- the conditions that no two skills of the file have the same name
 abbrev skill_title_conditions : WorldDraft → Conditions
 skill_title_conditions all = no_duplicates (λ s. s.name) (codes "skill") (codes "name") all.skills
 
--- the conditions that no two kinds of structures of the file have the same name
 abbrev kind_title_conditions : WorldDraft → Conditions
 kind_title_conditions all = no_duplicates (λ d. d.name) (codes "kind") (codes "name") all.kinds
 
--- an error in comparing the names of terrains is the first fault of the conditions on names of things
--- (`titles_differ`), or Memory
 pub returns-in_err-no_duplicate_names : goal.returns-in_err-no_duplicate_names
 unfolding titles_differ
 returns-in_err-no_duplicate_names c =
@@ -31,8 +25,6 @@ returns-in_err-no_duplicate_names c =
     let e = c.in_err-no_duplicate_names.field-0.0 in
     gives_error _ _ _ _ _ c.from_residual.ensures.1 (error_of_first_list_is_of_joined e (terrain_title_conditions t) (item_title_conditions t ++ (skill_title_conditions t ++ kind_title_conditions t)) (rw c.as_slice.ensures at c.in_err-no_duplicate_names.ensures))
 
--- an error in comparing the names of items is the first fault of the conditions on names of things (`titles_differ`),
--- or Memory
 pub returns-in_err-no_duplicate_names-2 : goal.returns-in_err-no_duplicate_names-2
 unfolding titles_differ
 returns-in_err-no_duplicate_names-2 c =
@@ -40,8 +32,6 @@ returns-in_err-no_duplicate_names-2 c =
     let e = c.in_err-no_duplicate_names-2.field-0.0 in
     gives_error _ _ _ _ _ c.from_residual-in_err-no_duplicate_names-2.ensures.1 (error_of_second_list_is_of_joined e (terrain_title_conditions t) (item_title_conditions t ++ (skill_title_conditions t ++ kind_title_conditions t)) (rw c.as_slice.ensures at c.in_ok-no_duplicate_names.ensures.0) (error_of_first_list_is_of_joined e (item_title_conditions t) (skill_title_conditions t ++ kind_title_conditions t) (rw c.as_slice-2.ensures at c.in_err-no_duplicate_names-2.ensures)))
 
--- an error in comparing the names of skills is the first fault of the conditions on names of things (`titles_differ`),
--- or Memory
 pub returns-in_err-no_duplicate_names-3 : goal.returns-in_err-no_duplicate_names-3
 unfolding titles_differ
 returns-in_err-no_duplicate_names-3 c =
@@ -49,8 +39,6 @@ returns-in_err-no_duplicate_names-3 c =
     let e = c.in_err-no_duplicate_names-3.field-0.0 in
     gives_error _ _ _ _ _ c.from_residual-in_err-no_duplicate_names-3.ensures.1 (error_of_second_list_is_of_joined e (terrain_title_conditions t) (item_title_conditions t ++ (skill_title_conditions t ++ kind_title_conditions t)) (rw c.as_slice.ensures at c.in_ok-no_duplicate_names.ensures.0) (error_of_second_list_is_of_joined e (item_title_conditions t) (skill_title_conditions t ++ kind_title_conditions t) (rw c.as_slice-2.ensures at c.in_ok-no_duplicate_names-2.ensures.0) (error_of_first_list_is_of_joined e (skill_title_conditions t) (kind_title_conditions t) (rw c.as_slice-3.ensures at c.in_err-no_duplicate_names-3.ensures))))
 
--- The check of the kinds' names, the last one, returns Ok, the first fault of the conditions on names of things
--- (`titles_differ`), or Memory. The names of terrains, items and skills differ, as checked before.
 pub returns : goal.returns
 unfolding titles_differ
 returns c =

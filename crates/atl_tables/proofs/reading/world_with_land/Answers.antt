@@ -3,7 +3,6 @@ use Rattle.atl_world.specs.Worlds.{is_land}
 use Rattle.atl_world.specs.Sums.{numbers_where}
 use Rattle.atl_tables.proofs.reading.world_with_land.Goals as goal
 
--- if the terrain of some region is land, the parts make a world (`IsWorld`), as `from_parts` requires
 pub from_parts-requires-clause-world : goal.from_parts-requires-clause-world
 from_parts-requires-clause-world c =
     let land = rw c.as_slice.ensures at c.in_ok-land.ensures in

@@ -10,20 +10,16 @@ use Rattle.atl_tables.proofs.EachLaws.{rest_has_same_fault_at_index, error_at_in
 use Rattle.atl_tables.proofs.RegionLaws.{seen_more, duplicate_number_fault}
 use Rattle.atl_tables.proofs.regions.no_duplicate_numbers.Goals as goal
 
--- before the loop `seen` is empty, as no region is checked yet, and all regions are still to be checked
 pub loop-i-init : goal.loop-i-init
 loop-i-init c = record { faults = refl; seen = λ n. rw (c.new-seen.ensures, get-empty nat_cmp n) refl }
 
--- at a number that a region before it has, TwoNames at its path is the first fault of all regions
 pub returns-in-Some : goal.returns-in-Some
 returns-in-Some c =
     let d = c.index-drafts-i.result in
     let ds = c.args.drafts.now in
     let test : some_region_has_number d.basics.number (take c.loop-i.i ds) ≡ true = sym (c.loop-i.invariant.seen d.basics.number) ∙ ap (λ (e : RegionDraft). is_some (get c.loop-i.seen e.basics.number)) c.index-drafts-i.is ∙ ap is_some (sym c.in-Some.ensures) in
-    rw (c.in_ok-path.ensures, c.as_str.ensures, c.in_ok-element.ensures) (error_at_index_is_error_of_all (duplicate_number_at ds) ds c.loop-i.i d _ c.loop-i-test.true c.index-drafts-i.is c.loop-i.invariant.faults (TwoNames (path (element_path (codes "region") c.loop-i.i) (codes "number"))) (duplicate_number_fault ds c.loop-i.i d true test))
+    rw c.in_ok-path.ensures (error_at_index_is_error_of_all (duplicate_number_at ds) ds c.loop-i.i d _ c.loop-i-test.true c.index-drafts-i.is c.loop-i.invariant.faults (TwoNames (path (element_path (codes "region") c.loop-i.i) (codes "number"))) (duplicate_number_fault ds c.loop-i.i d true test))
 
--- after a new number, `seen` has the numbers checked so far, and the first fault of the regions after it is still that
--- of all regions
 pub loop-i-preserved : goal.loop-i-preserved
 loop-i-preserved c =
     let d = c.index-drafts-i.result in

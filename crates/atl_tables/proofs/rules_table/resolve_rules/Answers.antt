@@ -3,7 +3,6 @@ use Rattle.atl_tables.specs.RulesTable.{rules_known}
 use Rattle.atl_tables.proofs.FaultLaws.{gives_error, error_of_condition_is_of_list}
 use Rattle.atl_tables.proofs.rules_table.resolve_rules.Goals as goal
 
--- an error in looking up the skill of sailing is the first fault of the rules' names (`rules_known`), or Memory
 pub returns-in_err-sailing-clause-value : goal.returns-in_err-sailing-clause-value
 unfolding rules_known
 returns-in_err-sailing-clause-value c =
@@ -11,7 +10,6 @@ returns-in_err-sailing-clause-value c =
     let second = rw c.as_slice-known.ensures at c.in_ok-stealth.ensures.value.0 in
     rw (first, second) (gives_error _ _ _ _ _ c.from_residual-in_err-sailing.ensures.1 (error_of_condition_is_of_list c.in_err-sailing.field-0.0 _ [] (rw c.as_slice-known.ensures at c.in_err-sailing.ensures.value)))
 
--- the rules made are in their ranges, and their skills are of the world (`AreRules`)
 pub returns-clause-sound : goal.returns-clause-sound
 returns-clause-sound c = record {
   maintenance_least = c.requires.rules.prices.maintenance_least;

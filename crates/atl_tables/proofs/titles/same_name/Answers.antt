@@ -3,7 +3,6 @@ use Rattle.std.proofs.lemmas.Slice.Eq.{bytes_eq-Decides}
 use Rattle.atl_world.specs.Names.{same_name}
 use Rattle.atl_tables.proofs.titles.same_name.Goals as goal
 
--- two names are the same by the definition `same_name` exactly if their bytes are equal, ignoring ASCII case
 pub returns : goal.returns
 unfolding same_name
 returns c = same_from_decides _ _ (rw (c.as_bytes.ensures, c.as_bytes-2.ensures) at c.eq_ignore_ascii_case.ensures.test) (bytes_eq-Decides _ _)

@@ -4,13 +4,10 @@ use Rattle.atl_tables.proofs.FaultLaws.{gives_error}
 use Rattle.atl_tables.proofs.EachLaws.{rest_has_same_fault_at_index, error_at_index_is_error_of_all, results_with_one_more_are_all, each_index_push}
 use Rattle.atl_tables.proofs.world_draft.resolve_all.Goals as goal
 
--- an error in looking up the names of one table is the first fault of all tables, or Memory
 pub returns-in_err-record-clause-value : goal.returns-in_err-record-clause-value
 returns-in_err-record-clause-value g c =
     gives_error _ _ _ _ _ c.from_residual.ensures.1 (error_at_index_is_error_of_all (g.D.Draft.unknown c.args.all.now) c.args.drafts.now c.loop-i.i c.index-drafts-i.result _ c.loop-i-test.true c.index-drafts-i.is c.loop-i.invariant.faults c.in_err-record.field-0.0 c.in_err-record.ensures.value)
 
--- After one more record the first fault of the tables after it is still that of all tables. The records so far,
--- followed by those of the tables after it, are still all records.
 pub loop-i-preserved : goal.loop-i-preserved
 loop-i-preserved g c =
     let drafts = c.args.drafts.now in

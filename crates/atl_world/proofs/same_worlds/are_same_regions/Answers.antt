@@ -2,7 +2,6 @@ use Rattle.std.proofs.Common.{sym, ap, ◌∙◌}
 use Rattle.atl_world.proofs.SameLaws.{entries_without_markets, same_maps, same_entries, same_rest, same_with_first_entry}
 use Rattle.atl_world.proofs.same_worlds.are_same_regions.Goals as goal
 
--- before the loop the lists of all regions of both maps are equal but for markets exactly if the maps are
 pub loop-number-init : goal.loop-number-init
 loop-number-init c =
     let plans = c.args.plans.now in
@@ -14,8 +13,6 @@ loop-number-init c =
       part = λ same. mine ∙ same_entries plans others same ∙ sym theirs;
     }
 
--- after two regions that are equal but for markets, the regions still to come are equal but for markets exactly if the
--- whole maps are
 pub loop-number-preserved : goal.loop-number-preserved
 loop-number-preserved c =
     let k = c.in-Some.number in

@@ -29,8 +29,6 @@ loop-left-preserved-then-is_last_above c =
           ∙ c.loop-left.invariant.merged;
     }
 
--- after the largest number left of the second list is put in place, the numbers left of both lists, merged, and those
--- in place are still both whole lists merged
 pub loop-left-preserved : goal.loop-left-preserved
 loop-left-preserved c =
     let was = c.args.numbers.now in
@@ -57,6 +55,5 @@ loop-left-preserved c =
           ∙ c.loop-left.invariant.merged;
     }
 
--- once no number of the second list is left, the list is both lists merged
 pub returns : goal.returns
 returns c = all_put c.args.numbers.now c.args.others.now c.loop-left.numbers _ c.loop-left.own c.loop-left.left (omega arith) c.loop-left.invariant.kept c.loop-left.invariant.merged

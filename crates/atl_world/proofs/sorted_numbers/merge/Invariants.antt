@@ -13,6 +13,5 @@ invariant-loop-left l = record {
   merged : sorted_merge nat_cmp true (take l.own l.fn.numbers) (take l.left l.others) ++ drop (l.own + l.left) l.numbers ≡ sorted_merge nat_cmp true (take l.fn.own l.fn.numbers) l.others;
 }
 
--- how many numbers of both lists are still to be put in place; each turn puts one, so the loop ends
 abbrev pub decreases-loop-left : goal.decreases-loop-left
 decreases-loop-left l = l.own + l.left

@@ -3,7 +3,6 @@ use Rattle.std.specs.List.{insert}
 use Rattle.std.proofs.lemmas.List.Edits.{insert_end}
 use Rattle.atl_world.proofs.sorted_numbers.put_last.Goals as goal
 
--- a number put in at the index past the end is the last of the list
 pub returns-clause-items : goal.returns-clause-items
 returns-clause-items c =
     let numbers = c.args.numbers.now in

@@ -5,7 +5,6 @@ use Rattle.atl_action.specs.Sail.{SailsWith, is_sailing}
 use Rattle.atl_action.proofs.SailLaws.{all_carried, others_do_not_sail}
 use Rattle.atl_action.proofs.sail.SailPhasePhase.run.Goals as goal
 
--- each unit at most went along, and a unit whose structure doesn't sail is unchanged (`sail_keeps`)
 pub returns-clause-keeps : goal.returns-clause-keeps
 returns-clause-keeps c =
     let w = c.args.world.now in

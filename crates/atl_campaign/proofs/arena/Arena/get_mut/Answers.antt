@@ -5,15 +5,12 @@ use Rattle.slab.specs.Slab as slab
 use Rattle.atl_campaign.proofs.SlotLaws.{value_under, values_changed, written, lent_same}
 use Rattle.atl_campaign.proofs.arena.Arena.get_mut.Goals as goal
 
--- where the number leads to no slot, get_mut lends nothing, and no value is under the number
 pub returns-in-None : goal.returns-in-None
 returns-in-None g c = (
   ap inr c.self.view_is,
   record { writes_back = tt; value = value_under c.self.inside.index c.self.inside.slots c.args.self.now c.args.number None c.self.invariant.slots_used c.self.view_is c.in-None.ensures },
 )
 
--- where the slot has a value, get_mut lends this value, which is the one under the number, and what the loan ends with
--- is then under the number
 pub returns-in-Some-get_mut : goal.returns-in-Some-get_mut
 returns-in-Some-get_mut g c =
     let i = c.self.inside.index in

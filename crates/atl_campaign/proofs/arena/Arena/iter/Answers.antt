@@ -4,10 +4,8 @@ use Rattle.atl_campaign.specs.Slots.{slot_entries}
 use Rattle.atl_campaign.proofs.SlotLaws.{entries_values, all_in_use}
 use Rattle.atl_campaign.proofs.arena.Arena.iter.Goals as goal
 
--- iter returns an iterator with the iterator's invariant: each slot still to come has a value
 pub invariant_of-result : goal.invariant_of-result
 invariant_of-result g c = rw c.iter.ensures (all_in_use c.self.inside.index c.self.inside.slots c.self.invariant.slots_used)
 
--- iter yields the numbers with their values, in rising order
 pub returns : goal.returns
 returns g c = ap (λ es. slot_entries es c.self.inside.slots) c.iter.ensures ∙ sym (entries_values c.self.inside.slots c.self.inside.index c.self.invariant.slots_used) ∙ ap entries c.self.view_is

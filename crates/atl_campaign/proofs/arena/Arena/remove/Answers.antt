@@ -6,16 +6,13 @@ use Rattle.atl_campaign.specs.Slots.{values_of}
 use Rattle.atl_campaign.proofs.SlotLaws.{value_under, IsArena-removed, values_removed}
 use Rattle.atl_campaign.proofs.arena.Arena.remove.Goals as goal
 
--- once the value is removed, each number left leads to a slot of its own with a value, and no other slot has one
 pub invariant_of-self : goal.invariant_of-self
 invariant_of-self g c =
     rw c.in-Some.ensures.taken (IsArena-removed c.self.inside.index c.self.inside.slots c.remove-in-Some.new.self c.args.number c.in-Some.slot c.remove-in-Some.ensures.updates c.remove-in-Some.ensures.len (sym c.in-Some.ensures.slot) c.self.invariant)
 
--- where the number leads to no slot, each number still leads to its own slot with a value, and no other slot has one
 pub invariant_of-self-in-None : goal.invariant_of-self-in-None
 invariant_of-self-in-None g c = rw (c.in-None.ensures.taken, remove_none c.self.inside.index c.args.number (sym c.in-None.ensures.slot)) c.self.invariant
 
--- where the number leads to a slot, there was a value, and the arena is the map without it
 pub returns-in-Some : goal.returns-in-Some
 returns-in-Some g c =
     let i = c.self.inside.index in
@@ -27,7 +24,6 @@ returns-in-Some g c =
       taken = rw c.in-Some.ensures.taken (values_removed i s c.remove-in-Some.new.self n c.in-Some.slot c.remove-in-Some.ensures.updates (sym c.in-Some.ensures.slot) c.self.invariant.slots_used ∙ ap (λ m. remove m n) c.self.view_is);
     }
 
--- where the number leads to no slot, there was no value, and the arena is the map that it was
 pub returns-in-None : goal.returns-in-None
 returns-in-None g c =
     let i = c.self.inside.index in

@@ -1,10 +1,8 @@
 use Rattle.atl_campaign.proofs.SlotLaws.{no_values, IsArena-empty}
 use Rattle.atl_campaign.proofs.arena.Arena.with_room.Goals as goal
 
--- with_room returns an arena with the arena's invariant: no number leads to a slot, and no slot has a value
 pub invariant_of-result : goal.invariant_of-result
 invariant_of-result g c = rw c.in_ok-index.ensures (IsArena-empty c.in_ok-slots.slots c.in_ok-slots.ensures.empty)
 
--- the arena that with_room returns is the empty map
 pub returns : goal.returns
 returns g c = rw c.in_ok-index.ensures (no_values c.in_ok-slots.slots)

@@ -4,7 +4,6 @@ use Rattle.atl_campaign.specs.FromRows.{as_u32}
 use Rattle.atl_campaign.proofs.FromRowLaws.{row_unread}
 use Rattle.atl_campaign.proofs.assembly.books.put_row.Goals as goal
 
--- where the books do not have the row's thing, put_row changes nothing, as with_books_row defines
 pub returns-else-thing-len : goal.returns-else-thing-len
 returns-else-thing-len c =
     let same : to_z w64 (of_z w64 c.args.row.now.thing) ≡ c.args.row.now.thing = search (rules, to_z-of_z) in

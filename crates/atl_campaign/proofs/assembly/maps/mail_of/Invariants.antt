@@ -2,6 +2,5 @@ use Rattle.std.proofs.Common.{◌≡◌, drop}
 use Rattle.atl_campaign.specs.FromRows.{as_u32, by_number, put_rows}
 use Rattle.atl_campaign.proofs.assembly.maps.mail_of.Given as goal
 
--- the mail so far, with that of the rows left put in, is the mail of all rows
 abbrev pub invariant-loop-row : goal.invariant-loop-row
 invariant-loop-row l = put_rows (λ r. as_u32 r.faction) (λ r. r.text) (drop l.row-index l.rows) l.mail ≡ by_number (λ r. as_u32 r.faction) (λ r. r.text) l.rows

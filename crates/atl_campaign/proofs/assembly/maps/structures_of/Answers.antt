@@ -2,13 +2,12 @@ use Rattle.std.proofs.Common.{◌+◌, drop, List, sym, ap, ◌∙◌, ◌≡◌
 use Rattle.std.proofs.lemmas.Int.{to_z-of_z}
 use Rattle.std.specs.Ordering.{nat_cmp}
 use Rattle.std.specs.FinMap.{FinMap, insert}
-use Rattle.atl_campaign.specs.declared.parts.StoredStructure.{StoredStructure}
+use Rattle.atl_rows.specs.declared.parts.StoredStructure.{StoredStructure}
 use Rattle.atl_records.specs.declared.records.Structure.{Structure}
 use Rattle.atl_campaign.specs.FromRows.{as_u32, structure_of, put_rows}
 use Rattle.atl_campaign.proofs.KeyLaws.{next_of}
 use Rattle.atl_campaign.proofs.assembly.maps.structures_of.Goals as goal
 
--- after each turn the structures so far, with those of the rows left put in, are the structures of all rows
 pub loop-row-preserved : goal.loop-row-preserved
 loop-row-preserved c =
     let row = c.row-item.result in

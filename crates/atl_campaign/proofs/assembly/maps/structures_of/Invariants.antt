@@ -2,6 +2,5 @@ use Rattle.std.proofs.Common.{◌≡◌, drop}
 use Rattle.atl_campaign.specs.FromRows.{as_u32, by_number, put_rows, structure_of}
 use Rattle.atl_campaign.proofs.assembly.maps.structures_of.Given as goal
 
--- the structures so far, with those of the rows left put in, are the structures of all rows
 abbrev pub invariant-loop-row : goal.invariant-loop-row
 invariant-loop-row l = put_rows (λ r. as_u32 r.number) structure_of (drop l.row-index l.rows) l.structures ≡ by_number (λ r. as_u32 r.number) structure_of l.rows

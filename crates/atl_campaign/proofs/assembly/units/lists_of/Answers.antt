@@ -9,15 +9,11 @@ use Rattle.atl_records.specs.declared.records.Unit.{Unit}
 use Rattle.atl_campaign.proofs.SortedMapLaws.{comes_new}
 use Rattle.atl_campaign.proofs.assembly.units.lists_of.Goals as goal
 
--- before the first turn no unit is done, all are left, and the lists by region, faction and structure are those of no
--- units
 pub loop-number-init : goal.loop-number-init
 loop-number-init c =
     let all : c.into_iter-number-iterator.result ≡ entries c.args.units.now.values = search rules in
     (empty, ap (λ es. es ++ c.into_iter-number-iterator.result) (entries-empty {X = Unit}) ∙ all, c.new-lists.ensures)
 
--- after each turn the lists by region, faction and structure are those of the units done, and all other units are still
--- to come
 pub loop-number-preserved : goal.loop-number-preserved
 loop-number-preserved c =
     let done = c.loop-number.invariant.0 in
@@ -30,7 +26,6 @@ loop-number-preserved c =
       c.in_ok-add.ensures.ok done unit (sym c.list_keys_of.ensures) (comes_new done c.args.units.now.values number unit rest so_far) c.loop-number.invariant.2,
     )
 
--- the lists by region, faction and structure that lists_of returns are those of all units
 pub returns : goal.returns
 returns c =
     let none : c.loop-number.number-iterator ≡ [] = search rules in

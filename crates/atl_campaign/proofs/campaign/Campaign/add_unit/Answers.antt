@@ -3,7 +3,6 @@ use Rattle.std.specs.FinMap.{get}
 use Rattle.atl_campaign.proofs.ListLaws.{AreUnitLists-back}
 use Rattle.atl_campaign.proofs.campaign.Campaign.add_unit.Goals as goal
 
--- once add_unit has put the unit in, the lists by region, faction and structure are those of the units with the new one
 pub invariant_of-self-in-Ok : goal.invariant_of-self-in-Ok
 invariant_of-self-in-Ok c =
     let fresh : get c.self.inside.units.values c.args.number ≡ None = rw (← c.self.view_is) at c.requires in
@@ -12,7 +11,6 @@ invariant_of-self-in-Ok c =
       amounts = c.self.invariant.amounts;
     }
 
--- where add_unit has no memory for the unit, the lists by region, faction and structure are again those without it
 pub invariant_of-self-in-Err : goal.invariant_of-self-in-Err
 invariant_of-self-in-Err c =
     let fresh : get c.self.inside.units.values c.args.number ≡ None = rw (← c.self.view_is) at c.requires in

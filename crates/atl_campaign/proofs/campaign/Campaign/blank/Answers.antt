@@ -2,7 +2,6 @@ use Rattle.std.proofs.Common.{arith}
 use Rattle.atl_campaign.proofs.AmountMarkLaws.{none_marked}
 use Rattle.atl_campaign.proofs.campaign.Campaign.blank.Goals as goal
 
--- blank returns a campaign with its invariant: no unit is in a list, and no amount of the books is marked
 pub invariant_of-result : goal.invariant_of-result
 invariant_of-result c = rw (c.new-4.ensures, c.blank.ensures, c.new-8.ensures) record {
   unit_lists = c.new-9.ensures;

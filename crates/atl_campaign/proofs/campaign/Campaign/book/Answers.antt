@@ -3,13 +3,11 @@ use Rattle.atl_records.specs.Books.{BooksValue, thing_index}
 use Rattle.atl_campaign.proofs.AmountMarkLaws.{fits_amount, more_marked}
 use Rattle.atl_campaign.proofs.campaign.Campaign.book.Goals as goal
 
--- book may mark the amount: the dirty set of the books has room for it
 pub add-requires : goal.add-requires
 add-requires c =
     let there : thing_index c.args.thing < c.self.inside.books.things = rw (← c.self.view_is) at c.requires.there in
     rw c.amount_number.ensures (fits_amount c.self.inside.books.things c.self.inside.amounts_marked c.args.entry c.args.thing there c.self.invariant.amounts)
 
--- once book has marked the amount, only amounts of the books' things are marked, and there is room for each
 pub invariant_of-self : goal.invariant_of-self
 invariant_of-self c =
     let there : thing_index c.args.thing < c.self.inside.books.things = rw (← c.self.view_is) at c.requires.there in

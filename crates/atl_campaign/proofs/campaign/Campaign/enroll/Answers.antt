@@ -23,7 +23,6 @@ book_joining-requires c =
       people = small.1;
     }
 
--- where begin_unit has no memory, the faction is taken out again, and the campaign is as it was
 pub returns-in-Err-clause-err : goal.returns-in-Err-clause-err
 returns-in-Err-clause-err c =
     let fresh : get c.self.inside.factions.values c.self.inside.next_faction ≡ None = rw (← c.self.view_is) at (c.requires.sound.steady.next.factions.free c.args.self.now.value.next_faction (omega arith)) in
@@ -35,14 +34,12 @@ returns-in-Err-clause-err c =
     rw back
     (ap (λ (m : MarkedCampaign). record { value = record m.value { factions = c.self.inside.factions.values }; marks = record m.marks { factions = c.self.inside.factions.marks } }) same ∙ c.self.view_is)
 
--- enroll may mark the money booked under Joining: the dirty set of the books has room for it
 pub add-requires : goal.add-requires
 add-requires c =
     let books : c.self-2.inside.books ≡ c.args.self.now.value.books = ap (λ (m : MarkedCampaign). m.value.books) c.self-2.view_is ∙ ap (λ (s : CampaignValue). s.books) c.in-Ok.ensures.ok ∙ ap (λ (m : MarkedCampaign). m.value.books) c.self.view_is in
     let rows = ap (λ (b : BooksValue). b.things) books ∙ c.requires.sound.steady.numbers.books.count in
     rw c.amount_number.ensures (fits_amount c.self-2.inside.books.things c.self-2.inside.amounts_marked Joining Money (omega (arith, rows)) c.self-2.invariant.amounts)
 
--- enroll may mark the people booked under Joining: the dirty set of the books has room for them after the money
 pub add-requires-2 : goal.add-requires-2
 add-requires-2 c =
     let books : c.self-2.inside.books ≡ c.args.self.now.value.books = ap (λ (m : MarkedCampaign). m.value.books) c.self-2.view_is ∙ ap (λ (s : CampaignValue). s.books) c.in-Ok.ensures.ok ∙ ap (λ (m : MarkedCampaign). m.value.books) c.self.view_is in
@@ -52,7 +49,6 @@ add-requires-2 c =
     rw (c.add.ensures, c.amount_number.ensures, c.amount_number-2.ensures)
     (fits_amount things (record marks { numbers = amount_marked marks.numbers Joining Money }) Joining People (omega (arith, rows)) (more_marked things marks Joining Money (omega (arith, rows)) c.self-2.invariant.amounts))
 
--- at the end of enroll the lists by region, faction and structure are those of the units, and each amount can be marked
 pub invariant_of-self-3 : goal.invariant_of-self-3
 invariant_of-self-3 c =
     let books : c.self-2.inside.books ≡ c.args.self.now.value.books = ap (λ (m : MarkedCampaign). m.value.books) c.self-2.view_is ∙ ap (λ (s : CampaignValue). s.books) c.in-Ok.ensures.ok ∙ ap (λ (m : MarkedCampaign). m.value.books) c.self.view_is in
@@ -66,7 +62,6 @@ invariant_of-self-3 c =
           (more_marked things (record marks { numbers = amount_marked marks.numbers Joining Money }) Joining People (omega (arith, rows)) (more_marked things marks Joining Money (omega (arith, rows)) c.self-2.invariant.amounts));
     }
 
--- enroll makes the campaign that the definition `after_join` gives
 pub returns-clause-ok : goal.returns-clause-ok
 unfolding after_join
 returns-clause-ok c =

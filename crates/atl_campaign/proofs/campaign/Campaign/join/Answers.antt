@@ -11,7 +11,6 @@ enroll-requires-clause-name c = name_ok-IsUtf8 c.args.name.now c.requires.name
 pub enroll-requires-clause-pass : goal.enroll-requires-clause-pass
 enroll-requires-clause-pass c = pass_ok-IsUtf8 c.args.pass.now c.requires.pass
 
--- if the campaign was good, it is sound once the faction has joined: at most the report of that faction is missing
 pub returns-in-Ok-clause-sound : goal.returns-in-Ok-clause-sound
 returns-in-Ok-clause-sound c =
     rw c.in-Ok.ensures.ok

@@ -6,13 +6,11 @@ use Rattle.atl_records.proofs.EveryLaws.{same_number, other_number}
 use Rattle.atl_campaign.proofs.OwnerLaws.{place-what, place_none, place_stays, place_leaves}
 use Rattle.atl_campaign.proofs.campaign.Campaign.place.Goals as goal
 
--- where no unit has the given number, place changes nothing, as with_place and place_marked define
 pub returns-in-None : goal.returns-in-None
 returns-in-None c =
     let is = place_none c.args.self.now c.args.number c.args.region c.args.structure (sym (c.in-None.ensures ∙ ap (λ (m : MarkedCampaign). get m.value.units c.args.number) c.self.view_is)) in
     record { ok = ap (λ (m : MarkedCampaign). m.value) is ∙ place-what c.args.self.now c.args.number c.args.region c.args.structure; err = tt; marks = ap (λ (m : MarkedCampaign). m.marks) is }
 
--- where the unit changes its structure, place makes the campaign and the marks that with_place and place_marked define
 pub returns-then-left-structure : goal.returns-then-left-structure
 returns-then-left-structure c =
     let n = c.args.number in
@@ -24,7 +22,6 @@ returns-then-left-structure c =
     let is = c.hand_over-then-left-structure.ensures ∙ ap (λ m. handed_marked m s 0 n) left ∙ place_leaves c.args.self.now n r s u there (other_number u.structure s c.if-left-structure.true) in
     record { ok = ap (λ (m : MarkedCampaign). m.value) is ∙ place-what c.args.self.now n r s; err = tt; marks = ap (λ (m : MarkedCampaign). m.marks) is }
 
--- where the unit's structure stays, place makes the campaign and the marks that with_place and place_marked define
 pub returns-else-left-structure : goal.returns-else-left-structure
 returns-else-left-structure c =
     let n = c.args.number in

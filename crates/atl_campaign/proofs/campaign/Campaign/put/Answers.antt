@@ -3,11 +3,9 @@ use Rattle.std.specs.FinMap.{get}
 use Rattle.atl_campaign.specs.declared.lists.ListKeys.{ListKeys}
 use Rattle.atl_campaign.proofs.campaign.Campaign.put.Goals as goal
 
--- where put has no memory, the lists by region, faction and structure are still those of the units
 pub invariant_of-self : goal.invariant_of-self
 invariant_of-self c = record { unit_lists = c.in_err-relist.ensures.err c.self.inside.units.values c.self.invariant.unit_lists; amounts = c.self.invariant.amounts }
 
--- once put has moved the unit, it is in the lists of its new region and structure, and of its faction
 pub invariant_of-self-2 : goal.invariant_of-self-2
 invariant_of-self-2 c =
     let u = c.in-Some.unit.now in

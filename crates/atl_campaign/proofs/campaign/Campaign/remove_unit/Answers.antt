@@ -5,13 +5,11 @@ use Rattle.atl_campaign.specs.Campaign.{MarkedCampaign}
 use Rattle.atl_campaign.proofs.OwnerLaws.{gone-what, gone_none, gone_some}
 use Rattle.atl_campaign.proofs.campaign.Campaign.remove_unit.Goals as goal
 
--- where no unit has the given number, remove_unit changes nothing, as without_unit and gone_marked define
 pub returns-in-None : goal.returns-in-None
 returns-in-None c =
     let is = gone_none c.args.self.now c.args.number (sym (c.in-None.ensures ∙ ap (λ (m : MarkedCampaign). get m.value.units c.args.number) c.self.view_is)) in
     record { what = ap (λ (m : MarkedCampaign). m.value) is ∙ gone-what c.args.self.now c.args.number; marks = ap (λ (m : MarkedCampaign). m.marks) is }
 
--- remove_unit makes the campaign and the marks that without_unit and gone_marked define
 pub returns : goal.returns
 returns c =
     let n = c.args.number in

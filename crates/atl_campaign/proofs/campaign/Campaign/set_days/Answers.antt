@@ -6,12 +6,10 @@ use Rattle.atl_campaign.specs.Roster.{Roster, skill_marked_at}
 use Rattle.atl_campaign.proofs.ListLaws.{AreUnitLists-set}
 use Rattle.atl_campaign.proofs.campaign.Campaign.set_days.Goals as goal
 
--- for invariant_of-self: rosters r and s have the same units, if s is r, or is r with a skill of unit n marked
 same_values : (r s : Roster) (n skill : ℕ) → (s ≡ r) ⊎ (s ≡ skill_marked_at r n skill) → s.values ≡ r.values
 same_values r s n skill (inl e) = ap (λ (t : Roster). t.values) e
 same_values r s n skill (inr e) = ap (λ (t : Roster). t.values) e
 
--- after set_days the lists by region, faction and structure are still those of the units: none of these three changed
 pub invariant_of-self : goal.invariant_of-self
 invariant_of-self c = record {
   unit_lists =
@@ -20,7 +18,6 @@ invariant_of-self c = record {
   amounts = c.self.invariant.amounts;
 }
 
--- where set_days has no memory, the campaign is as it was, or the skill is marked and nothing else changed
 pub returns-clause-err : goal.returns-clause-err
 returns-clause-err c =
     on_err_weaker c.set_days.result (λ either. elim either [

@@ -6,12 +6,10 @@ use Rattle.atl_campaign.specs.Roster.{Roster, item_marked_at}
 use Rattle.atl_campaign.proofs.ListLaws.{AreUnitLists-set}
 use Rattle.atl_campaign.proofs.campaign.Campaign.set_item.Goals as goal
 
--- for invariant_of-self: rosters r and s have the same units, if s is r, or is r with an item of unit n marked
 same_values : (r s : Roster) (n item amount : ℕ) → (s ≡ r) ⊎ (s ≡ item_marked_at r n item amount) → s.values ≡ r.values
 same_values r s n item amount (inl e) = ap (λ (t : Roster). t.values) e
 same_values r s n item amount (inr e) = ap (λ (t : Roster). t.values) e
 
--- after set_item the lists by region, faction and structure are still those of the units: none of these three changed
 pub invariant_of-self : goal.invariant_of-self
 invariant_of-self c = record {
   unit_lists =
@@ -20,7 +18,6 @@ invariant_of-self c = record {
   amounts = c.self.invariant.amounts;
 }
 
--- where set_item has no memory, the campaign is as it was, or the item is marked and nothing else changed
 pub returns-clause-err : goal.returns-clause-err
 returns-clause-err c =
     on_err_weaker c.set_item.result (λ either. elim either [

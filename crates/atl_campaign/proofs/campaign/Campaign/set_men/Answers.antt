@@ -3,7 +3,6 @@ use Rattle.atl_records.specs.declared.records.Unit.{Unit}
 use Rattle.atl_campaign.proofs.ListLaws.{AreUnitLists-changed}
 use Rattle.atl_campaign.proofs.campaign.Campaign.set_men.Goals as goal
 
--- after set_men the lists by region, faction and structure are still those of the units: none of these three changed
 pub invariant_of-self : goal.invariant_of-self
 invariant_of-self c =
     rw c.set_men.ensures record {

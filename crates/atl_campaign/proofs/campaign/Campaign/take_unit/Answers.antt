@@ -4,6 +4,5 @@ use Rattle.atl_campaign.specs.Campaign.{MarkedCampaign}
 use Rattle.atl_campaign.proofs.OwnerLaws.{taken_none}
 use Rattle.atl_campaign.proofs.campaign.Campaign.take_unit.Goals as goal
 
--- where no unit has the given number, take_unit changes nothing, as taken_marked defines
 pub returns-in-None : goal.returns-in-None
 returns-in-None c = taken_none c.args.self.now c.args.number (sym (c.in-None.ensures ∙ ap (λ (m : MarkedCampaign). get m.value.units c.args.number) c.self.view_is))

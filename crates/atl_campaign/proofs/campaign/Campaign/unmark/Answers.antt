@@ -2,7 +2,6 @@ use Rattle.std.proofs.Common.{refl}
 use Rattle.atl_campaign.proofs.AmountMarkLaws.{none_marked}
 use Rattle.atl_campaign.proofs.campaign.Campaign.unmark.Goals as goal
 
--- after unmark the lists by region, faction and structure are still those of the units, and each amount can be marked
 pub invariant_of-self : goal.invariant_of-self
 invariant_of-self c =
     record {
@@ -10,7 +9,6 @@ invariant_of-self c =
       amounts = rw c.clear.ensures (none_marked c.self.inside.books.things c.self.inside.amounts_marked.room c.self.invariant.amounts.room);
     }
 
--- unmark clears all marks, and leaves the campaign as it is
 pub returns : goal.returns
 returns c =
     rw (← c.self.view_is, c.unmark.ensures, c.unmark-2.ensures, c.unmark-3.ensures, c.unmark-4.ensures, c.unmark-5.ensures, c.unmark-6.ensures, c.clear.ensures) refl

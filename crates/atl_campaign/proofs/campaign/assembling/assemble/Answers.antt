@@ -6,8 +6,6 @@ use Rattle.atl_campaign.proofs.AmountMarkLaws.{none_marked}
 use Rattle.atl_campaign.proofs.FromRowLaws.{put-books}
 use Rattle.atl_campaign.proofs.campaign.assembling.assemble.Goals as goal
 
--- assemble returns a campaign with its invariant: the lists by region, faction and structure are those of the units,
--- and each amount of the books can be marked
 pub invariant_of-result : goal.invariant_of-result
 invariant_of-result c =
     let things = 2 + length c.items.result.now in
@@ -18,6 +16,5 @@ invariant_of-result c =
       amounts = rw (c.in_ok-amounts_marked.ensures) (none_marked c.in_ok-books.books.things (entry_count * things) (omega (arith, count)));
     }
 
--- nothing is marked of the campaign that assemble returns
 pub returns-clause-marks : goal.returns-clause-marks
 returns-clause-marks c = rw (c.in_ok-factions.ensures, c.in_ok-units.ensures, c.in_ok-amounts_marked.ensures) refl

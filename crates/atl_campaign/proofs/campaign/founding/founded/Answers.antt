@@ -11,18 +11,15 @@ use Rattle.atl_campaign.specs.Regions.{MarkedRegions}
 use Rattle.atl_campaign.proofs.FoundingLaws.{AreKept-without_marks, founded-good}
 use Rattle.atl_campaign.proofs.campaign.founding.founded.Goals as goal
 
--- founded may call founding_books: there are no more regions than a world may have
 pub founding_books-requires-clause-few : goal.founding_books-requires-clause-few
 founding_books-requires-clause-few c =
     rw (c.in_ok-regions.ensures, c.regions.ensures.value, entries-mapped founded_region c.args.world.now.regions) (simp length-map (omega (arith, len-entries c.args.world.now.regions, c.regions.ensures.world.few_regions)))
 
--- founded returns a campaign with its invariant: no unit is in a list, and each amount of the books can be marked
 pub invariant_of-campaign : goal.invariant_of-campaign
 invariant_of-campaign c =
     let things = 2 + length c.items.result.now in
     rw (c.in_ok-amounts_marked.ensures, c.in_ok-books.ensures.value) (AreKept-without_marks things c.campaign.inside.units.values c.campaign.inside.lists c.campaign.invariant.unit_lists)
 
--- the campaign that `founded` returns is the one that founded_of defines
 is_founded : goal.returns-clause-definition
 unfolding founded_of
 is_founded c =
@@ -30,11 +27,9 @@ is_founded c =
     ap (λ (m : MarkedCampaign). record m.value { pass = c.in_ok-pass.pass; regions = c.in_ok-regions.regions.values; books = c.in_ok-books.books }) (c.campaign.view_is ∙ c.blank-campaign.ensures)
     ∙ rw (c.in_ok-pass.ensures (pass_ok-IsUtf8 c.args.pass.now c.requires.pass), c.in_ok-books.ensures.value, made, c.regions.ensures.value, c.items.ensures.value) refl
 
--- founded returns the campaign that founded_of defines
 pub returns-clause-definition : goal.returns-clause-definition
 returns-clause-definition c = is_founded c
 
--- founded returns a good campaign
 pub returns-clause-good : goal.returns-clause-good
 returns-clause-good c =
     let made : c.in_ok-regions.regions.values ≡ map_values founded_region c.regions.result.now = ap (λ (t : MarkedRegions). t.values) c.in_ok-regions.ensures in

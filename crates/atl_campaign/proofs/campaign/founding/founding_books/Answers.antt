@@ -15,7 +15,6 @@ book-requires-clause-fits c =
     let read : to_z w64 money ≡ pos money = to_z_pos w64 money (omega (arith, c.regions_total-money.ensures.fits, c.requires.few)) in
     rw (none, read) (first_fits money (omega (arith, c.regions_total-money.ensures.fits, c.requires.few)))
 
--- founding_books may book the people: all people of the regions fit 64 bits, and none are booked yet
 pub book-requires-2-clause-fits : goal.book-requires-2-clause-fits
 book-requires-2-clause-fits c =
     let people = c.regions_total-people.result in

@@ -10,13 +10,11 @@ use Rattle.atl_campaign.specs.Founding.{founded_region}
 use Rattle.atl_records.specs.declared.records.Region.{Region}
 use Rattle.atl_campaign.proofs.campaign.founding.make_regions.Goals as goal
 
--- before the first turn there are no regions, and all plans are left
 pub loop-number-init : goal.loop-number-init
 loop-number-init c =
     let all : c.into_iter-number-iterator.result ≡ entries c.args.plans.now = search rules in
     rw (c.new-regions.ensures, entries-empty {X = Region}, entries-mapped founded_region c.args.plans.now, all) refl
 
--- after each turn the regions so far, and those of the plans left, are the regions of all plans
 pub loop-number-preserved : goal.loop-number-preserved
 loop-number-preserved c =
     let so_far = rw c.in-Some.ensures.steps at c.loop-number.invariant in
@@ -24,7 +22,6 @@ loop-number-preserved c =
     rw (c.in_ok-insert.ensures.ok, c.new.ensures, insert_last c.loop-number.regions (map_values founded_region c.args.plans.now) c.in-Some.number region (map (λ e. (e.0, founded_region e.1)) c.next.new.self) so_far)
     (append_assoc (entries c.loop-number.regions) ((c.in-Some.number, region) ∷ []) (map (λ e. (e.0, founded_region e.1)) c.next.new.self) ∙ so_far)
 
--- make_regions returns the regions of all plans, with nothing marked
 pub returns : goal.returns
 returns c =
     let none : c.loop-number.number-iterator ≡ [] = search rules in

@@ -6,7 +6,6 @@ use Rattle.atl_records.proofs.BookLaws.{other_amount}
 use Rattle.atl_campaign.proofs.FitLaws.{more_fits}
 use Rattle.atl_campaign.proofs.campaign.joining.book_joining.Goals as goal
 
--- book_joining may book the one man of a faction that joins: the people booked under Joining, and one more, fit 64 bits
 pub book-requires-2-clause-fits : goal.book-requires-2-clause-fits
 book-requires-2-clause-fits c =
     let old = c.args.books.now in

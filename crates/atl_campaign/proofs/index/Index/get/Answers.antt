@@ -10,7 +10,6 @@ use Rattle.atl_campaign.proofs.index.Index.get.Goals as goal
 abbrev default_entry : IndexEntry
 default_entry = record { number = 0; slot = 0 }
 
--- where the number has an entry, get returns the entry's slot, to which the number leads
 pub returns-in-Ok : goal.returns-in-Ok
 returns-in-Ok c =
     let entries = c.self.inside.entries in
@@ -18,7 +17,6 @@ returns-in-Ok c =
     let is_at : IsAt (index_numbers entries) n c.in-Ok.position = rw c.as_slice-entries.ensures at c.in-Ok.ensures.found in
     ap (λ (ps : List IndexEntry). Some (get_or ps c.in-Ok.position default_entry).slot) c.as_slice-entries.ensures ∙ sym (get-at_index entries n c.in-Ok.position default_entry c.self.invariant is_at) ∙ ap (λ m. get m n) c.self.view_is
 
--- where the number has no entry, get returns None: the number leads to no slot
 pub returns-in-Err : goal.returns-in-Err
 returns-in-Err c =
     let entries = c.self.inside.entries in

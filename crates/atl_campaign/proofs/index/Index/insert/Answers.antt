@@ -14,14 +14,12 @@ unreachable-requires c =
     let none : get (as_map entries) n ≡ None = ap (λ m. get m n) c.self.view_is ∙ c.requires in
     some_none _ (sym (get-at_index entries n c.in-Ok.field-0 (record { number = 0; slot = 0 }) c.self.invariant is_at) ∙ none)
 
--- once the new entry is in its place, the numbers of the entries still rise strictly
 pub invariant_of-self : goal.invariant_of-self
 invariant_of-self c =
     let entries = c.self.inside.entries in
     let belongs : BelongsAt (index_numbers entries) c.args.number c.in-Err.position = rw c.as_slice.ensures at c.in-Err.ensures.missing in
     rw c.in_ok-insert-in-Err.ensures.ok (sorted-added entries c.args.number c.in-Err.position c.args.slot c.self.invariant belongs)
 
--- once the new entry is in its place, the index leads from the number to the slot
 pub returns-clause-ok : goal.returns-clause-ok
 returns-clause-ok c =
     let entries = c.self.inside.entries in

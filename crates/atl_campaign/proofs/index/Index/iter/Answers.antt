@@ -4,6 +4,5 @@ use Rattle.atl_campaign.specs.Index.{slots_of}
 use Rattle.atl_campaign.proofs.IndexLaws.{entries-index}
 use Rattle.atl_campaign.proofs.index.Index.iter.Goals as goal
 
--- iter yields the numbers with their slots, in rising order
 pub returns : goal.returns
 returns c = ap slots_of (c.iter.ensures.rest ∙ c.as_slice.ensures) ∙ sym (entries-index c.self.inside.entries c.self.invariant) ∙ ap entries c.self.view_is

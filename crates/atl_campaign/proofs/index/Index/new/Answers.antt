@@ -1,6 +1,5 @@
 use Rattle.atl_campaign.proofs.IndexLaws.{sorted-none}
 use Rattle.atl_campaign.proofs.index.Index.new.Goals as goal
 
--- new returns an index with its invariant: it has no entries, so their numbers rise strictly
 pub invariant_of-result : goal.invariant_of-result
 invariant_of-result c = rw c.new.ensures sorted-none

@@ -6,7 +6,6 @@ use Rattle.atl_campaign.specs.declared.index.IndexEntry.{IndexEntry}
 use Rattle.atl_campaign.proofs.IndexLaws.{as_map, get-at_index, get-belongs, map-without, map-missing, sorted-without}
 use Rattle.atl_campaign.proofs.index.Index.remove.Goals as goal
 
--- once the entry is removed, the numbers of the entries still rise strictly
 pub invariant_of-self : goal.invariant_of-self
 invariant_of-self c =
     let entries = c.self.inside.entries in
@@ -17,7 +16,6 @@ invariant_of-self c =
 abbrev default_entry : IndexEntry
 default_entry = record { number = 0; slot = 0 }
 
--- where the number has an entry, remove returns the entry's slot, and the index no longer has the number
 pub returns-in-Ok : goal.returns-in-Ok
 returns-in-Ok c =
     let entries = c.self.inside.entries in
@@ -28,7 +26,6 @@ returns-in-Ok c =
       taken = ap as_map c.remove.ensures ∙ map-without entries n c.in-Ok.position c.self.invariant is_at ∙ ap (λ m. remove m n) c.self.view_is;
     }
 
--- where the number has no entry, remove returns None, and the index stays as it is, which is without the number
 pub returns-in-Err : goal.returns-in-Err
 returns-in-Err c =
     let entries = c.self.inside.entries in

@@ -3,7 +3,6 @@ use Rattle.atl_campaign.specs.declared.lists.ListKeys.{ListKeys}
 use Rattle.atl_campaign.proofs.ListLaws.{AreInsideLists-came, AreLists-came, AreLists-undone_at}
 use Rattle.atl_campaign.proofs.lists.UnitLists.add.Goals as goal
 
--- without memory for the faction's list the unit leaves that of its region again: all lists are those without it
 pub returns-in-Err-clause-err : goal.returns-in-Err-clause-err
 returns-in-Err-clause-err c units fresh is = record {
   regions = AreLists-undone_at (λ v. v.region) units _ _ _ c.args.number c.args.listing.region c.in_ok-list_number.ensures.ok c.unlist_number.ensures is.regions;
@@ -11,7 +10,6 @@ returns-in-Err-clause-err c units fresh is = record {
   structures = is.structures;
 }
 
--- once the unit is in the lists of its region, faction and structure, the lists are those of the units with it
 pub returns-in-Ok-list_unless-clause-ok : goal.returns-in-Ok-list_unless-clause-ok
 returns-in-Ok-list_unless-clause-ok c units u own fresh is = record {
   regions = AreLists-came (λ v. v.region) units _ _ c.args.number c.args.listing.region u (ap (λ (l : ListKeys). l.region) own) fresh c.in_ok-list_number.ensures.ok is.regions;
@@ -19,7 +17,6 @@ returns-in-Ok-list_unless-clause-ok c units u own fresh is = record {
   structures = AreInsideLists-came units _ _ c.args.number c.args.listing.structure u (ap (λ (l : ListKeys). l.structure) own) fresh c.in-Ok-list_unless.ensures.ok is.structures;
 }
 
--- without memory for the structure's list the unit leaves the other two again: all lists are those without it
 pub returns-in-Err-list_unless-clause-err : goal.returns-in-Err-list_unless-clause-err
 returns-in-Err-list_unless-clause-err c units fresh is = record {
   regions = AreLists-undone_at (λ v. v.region) units _ _ _ c.args.number c.args.listing.region c.in_ok-list_number.ensures.ok c.unlist_number-in-Err-list_unless.ensures is.regions;

@@ -3,7 +3,6 @@ use Rattle.atl_campaign.specs.declared.lists.ListKeys.{ListKeys}
 use Rattle.atl_campaign.proofs.ListLaws.{AreInsideLists-relisted, AreLists-kept, AreLists-relisted, AreLists-apart}
 use Rattle.atl_campaign.proofs.lists.UnitLists.relist.Goals as goal
 
--- without memory for the structure's list the unit leaves its new region's list again, so each list is as it was
 pub returns-in-Err-clause-err : goal.returns-in-Err-clause-err
 returns-in-Err-clause-err c units is = record {
   regions = AreLists-apart (λ v. v.region) units _ _ _ c.args.number c.args.to.region c.args.from.region c.in_ok-list_unless.ensures.ok c.unlist_unless.ensures is.regions;
@@ -11,7 +10,6 @@ returns-in-Err-clause-err c units is = record {
   structures = rw c.in-Err.ensures.err is.structures;
 }
 
--- once the unit is moved, the lists by region, faction and structure are those of the units with its new keys
 pub returns-clause-ok : goal.returns-clause-ok
 returns-clause-ok c units u v own goes there is = record {
   regions = AreLists-relisted (λ w. w.region) units _ _ _ c.args.number c.args.from.region c.args.to.region u v there (ap (λ (l : ListKeys). l.region) own) (ap (λ (l : ListKeys). l.region) goes) c.in_ok-list_unless.ensures.ok c.unlist_unless-2.ensures is.regions;

@@ -3,7 +3,6 @@ use Rattle.atl_campaign.specs.declared.lists.ListKeys.{ListKeys}
 use Rattle.atl_campaign.proofs.ListLaws.{AreInsideLists-went, AreLists-went}
 use Rattle.atl_campaign.proofs.lists.UnitLists.remove.Goals as goal
 
--- after remove the lists by region, faction and structure are those of the units without the one removed
 pub returns : goal.returns
 returns c units u own there is = record {
   regions = AreLists-went (λ v. v.region) units _ _ c.args.number c.args.listing.region u (ap (λ (l : ListKeys). l.region) own) there c.unlist_number.ensures is.regions;

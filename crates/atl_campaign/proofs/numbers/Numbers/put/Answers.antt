@@ -3,7 +3,6 @@ use Rattle.atl_campaign.specs.Ordered.{put_number}
 use Rattle.atl_campaign.proofs.SortedLaws.{IsSorted-put}
 use Rattle.atl_campaign.proofs.numbers.Numbers.put.Goals as goal
 
--- once put has put the number in, the list is still sorted
 pub invariant_of-self-2 : goal.invariant_of-self-2
 unfolding put_number
 invariant_of-self-2 c = rw (c.in_ok-insert.ensures.ok, c.first_not_below-position.ensures.position, c.as_slice.ensures, sym c.self.view_is) (IsSorted-put c.args.number c.self.inside.items c.self.invariant)

@@ -3,7 +3,6 @@ use Rattle.std.proofs.lemmas.Result.{on_err_weaker}
 use Rattle.atl_world.proofs.SumLaws.{put_same_err}
 use Rattle.atl_campaign.proofs.regions.Regions.put_stock.Goals as goal
 
--- where put_stock has no memory for the stock, no region changes
 pub returns-clause-err : goal.returns-clause-err
 returns-clause-err c =
     let region = c.in-Some.lent.now in

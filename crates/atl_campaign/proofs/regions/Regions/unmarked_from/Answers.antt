@@ -1,7 +1,5 @@
 use Rattle.atl_campaign.proofs.MarkedRegionLaws.{AreRegions-of}
 use Rattle.atl_campaign.proofs.regions.Regions.unmarked_from.Goals as goal
 
--- `unmarked_from` returns regions with their invariant (`AreRegions`): there is room to mark each row and its stocks,
--- and no stock is marked without its region, as nothing is marked
 pub invariant_of-result : goal.invariant_of-result
 invariant_of-result c = rw (c.in_ok-rows.ensures, c.in_ok-markets.ensures, c.in_ok-stocks.ensures, c.len.ensures, c.len-2.ensures, c.len-3.ensures, c.new.ensures) (AreRegions-of c.args.values)

@@ -8,33 +8,25 @@ use Rattle.atl_campaign.proofs.IndexLaws.{not_some_is_none}
 use Rattle.atl_campaign.proofs.UnitLaws.{AreUnits-gone}
 use Rattle.atl_campaign.proofs.units.Units.remove.Goals as goal
 
--- remove may mark the unit: the dirty set of the units has room for it
 pub add-requires : goal.add-requires
 add-requires c = fits-marked c.self.inside.units c.self.inside.marks.numbers c.self.inside.marks.room c.args.number (sym c.if-remove.ensures.there) c.self.invariant.marks_fit
 
--- remove may mark the unit's row: the dirty set of the rows has room for it
 pub add-requires-then-remove : goal.add-requires-then-remove
 add-requires-then-remove c = fits-marked c.self.inside.units c.self.inside.rows.numbers c.self.inside.rows.room c.args.number (sym c.if-remove.ensures.there) c.self.invariant.rows_fit
 
--- remove may mark all goods of the unit: the dirty set of the goods has room for it
 pub add-requires-then-remove-2 : goal.add-requires-then-remove-2
 add-requires-then-remove-2 c = fits-marked c.self.inside.units c.self.inside.goods.numbers c.self.inside.goods.room c.args.number (sym c.if-remove.ensures.there) c.self.invariant.goods_fit
 
--- once the unit is removed and marked, there is room for all marks, and a unit with a marked part is marked itself
--- (AreUnits)
 pub invariant_of-self : goal.invariant_of-self
 invariant_of-self c =
     rw (c.if-remove.ensures.taken, c.add.ensures, c.add-then-remove.ensures, c.add-then-remove-2.ensures)
     (AreUnits-gone c.self.inside.units c.self.inside.marks c.self.inside.rows c.self.inside.goods c.self.inside.items c.self.inside.skills c.args.number (sym c.if-remove.ensures.there) c.self.invariant)
 
--- where no unit has the given number, there is still room for all marks, and a unit with a marked part is marked itself
--- (AreUnits)
 pub invariant_of-self-else-remove : goal.invariant_of-self-else-remove
 invariant_of-self-else-remove c =
     let none = not_some_is_none (get c.self.inside.units c.args.number) (sym c.if-remove.ensures.there) in
     rw (c.if-remove.ensures.taken, remove_none c.self.inside.units c.args.number none) c.self.invariant
 
--- where no unit has the given number, remove changes nothing, as without_unit_at defines
 pub returns-else-remove : goal.returns-else-remove
 returns-else-remove c =
     let units = c.self.inside.units in

@@ -12,30 +12,24 @@ use Rattle.atl_campaign.specs.Marks.{with_thing}
 use Rattle.atl_campaign.proofs.UnitLaws.{same_values, AreUnits-skill}
 use Rattle.atl_campaign.proofs.units.Units.set_days.Goals as goal
 
--- where there is no memory to mark the skill, there is still room for all marks, and a unit with a marked part is
--- marked itself (AreUnits)
 pub invariant_of-self-in_err-insert_under : goal.invariant_of-self-in_err-insert_under
 invariant_of-self-in_err-insert_under c =
     rw (put_same c.self.inside.units c.args.number c.in-Some.unit.now c.in-Some.unit.now (sym c.in-Some.ensures.value) refl, c.in_err-insert_under.ensures.err) c.self.invariant
 
--- where there is no memory to mark the skill, set_days changes nothing
 pub returns-in_err-insert_under-clause-err : goal.returns-in_err-insert_under-clause-err
 returns-in_err-insert_under-clause-err c =
     on_err c.from_residual.result
     (inl (rw (put_same c.self.inside.units c.args.number c.in-Some.unit.now c.in-Some.unit.now (sym c.in-Some.ensures.value) refl, c.in_err-insert_under.ensures.err) c.self.view_is))
 
--- set_days may mark the unit: the dirty set of the units has room for it
 pub add-requires : goal.add-requires
 add-requires c = fits-marked c.self.inside.units c.self.inside.marks.numbers c.self.inside.marks.room c.args.number (ap is_some (sym c.in-Some.ensures.value)) c.self.invariant.marks_fit
 
--- at the end of set_days there is room for all marks, and a unit with a marked part is marked itself (AreUnits)
 pub invariant_of-self-2 : goal.invariant_of-self-2
 invariant_of-self-2 c =
     rw (c.in_ok-insert_under.ensures.ok, c.add.ensures)
     (AreUnits-skill c.self.inside.units c.self.inside.marks c.self.inside.rows c.self.inside.goods c.self.inside.items c.self.inside.skills c.args.number c.in-Some.unit.now
     (record c.in-Some.unit.now { holding = c.set_days.new.self }) (insert (group_of c.self.inside.skills c.args.number) c.args.skill tt) (sym c.in-Some.ensures.value) c.self.invariant)
 
--- where there is no memory for the days, the units are as they were, and the skill and its unit are marked
 pub returns-clause-err : goal.returns-clause-err
 returns-clause-err c =
     let unit = c.in-Some.unit.now in

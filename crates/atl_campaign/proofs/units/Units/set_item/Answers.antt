@@ -13,30 +13,24 @@ use Rattle.atl_campaign.specs.Roster.{Roster}
 use Rattle.atl_campaign.proofs.UnitLaws.{same_values, with_item_again, AreUnits-item}
 use Rattle.atl_campaign.proofs.units.Units.set_item.Goals as goal
 
--- where there is no memory to mark the item, there is still room for all marks, and a unit with a marked part is marked
--- itself (AreUnits)
 pub invariant_of-self-in_err-insert_under : goal.invariant_of-self-in_err-insert_under
 invariant_of-self-in_err-insert_under c =
     rw (put_same c.self.inside.units c.args.number c.in-Some.unit.now c.in-Some.unit.now (sym c.in-Some.ensures.value) refl, c.in_err-insert_under.ensures.err) c.self.invariant
 
--- where there is no memory to mark the item, set_item changes nothing
 pub returns-in_err-insert_under-clause-err : goal.returns-in_err-insert_under-clause-err
 returns-in_err-insert_under-clause-err c =
     on_err c.from_residual.result
     (inl (rw (put_same c.self.inside.units c.args.number c.in-Some.unit.now c.in-Some.unit.now (sym c.in-Some.ensures.value) refl, c.in_err-insert_under.ensures.err) c.self.view_is))
 
--- set_item may mark the unit: the dirty set of the units has room for it
 pub add-requires : goal.add-requires
 add-requires c = fits-marked c.self.inside.units c.self.inside.marks.numbers c.self.inside.marks.room c.args.number (ap is_some (sym c.in-Some.ensures.value)) c.self.invariant.marks_fit
 
--- at the end of set_item there is room for all marks, and a unit with a marked part is marked itself (AreUnits)
 pub invariant_of-self-2 : goal.invariant_of-self-2
 invariant_of-self-2 c =
     rw (c.in_ok-insert_under.ensures.ok, c.add.ensures)
     (AreUnits-item c.self.inside.units c.self.inside.marks c.self.inside.rows c.self.inside.goods c.self.inside.items c.self.inside.skills c.args.number c.in-Some.unit.now
     (record c.in-Some.unit.now { holding = c.set_amount.new.self }) (insert (group_of c.self.inside.items c.args.number) c.args.item tt) (sym c.in-Some.ensures.value) c.self.invariant)
 
--- where there is no memory for the amount, the units are as they were, and the item and its unit are marked
 pub returns-clause-err : goal.returns-clause-err
 returns-clause-err c =
     let unit = c.in-Some.unit.now in
@@ -46,11 +40,9 @@ returns-clause-err c =
     let marked = same_values (record { values = c.self.inside.units; marks = marks; rows = c.self.inside.rows.numbers; goods = c.self.inside.goods.numbers; items = with_thing c.self.inside.items c.args.number c.args.item; skills = c.self.inside.skills }) in
     on_err_weaker c.set_amount.result (λ e. inr (rw (← c.self.view_is, c.in_ok-insert_under.ensures.ok, c.add.ensures, ← c.in-Some.ensures.value, ← c.if-has_amount.ensures) (marked _ e))) units
 
--- where the unit has the amount already, the units and their marks are as they were
 pub invariant_of-self-then-has_amount : goal.invariant_of-self-then-has_amount
 invariant_of-self-then-has_amount c = rw (put_same c.self.inside.units c.args.number c.in-Some.unit.now c.in-Some.unit.now (sym c.in-Some.ensures.value) refl) c.self.invariant
 
--- where the unit has the amount already, setting it changes nothing
 pub returns-then-has_amount-clause-ok : goal.returns-then-has_amount-clause-ok
 returns-then-has_amount-clause-ok c =
     let unit = c.in-Some.unit.now in

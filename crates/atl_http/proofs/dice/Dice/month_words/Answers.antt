@@ -4,7 +4,6 @@ use Rattle.atl_http.specs.Dice.{first_words}
 use Rattle.atl_http.proofs.WordLaws.{word_more}
 use Rattle.atl_http.proofs.dice.Dice.month_words.Goals as goal
 
--- after one more word is added, the words so far and the next ones of the generator are still those of the month
 pub loop-preserved : goal.loop-preserved
 loop-preserved c =
     let before : Lcg = record { state = c.loop.generator.state; increment = c.loop.generator.increment } in

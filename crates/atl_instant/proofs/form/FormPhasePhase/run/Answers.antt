@@ -14,7 +14,6 @@ use Rattle.atl_orders.specs.declared.verb.Verb.TheVariants.{Form}
 use Rattle.atl_instant.specs.Forming.{form_by_copy}
 use Rattle.atl_instant.specs.declared.form.Forming.{Forming}
 
--- before the first copied order the loop's invariant holds: all orders are still to come, and nothing has changed
 pub loop-order-init : goal.loop-order-init
 loop-order-init c = record {
   orders = refl;
@@ -24,12 +23,9 @@ loop-order-init c = record {
   marks = marks-refl c.args.campaign;
 }
 
--- no unit has the next unit number, as the call that carries out one order of FORM requires
 pub form_one-requires : goal.form_one-requires
 form_one-requires c = record { free = free_number c.args._world.now c.loop-order.campaign.value c.loop-order.invariant.well.holds_still }
 
--- after one more copied order the loop's invariant still holds: the orders left give what all give, the campaign is
--- early and in balance, and each unit that was there is unchanged
 pub loop-order-preserved : goal.loop-order-preserved
 loop-order-preserved c =
     let w = c.args._world.now in
@@ -51,7 +47,6 @@ loop-order-preserved c =
       marks = marks-trans c.args.campaign c.loop-order.campaign _ c.loop-order.invariant.marks c.in_ok-form_one.ensures.marks;
     }
 
--- the campaign and the month after the loop are those of the definition of FORM (`form_meaning`)
 pub returns-clause-meaning : goal.returns-clause-meaning
 returns-clause-meaning c =
     let start : CampaignValue × MonthValue = (c.args.campaign.value, c.args.month) in
@@ -62,19 +57,14 @@ returns-clause-meaning c =
     ∙ ap (fold form_by_copy start) (c.deref-order-items.ensures.value ∙ c.in_ok-orders.ensures)
     ∙ all_formed c.args._world.now c.args.campaign.value c.args.month
 
--- the phase of FORM leaves the campaign early, in its month and in balance, and moves no amount of the books
--- (`LeavesWell`)
 pub returns-clause-leaves : goal.returns-clause-leaves
 returns-clause-leaves c = leaves_well c.args._world.now c.args.campaign.value c.loop-order.campaign.value (λ e t. omega arith) c.loop-order.invariant.well
 
--- each unit that was there before the phase of FORM is there unchanged after it
 pub returns-clause-keeps : goal.returns-clause-keeps
 returns-clause-keeps c = c.loop-order.invariant.stays
 
--- the phase of FORM leaves the readings of the month as they were
 pub returns-clause-readings : goal.returns-clause-readings
 returns-clause-readings c = ap (λ (m : MonthValue). m.readings) c.gather.ensures ∙ c.loop-order.invariant.readings
 
--- all that the phase of FORM changes is marked
 pub returns-clause-marks : goal.returns-clause-marks
 returns-clause-marks c = c.loop-order.invariant.marks

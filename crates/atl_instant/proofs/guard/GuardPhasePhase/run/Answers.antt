@@ -25,7 +25,6 @@ use Rattle.atl_instant.proofs.GuardingLaws.{guard_orderly}
 use Rattle.atl_instant.proofs.RegionGuardLaws.{holders_are}
 use Rattle.atl_instant.proofs.guard.GuardPhasePhase.run.Goals as goal
 
--- before the first order of GUARD the loop's invariant holds: nothing has changed, and the map has those who guard
 pub loop-order-init : goal.loop-order-init
 loop-order-init c = record {
   orders = ap (λ es. fold (λ p o. one_order guard_step c.args._world.now p (task_of o)) (c.args.campaign.value, with_events c.args.month es) c.deref-order-items.result.now) c.new-events.ensures.items;
@@ -46,8 +45,6 @@ guard_one-requires-clause-flag c =
     (ap (map task_of) c.deref-order-items.ensures.value ∙ c.in_ok-orders.ensures) (λ k d l. guard_shape _ _ (verbs_fit k d l) (fit k d l).shape)
     c.loop-order.order-index c.order-item.result c.loop-order-test.true)
 
--- after one more order of GUARD the loop's invariant still holds: the orders left give what all give, the campaign is
--- steady and in balance, and the map has the factions that guard
 pub loop-order-preserved : goal.loop-order-preserved
 loop-order-preserved c =
     let w = c.args._world.now in
@@ -71,7 +68,6 @@ loop-order-preserved c =
       marks = marks-trans c.args.campaign c.loop-order.campaign _ c.loop-order.invariant.marks c.in_ok-guard_one.ensures.marks;
     }
 
--- the campaign and the month after the loop are those of the definition of the phase of GUARD 1
 pub returns-clause-meaning : goal.returns-clause-meaning
 unfolding meaning_by_orders
 returns-clause-meaning c =
@@ -90,12 +86,9 @@ returns-clause-meaning c =
     ∙ ap (fold step start) (ap (map task_of) c.deref-order-items.ensures.value ∙ c.in_ok-orders.ensures)
     ∙ ap (λ p. fold step p (orders_by_unit is_guarding m)) none
 
--- the phase of GUARD 1 leaves the campaign steady, in its month and in balance, and moves no amount of the books
--- (`LeavesWell`)
 pub returns-clause-leaves : goal.returns-clause-leaves
 returns-clause-leaves c = leaves_well c.args._world.now c.args.campaign.value c.loop-order.campaign.value (λ e t. omega arith) c.loop-order.invariant.well
 
--- a unit for which its own faction wrote no GUARD 1 is no worse off after the phase
 pub returns-clause-keeps : goal.returns-clause-keeps
 unfolding meaning_by_orders
 returns-clause-keeps c =
@@ -105,6 +98,5 @@ returns-clause-keeps c =
     subst (λ d. AreUnaffected guard_affects IsNoWorse ts c.args.campaign.value d) (sym (ap (λ p. p.0) (returns-clause-meaning c)))
     (orders_leave_others guard_step guard_orderly w c.args.campaign.value m ts c.requires.needs (orders_fit w m.aliases m.readings c.requires.read is_guarding))
 
--- all that the phase of GUARD 1 changes is marked
 pub returns-clause-marks : goal.returns-clause-marks
 returns-clause-marks c = c.loop-order.invariant.marks

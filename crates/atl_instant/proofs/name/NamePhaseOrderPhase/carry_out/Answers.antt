@@ -3,7 +3,6 @@ use Rattle.atl_phase.proofs.OrderEffectLaws.{result_of_effect}
 use Rattle.atl_instant.specs.Name.{naming}
 use Rattle.atl_instant.proofs.name.NamePhaseOrderPhase.carry_out.Goals as goal
 
--- an order of NAME makes the campaign and the outcome that the definition gives (`naming`)
 pub returns-in_ok-give_name-in-Name-clause-step : goal.returns-in_ok-give_name-in-Name-clause-step
 returns-in_ok-give_name-in-Name-clause-step c =
     let effect = naming c.args.world.now c.args.order.unit c.in-Name.kind (name_in c.args.order.mailing.now.text c.in-Name.span) in

@@ -1,6 +1,5 @@
 use Rattle.atl_instant.proofs.QuitLaws.{quit_orderly}
 use Rattle.atl_instant.proofs.quit.QuitPhaseOrderPhase.is_orderly.Goals as goal
 
--- the law `is_orderly` of QUIT is the law `quit_orderly`
 pub returns : goal.returns
 returns c = quit_orderly

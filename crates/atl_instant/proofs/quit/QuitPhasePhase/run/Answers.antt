@@ -3,7 +3,6 @@ use Rattle.atl_instant.specs.Quit.{quit_keeps}
 use Rattle.atl_instant.proofs.QuitLaws.{quit_leaves_others}
 use Rattle.atl_instant.proofs.quit.QuitPhasePhase.run.Goals as goal
 
--- a unit is no worse off after the phase of QUIT, unless its faction quits (`quit_keeps`)
 pub returns-clause-keeps : goal.returns-clause-keeps
 returns-clause-keeps c =
     let w = c.args.world.now in

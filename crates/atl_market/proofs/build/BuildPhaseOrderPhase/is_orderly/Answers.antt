@@ -1,6 +1,5 @@
 use Rattle.atl_market.proofs.BuildLaws.{build_orderly}
 use Rattle.atl_market.proofs.build.BuildPhaseOrderPhase.is_orderly.Goals as goal
 
--- the law of what each order of BUILD keeps (`IsOrderly`) is proved in BuildLaws
 pub returns : goal.returns
 returns c = build_orderly

@@ -7,17 +7,14 @@ use Rattle.atl_market.specs.Unordered.{OthersAreNoWorse}
 use Rattle.atl_market.proofs.ProduceLaws.{can_share_out, produce_keeps_others, produce_leaves_well}
 use Rattle.atl_market.proofs.produce.ProducePhasePhase.run.Goals as goal
 
--- PRODUCE may call share_out: each unit can make its share, one after the other
 pub share_out-requires-clause-can : goal.share_out-requires-clause-can
 share_out-requires-clause-can c = can_share_out c.args.world.now c.args.campaign.value c.world_is_well_formed.ensures c.requires.needs (map task_of c.deref.result.now) c.requires.room
 
--- PRODUCE leaves the campaign steady and its books balanced, and moves them within its bound (`LeavesWell`)
 pub returns-clause-leaves : goal.returns-clause-leaves
 returns-clause-leaves c =
     subst (λ d. LeavesWell IsSteady (produce_moves most_moved) c.args.world.now c.args.campaign.value d) (sym c.in_ok-events.ensures.what)
     (produce_leaves_well c.args.world.now c.args.campaign.value c.world_is_well_formed.ensures c.requires.needs (map task_of c.deref.result.now) c.requires.room)
 
--- units for which their own faction wrote no order of PRODUCE are no worse off
 pub returns-clause-keeps : goal.returns-clause-keeps
 returns-clause-keeps c =
     let orders : map task_of c.deref.result.now ≡ orders_by_unit is_produce c.args.month = search rules in

@@ -4,7 +4,6 @@ use Rattle.std.specs.List.{slice_get}
 use Rattle.atl_market.proofs.ProduceLaws.{can_make_item}
 use Rattle.atl_market.proofs.produce.ProducePhasePotPhase.pay.Goals as goal
 
--- pay may call make: the unit has room for its share of the item, and the raw items for it
 pub make-requires : goal.make-requires
 make-requires c =
     let item = c.in-Some.item.now in

@@ -7,17 +7,14 @@ use Rattle.atl_market.specs.Unordered.{OthersAreNoWorse}
 use Rattle.atl_market.proofs.RecruitLaws.{all_recruits_leave_well, can_share_out, recruit_keeps_others}
 use Rattle.atl_market.proofs.recruit.RecruitPhasePhase.run.Goals as goal
 
--- RECRUIT may call share_out: each unit can get its recruits, one after the other
 pub share_out-requires-clause-can : goal.share_out-requires-clause-can
 share_out-requires-clause-can c = can_share_out c.args.world.now c.args.campaign.value c.requires.needs (map task_of c.deref.result.now) c.requires.room
 
--- RECRUIT leaves the campaign early and its books balanced, and moves them within its bound (`LeavesWell`)
 pub returns-clause-leaves : goal.returns-clause-leaves
 returns-clause-leaves c =
     subst (λ d. LeavesWell IsEarly (recruit_moves most_moved) c.args.world.now c.args.campaign.value d) (sym c.in_ok-events.ensures.what)
     (all_recruits_leave_well c.args.world.now c.args.campaign.value c.requires.needs (map task_of c.deref.result.now) c.requires.room)
 
--- units for which their own faction wrote no order of RECRUIT are no worse off
 pub returns-clause-keeps : goal.returns-clause-keeps
 returns-clause-keeps c =
     let orders : map task_of c.deref.result.now ≡ orders_by_unit is_recruit c.args.month = search rules in

@@ -1,4 +1,4 @@
-use Rattle.std.proofs.Common.{◌≡◌, ◌≤◌, ◌-◌, ◌*◌, ◌∙◌, ℕ, Some, refl, sym, ap, arith, rules}
+use Rattle.std.proofs.Common.{◌≡◌, ◌≤◌, ◌-◌, ◌*◌, ◌∙◌, ℕ, Some, sym, ap, arith, rules}
 use Rattle.std.specs.Prelude.{neg_ℤ, pos}
 use Rattle.std.specs.FinMap.{get}
 use Rattle.atl_records.specs.declared.books.BooksEntry.TheVariants.{Recruiting}
@@ -7,7 +7,7 @@ use Rattle.atl_records.specs.Books.{amount_in}
 use Rattle.atl_records.specs.Limits.{holding_limit}
 use Rattle.atl_campaign.specs.Campaign.{CampaignValue, with_booking, with_peasants}
 use Rattle.atl_campaign.specs.Lending.{with_holding_at}
-use Rattle.atl_campaign.proofs.CoverLaws.{marks-region, marks-trans}
+use Rattle.atl_campaign.proofs.CoverLaws.{marks-peasants, marks-trans}
 use Rattle.atl_phase.proofs.ChangeLaws.{changed_held, men_changes, money_changes, then_changes}
 use Rattle.atl_phase.proofs.MarkLaws.{booked_marks, marks_by}
 use Rattle.atl_phase.proofs.MeaningLaws.{amount_room_for_less}
@@ -15,13 +15,11 @@ use Rattle.atl_market.specs.Recruit.{with_paid_recruits}
 use Rattle.atl_market.proofs.RecruitLaws.{recruited_is, with_recruits_booked}
 use Rattle.atl_market.proofs.recruit.RecruitPhasePotPhase.pay.Goals as goal
 
--- pay may call book_taken: money is one of the things that the books have
 pub book_taken-requires-clause-there : goal.book_taken-requires-clause-there
 book_taken-requires-clause-there c =
     let books = ap (λ (d : CampaignValue). d.books) c.set_peasants.ensures.what ∙ ap (λ (d : CampaignValue). d.books) c.set_money.ensures.what ∙ ap (λ (d : CampaignValue). d.books) c.set_men.ensures.what in
     rw books (omega (arith, c.requires.can.early.steady.numbers.books.count))
 
--- pay may call book_taken: the books have room for the price of the recruits
 pub book_taken-requires-clause-room : goal.book_taken-requires-clause-room
 book_taken-requires-clause-room c =
     let can = c.requires.can in
@@ -31,7 +29,6 @@ book_taken-requires-clause-room c =
     let little : cost ≤ holding_limit = rw price (omega (arith, can.payable, (can.early.steady.numbers.units c.args.number can.at.unit can.at.there).1.money)) in
     rw books (amount_room_for_less cost holding_limit (amount_in c.args.campaign.now.value.books Recruiting Money) little (can.room Recruiting Money))
 
--- the recruits join the unit, leave its region, and their price is paid and booked (`after_recruiting`)
 pub returns-clause-what : goal.returns-clause-what
 returns-clause-what c =
     let old = c.args.campaign.now in
@@ -49,7 +46,6 @@ returns-clause-what c =
     ∙ ap (λ (d : CampaignValue). with_booking d Recruiting Money (neg_ℤ (pos cost))) (c.set_peasants.ensures.what ∙ ap (λ (d : CampaignValue). with_peasants d u.region (q.peasants - c.args.share)) held)
     ∙ ap (λ (p : ℕ). with_recruits_booked old.value n u q c.args.share (c.args.share * p)) price ∙ sym (recruited_is c.args.world.now old.value (n, c.args.share) u q there around)
 
--- all that pay changes is marked: the unit's men and money, the region's peasants, and what is booked
 pub returns-clause-marks : goal.returns-clause-marks
 returns-clause-marks c =
     let old = c.args.campaign.now in
@@ -60,5 +56,5 @@ returns-clause-marks c =
     let left = c.in-Some-region.found.now.peasants - c.args.share in
     let set = then_changes old c.set_men.new.self mid n _ _ (men_changes old c.set_men.new.self n _ c.set_men.ensures.what c.set_men.ensures.marks) (money_changes c.set_men.new.self mid n _ c.set_money.ensures.what c.set_money.ensures.marks) in
     booked_marks old last c.book_taken.new.campaign Recruiting Money _
-    (marks-trans old mid last set.marks (marks_by mid last _ c.set_peasants.ensures.what c.set_peasants.ensures.marks (marks-region (λ r. record r { peasants = left }) (λ r. refl) mid region)))
+    (marks-trans old mid last set.marks (marks_by mid last _ c.set_peasants.ensures.what c.set_peasants.ensures.marks (marks-peasants mid region left)))
     c.book_taken.ensures.what c.book_taken.ensures.marks

@@ -1,10 +1,9 @@
-use Rattle.std.proofs.Common.{◌+◌, ◌-◌, refl}
-use Rattle.atl_campaign.proofs.CoverLaws.{marks-region, marks-trans}
+use Rattle.std.proofs.Common.{◌+◌, ◌-◌}
+use Rattle.atl_campaign.proofs.CoverLaws.{marks-region-money, marks-trans}
 use Rattle.atl_phase.proofs.ChangeLaws.{money_changes}
 use Rattle.atl_phase.proofs.MarkLaws.{marks_by}
 use Rattle.atl_market.proofs.tax.TaxPhasePotPhase.pay.Goals as goal
 
--- the new money of the unit and of its region is marked
 pub returns-clause-marks : goal.returns-clause-marks
 returns-clause-marks c =
     let mid = c.set_money.new.self in
@@ -13,4 +12,4 @@ returns-clause-marks c =
     let region = c.in-Some.unit.now.region in
     marks-trans c.args.campaign.now mid last
     (money_changes c.args.campaign.now mid c.args.number (c.money-held.result + c.args.share) c.set_money.ensures.what c.set_money.ensures.marks).marks
-    (marks_by mid last _ c.set_region_money.ensures.what c.set_region_money.ensures.marks (marks-region (λ r. record r { money = left }) (λ r. refl) mid region))
+    (marks_by mid last _ c.set_region_money.ensures.what c.set_region_money.ensures.marks (marks-region-money mid region left))

@@ -2,7 +2,6 @@ use Rattle.std.proofs.Common.{arith}
 use Rattle.atl_market.proofs.TradeLaws.{stock_most}
 use Rattle.atl_market.proofs.trade.MarketPotsItemPots.pot.Goals as goal
 
--- the pot of BUY, a market's stock, is at most 999,999,999
 pub returns-in-Buy-clause-bound : goal.returns-in-Buy-clause-bound
 returns-in-Buy-clause-bound c =
     let pots = c.args.self.now in

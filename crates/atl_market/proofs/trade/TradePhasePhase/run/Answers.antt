@@ -8,13 +8,11 @@ use Rattle.atl_market.specs.Unordered.{OthersAreNoWorse}
 use Rattle.atl_market.proofs.TradeLaws.{all_trades_leave_well, can_share_out, trade_keeps_others}
 use Rattle.atl_market.proofs.trade.TradePhasePhase.run.Goals as goal
 
--- SELL or BUY may call share_out: each unit can trade its share, one after the other
 pub share_out-requires-clause-can : goal.share_out-requires-clause-can
 share_out-requires-clause-can g c =
     let room : HaveRoom (trade_moves c.trade_of-trade.result most_moved) c.args.campaign.value = rw c.trade_of-trade.ensures c.requires.room in
     can_share_out c.trade_of-trade.result c.args.world.now c.world_is_well_formed.ensures c.args.campaign.value c.requires.needs (map task_of c.deref.result.now) room
 
--- SELL or BUY leaves the campaign early and its books balanced, and moves them within its bound (`LeavesWell`)
 pub returns-clause-leaves : goal.returns-clause-leaves
 returns-clause-leaves g c =
     let trade = c.trade_of-trade.result in
@@ -23,7 +21,6 @@ returns-clause-leaves g c =
     (subst (λ d. LeavesWell IsEarly (trade_moves trade most_moved) c.args.world.now c.args.campaign.value d) (sym c.in_ok-events.ensures.what)
     (all_trades_leave_well trade c.args.world.now c.world_is_well_formed.ensures c.args.campaign.value c.requires.needs (map task_of c.deref.result.now) room))
 
--- units for which their own faction wrote no order of the phase, SELL or BUY, are no worse off
 pub returns-clause-keeps : goal.returns-clause-keeps
 returns-clause-keeps g c =
     let trade = c.trade_of-trade.result in

@@ -5,7 +5,6 @@ use Rattle.atl_market.specs.Trade.{market_for}
 use Rattle.atl_market.proofs.TradeLaws.{can_book_result}
 use Rattle.atl_market.proofs.trade.TradePotPhase.pay.Goals as goal
 
--- SELL or BUY may call book_trade: the result of the trade is within all limits, and the books have room
 pub book_trade-requires : goal.book_trade-requires
 book_trade-requires c =
     let before = c.args.campaign.now.value in

@@ -7,16 +7,13 @@ use Rattle.atl_market.specs.Work.{work_moves}
 use Rattle.atl_market.proofs.WorkLaws.{can_share_out, work_keeps_units, work_leaves_well}
 use Rattle.atl_market.proofs.work.WorkPhasePhase.run.Goals as goal
 
--- WORK may call share_out: the campaign is steady, and each unit can be paid its wages, one after the other
 pub share_out-requires : goal.share_out-requires
 share_out-requires c = record { needs = c.requires.needs; can = can_share_out c.args.world.now c.args.campaign.value c.requires.needs (map task_of c.deref.result.now) c.requires.room }
 
--- WORK leaves the campaign steady and its books balanced, and moves them within its bound (`LeavesWell`)
 pub returns-clause-leaves : goal.returns-clause-leaves
 returns-clause-leaves c =
     subst (λ d. LeavesWell IsSteady (work_moves most_moved) c.args.world.now c.args.campaign.value d) (sym c.in_ok-events.ensures.what)
     (work_leaves_well c.args.world.now c.args.campaign.value c.requires.needs (map task_of c.deref.result.now) c.requires.room)
 
--- no unit is worse off after WORK
 pub returns-clause-keeps : goal.returns-clause-keeps
 returns-clause-keeps c = subst (λ d. AreNoWorse c.args.campaign.value d) (sym c.in_ok-events.ensures.what) (work_keeps_units c.args.world.now c.args.campaign.value (map task_of c.deref.result.now))

@@ -12,7 +12,6 @@ use Rattle.atl_phase.proofs.MarkLaws.{booked_marks}
 use Rattle.atl_market.specs.Work.{wages_for}
 use Rattle.atl_market.proofs.work.WorkPhasePotPhase.pay.Goals as goal
 
--- pay may call book: the wages fit into the books, added to what was booked before
 pub book-requires-clause-fits : goal.book-requires-clause-fits
 book-requires-clause-fits c =
     let can = c.requires.can in
@@ -23,7 +22,6 @@ book-requires-clause-fits c =
     rw (same, c.from.ensures, c.set_money.ensures.what)
     (booking_fits (amount_in c.args.campaign.now.value.books Wages Money) (pos money) holding_limit (within-pos money holding_limit (omega (arith, room, c.wages_for-money.ensures))) (can.room Wages Money))
 
--- the unit's new money and the wages that are booked are marked
 pub returns-clause-marks : goal.returns-clause-marks
 returns-clause-marks c =
     let money = c.wages_for-money.result in

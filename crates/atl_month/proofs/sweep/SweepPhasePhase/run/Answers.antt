@@ -9,11 +9,9 @@ use Rattle.atl_month.specs.Sweep.{loses_by, menless_units, sweep}
 use Rattle.atl_month.proofs.SweepAllLaws.{few_menless, loses_little, sweep_keeps_all, sweep_leaves_well}
 use Rattle.atl_month.proofs.sweep.SweepPhasePhase.run.Goals as goal
 
--- the sweep may call receivers_of: unit numbers begin at 1
 pub receivers_of-requires : goal.receivers_of-requires
 receivers_of-requires c n u is = (c.requires.needs.numbers.units n u is).0
 
--- the sweep may call sweep_units: the books have room for what the units without men may lose
 pub sweep_units-requires-clause-room : goal.sweep_units-requires-clause-room
 sweep_units-requires-clause-room c =
     let w = c.args.world.now in
@@ -21,7 +19,6 @@ sweep_units-requires-clause-room c =
     let list : c.deref.result.now ≡ menless_units before = search rules in
     rw list (room_less (moved_times (length (menless_units before)) (loses_by most_amount)) (loses_by most_moved) before (loses_little (length (menless_units before)) (few_menless w before c.requires.needs)) c.requires.room)
 
--- the sweep keeps the clauses of `Phase::run`: its definition, what it leaves and keeps, the readings, and the marks
 pub returns : goal.returns
 returns c =
     let w = c.args.world.now in

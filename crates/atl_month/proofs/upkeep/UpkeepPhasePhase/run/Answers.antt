@@ -3,13 +3,11 @@ use Rattle.atl_month.specs.Upkeep.{upkeep, upkeep_inputs_of, upkeep_results}
 use Rattle.atl_month.proofs.UpkeepLaws.{upkeep_is_of_peers, all_can_pay, inputs_in_order, upkeep_leaves_well}
 use Rattle.atl_month.proofs.upkeep.UpkeepPhasePhase.run.Goals as goal
 
--- upkeep may call upkeep_payments: what upkeep reads of the units is sorted by their numbers
 pub upkeep_payments-requires-clause-order : goal.upkeep_payments-requires-clause-order
 upkeep_payments-requires-clause-order c =
     let list : c.deref.result.now ≡ upkeep_inputs_of c.args.campaign.value = search rules in
     rw list (inputs_in_order c.args.campaign.value)
 
--- upkeep may call charge_all: each unit can pay what upkeep takes from it when its turn comes
 pub charge_all-requires : goal.charge_all-requires
 charge_all-requires c =
     let w = c.args.world.now in
@@ -17,7 +15,6 @@ charge_all-requires c =
     let list : c.deref-2.result.now ≡ upkeep_results w before = search rules in
     (w, rw list (all_can_pay w before c.rules.ensures.world.rules.maintenance_least c.requires.needs c.requires.room))
 
--- upkeep keeps the campaign steady and its books balanced, and moves each amount by less than 10^14
 pub returns-clause-leaves : goal.returns-clause-leaves
 returns-clause-leaves c =
     let w = c.args.world.now in
@@ -25,7 +22,6 @@ returns-clause-leaves c =
     let is : c.charge_all.new.campaign.value ≡ upkeep before (upkeep_results w before) = search rules in
     rw is (upkeep_leaves_well w before c.rules.ensures.world.rules.maintenance_least c.requires.needs c.requires.room)
 
--- each unit is there, changed only by its upkeep among its faction's units in its region (`upkeep_keeps`)
 pub returns-clause-keeps : goal.returns-clause-keeps
 returns-clause-keeps c =
     let w = c.args.world.now in

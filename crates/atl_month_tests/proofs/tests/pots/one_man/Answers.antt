@@ -3,7 +3,6 @@ use Rattle.std.specs.Ordering.{nat_cmp}
 use Rattle.std.specs.FinMap.{get-empty}
 use Rattle.atl_month_tests.proofs.tests.pots.one_man.Goals as goal
 
--- None never equals `Some x`: from such an equation any claim follows
 none_is_not_some : {A P : Type 0} (x : A) → None ≡ Some x → P
 none_is_not_some x e = cc
 

@@ -6,11 +6,9 @@ use Rattle.atl_records.proofs.EveryLaws.{every-empty, every-insert}
 use Rattle.atl_month_tests.proofs.tests.pots.wants_of.Goals as goal
 use Rattle.atl_month_tests.proofs.tests.pots.wants_of.Goals.{in-Some+in_ok-insert, in_default}
 
--- before the first taker the map of wants is empty, so no want in it is more than 999,999,999
 pub loop-want-init : goal.loop-want-init
 loop-want-init c = rw c.new-wants.ensures (every-empty (λ (number want : ℕ). want ≤ 999999999))
 
--- after one more taker no want in the map is more than 999,999,999, whether the taker's want was put in or it has none
 pub loop-want-preserved : goal.loop-want-preserved
 loop-want-preserved c =
     elim c.match-want.branch [

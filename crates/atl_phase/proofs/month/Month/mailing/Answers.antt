@@ -9,7 +9,6 @@ use Rattle.atl_phase.specs.Month.{MonthValue}
 use Rattle.atl_phase.proofs.MonthLaws as laws
 use Rattle.atl_phase.proofs.month.Month.mailing.Goals as goal
 
--- where the search finds a mailing, the map by faction has the reading of this mailing
 pub returns-in-Ok : goal.returns-in-Ok
 returns-in-Ok c =
     let f = c.args.faction in
@@ -22,7 +21,6 @@ returns-in-Ok c =
     ∙ sym (laws.found_at c.self.inside.mailings.items f i found c.self.invariant.sorted bound tie)
     ∙ ap (λ (m : MonthValue). get m.readings f) c.self.view_is
 
--- where the search finds no mailing, the map by faction has no reading of the faction
 pub returns-in-Err : goal.returns-in-Err
 returns-in-Err c =
     let f = c.args.faction in

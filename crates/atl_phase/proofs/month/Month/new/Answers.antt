@@ -3,7 +3,6 @@ use Rattle.std.proofs.lemmas.Fn.{always_returns_same}
 use Rattle.atl_phase.proofs.MonthLaws as laws
 use Rattle.atl_phase.proofs.month.Month.new.Goals as goal
 
--- after sorting, the mailings are sorted by faction, and no two are of one faction (`AreByFaction`)
 pub invariant_of-result : goal.invariant_of-result
 invariant_of-result c =
     let sort = c.sort_unstable_by_key in
@@ -12,7 +11,6 @@ invariant_of-result c =
       gathered = tt;
     }
 
--- after sorting, the mailings give the same map of readings as before
 pub returns : goal.returns
 returns c =
     let same = sym (laws.mailings_have_no_order c.args.mailings.items c.sort_unstable_by_key.new.self.items c.requires c.sort_unstable_by_key.ensures.permutation) in

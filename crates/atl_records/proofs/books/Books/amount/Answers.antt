@@ -4,11 +4,9 @@ use Rattle.atl_records.specs.Books.{BooksValue, amount_in, thing_index}
 use Rattle.atl_records.proofs.GridLaws.{amount-as_books, cell_read, grid_there}
 use Rattle.atl_records.proofs.books.Books.amount.Goals as goal
 
--- the thing has a row in the books, so the row can be indexed
 pub index-requires : goal.index-requires
 index-requires c = let there = grid_there c.self.inside.rows.items c.args.self.now c.args.thing c.self.view_is c.requires in omega (arith, there)
 
--- the amount that is read is that of the thing under the entry (`amount_in`)
 pub returns : goal.returns
 returns c =
     let rows = c.self.inside.rows.items in

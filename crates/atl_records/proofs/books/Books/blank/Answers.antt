@@ -3,6 +3,5 @@ use Rattle.atl_records.specs.Grids.{as_books}
 use Rattle.atl_records.proofs.GridLaws.{as_books-replicate}
 use Rattle.atl_records.proofs.books.Books.blank.Goals as goal
 
--- books without rows are books of no things (`no_amounts`)
 pub returns : goal.returns
 returns c = ap as_books c.new.ensures.items ∙ as_books-replicate 0

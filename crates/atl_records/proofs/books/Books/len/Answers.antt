@@ -4,13 +4,11 @@ use Rattle.atl_records.specs.Grids.{as_books}
 use Rattle.atl_records.proofs.GridLaws.{AreBooks-as_books, things-as_books}
 use Rattle.atl_records.proofs.books.Books.len.Goals as goal
 
--- the number of rows is the number of things of the books
 pub returns-clause-value : goal.returns-clause-value
 returns-clause-value c =
     let size : c.len.result ≡ length c.self.inside.rows.items = search rules in
     size ∙ sym (things-as_books c.self.inside.rows.items) ∙ ap (λ (b : BooksValue). b.things) c.self.view_is
 
--- the books are books of as many things as there are rows (`AreBooks`)
 pub returns-clause-books : goal.returns-clause-books
 returns-clause-books c =
     let rows = c.self.inside.rows.items in

@@ -5,7 +5,6 @@ use Rattle.atl_records.specs.Limits.{entry_count}
 use Rattle.atl_records.proofs.GridLaws.{as_books-replicate}
 use Rattle.atl_records.proofs.books.Books.new.Goals as goal
 
--- the rows made are books of `things` things in which every amount is 0 (`no_amounts`)
 pub returns : goal.returns
 returns c =
     let all : c.loop-made._made ≡ c.args.things = omega arith in

@@ -5,11 +5,9 @@ use Rattle.atl_records.specs.Grids.{IsGrid, as_books}
 use Rattle.atl_records.proofs.GridLaws.{IsGrid-with_cell, as_books-with_cell, cell_written, grid_there}
 use Rattle.atl_records.proofs.books.Books.put.Goals as goal
 
--- the thing has a row in the books, so the row can be indexed
 pub index_mut-requires : goal.index_mut-requires
 index_mut-requires c = let there = grid_there c.self.inside.rows.items c.args.self.now c.args.thing c.self.view_is c.requires in omega (arith, there)
 
--- the rows still are a grid after the amount is written (`IsGrid`)
 pub invariant_of-self : goal.invariant_of-self
 invariant_of-self c =
     let rows = c.self.inside.rows.items in
@@ -17,8 +15,6 @@ invariant_of-self c =
     let written = cell_written rows c.args.entry c.args.thing c.row_index-row.result c.column-column.result c.index_mut.result.now _ c.args.amount c.index_mut.ensures.value c.row_index-row.ensures.index c.column-column.ensures.index (to_z-of_z w64 c.args.amount c.ranges.amount) there in
     subst IsGrid (sym written) (IsGrid-with_cell rows c.self.invariant c.args.entry c.args.thing c.args.amount there)
 
--- after the call the books have the amount under its entry and thing, and each other amount is what it was
--- (`with_amount`)
 pub returns : goal.returns
 returns c =
     let rows = c.self.inside.rows.items in

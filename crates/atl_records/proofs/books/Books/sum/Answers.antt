@@ -5,11 +5,9 @@ use Rattle.atl_records.specs.Books.{BooksValue, booked, thing_index}
 use Rattle.atl_records.proofs.GridLaws.{grid_there, row_summed}
 use Rattle.atl_records.proofs.books.Books.sum.Goals as goal
 
--- the thing has a row in the books, so the row can be indexed
 pub index-requires : goal.index-requires
 index-requires c = let there = grid_there c.self.inside.rows.items c.args.self.now c.args.thing c.self.view_is c.requires in omega (arith, there)
 
--- the sum of the thing's row is the sum of its amounts in the books (`booked`)
 pub returns : goal.returns
 returns c =
     let rows = c.self.inside.rows.items in

@@ -1,7 +1,6 @@
 use Rattle.atl_records.proofs.HoldingLaws.{AreAmounts-put}
 use Rattle.atl_records.proofs.holding.Holding.put_item.Goals as goal
 
--- the holding is still within its limits after the item is put in (`IsHolding`)
 pub invariant_of-self : goal.invariant_of-self
 invariant_of-self c = record {
   men = c.self.invariant.men;

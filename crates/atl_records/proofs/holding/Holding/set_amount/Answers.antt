@@ -1,7 +1,6 @@
 use Rattle.atl_records.proofs.HoldingLaws.{AreAmounts-set}
 use Rattle.atl_records.proofs.holding.Holding.set_amount.Goals as goal
 
--- the holding is still within its limits after the amount is set (`IsHolding`)
 pub invariant_of-self : goal.invariant_of-self
 invariant_of-self c = record {
   men = c.self.invariant.men;

@@ -1,28 +1,22 @@
 use Rattle.atl_service.proofs.RunLaws.{consistent_after, runs_on, closes_for, tables_after}
 use Rattle.atl_service.proofs.service.Service.run.Goals as goal
 
--- after a command that ended without a fault the service is consistent, and its dirty set empty (`IsService`)
 pub invariant_of-self : goal.invariant_of-self
 invariant_of-self g c = record {
   consistent = consistent_after g.S.Store c.self.inside.conn c.answer_to.new.conn c.self.inside.world c.self.inside.campaign.value c.answer_to.new.campaign.value c.args.command.now c.in-Ok.answer c.self.inside.is_open c.if-not-self.false c.self.invariant.consistent c.answer_to.ensures.leaves c.in-Ok.ensures.ok;
   unmarked = λ up. c.in-Ok.ensures.unmarked (c.self.invariant.unmarked up);
 }
 
--- a command that ended without a fault has the answer and the campaign of `step`, which on a clean disk the tables hold
--- (`Runs`)
 pub returns-in-Ok-clause-runs : goal.returns-in-Ok-clause-runs
 returns-in-Ok-clause-runs g c =
     runs_on g.S.Store c.self.inside.conn c.answer_to.new.conn c.self.inside.world c.self.inside.campaign.value c.answer_to.new.campaign.value c.args.command.now c.args.self.now c.in-Ok.answer c.self.inside.is_open c.self.view_is c.if-not-self.false c.self.invariant.consistent c.answer_to.ensures.leaves
     c.in-Ok.ensures.ok
 
--- A command that ended in a fault is answered with this fault, which has its cause, and closes the service. On a clean
--- disk the tables keep the campaign before the command (`Runs`).
 pub returns-in-Err-clause-runs : goal.returns-in-Err-clause-runs
 returns-in-Err-clause-runs g c =
     closes_for g.S.Store c.self.inside.conn c.answer_to.new.conn c.self.inside.world c.self.inside.campaign.value c.answer_to.new.campaign.value c.args.command.now c.args.self.now c.in-Err.fault c.from.result c.self.inside.is_open c.from.ensures c.self.view_is c.if-not-self.false c.self.invariant.consistent c.answer_to.ensures.leaves
     c.in-Err.ensures.err c.in-Err.ensures.cause
 
--- after a command that ended without a fault the tables hold the campaign, if the disk is clean
 pub returns-in-Ok-clause-tables : goal.returns-in-Ok-clause-tables
 returns-in-Ok-clause-tables g c =
     tables_after g.S.Store c.self.inside.conn c.answer_to.new.conn c.self.inside.world c.self.inside.campaign.value c.answer_to.new.campaign.value c.args.command.now c.in-Ok.answer c.self.inside.is_open c.if-not-self.false c.self.invariant.consistent c.answer_to.ensures.leaves c.in-Ok.ensures.ok

@@ -2,8 +2,6 @@ use Rattle.std.proofs.Common.{◌+◌, ◌++◌, ◌∷◌, [], cond, ap, ◌∙
 use Rattle.atl_service.proofs.ListLaws.{one_more, all_done, headline}
 use Rattle.atl_service.proofs.service.Service.run_all.Goals as goal
 
--- After one more command is run, the answers so far, with those that the rest may get, are answers that the whole list
--- may get (`RunsAll`). The tables still hold the campaign, the books balance, and there is room for all answers.
 pub loop-command-preserved : goal.loop-command-preserved
 loop-command-preserved g c =
     let fits = c.push.ensures.succeeds (omega (arith, c.loop-command.invariant.count, c.loop-command.invariant.room)) in
@@ -16,15 +14,11 @@ loop-command-preserved g c =
       room = omega (arith, c.push.ensures.capacity, c.loop-command.invariant.room);
     }
 
--- the answers are those of `step` up to the first fault, and Closed after it; from a closed service each is Closed
--- (`RunsAll`)
 pub returns-clause-runs : goal.returns-clause-runs
 returns-clause-runs g c = all_done g.S.Store _ _ _ c.loop-command.command-index _ c.loop-command-test.false c.loop-command.invariant.whole c.loop-command.invariant.tables
 
--- from an open service the main theorem holds, or a command ended in a fault (`HeadlineAt`)
 pub returns-clause-headline : goal.returns-clause-headline
 returns-clause-headline g c = headline g.S.Store _ _ _ _ (all_done g.S.Store _ _ _ c.loop-command.command-index _ c.loop-command-test.false c.loop-command.invariant.whole c.loop-command.invariant.tables)
 
--- after all commands the books balance, if the service is open (`Balances`)
 pub returns-clause-balances : goal.returns-clause-balances
 returns-clause-balances g c = c.loop-command.invariant.balances

@@ -10,15 +10,9 @@ use Rattle.atl_service.proofs.service.Service.run_all.Given as goal
 -- are answers that the whole list gets from the start.
 abbrev pub invariant-loop-command : goal.invariant-loop-command
 invariant-loop-command g l = record {
-  -- the answers so far, followed by any that the rest of the commands may get from here on, are answers that the whole
-  -- list may get from the start (`RunsAll`)
   whole : (rs : List Answer) (new : ServiceValue g.row.S.Denot) → RunsAll g.S.Store l.self (drop l.command-index l.commands) rs new → RunsAll g.S.Store l.fn.self l.commands (l.answers.items ++ rs) new;
-  -- while the service is open and the disk is clean, its tables hold its campaign
   tables : IfSome l.self.campaign (λ c. HoldsCampaign g.S.Store l.self.conn (text_in g.S.Store l.self.conn) c);
-  -- while the service is open, its books balance
   balances : IfSome l.self.campaign Balances;
-  -- there is one answer for each command that was run
   count : vec_len l.answers ≡ l.command-index;
-  -- the list of answers has room for one answer for each command
   room : length l.commands ≤ vec_capacity l.answers;
 }

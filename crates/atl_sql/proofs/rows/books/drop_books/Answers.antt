@@ -3,6 +3,5 @@ use Rattle.atl_sql.proofs.KeyedTableLaws.{drops_books}
 use Rattle.atl_sql.proofs.StatementLaws.{runs_with}
 use Rattle.atl_sql.proofs.rows.books.drop_books.Goals as goal
 
--- the DELETE by the key removes the row of the entry and the thing (`TakesOut`)
 pub returns : goal.returns
 returns g c = runs_with g.S.Store _ _ _ _ (drops_books c.args.entry c.args.thing) (search rules) c.run.ensures

@@ -3,6 +3,5 @@ use Rattle.atl_sql.proofs.KeyedTableLaws.{puts_books}
 use Rattle.atl_sql.proofs.StatementLaws.{runs_with}
 use Rattle.atl_sql.proofs.rows.books.put_books.Goals as goal
 
--- the upsert puts the row of the entry, the thing and the amount (`WritesRow`)
 pub returns : goal.returns
 returns g c = runs_with g.S.Store _ _ _ _ (puts_books c.args.row.now.entry c.args.row.now.thing _) (search rules) c.run.ensures

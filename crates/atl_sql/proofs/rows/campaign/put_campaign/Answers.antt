@@ -4,6 +4,5 @@ use Rattle.atl_sql.specs.Written.{head_shown}
 use Rattle.atl_sql.proofs.StatementLaws.{runs_with}
 use Rattle.atl_sql.proofs.rows.campaign.put_campaign.Goals as goal
 
--- the upsert puts the campaign row, and keeps format and world text of a row that is there (`PutsCampaignRow`)
 pub returns : goal.returns
 returns g c = runs_with g.S.Store _ _ _ _ (puts_campaign (head_shown c.args.row.now) c.args.world.now) (search rules) c.run.ensures

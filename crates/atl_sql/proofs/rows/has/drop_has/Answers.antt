@@ -4,6 +4,5 @@ use Rattle.atl_sql.proofs.KeyedTableLaws.{drops_has}
 use Rattle.atl_sql.proofs.StatementLaws.{runs_with}
 use Rattle.atl_sql.proofs.rows.has.drop_has.Goals as goal
 
--- the DELETE by the key removes the row of the unit, the kind and the thing (`TakesOut`)
 pub returns : goal.returns
 returns g c = runs_with g.S.Store _ _ _ _ (drops_has c.args.unit (sort_number c.args.sort) c.args.thing) (search rules) c.run.ensures

@@ -4,6 +4,5 @@ use Rattle.atl_sql.proofs.NumberedRowLaws.{puts_part}
 use Rattle.atl_sql.proofs.StatementLaws.{runs_with}
 use Rattle.atl_sql.proofs.rows.mail.put_mail.Goals as goal
 
--- the upsert of `mail` puts the row of the faction's mailing (`WritesRow`)
 pub returns : goal.returns
 returns g c = runs_with g.S.Store _ _ _ _ (puts_part Mail tt c.args.faction _ (refl, tt)) (search rules) c.run.ensures

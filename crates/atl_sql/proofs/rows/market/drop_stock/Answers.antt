@@ -3,6 +3,5 @@ use Rattle.atl_sql.proofs.KeyedTableLaws.{drops_stock}
 use Rattle.atl_sql.proofs.StatementLaws.{runs_with}
 use Rattle.atl_sql.proofs.rows.market.drop_stock.Goals as goal
 
--- the DELETE by the key removes the row of the region and the item (`TakesOut`)
 pub returns : goal.returns
 returns g c = runs_with g.S.Store _ _ _ _ (drops_stock c.args.region c.args.item) (search rules) c.run.ensures

@@ -3,6 +3,5 @@ use Rattle.atl_sql.proofs.KeyedTableLaws.{drops_stocks}
 use Rattle.atl_sql.proofs.StatementLaws.{runs_with}
 use Rattle.atl_sql.proofs.rows.market.drop_stocks.Goals as goal
 
--- the DELETE by the region removes all rows of the region (`TakesOut`)
 pub returns : goal.returns
 returns g c = runs_with g.S.Store _ _ _ _ (drops_stocks c.args.region) (search rules) c.run.ensures

@@ -3,6 +3,5 @@ use Rattle.atl_sql.proofs.KeyedTableLaws.{puts_market}
 use Rattle.atl_sql.proofs.StatementLaws.{runs_with}
 use Rattle.atl_sql.proofs.rows.market.put_stock.Goals as goal
 
--- the upsert puts the row of the region, the item and the stock (`WritesRow`)
 pub returns : goal.returns
 returns g c = runs_with g.S.Store _ _ _ _ (puts_market c.args.region c.args.item c.args.stock) (search rules) c.run.ensures

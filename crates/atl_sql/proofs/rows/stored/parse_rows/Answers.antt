@@ -3,12 +3,10 @@ use Rattle.atl_sql.specs.Stored.{first_columns}
 use Rattle.atl_sql.proofs.ShownLaws.{refuses_row, mapped_next, typed_next}
 use Rattle.atl_sql.proofs.rows.stored.parse_rows.Goals as goal
 
--- if parsing a row fails with OtherType, not all values of the rows are of their columns' forms (`AreTyped`)
 pub returns-in-Err-clause-other : goal.returns-in-Err-clause-other
 returns-in-Err-clause-other g c is =
     refuses_row g.T.Stored.forms c.args.rows.now c.loop-row.row-index c.row-item.result c.in-Err.error (omega (arith, c.loop-row-test.true)) c.row-item.is c.in-Err.ensures.other (sym c.fault_of_value.ensures ∙ is)
 
--- once the loop's current row is parsed, the values read are those of this row and the rows before it
 pub loop-row-preserved : goal.loop-row-preserved
 loop-row-preserved g c =
     let forms = g.T.Stored.forms in

@@ -5,7 +5,6 @@ use Rattle.sqlite.specs.State.{Shown}
 use Rattle.atl_sql.proofs.SelectingLaws.{showed, says}
 use Rattle.atl_sql.proofs.rows.stored.select.Goals as goal
 
--- after the rollback, Ok has the rows that the SELECT showed (`Asks`)
 pub returns : goal.returns
 unfolding doubt Shown
 returns g c =
@@ -13,7 +12,6 @@ returns g c =
     c.query_all.ensures.survives c.rollback.ensures.undone c.rollback.ensures.survives c.in_ok-rows.rows c.in_ok-rows.ensures.ok in
     subst (Asks g.S.Store c.args.sql.now c.args.conn.now (Ok c.in_ok-rows.rows)) (search rules) whole
 
--- if the SELECT was refused, Err has the fault of its error (`Asks`)
 pub returns-in_err-rows : goal.returns-in_err-rows
 returns-in_err-rows g c =
     let whole = says g.S.Store c.args.sql.now c.args.conn.now c.transaction-tx.result.conn.now c.query_all.new.self.conn.now c.drop-tx.new.self.0 c.transaction-tx.ensures.begun c.drop-tx.ensures.ended

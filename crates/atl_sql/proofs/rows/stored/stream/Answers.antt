@@ -3,14 +3,12 @@ use Rattle.atl_sql.specs.Reading.{Streams}
 use Rattle.atl_sql.proofs.StreamLaws.{not_begun, not_advanced, ended, given_up, giving_more, read_more, typed_more}
 use Rattle.atl_sql.proofs.rows.stored.stream.Goals as goal
 
--- if the query is refused, Err has the fault of its error (`Streams`)
 pub returns-in_err-rows : goal.returns-in_err-rows
 returns-in_err-rows g c =
     let held = rw c.in_err-rows.was at c.query.follows.holds-at-none in
     not_begun g.S.Store c.args.sql.now c.args.conn.now g.T.Stored.forms g.T.Stored.shown c.query.follows.lender-at-none c.in_err-rows.field-0.0 c.from_residual.result c.requires.plain c.from_residual.ensures.1
     held.err (held.mode c.requires.idle) held.survives
 
--- if the next row can't be fetched, Err has the fault of the error (`Streams`)
 pub returns-in_err-row : goal.returns-in_err-row
 returns-in_err-row g c =
     let moved = c.next.follows.holds-at-none in
@@ -20,7 +18,6 @@ returns-in_err-row g c =
     (not_advanced g.S.Store c.args.sql.now c.args.conn.now before.given c.rows.rows.conn.now now before.giving moved.survives moved.mode g.T.Stored.forms g.T.Stored.shown c.in_err-row.field-0.0 c.from_residual-in_err-row.result c.requires.plain c.from_residual-in_err-row.ensures.1
     (rw c.in_err-row.was at moved.err))
 
--- when no row is left, Ok has all rows that the query shows (`Streams`)
 pub returns-in_default : goal.returns-in_default
 returns-in_default g c =
     let moved = c.next.follows.holds-at-none in
@@ -30,7 +27,6 @@ returns-in_default g c =
     (ended g.S.Store c.args.sql.now c.args.conn.now before.given c.rows.rows.conn.now now before.giving moved.survives moved.mode g.T.Stored.forms g.T.Stored.shown c.rows.all before.read before.typed
     (rw (c.in_ok-row.was, c.in_default.is) at moved.ok) (rw c.in_ok-row.was at moved.same))
 
--- if a row can't be parsed or kept, Ok None may be returned (`Streams`)
 pub returns-then-not-push_row : goal.returns-then-not-push_row
 returns-then-not-push_row g c =
     let moved = c.next.follows.holds-at-none in
@@ -40,13 +36,11 @@ returns-then-not-push_row g c =
     let giving = giving_more g.S.Store c.args.sql.now c.args.conn.now before.given c.rows.rows.conn.now now before.giving moved.survives moved.mode row (rw (c.in_ok-row.was, c.in-Some.is) at moved.ok) (rw c.in_ok-row.was at moved.same) in
     subst (Streams g.S.Store c.args.sql.now c.args.conn.now g.T.Stored.forms g.T.Stored.shown (Ok None)) (search rules) (given_up g.S.Store c.args.sql.now c.args.conn.now g.T.Stored.forms g.T.Stored.shown (before.given ++ row ∷ []) now giving)
 
--- after the last turn of the loop, Ok None may be returned (`Streams`)
 pub returns : goal.returns
 returns g c =
     let before = c.rows.invariant in
     subst (Streams g.S.Store c.args.sql.now c.args.conn.now g.T.Stored.forms g.T.Stored.shown (Ok None)) (search rules) (given_up g.S.Store c.args.sql.now c.args.conn.now g.T.Stored.forms g.T.Stored.shown before.given c.rows.rows.conn.now before.giving)
 
--- after one row more, the query is still running, and the values read are those of the rows given
 pub rows-preserved : goal.rows-preserved
 rows-preserved g c =
     let moved = c.next.follows.holds-at-none in

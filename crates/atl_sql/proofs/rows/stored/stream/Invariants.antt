@@ -7,14 +7,9 @@ use Rattle.atl_sql.proofs.rows.stored.stream.Given as goal
 -- the query is running and changed nothing, and the values read are those of the rows that it gave
 abbrev pub invariant-rows : goal.invariant-rows
 invariant-rows g l = record {
-  -- the query that gives the rows borrows the same connection as before the loop
   lent : l.rows.conn.ghost_name ≡ l.initial.rows.conn.ghost_name;
-  -- the rows that the query has given
   given : List Row;
-  -- the query is running, gave these rows, and changed nothing
   giving : IsGiving g.S.Store l.sql l.fn.conn given l.rows.conn.now;
-  -- the values read so far are those of the rows that the query has given
   read : map g.T.Stored.shown l.all.items ≡ map (first_columns (length g.T.Stored.forms)) given;
-  -- the rows that the query has given have values of their columns' forms
   typed : AreTyped g.T.Stored.forms given;
 }

@@ -6,7 +6,6 @@ use Rattle.sqlite_schema.specs.declared.code.Op.TheVariants as node
 use Rattle.atl_sql.proofs.CheckTerms.{equation_is_id_is_one, no_equation_is_not_id_is_one}
 use Rattle.atl_sql.proofs.schema.checks.has_number_one.Goals as goal
 
--- if the left side of the root's equation is the column `id`, the term is "id = 1" exactly if the right side is 1
 pub returns-then-is_number : goal.returns-then-is_number
 returns-then-is_number c =
     let nodes = c.args.nodes.now in
@@ -17,7 +16,6 @@ returns-then-is_number c =
       λ says. c.is_one.ensures.1 (let one = (both.0 says).1 in cc (c.at-then-is_number.ensures, one)),
     )
 
--- if the left side of the root's equation isn't the column `id`, the term is not "id = 1"
 pub returns-else-is_number : goal.returns-else-is_number
 returns-else-is_number c =
     let nodes = c.args.nodes.now in
@@ -27,7 +25,6 @@ returns-else-is_number c =
       λ says. c.is_number.ensures.1 (let number = (both.0 says).0 in cc (c.at-in-Some.ensures, number)),
     )
 
--- if the root is no equation, the term is not "id = 1"
 pub returns-in-None : goal.returns-in-None
 returns-in-None c = (
   λ no. absurd (cc),

@@ -3,6 +3,5 @@ use Rattle.atl_sql.specs.declared.tables.TableDefinition.{TableDefinition}
 use Rattle.atl_sql.proofs.SchemaLaws.{our_trees}
 use Rattle.atl_sql.proofs.schema.indexes.is_campaign_tree.Goals as goal
 
--- a tree is that of one of the first `count` definitions exactly if it is that of one of the first `count` tables
 pub returns : goal.returns
 returns c = c.is_among.ensures ∙ our_trees (λ (t : TableDefinition). t.tree) _ refl c.args.tree c.args.count

@@ -4,7 +4,6 @@ use Rattle.atl_sql.specs.Tables.{all_tables}
 use Rattle.atl_sql.proofs.SchemaLaws.{harmless_is_of_none, guards_not}
 use Rattle.atl_sql.proofs.schema.indexes.is_harmless.Goals as goal
 
--- a unique index makes nothing unique in the first `count` tables exactly if it is an index of none of them
 pub returns-else-not-found : goal.returns-else-not-found
 returns-else-not-found c = (
   λ apart t there. guards_not c.args.found.now (take c.args.count all_tables) (sym c.is_campaign_tree.ensures ∙ not-true _ apart) t there,

@@ -4,7 +4,6 @@ use Rattle.sqlite_value.specs.Keys.{plain}
 use Rattle.atl_sql.proofs.SchemaLaws.{index_name_ends_in_one}
 use Rattle.atl_sql.proofs.schema.indexes.is_index_of.Goals as goal
 
--- the index has the name, tree, table and columns that the database gives it, exactly if it passes `is_index`
 pub returns : goal.returns
 returns c =
     let found = c.args.found.now in

@@ -2,7 +2,6 @@ use Rattle.std.proofs.Common.{◌≡◌, rules, get_or, ◌∙◌, sym, ap}
 use Rattle.atl_sql.proofs.SchemaLaws.{only_one}
 use Rattle.atl_sql.proofs.schema.keys.is_one_key.Goals as goal
 
--- a list of just one key is the list of the wanted key exactly if this key has the wanted columns
 pub returns-in-len1 : goal.returns-in-len1
 returns-in-len1 c = (
   λ equal.

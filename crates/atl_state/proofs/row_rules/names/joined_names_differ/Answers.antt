@@ -5,7 +5,6 @@ use Rattle.std.specs.Cmp.Lexicographic.{slice_cmp}
 use Rattle.atl_campaign.proofs.KeyLaws.{IsDistinct-map, IsDistinct-of_map, IfOk-decided}
 use Rattle.atl_state.proofs.row_rules.names.joined_names_differ.Goals as goal
 
--- if memory suffices, joined_names_differ returns true exactly if no two rows have the same joined name
 pub returns : goal.returns
 returns c =
     let names = c.deref.result.now in

@@ -3,7 +3,6 @@ use Rattle.atl_records.specs.declared.books.Thing.TheVariants.{Item}
 use Rattle.atl_campaign.proofs.AmountLaws.{all_balance}
 use Rattle.atl_state.proofs.rules.balances.are_balanced.Goals as goal
 
--- if money and people balance, are_balanced returns whether each item of the world does
 pub returns-then-are_people_balanced : goal.returns-then-are_people_balanced
 returns-then-are_people_balanced c = (
   λ r. all_balance c.args.world.now c.args.campaign.now.value c.are_items_balanced.ensures.world c.requires.books c.requires.items c.requires.stocks (c.are_people_balanced.ensures.0 (search rules)) (c.are_items_balanced.ensures.decision.0 r),

@@ -6,10 +6,8 @@ use Rattle.atl_records.specs.declared.records.Unit.{Unit}
 use Rattle.atl_campaign.proofs.RuleLaws.{every_by_all}
 use Rattle.atl_state.proofs.rules.days.are_days.Goals as goal
 
--- each skill listed of a unit has at least 1 day, and at most 450 for each of its men
 abbrev HasDays : ℕ → Unit → Type 0
 HasDays n u = Every (λ s days. (1 ≤ days) × (days ≤ most_days * u.holding.men)) u.holding.days
 
--- are_days returns true exactly if each skill listed of each unit has at least 1 day, and at most 450 for each man
 pub returns : goal.returns
 returns c = every_by_all HasDays _ _ _ c.all.ensures.ran c.args.campaign.now.value.units (search rules) (λ x q k. search (rules, tests)) (λ x q k. search (rules, tests))

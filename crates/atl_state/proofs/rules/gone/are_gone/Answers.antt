@@ -11,19 +11,15 @@ use Rattle.atl_campaign.specs.Good.{GoneHaveNone, UnitlessAreGone}
 use Rattle.atl_campaign.proofs.RuleLaws.{every_by_all}
 use Rattle.atl_state.proofs.rules.gone.are_gone.Goals as goal
 
--- a faction is gone exactly if it has no units
 abbrev IsGoneIffUnitless : FinMap nat_cmp Unit → ℕ → Faction → Type 0
 IsGoneIffUnitless units n f = (f.gone ≡ true → numbers_of_faction n units ≡ []) × (numbers_of_faction n units ≡ [] → f.gone ≡ true)
 
--- if each faction is gone exactly if it has no units, those that are gone have none, and those without units are gone
 gone_iff_gives_both : (c : CampaignValue) → Every (IsGoneIffUnitless c.units) c.factions → GoneHaveNone c × UnitlessAreGone c
 gone_iff_gives_both c every = (λ n f is. (every n f is).0, λ n f is. (every n f is).1)
 
--- if factions that are gone have no units, and those without units are gone, each is gone exactly if it has none
 both_give_gone_iff : (c : CampaignValue) → GoneHaveNone c × UnitlessAreGone c → Every (IsGoneIffUnitless c.units) c.factions
 both_give_gone_iff c both n f is = (both.0 n f is, both.1 n f is)
 
--- are_gone returns true exactly if rule 7 is kept: the factions that are gone are those without units
 pub returns : goal.returns
 returns c =
     let what = c.args.campaign.now.value in

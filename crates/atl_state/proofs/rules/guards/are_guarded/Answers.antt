@@ -5,7 +5,6 @@ use Rattle.atl_state.proofs.GuardLaws.{IsHeldByOne, guards_are_of_one_faction, l
 use Rattle.atl_campaign.proofs.RuleLaws.{every_by_all}
 use Rattle.atl_state.proofs.rules.guards.are_guarded.Goals as goal
 
--- are_guarded returns true exactly if rule 10 is kept: all units that guard a region are of one faction
 pub returns : goal.returns
 returns c =
     let what = c.args.campaign.now.value in

@@ -3,6 +3,5 @@ use borrow.Author.Tests.{tests}
 use Rattle.atl_campaign.proofs.RuleLaws.{each_by_all}
 use Rattle.atl_state.proofs.rules.known.are_below.Goals as goal
 
--- are_below returns true exactly if the number of each item or skill listed is below the count
 pub returns : goal.returns
 returns c = each_by_all (λ n amount. n < c.args.count) _ _ _ c.all.ensures.ran c.args.entries (search rules) (λ x q k. search (rules, tests)) (λ x q k. search (rules, tests))

@@ -1,7 +1,6 @@
 use Rattle.std.proofs.Common.{rules}
 use Rattle.atl_state.proofs.rules.known.are_known.Goals as goal
 
--- if regions, stocks, units and structures keep rule 4, are_known returns whether all mail and reports keep it
 pub returns-then-are_stocks_units_and_structures_known : goal.returns-then-are_stocks_units_and_structures_known
 returns-then-are_stocks_units_and_structures_known c = (
   λ r.

@@ -4,6 +4,5 @@ use Rattle.atl_campaign.specs.Good.{IsPlaced}
 use Rattle.atl_campaign.proofs.RuleLaws.{every_by_all}
 use Rattle.atl_state.proofs.rules.known.are_placed.Goals as goal
 
--- are_placed returns true exactly if all that units name exists, and each unit's structure, unless 0, is in its region
 pub returns : goal.returns
 returns c = every_by_all (λ n u. IsPlaced c.args.world.now c.args.campaign.now.value u) _ _ _ c.all.ensures.ran c.args.campaign.now.value.units (search rules) (λ x q k. search (rules, tests)) (λ x q k. search (rules, tests))

@@ -4,6 +4,5 @@ use Rattle.atl_campaign.specs.Good.{IsBuilt}
 use Rattle.atl_campaign.proofs.RuleLaws.{every_by_all}
 use Rattle.atl_state.proofs.rules.known.are_structures_known.Goals as goal
 
--- are_structures_known returns true exactly if all that structures name exists
 pub returns : goal.returns
 returns c = every_by_all (λ n s. IsBuilt c.args.world.now c.args.campaign.now.value s) _ _ _ c.all.ensures.ran c.args.campaign.now.value.structures (search rules) (λ x q k. search (rules, tests)) (λ x q k. search (rules, tests))

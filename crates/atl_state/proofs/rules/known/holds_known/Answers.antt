@@ -3,11 +3,9 @@ use Rattle.std.proofs.lemmas.Bool.{false≢true}
 use Rattle.atl_records.proofs.EveryLaws.{every-from_each, each-from_every}
 use Rattle.atl_state.proofs.rules.known.holds_known.Goals as goal
 
--- the number n of an item or skill is below a count, whatever its amount is
 abbrev IsBelow : ℕ → ℕ → ℕ → Type 0
 IsBelow count n amount = n < count
 
--- where the world has all items of the holding, holds_known returns whether the world has all its skills too
 pub returns-then-are_below : goal.returns-then-are_below
 returns-then-are_below c =
     let items = rw (c.items.ensures, c.items-2.ensures.value) at c.are_below.ensures in
@@ -18,7 +16,6 @@ returns-then-are_below c =
       λ both. days.1 (each-from_every (IsBelow (length w.skills)) held.days both.1),
     )
 
--- where the world lacks an item of the holding, holds_known returns false, as not all items and skills are the world's
 pub returns-else-are_below : goal.returns-else-are_below
 returns-else-are_below c =
     let items = rw (c.items.ensures, c.items-2.ensures.value) at c.are_below.ensures in

@@ -2,6 +2,5 @@ use Rattle.std.proofs.Common.{is_some, sym, ap, ◌∙◌}
 use Rattle.atl_campaign.proofs.RuleLaws.{Decides-there, copied_some}
 use Rattle.atl_state.proofs.rules.known.is_of_world.Goals as goal
 
--- is_of_world returns true exactly if the world has a region of this number
 pub returns : goal.returns
 returns c = Decides-there c.args.world.now.regions c.args.number c.is_some.result (c.is_some.ensures ∙ sym (copied_some c.region.result) ∙ ap is_some c.region.ensures.value)

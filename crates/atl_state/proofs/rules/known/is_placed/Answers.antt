@@ -1,8 +1,6 @@
 use Rattle.std.proofs.Common.{rules}
 use Rattle.atl_state.proofs.rules.known.is_placed.Goals as goal
 
--- If a unit's faction and region exist, is_placed returns whether its items and skills exist, and its structure is 0 or
--- exists in its region.
 pub returns-then-has_known_faction_and_region : goal.returns-then-has_known_faction_and_region
 returns-then-has_known_faction_and_region c = (
   λ r.

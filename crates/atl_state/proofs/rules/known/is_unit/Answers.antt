@@ -2,6 +2,5 @@ use Rattle.std.proofs.Common.{is_some, sym, ap, ◌∙◌}
 use Rattle.atl_campaign.proofs.RuleLaws.{Decides-there, copied_some}
 use Rattle.atl_state.proofs.rules.known.is_unit.Goals as goal
 
--- is_unit returns true exactly if the campaign has a unit of this number
 pub returns : goal.returns
 returns c = Decides-there c.args.campaign.now.value.units c.args.number c.is_some.result (c.is_some.ensures ∙ sym (copied_some c.unit.result) ∙ ap is_some c.unit.ensures)

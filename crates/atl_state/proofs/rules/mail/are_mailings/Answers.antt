@@ -5,6 +5,5 @@ use Rattle.atl_campaign.specs.Good.{IsActive}
 use Rattle.atl_campaign.proofs.RuleLaws.{every_by_all}
 use Rattle.atl_state.proofs.rules.mail.are_mailings.Goals as goal
 
--- are_mailings returns true exactly if each mail is a mailing of a faction that is there and not gone (IsMail)
 pub returns : goal.returns
 returns c = every_by_all (λ n text. IsMailingOf n text × IsActive c.args.campaign.now.value n) _ _ _ c.all.ensures.ran c.args.campaign.now.value.mail (search rules) (λ x q k. search (rules, tests)) (λ x q k. search (rules, tests))

@@ -3,8 +3,6 @@ use Rattle.std.proofs.lemmas.Bool.{false≢true}
 use Rattle.atl_campaign.proofs.RuleLaws.{numbered, each_numbered}
 use Rattle.atl_state.proofs.rules.next.are_structures_numbered.Goals as goal
 
--- if the structures' numbers are from 1 to below the next one, are_structures_numbered returns whether there is no gap:
--- whether the next one is their count + 1
 pub returns-then-are_between : goal.returns-then-are_between
 returns-then-are_between c =
     let what = c.args.campaign.now.value in
@@ -12,7 +10,6 @@ returns-then-are_between c =
     let after = rw (c.structure_count.ensures, c.next_structure-next.ensures) at c.is_next_above.ensures in
     (λ r. numbered what.structures what.next_structure (within.0 (search rules)) (after.0 r), λ is. after.1 is.count)
 
--- if a number of the structures is 0, or not below the next number, are_structures_numbered returns false
 pub returns-else-are_between : goal.returns-else-are_between
 returns-else-are_between c =
     let what = c.args.campaign.now.value in

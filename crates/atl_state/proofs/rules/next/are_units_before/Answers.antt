@@ -5,7 +5,6 @@ use Rattle.atl_records.specs.Every.{Every}
 use Rattle.atl_campaign.proofs.RuleLaws.{every_by_all, free_from_next, every_before}
 use Rattle.atl_state.proofs.rules.next.are_units_before.Goals as goal
 
--- are_units_before returns true exactly if no unit has the next unit number or a higher one
 pub returns : goal.returns
 returns c =
     let what = c.args.campaign.now.value in

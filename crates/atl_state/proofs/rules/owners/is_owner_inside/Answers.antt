@@ -5,15 +5,12 @@ use Rattle.atl_records.specs.declared.records.Unit.{Unit}
 use Rattle.atl_records.proofs.EveryLaws.{none_some}
 use Rattle.atl_state.proofs.rules.owners.is_owner_inside.Goals as goal
 
--- if Some u and Some v are equal, the units u and v are
 same_unit : (u v : Unit) → Some u ≡ Some v → u ≡ v
 same_unit u v e = cc
 
--- is_owner_inside returns true for a structure whose owner is nobody (0)
 pub returns-then-structure-eq0 : goal.returns-then-structure-eq0
 returns-then-structure-eq0 c = (λ _. record { owned = λ some. absurd (some c.if-structure-eq0.true) }, λ _. refl)
 
--- if a structure's owner exists, is_owner_inside returns true exactly if the owner is inside the structure
 pub returns-in-Some : goal.returns-in-Some
 returns-in-Some c =
     let owner = c.in-Some.owner.now in
@@ -22,6 +19,5 @@ returns-in-Some c =
       λ inside. let (u, there, same) = inside.owned c.if-structure-eq0.false in equal.1 (ap (λ (v : Unit). v.structure) (same_unit owner u (c.in-Some.ensures ∙ there)) ∙ same),
     )
 
--- is_owner_inside returns false for a structure whose owner is neither nobody nor a unit that exists
 pub returns-in-None : goal.returns-in-None
 returns-in-None c = (λ e. absurd (false≢true e), λ inside. let (u, there, same) = inside.owned c.if-structure-eq0.false in none_some u (c.in-None.ensures ∙ there))

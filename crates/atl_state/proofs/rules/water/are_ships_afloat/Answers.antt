@@ -7,10 +7,8 @@ use Rattle.atl_campaign.specs.Good.{is_ship}
 use Rattle.atl_campaign.proofs.RuleLaws.{every_by_all}
 use Rattle.atl_state.proofs.rules.water.are_ships_afloat.Goals as goal
 
--- a structure, if it is on water, is a complete ship
 abbrev IsAfloat : WorldValue → ℕ → Structure → Type 0
 IsAfloat w n s = is_land_at w s.region ≡ false → (is_ship w s ≡ true) × (s.done ≡ size_of w s.kind)
 
--- are_ships_afloat returns true exactly if each structure on water is a complete ship
 pub returns : goal.returns
 returns c = every_by_all (IsAfloat c.args.world.now) _ _ _ c.all.ensures.ran c.args.campaign.now.value.structures (search rules) (λ x q k. search (rules, tests)) (λ x q k. search (rules, tests))

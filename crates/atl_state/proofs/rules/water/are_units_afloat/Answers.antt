@@ -8,10 +8,8 @@ use Rattle.atl_campaign.specs.Good.{IsAboard}
 use Rattle.atl_campaign.proofs.RuleLaws.{every_by_all}
 use Rattle.atl_state.proofs.rules.water.are_units_afloat.Goals as goal
 
--- a unit, if it is on water, is inside a ship
 abbrev IsAfloat : WorldValue → CampaignValue → ℕ → Unit → Type 0
 IsAfloat w c n u = is_land_at w u.region ≡ false → IsAboard w c u
 
--- are_units_afloat returns true exactly if each unit on water is inside a ship
 pub returns : goal.returns
 returns c = every_by_all (IsAfloat c.args.world.now c.args.campaign.now.value) _ _ _ c.all.ensures.ran c.args.campaign.now.value.units (search rules) (λ x q k. search (rules, tests)) (λ x q k. search (rules, tests))

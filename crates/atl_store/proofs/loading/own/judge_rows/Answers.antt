@@ -3,10 +3,8 @@ use Rattle.atl_store.specs.Gathering.{JudgesRows}
 use Rattle.atl_store.proofs.OwnLaws.{judged_rows, unread_rows}
 use Rattle.atl_store.proofs.loading.own.judge_rows.Goals as goal
 
--- if the rows of `campaign` were parsed, the result of their check is one of judging the shown rows (`JudgesRows`)
 pub returns-in-Ok : goal.returns-in-Ok
 returns-in-Ok c = judged_rows c.args.format c.in-Ok.rows.items c.args.rows.now c.check_own_rows.result c.in-Ok.ensures.ok c.check_own_rows.ensures
 
--- if the rows of `campaign` can't be parsed, the fault is a result of judging the rows that SQL shows (`JudgesRows`)
 pub returns-in-Err : goal.returns-in-Err
 returns-in-Err c = subst (λ fault. JudgesRows c.args.format c.args.rows.now (Err fault)) (sym c.campaign_row_fault.ensures) (unread_rows c.args.format c.args.rows.now c.in-Err.fault c.in-Err.ensures.other c.in-Err.ensures.which)

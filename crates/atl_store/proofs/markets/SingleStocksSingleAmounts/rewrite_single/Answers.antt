@@ -5,7 +5,6 @@ use Rattle.atl_store.proofs.MarketLaws.{stock_has_row, no_stock, stock_put, stoc
 use Rattle.atl_sql.proofs.WriteLaws.{weaker, among_only}
 use Rattle.atl_store.proofs.markets.SingleStocksSingleAmounts.rewrite_single.Goals as goal
 
--- putting the row of a stock other than 0 rewrites the stock, by a statement that a write of changes may run
 pub returns : goal.returns
 returns g c =
     let campaign = c.args.campaign.now.value in
@@ -13,7 +12,6 @@ returns g c =
     weaker g.S.Store (stock_put c.args.owner c.args.number campaign stock.result stock.ensures c.if-stock-eq0.false)
     (among_only g.S.Store _ _ (changes_row (puts_row Markets (λ own. stock_has_row campaign.regions c.args.owner c.args.number stock.result stock.ensures c.if-stock-eq0.false))) c.put_stock.ensures)
 
--- deleting the row of a stock of 0 rewrites the stock, by a statement that a write of changes may run
 pub returns-then-stock-eq0 : goal.returns-then-stock-eq0
 returns-then-stock-eq0 g c =
     let stock = c.stock-stock in

@@ -8,8 +8,6 @@ use Rattle.atl_store.proofs.WholeLaws.{done_as}
 use Rattle.atl_sql.proofs.WriteLaws.{among_each}
 use Rattle.atl_store.proofs.write_parts.LedgerWrittenPart.fill.Goals as goal
 
--- putting all rows of the books fills the table `books` (`FillsPart`), each by a statement that puts a row of the
--- campaign
 pub returns : goal.returns
 returns g c =
     let campaign = c.args.campaign.now.value in

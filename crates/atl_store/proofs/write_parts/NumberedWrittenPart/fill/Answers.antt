@@ -6,8 +6,6 @@ use Rattle.atl_store.proofs.WholeLaws.{done_as}
 use Rattle.atl_sql.proofs.WriteLaws.{among_each}
 use Rattle.atl_store.proofs.write_parts.NumberedWrittenPart.fill.Goals as goal
 
--- putting the rows of all things of kind `V` fills their table (`FillsPart`), each by a statement that puts a row of
--- the campaign
 pub returns : goal.returns
 returns g c =
     let campaign = c.args.campaign.now.value in

@@ -4,7 +4,6 @@ use Rattle.atl_store.proofs.TurnLaws.{in_turn_one}
 use Rattle.atl_store.proofs.WholeLaws.{done_as}
 use Rattle.atl_store.proofs.write_parts.NumberedWrittenPart.rewrite.Goals as goal
 
--- rewriting the rows of all marked numbers rewrites the part (`RewritesPart`)
 pub returns : goal.returns
 returns g c =
     let campaign = c.args.campaign.now in

@@ -1,5 +1,5 @@
 use Rattle.atl_sql.specs.Tables.{Markets}
-use Rattle.atl_sql.specs.Rows.{MarketRowsOf}
+use Rattle.atl_store.specs.Rows.{MarketRowsOf}
 use Rattle.atl_store.specs.GroupedRows.{region_stock_lines}
 use Rattle.atl_store.specs.Filling.{FillsPart}
 use Rattle.atl_store.specs.OwnStatements.{puts_row}
@@ -11,8 +11,6 @@ use Rattle.atl_store.proofs.WholeLaws.{done_as}
 use Rattle.atl_sql.proofs.WriteLaws.{among_each}
 use Rattle.atl_store.proofs.write_parts.StocksWrittenPart.fill.Goals as goal
 
--- putting the rows of all stocks fills the table `market` (`FillsPart`), each by a statement that puts a row of the
--- campaign
 pub returns : goal.returns
 returns g c =
     let campaign = c.args.campaign.now.value in

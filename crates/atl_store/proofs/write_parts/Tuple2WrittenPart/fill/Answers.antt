@@ -4,10 +4,8 @@ use Rattle.atl_store.proofs.WholeLaws.{then_done}
 use Rattle.atl_sql.proofs.WriteLaws.{stops}
 use Rattle.atl_store.proofs.write_parts.Tuple2WrittenPart.fill.Goals as goal
 
--- filling the parts of `X` and then those of `Y` fills the parts of both, one after another (`InTurn`)
 pub returns : goal.returns
 returns g c = then_done g.S.Store (in_turn_then (FillsPart c.args.campaign.now.value) g.X.WrittenPart.parts g.Y.WrittenPart.parts) c.in_ok-fill.ensures c.fill-2.ensures
 
--- if the parts of `X` can't be filled, the write of the parts of `X` and `Y` ends with this error
 pub returns-in_err-fill : goal.returns-in_err-fill
 returns-in_err-fill g c = stops g.S.Store c.in_err-fill.ensures c.from_residual.ensures

@@ -5,7 +5,6 @@ use Rattle.atl_store.proofs.TurnLaws.{in_turn_one}
 use Rattle.atl_store.proofs.WholeLaws.{done_as}
 use Rattle.atl_store.proofs.write_parts.UnitGoodsWrittenPart.rewrite.Goals as goal
 
--- rewriting all marked rows of `has` rewrites the part of the items and skills (`RewritesPart`)
 pub returns : goal.returns
 returns g c =
     let campaign = c.args.campaign.now in

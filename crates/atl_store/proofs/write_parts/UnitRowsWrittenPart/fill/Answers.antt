@@ -1,6 +1,6 @@
 use Rattle.std.proofs.Common.{refl}
 use Rattle.atl_sql.specs.Tables.{Units}
-use Rattle.atl_sql.specs.Rows.{row_of_unit}
+use Rattle.atl_store.specs.Rows.{row_of_unit}
 use Rattle.atl_store.specs.Filling.{FillsPart}
 use Rattle.atl_store.proofs.EntryLaws.{lines_rows}
 use Rattle.atl_store.proofs.KeptLaws.{puts_line, kept_filled}
@@ -9,8 +9,6 @@ use Rattle.atl_store.proofs.WholeLaws.{done_as}
 use Rattle.atl_sql.proofs.WriteLaws.{among_each}
 use Rattle.atl_store.proofs.write_parts.UnitRowsWrittenPart.fill.Goals as goal
 
--- putting the rows of all units fills the table `unit` (`FillsPart`), each by a statement that puts a row of the
--- campaign
 pub returns : goal.returns
 returns g c =
     let campaign = c.args.campaign.now.value in

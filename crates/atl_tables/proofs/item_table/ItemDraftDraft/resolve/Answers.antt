@@ -3,20 +3,17 @@ use Rattle.atl_tables.specs.ItemTable.{item_known, item_of}
 use Rattle.atl_tables.proofs.FaultLaws.{gives_error, error_of_condition_is_of_list}
 use Rattle.atl_tables.proofs.item_table.ItemDraftDraft.resolve.Goals as goal
 
--- an error in looking up the item's skill is the first fault of its names (`item_known`), or Memory
 pub returns-in_err-skill-clause-value : goal.returns-in_err-skill-clause-value
 unfolding item_known item_of
 returns-in_err-skill-clause-value c =
     gives_error _ _ _ _ _ c.from_residual-in_err-skill.ensures.1 (error_of_condition_is_of_list c.in_err-skill.field-0.0 _ _ (rw (c.as_str-at.ensures, c.in_ok-element.ensures, c.as_slice.ensures) at c.in_err-skill.ensures.value))
 
--- an error in looking up the raw item is the first fault of the item's names (`item_known`), or Memory
 pub returns-in_err-raw-clause-value : goal.returns-in_err-raw-clause-value
 unfolding item_known item_of
 returns-in_err-raw-clause-value c =
     let skill = rw (c.as_str-at.ensures, c.in_ok-element.ensures, c.as_slice.ensures) at c.in_ok-skill.ensures.value.0 in
     rw skill (gives_error _ _ _ _ _ c.from_residual-in_err-raw.ensures.1 (error_of_condition_is_of_list c.in_err-raw.field-0.0 _ _ (rw (c.as_str-at.ensures, c.in_ok-element.ensures, c.as_slice-2.ensures) at c.in_err-raw.ensures.value)))
 
--- if all names are found, no condition on them is broken, and the item is the one that the table describes (`item_of`)
 pub returns-clause-value : goal.returns-clause-value
 unfolding item_known item_of
 returns-clause-value c =
@@ -24,7 +21,6 @@ returns-clause-value c =
     let raw = rw (c.as_str-at.ensures, c.in_ok-element.ensures, c.as_slice-2.ensures) at c.in_ok-raw.ensures.value in
     rw (skill.0, raw.0, skill.1, raw.1, c.in_ok-name.ensures) (refl, refl)
 
--- the item made is in its ranges, and its skill and its raw item are of the world (`IsItem`)
 pub returns-clause-sound : goal.returns-clause-sound
 returns-clause-sound c = record {
   name = rw c.in_ok-name.ensures c.requires.draft.name;

@@ -9,30 +9,25 @@ use Rattle.atl_tables.proofs.FaultLaws.{gives_error, error_of_condition_is_of_li
 use Rattle.atl_tables.proofs.HasNumberLaws.{property_holds_in_map}
 use Rattle.atl_tables.proofs.region_table.RegionDraftDraft.resolve.Goals as goal
 
--- an error in looking up the terrain is the first fault of the region's names (`region_known`), or Memory
 pub returns-in_err-terrain-clause-value : goal.returns-in_err-terrain-clause-value
 unfolding region_known region_of
 returns-in_err-terrain-clause-value c =
-    gives_error _ _ _ _ _ c.from_residual-in_err-terrain.ensures.1 (error_of_condition_is_of_list c.in_err-terrain.field-0.0 _ _ (rw (c.as_str.ensures, c.in_ok-element.ensures, c.as_slice.ensures) at c.in_err-terrain.ensures.value))
+    gives_error _ _ _ _ _ c.from_residual.ensures.1 (error_of_condition_is_of_list c.in_err-terrain.field-0.0 _ _ (rw c.as_slice.ensures at c.in_err-terrain.ensures.value))
 
--- an error in looking up market items is the first fault of the region's names (`region_known`), or Memory
 pub returns-in_err-markets-clause-value : goal.returns-in_err-markets-clause-value
 unfolding region_known region_of
 returns-in_err-markets-clause-value c =
-    let terrain = rw (c.as_str.ensures, c.in_ok-element.ensures, c.as_slice.ensures) at c.in_ok-terrain.ensures.value in
+    let terrain = rw c.as_slice.ensures at c.in_ok-terrain.ensures.value in
     rw terrain.0 (gives_error _ _ _ _ _ c.from_residual-in_err-markets.ensures.1 (rw c.as_slice-2.ensures at c.in_err-markets.ensures.value))
 
--- if all names are found, no condition on them is broken, and the region is the one that the table describes
--- (`region_of`)
 pub returns-clause-value : goal.returns-clause-value
 unfolding region_known region_of
 returns-clause-value c =
-    let terrain = rw (c.as_str.ensures, c.in_ok-element.ensures, c.as_slice.ensures) at c.in_ok-terrain.ensures.value in
+    let terrain = rw c.as_slice.ensures at c.in_ok-terrain.ensures.value in
     let markets = rw c.as_slice-2.ensures at c.in_ok-markets.ensures.value in
     let made = c.in_ok-markets-2.ensures.value ∙ ap (by_number (λ (m : Market). m.item)) (c.into_vec.ensures ∙ sym markets.1) in
     rw (terrain.0, terrain.1, c.in_ok-name.ensures, made, markets.0) (refl, refl)
 
--- the region made is in its ranges, and its terrain and its markets' items are of the world (`IsRegionPlan`)
 pub returns-clause-sound : goal.returns-clause-sound
 returns-clause-sound c =
     let read = c.in_ok-markets.markets in

@@ -4,17 +4,14 @@ use Rattle.atl_tables.specs.declared.region_table.OldRegion.{OldRegion}
 use Rattle.atl_tables.proofs.FaultLaws.{gives_error, error_of_condition_is_of_list}
 use Rattle.atl_tables.proofs.region_table.RegionDraftFromTable.read.Goals as goal
 
--- an error in reading the basics or the sides is the first fault of the region's keys (`region_keys`), or Memory
 pub returns-in_err-basics-clause-value : goal.returns-in_err-basics-clause-value
 unfolding region_keys region_from
 returns-in_err-basics-clause-value c = gives_error _ _ _ _ _ c.from_residual.ensures.1 (error_of_condition_is_of_list c.in_err-basics.field-0.0 _ _ c.in_err-basics.ensures.value)
 
--- an error in reading the markets is the first fault of the region's keys (`region_keys`), or Memory
 pub returns-in_err-markets-clause-value : goal.returns-in_err-markets-clause-value
 unfolding region_keys region_from
 returns-in_err-markets-clause-value c = rw c.in_ok-basics.ensures.value.0 (gives_error _ _ _ _ _ c.from_residual-in_err-markets.ensures.1 c.in_err-markets.ensures.value)
 
--- if all keys are read, no condition on them is broken, and the region is the one that the table gives (`region_from`)
 pub returns-clause-value : goal.returns-clause-value
 unfolding region_keys region_from old_region_from
 returns-clause-value c =

@@ -8,7 +8,6 @@ use Rattle.atl_world.specs.Tracking.{marked_with}
 use Rattle.atl_world.proofs.TrackLaws.{Room-lent}
 use Rattle.atl_world.proofs.marked_map.MarkedMap.get_mut.Goals as goal
 
--- the map has room for its marks, whatever is written to the value that is lent
 pub invariant_of-self-lent : goal.invariant_of-self-lent
 invariant_of-self-lent g c w =
     let values = c.self.inside.values in
@@ -16,8 +15,6 @@ invariant_of-self-lent g c w =
     let there : is_some (get values c.args.number) ≡ true = ap is_some (sym c.in-Some.ensures.value) in
     rw c.mark_present.ensures (Room-lent values marks.numbers marks.room c.args.number (get values c.args.number) w refl there c.self.invariant)
 
--- where the number has a value, that value is lent, and the map ends with what is written to it, and with the number
--- marked (`WritesBackMarked`)
 pub returns-in-Some : goal.returns-in-Some
 returns-in-Some g c =
     let n = c.args.number in

@@ -6,7 +6,6 @@ use Rattle.atl_world.proofs.SumLaws.{remove_undoes_insert}
 use Rattle.atl_world.proofs.TrackLaws.{fits-inserted, Room-inserted}
 use Rattle.atl_world.proofs.marked_map.MarkedMap.insert.Goals as goal
 
--- there is room to mark the number that was put in
 pub add-requires : goal.add-requires
 add-requires g c =
     let more = insert c.self.inside.values c.args.number c.args.value in
@@ -16,7 +15,6 @@ add-requires g c =
     let room : set.len marks.numbers + len more ≤ marks.room = omega (arith, size, same, c.in-Ok.ensures.room) in
     fits-inserted c.self.inside.values marks.numbers marks.room c.args.number c.args.value room
 
--- the map has room for its marks after the value is put in and its number marked
 pub invariant_of-self-in-Ok : goal.invariant_of-self-in-Ok
 invariant_of-self-in-Ok g c =
     let more = insert c.self.inside.values c.args.number c.args.value in
@@ -26,7 +24,6 @@ invariant_of-self-in-Ok g c =
     let room : set.len marks.numbers + len more ≤ marks.room = omega (arith, size, same, c.in-Ok.ensures.room) in
     rw (c.add.ensures, c.in_ok-insert.ensures.ok) (Room-inserted c.self.inside.values marks.numbers marks.room c.args.number c.args.value room)
 
--- the map has room for its marks after the value is taken out again, since memory ran out
 pub invariant_of-self-in-Err : goal.invariant_of-self-in-Err
 invariant_of-self-in-Err g c =
     let values = c.self.inside.values in
@@ -34,11 +31,9 @@ invariant_of-self-in-Err g c =
     let same = ap (λ m. set.len (valued_or_marked values m)) c.make_room.ensures.numbers in
     rw (c.remove.ensures, c.in_ok-insert.ensures.ok, remove_undoes_insert values c.args.number c.args.value fresh) (omega (arith, same, c.make_room.ensures.kept, c.self.invariant))
 
--- where there is memory, after the call the map has the value under the number, which is marked (`with_value`)
 pub returns-in-Ok-clause-ok : goal.returns-in-Ok-clause-ok
 returns-in-Ok-clause-ok g c = rw (← c.self.view_is, c.add.ensures, c.in_ok-insert.ensures.ok, c.make_room.ensures.numbers) refl
 
--- where memory ran out, the map is as it was before
 pub returns-in-Err-clause-err : goal.returns-in-Err-clause-err
 returns-in-Err-clause-err g c =
     let fresh : get c.self.inside.values c.args.number ≡ None = rw (← c.self.view_is) at c.requires in

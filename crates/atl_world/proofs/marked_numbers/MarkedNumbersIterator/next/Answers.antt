@@ -6,7 +6,6 @@ use Rattle.std.specs.Iterator.{YieldsFirstBy}
 use Rattle.atl_world.proofs.MergeLaws.{first_alone}
 use Rattle.atl_world.proofs.marked_numbers.MarkedNumbersIterator.next.Goals as goal
 
--- where none of the recent marks is left, `next` gives the first number left of the other marks, `numbers`
 pub returns-in_default-first-clause-steps : goal.returns-in_default-first-clause-steps
 returns-in_default-first-clause-steps c =
     let next = c.next_of-in_default-first in
@@ -15,6 +14,5 @@ returns-in_default-first-clause-steps c =
     subst (λ (s : List ℕ). YieldsFirstBy (λ (n : ℕ). n) (λ (s : List ℕ). s) s next.result (sorted_merge nat_cmp true (iter_rest next.new.numbers) recent)) c.self.view_is
     (first_alone (iter_rest c.self.inside.numbers) (iter_rest next.new.numbers) recent next.result none next.ensures)
 
--- where none of the recent marks is left, the list of numbers left to come gets shorter with each number that is given
 pub returns-in_default-first-clause-goes : goal.returns-in_default-first-clause-goes
 returns-in_default-first-clause-goes c = let steps = returns-in_default-first-clause-steps c in search rules

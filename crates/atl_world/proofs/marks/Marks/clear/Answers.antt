@@ -5,12 +5,9 @@ use Rattle.atl_world.proofs.SetLaws.{union-empty}
 use Rattle.atl_world.proofs.ApartLaws.{no_marks}
 use Rattle.atl_world.proofs.marks.Marks.clear.Goals as goal
 
--- after the call there are no recent marks and no others, so no number is among both, and there is room for all
--- (`AreMarks`)
 pub invariant_of-self : goal.invariant_of-self
 invariant_of-self c = rw (c.clear.ensures, c.clear-2.ensures) (no_marks c.self.inside.numbers.room c.self.inside.recent.room)
 
--- after the call nothing is marked, and the room is the same as before
 pub returns : goal.returns
 returns c =
     let numbers : set.union c.clear.new.self.numbers c.clear-2.new.self.numbers ≡ set.empty =

@@ -4,7 +4,6 @@ use Rattle.std.specs.FinSet as set
 use Rattle.atl_world.specs.RoomySets.{RoomySet}
 use Rattle.atl_world.proofs.marks.Marks.contains.Goals as goal
 
--- a number that is in the set of the marks that aren't recent is marked
 pub returns-then-contains : goal.returns-then-contains
 returns-then-contains c =
     let n = c.args.number in
@@ -12,8 +11,6 @@ returns-then-contains c =
     let both = ap (λ b. b || set.contains c.self.inside.recent.numbers n) first in
     c.if-contains.true ∙ sym (sym (ap (λ (m : RoomySet). set.contains m.numbers n) c.self.view_is) ∙ set.contains-union nat_cmp_total c.self.inside.numbers.numbers c.self.inside.recent.numbers n ∙ both)
 
--- a number that is not in the set of the marks that aren't recent is marked exactly if it is in the set of the recent
--- marks
 pub returns-else-contains : goal.returns-else-contains
 returns-else-contains c =
     let n = c.args.number in

@@ -7,7 +7,6 @@ use Rattle.atl_world.specs.Tracking.{IsAscendingListOf}
 use Rattle.atl_world.proofs.MergeLaws.{Lists-merged}
 use Rattle.atl_world.proofs.marks.Marks.iter.Goals as goal
 
--- the recent marks and the other marks, merged, are the marked numbers in ascending order
 pub returns : goal.returns
 returns c =
     let numbers : IsAscendingListOf c.self.inside.numbers.numbers (iter_rest c.iter.result) = subst (λ xs. IsAscendingListOf c.self.inside.numbers.numbers xs) (sym c.iter.ensures.rest) c.as_slice.ensures in

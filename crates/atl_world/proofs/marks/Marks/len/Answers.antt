@@ -22,7 +22,6 @@ returns-clause-value c =
     let seen = ap (λ (m : RoomySet). set.len m.numbers) c.self.view_is in
     omega (arith, all, seen, c.len.ensures.value, c.len-2.ensures.value)
 
--- there are at most 2^32 marks
 pub returns-clause-small : goal.returns-clause-small
 returns-clause-small c =
     let numbers = c.self.inside.numbers.numbers in

@@ -5,7 +5,6 @@ use Rattle.atl_world.specs.RoomySets.{RoomySet}
 use Rattle.atl_world.proofs.ApartLaws.{len-apart}
 use Rattle.atl_world.proofs.marks.Marks.make_room.Goals as goal
 
--- where there is memory, there is room for the marks and as many further ones as asked for
 pub returns-clause-room : goal.returns-clause-room
 returns-clause-room c =
     let all = len-apart c.self.inside.numbers.numbers c.self.inside.recent.numbers c.self.invariant.apart in

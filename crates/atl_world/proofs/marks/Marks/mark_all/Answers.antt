@@ -5,26 +5,22 @@ use Rattle.atl_world.specs.RoomySets.{valued_or_marked}
 use Rattle.atl_world.proofs.SetLaws.{union-empty, union-next, len-next}
 use Rattle.atl_world.proofs.marks.Marks.mark_all.Goals as goal
 
--- before the loop the marks are the old ones, and all numbers of the map are still to come
 pub loop-number-init : goal.loop-number-init
 loop-number-init g c =
     let all : c.into_iter-number-iterator.result ≡ entries c.args.values.now = c.into_iter-number-iterator.ensures.into_iter_gives ∙ c.iter-number-items.ensures in
     record { all = ap (λ es. set.union c.args.self.now.numbers (set.from_list (map (λ (e : ℕ × g.row.V.Denot). e.0) es))) all; room = refl }
 
--- there is room to mark the next number of the map
 pub add-requires : goal.add-requires
 add-requires g c =
     let so_far = rw c.in-Some.ensures.steps at c.loop-number.invariant.all in
     let l = len-next c.loop-number.self.numbers (valued_or_marked c.args.values.now c.args.self.now.numbers) c.in-Some.number (map (λ (e : ℕ × g.row.V.Denot). e.0) c.next.new.self) so_far in
     omega (arith, l, c.loop-number.invariant.room, c.requires)
 
--- after one more mark, the marks and the numbers still to come are together the old marks and all numbers of the map
 pub loop-number-preserved : goal.loop-number-preserved
 loop-number-preserved g c =
     let so_far = rw c.in-Some.ensures.steps at c.loop-number.invariant.all in
     rw c.add.ensures record { all = union-next c.loop-number.self.numbers c.in-Some.number (map (λ (e : ℕ × g.row.V.Denot). e.0) c.next.new.self) ∙ so_far; room = c.loop-number.invariant.room }
 
--- after the loop all numbers of the map are marked, besides the old marks
 pub returns : goal.returns
 returns g c =
     let none : c.loop-number.number-iterator ≡ [] = search rules in

@@ -5,12 +5,9 @@ use Rattle.atl_world.proofs.SetLaws.{union-empty}
 use Rattle.atl_world.proofs.ApartLaws.{no_marks}
 use Rattle.atl_world.proofs.marks.Marks.new.Goals as goal
 
--- in the new set there are no recent marks and no others, so no number is among both, and room for 0 marks is enough
--- (`AreMarks`)
 pub invariant_of-result : goal.invariant_of-result
 invariant_of-result c = rw (c.new.ensures, c.new-2.ensures) (no_marks 0 0)
 
--- the new set is empty and has no room
 pub returns : goal.returns
 returns c =
     let numbers : set.union c.new.result.numbers c.new-2.result.numbers ≡ set.empty =

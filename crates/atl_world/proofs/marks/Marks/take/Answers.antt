@@ -4,12 +4,9 @@ use Rattle.atl_world.specs.RoomySets.{RoomySet}
 use Rattle.atl_world.proofs.ApartLaws.{mark_taken, union-remove}
 use Rattle.atl_world.proofs.marks.Marks.take.Goals as goal
 
--- after a number is taken out of the recent marks and of the others, still no number is among both, and there is room
--- for all marks (`AreMarks`)
 pub invariant_of-self : goal.invariant_of-self
 invariant_of-self c = rw (c.take.ensures, c.take-2.ensures) (mark_taken c.self.inside.numbers c.self.inside.recent c.args.number c.self.invariant)
 
--- the marks after the call are the old ones without the number, and the room is the same
 pub returns : goal.returns
 returns c =
     let n = c.args.number in

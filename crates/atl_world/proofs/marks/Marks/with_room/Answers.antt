@@ -5,12 +5,9 @@ use Rattle.atl_world.proofs.SetLaws.{union-empty}
 use Rattle.atl_world.proofs.ApartLaws.{no_marks}
 use Rattle.atl_world.proofs.marks.Marks.with_room.Goals as goal
 
--- in the new set there are no recent marks and no others, so no number is among both, and the given room is enough
--- (`AreMarks`)
 pub invariant_of-result : goal.invariant_of-result
 invariant_of-result c = rw (c.in_ok-numbers.ensures, c.in_ok-recent.ensures) (no_marks c.args.room c.min.result)
 
--- the new set is empty and has the given room
 pub returns : goal.returns
 returns c =
     let numbers : set.union c.in_ok-numbers.numbers.numbers c.in_ok-recent.recent.numbers ≡ set.empty =

@@ -4,7 +4,6 @@ use Rattle.std.specs.FinMap.{get, insert}
 use Rattle.atl_world.proofs.SumLaws.{put_back_keeps_map, put_over}
 use Rattle.atl_world.proofs.numbered.Numbered+Numbered+V.insert_under.Goals as goal
 
--- where memory ran out in an inner map that is there, the whole map is as it was
 pub returns-in-Some-clause-err : goal.returns-in-Some-clause-err
 returns-in-Some-clause-err g c =
     let m = c.args.self.now in

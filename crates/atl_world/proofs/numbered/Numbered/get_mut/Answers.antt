@@ -4,8 +4,6 @@ use Rattle.atl_world.proofs.Maps.{get_is_first_value, insert_by_entries}
 use Rattle.atl_world.proofs.Lent.{loan_reads_are_equal, lent_is_some}
 use Rattle.atl_world.proofs.numbered.Numbered.get_mut.Goals as goal
 
--- the value that the `BTreeMap` lends is that of the finite map under the number, and this map ends with what is
--- written to it (`WritesBackAt`)
 pub returns : goal.returns
 returns g c =
     let l = c.get_mut.follows in

@@ -6,7 +6,6 @@ use Rattle.atl_world.proofs.SetLaws.{insert_twice}
 use Rattle.atl_world.proofs.SortedListLaws.{sorted-insert, from_list-insert, len-belongs, contains-is_at}
 use Rattle.atl_world.proofs.sorted_numbers.SortedNumbers.add.Goals as goal
 
--- the list has room for the new number
 pub put_at-requires-clause-room : goal.put_at-requires-clause-room
 put_at-requires-clause-room c =
     let items = c.self.inside.numbers.items in
@@ -17,14 +16,12 @@ put_at-requires-clause-room c =
     let more = len-belongs items n c.in-Err.index c.self.invariant belongs in
     omega (arith, room, size, more, c.requires)
 
--- the list is still sorted after the number is put in where it belongs
 pub invariant_of-self : goal.invariant_of-self
 invariant_of-self c =
     let items = c.self.inside.numbers.items in
     let belongs : BelongsAt items c.args.number c.in-Err.index = rw c.deref.ensures.value at c.in-Err.ensures.missing in
     rw c.put_at.ensures.items (sorted-insert items c.args.number c.in-Err.index c.self.invariant belongs)
 
--- where the number is in the list already, nothing changes
 pub returns-in-Ok : goal.returns-in-Ok
 returns-in-Ok c =
     let items = c.self.inside.numbers.items in
@@ -33,7 +30,6 @@ returns-in-Ok c =
     let marked : set.contains c.args.self.now.numbers n ≡ true = sym (ap (λ (m : RoomySet). set.contains m.numbers n) c.self.view_is) ∙ contains-is_at items n c.in-Ok.field-0 is_at in
     λ i. record { numbers = sym (insert_twice c.args.self.now.numbers n marked) i; room = c.args.self.now.room }
 
--- where the number is new, the set after the call is the old one with the number, and the room is the same
 pub returns-in-Err : goal.returns-in-Err
 returns-in-Err c =
     let items = c.self.inside.numbers.items in

@@ -4,11 +4,9 @@ use Rattle.atl_world.specs.RoomySets.{RoomySet}
 use Rattle.atl_world.proofs.SortedListLaws.{sorted-empty}
 use Rattle.atl_world.proofs.sorted_numbers.SortedNumbers.clear.Goals as goal
 
--- the list is sorted after the call, since it is empty
 pub invariant_of-self : goal.invariant_of-self
 invariant_of-self c = rw c.clear.ensures.items sorted-empty
 
--- after the call the set is empty, and the room is the same
 pub returns : goal.returns
 returns c =
     let numbers : set.from_list c.clear.new.self.items ≡ set.empty = ap set.from_list c.clear.ensures.items in

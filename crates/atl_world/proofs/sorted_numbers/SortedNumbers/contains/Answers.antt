@@ -5,14 +5,12 @@ use Rattle.atl_world.specs.SortedNumbers.{IsAt, BelongsAt}
 use Rattle.atl_world.proofs.SortedListLaws.{contains-is_at, contains-belongs}
 use Rattle.atl_world.proofs.sorted_numbers.SortedNumbers.contains.Goals as goal
 
--- a number that the search finds is in the set
 pub returns-in-Ok : goal.returns-in-Ok
 returns-in-Ok c =
     let items = c.self.inside.numbers.items in
     let is_at : IsAt items c.args.number c.in-Ok.field-0 = rw c.deref.ensures.value at c.in-Ok.ensures.found in
     sym (sym (ap (λ (m : RoomySet). set.contains m.numbers c.args.number) c.self.view_is) ∙ contains-is_at items c.args.number c.in-Ok.field-0 is_at)
 
--- a number that the search does not find is not in the set
 pub returns-in-Err : goal.returns-in-Err
 returns-in-Err c =
     let items = c.self.inside.numbers.items in

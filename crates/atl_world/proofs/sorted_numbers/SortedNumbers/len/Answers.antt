@@ -9,12 +9,10 @@ use Rattle.atl_world.proofs.SortedListLaws.{len-sorted}
 use Rattle.atl_world.proofs.MergeLaws.{listed_below}
 use Rattle.atl_world.proofs.sorted_numbers.SortedNumbers.len.Goals as goal
 
--- where the list has a last number, the set has as many numbers as the list
 pub returns-in-Some-clause-value : goal.returns-in-Some-clause-value
 returns-in-Some-clause-value c =
     c.length_of_bounded.ensures.value ∙ ap length c.deref-in-Some.ensures.value ∙ sym (len-sorted c.self.inside.numbers.items c.self.invariant) ∙ ap (λ (m : RoomySet). set.len m.numbers) c.self.view_is
 
--- where the list has no last number, the set has 0 numbers
 pub returns-in-None-clause-value : goal.returns-in-None-clause-value
 returns-in-None-clause-value c =
     let items = c.self.inside.numbers.items in
@@ -23,7 +21,6 @@ returns-in-None-clause-value c =
     let size = ap length c.deref.ensures.value in
     omega (arith, all, seen, size, c.in-None.ensures.item.3)
 
--- where the list has a last number, which is below 2^32, all numbers of the set are below 2^32
 pub returns-in-Some-clause-low : goal.returns-in-Some-clause-low
 returns-in-Some-clause-low c n there =
     let items = c.self.inside.numbers.items in
@@ -32,7 +29,6 @@ returns-in-Some-clause-low c n there =
     (λ k l. let rises = non_decreasing_from_sorted items c.self.invariant k (length items - 1) 0 (omega (arith, l)) (omega (arith, l)) in omega (arith, rises, last, c.length_of_bounded.ensures.small))
     (sym (set.contains-from_list nat_cmp_total items n) ∙ ap (λ (m : RoomySet). set.contains m.numbers n) c.self.view_is ∙ there)
 
--- where the list has no last number, no number of the set is 2^32 or more
 pub returns-in-None-clause-low : goal.returns-in-None-clause-low
 returns-in-None-clause-low c n there =
     let items = c.self.inside.numbers.items in

@@ -5,7 +5,6 @@ use Rattle.atl_world.specs.RoomySets.{RoomySet}
 use Rattle.atl_world.proofs.SortedListLaws.{len-sorted}
 use Rattle.atl_world.proofs.sorted_numbers.SortedNumbers.make_room.Goals as goal
 
--- where there is memory, there is room for the numbers and as many further ones as asked for
 pub returns-clause-room : goal.returns-clause-room
 returns-clause-room c =
     let all = len-sorted c.self.inside.numbers.items c.self.invariant in

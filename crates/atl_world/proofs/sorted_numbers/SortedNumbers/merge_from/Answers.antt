@@ -5,7 +5,6 @@ use Rattle.atl_world.proofs.SortedListLaws.{sorted-empty, len-sorted}
 use Rattle.atl_world.proofs.MergeLaws.{sorted-merged, from_list-merged}
 use Rattle.atl_world.proofs.sorted_numbers.SortedNumbers.merge_from.Goals as goal
 
--- the list has room for the numbers of both lists
 pub merge_into-requires-clause-room : goal.merge_into-requires-clause-room
 merge_into-requires-clause-room c =
     let own = len-sorted c.self.inside.numbers.items c.self.invariant in
@@ -16,16 +15,12 @@ merge_into-requires-clause-room c =
     let size = ap length c.deref.ensures.value in
     omega (arith, own, others, own_seen, others_seen, room, size, c.requires.room)
 
--- the merged list is sorted
 pub invariant_of-self : goal.invariant_of-self
 invariant_of-self c = rw (c.merge_into.ensures.items, c.deref.ensures.value) (sorted-merged c.self.inside.numbers.items c.others.inside.numbers.items c.self.invariant c.others.invariant)
 
--- the other list is sorted, since it is empty now
 pub invariant_of-others : goal.invariant_of-others
 invariant_of-others c = rw c.clear.ensures.items sorted-empty
 
--- the numbers of the list after the call are those that this list and the other one had before, and the room is the
--- same
 pub returns-clause-numbers : goal.returns-clause-numbers
 returns-clause-numbers c =
     let others = c.others.inside.numbers.items in

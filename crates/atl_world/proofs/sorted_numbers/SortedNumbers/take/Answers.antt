@@ -6,14 +6,12 @@ use Rattle.atl_world.proofs.SetLaws.{remove_absent}
 use Rattle.atl_world.proofs.SortedListLaws.{sorted-remove, from_list-remove, contains-belongs}
 use Rattle.atl_world.proofs.sorted_numbers.SortedNumbers.take.Goals as goal
 
--- the list is still sorted after the number is taken out
 pub invariant_of-self : goal.invariant_of-self
 invariant_of-self c =
     let items = c.self.inside.numbers.items in
     let is_at : IsAt items c.args.number c.in-Ok.index = rw c.deref.ensures.value at c.in-Ok.ensures.found in
     rw c.remove.ensures.items (sorted-remove items c.in-Ok.index c.self.invariant is_at.within)
 
--- where the number is in the list, the set after the call is the old one without it, and the room is the same
 pub returns-in-Ok : goal.returns-in-Ok
 returns-in-Ok c =
     let items = c.self.inside.numbers.items in
@@ -24,7 +22,6 @@ returns-in-Ok c =
     let room = c.remove.ensures.capacity ∙ ap (λ (m : RoomySet). m.room) c.self.view_is in
     λ i. record { numbers = numbers i; room = room i }
 
--- where the number is not in the list, nothing changes
 pub returns-in-Err : goal.returns-in-Err
 returns-in-Err c =
     let items = c.self.inside.numbers.items in

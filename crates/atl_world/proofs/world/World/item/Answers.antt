@@ -6,7 +6,6 @@ use Rattle.std.proofs.lemmas.Option.{slice_get-get_or}
 use Rattle.atl_world.specs.declared.world.Item.{Item}
 use Rattle.atl_world.proofs.world.World.item.Goals as goal
 
--- an item that is found by its index has a `raw_count` of at least 1, if each item of the list has
 found_item_raw_count : (xs : List Item) → ((i : ℕ) (x : Item) → slice_get xs i ≡ Some x → 1 ≤ x.raw_count) → (i : ℕ) (o : Option (Bor Item))
     → is_some o ≡ nat_lt i (length xs) → IfSome o (λ x. x.now ≡ get_or xs i x.now) → IfSome o (λ x. 1 ≤ x.now.raw_count)
 found_item_raw_count xs each i None some at = tt
@@ -14,7 +13,6 @@ found_item_raw_count xs each i (Some x) some at =
     let inside : i < length xs = grind (arith, nat_tests, sym some) in
     each i x.now (slice_get-get_or xs i x.now inside ∙ ap Some (sym at))
 
--- an item that is found is made of at least 1 raw item (`raw_count`)
 pub returns-clause-bounds : goal.returns-clause-bounds
 returns-clause-bounds c =
     found_item_raw_count c.items.result.now (λ i x is. (c.items.ensures.world.items i x (ap (λ xs. slice_get xs i) (sym c.items.ensures.value) ∙ is)).raw_count_least) c.from.result c.get.result c.get.ensures.lookup.0 c.get.ensures.lookup.1

@@ -7,12 +7,10 @@ use Rattle.atl_world.specs.Worlds.{IsMarket}
 use Rattle.atl_world.specs.declared.world.Market.{Market}
 use Rattle.atl_world.proofs.world.World.market.Goals as goal
 
--- if each market of a map is in its ranges (`IsMarket`), so is the one that a look-up in the map finds, if it finds one
 some_market : (items number : ℕ) (markets : FinMap nat_cmp Market) → ((i : ℕ) (m : Market) → get markets i ≡ Some m → IsMarket items i m) → (o : Option (Bor Market)) → option_copied o ≡ get markets number → IfSome o (λ m. IsMarket items number m.now)
 some_market items number markets each None is = tt
 some_market items number markets each (Some m) is = each number m.now (sym is)
 
--- a market that is found trades the given item, and its numbers are in their ranges (`IsMarket`)
 pub returns-clause-bounds : goal.returns-clause-bounds
 returns-clause-bounds c =
     let plan = c.in_ok-region.field-0.now in

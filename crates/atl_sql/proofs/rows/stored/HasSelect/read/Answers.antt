@@ -8,19 +8,15 @@ use Rattle.atl_sql.proofs.RowsLaws.{gives_table}
 use Rattle.atl_sql.proofs.SelectLaws.{reads_part, part_plain}
 use Rattle.atl_sql.proofs.rows.stored.HasSelect.read.Goals as goal
 
--- the read gives the rows that the SELECT of its part shows, the fault of the SELECT's refusal, OtherType for a value
--- of another type, or Memory (`ReadsRows`)
 pub returns-clause-select : goal.returns-clause-select
 returns-clause-select g c = rw c.select_of-since.ensures.select at c.read_all.ensures
 
--- under the tables of a campaign and on a clean disk, a read that succeeds gives all rows of its table (`GivesTable`)
 pub returns-clause-table : goal.returns-clause-table
 returns-clause-table g c =
     let part = g.Self.HasSelect.part in
     let reads = rw c.select_of-since.ensures.select at c.read_all.ensures in
     gives_table g.S.Store (select_of_part part).select c.args.conn.now c.read_all.new.conn g.Self.Stored.forms g.Self.Stored.shown c.read_all.result (select_of_part part).since (select_of_part part).in_table (reads_part part _ g.met.Self.HasSelect.columns) reads
 
--- what `read_all` requires: under the tables of a campaign, the SELECT is plain (`IsPlain`)
 pub read_all-requires-clause-plain : goal.read_all-requires-clause-plain
 read_all-requires-clause-plain g c has =
     let schema = c.args.conn.now.schema in

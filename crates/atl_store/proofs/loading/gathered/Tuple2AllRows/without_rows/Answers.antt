@@ -1,6 +1,5 @@
 use Rattle.atl_store.proofs.GatherLaws.{both_none}
 use Rattle.atl_store.proofs.loading.gathered.Tuple2AllRows.without_rows.Goals as goal
 
--- if no row is read of the tables of `X`, and none of those of `Y`, none is read of the tables of the pair (`AreNone`)
 pub returns : goal.returns
 returns g c = both_none (g.X.AllRows.rows c.without_rows.result) (g.Y.AllRows.rows c.without_rows-2.result) c.without_rows.ensures c.without_rows-2.ensures

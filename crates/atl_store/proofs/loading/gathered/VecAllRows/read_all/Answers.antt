@@ -2,6 +2,5 @@ use Rattle.atl_sql.specs.Reading.{select_of_part}
 use Rattle.atl_store.proofs.GatherLaws.{reads_one}
 use Rattle.atl_store.proofs.loading.gathered.VecAllRows.read_all.Goals as goal
 
--- reading one table gives all its rows, None, or a fault that its SELECT may return (`ReadsSome`)
 pub returns : goal.returns
 returns g c = reads_one g.S.Store (select_of_part g.A.HasSelect.part).select g.A.Stored.forms g.A.Stored.shown g.A.HasSelect.part c.args.conn.now c.read.new.conn c.requires.settled c.requires.idle c.read.result c.read.ensures.select c.read.ensures.table c.rows_or_none.result c.rows_or_none.ensures
