@@ -205,7 +205,7 @@ module _ (f : Format) {S : Type 0} (g : Ghosts S) where
     }
 
     -- if the schema after the reads isn't the format's, the tables aren't made as the format has them, the disk failed,
-    -- or asking for the campaign row again is refused
+    -- or asking for the books again is refused
     other_schema : ¬ HasTablesOf f mid.schema → (¬ AreMade f g old) ⊎ (FailedMeanwhile g old ⊎ RefusesAgain g old false)
     other_schema other = elim (cases_Bool (state g mid).is_open) [
       | inl up ↦ inl (λ made. other (subst (λ (d : Database). HasTablesOf f d.schema) (sym ((first.stays clean).same up).0) made.begins))
