@@ -1,5 +1,5 @@
 -- Laws of the events of MOVE, SAIL, TEACH and STUDY: each phase gives an event to each of its orders.
-use Rattle.std.proofs.Common.{◌≡◌, ◌&&◌, ◌++◌, ℕ, Bool, true, List, [], ◌∷◌, map, filter, is_some, refl, ap, ◌∙◌, append_assoc}
+use Rattle.std.proofs.Common.{◌≡◌, ◌&&◌, ◌++◌, true, map, filter, is_some, refl, ap, ◌∙◌, append_assoc}
 use Rattle.std.proofs.lemmas.List.{map-append}
 use Rattle.std.proofs.lemmas.List.Elements.{filter-append}
 use Rattle.atl_orders.specs.declared.order.Operands.TheVariants as operands
@@ -10,8 +10,7 @@ use Rattle.atl_world.specs.declared.direction.Direction.{Direction}
 use Rattle.atl_campaign.specs.Campaign.{CampaignValue}
 use Rattle.atl_phase.specs.declared.phase_order.Arrangement.TheVariants.{ByUnit}
 use Rattle.atl_phase.specs.Month.{MonthValue}
-use Rattle.atl_phase.specs.OrderEffects.{OrderEffect}
-use Rattle.atl_phase.specs.PhaseOrders.{Task, order_counts, orders_by_unit, tasks_of}
+use Rattle.atl_phase.specs.PhaseOrders.{order_counts, orders_by_unit, tasks_of}
 use Rattle.atl_phase.specs.Reports.{is_from, report_for, report_of}
 use Rattle.atl_phase.proofs.EventLaws.{Fits, Gives, TakesThose, all_orders, fold_adds, fold_keeps, gives_by_orders, report_if, report_in_phase, reports_at}
 use Rattle.atl_action.specs.Learners.{Learning, is_studying, learners}

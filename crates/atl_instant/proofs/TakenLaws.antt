@@ -1,9 +1,9 @@
 -- Laws of the events of the phases that carry their orders out at once: each gives an event to each of its orders. The
 -- phases of NAME and of GUARD 1 both get the orders of GUARD, and each passes over those of the other.
-use Rattle.std.proofs.Common.{◌≡◌, ◌&&◌, ◌++◌, ℕ, Bool, true, false, not, List, [], ◌∷◌, map, filter, is_some, refl, ap, ◌∙◌}
+use Rattle.std.proofs.Common.{◌≡◌, ◌&&◌, ◌++◌, Bool, true, false, not, map, filter, is_some, refl, ap, ◌∙◌}
 use Rattle.std.proofs.lemmas.List.{map-append}
 use Rattle.std.proofs.lemmas.List.Elements.{filter-append}
-use Rattle.std.specs.FinMap.{FinMap, values}
+use Rattle.std.specs.FinMap.{FinMap}
 use Rattle.std.specs.Ordering.{nat_cmp}
 use Rattle.atl_world.specs.Worlds.{WorldValue}
 use Rattle.atl_orders.specs.declared.order.Operands.TheVariants as operands
@@ -14,11 +14,11 @@ use Rattle.atl_orders.specs.Orders.{OperandsValue}
 use Rattle.atl_campaign.specs.Campaign.{CampaignValue}
 use Rattle.atl_phase.specs.declared.phase_order.Arrangement.TheVariants.{ByFaction}
 use Rattle.atl_phase.specs.Fit.{AreFit}
-use Rattle.atl_phase.specs.Month.{Aliases, MonthValue}
+use Rattle.atl_phase.specs.Month.{MonthValue}
 use Rattle.atl_phase.specs.PhaseOrders.{IsInMailing, Task, order_counts, orders_of, tasks_of}
 use Rattle.atl_phase.specs.Reports.{is_from, report_for, report_of}
 use Rattle.atl_phase.proofs.EventLaws.{Fits, Gives, TakesThose, all_orders, fold_adds, fold_keeps, gives_by_orders, report_if, report_in_phase, reports_at}
-use Rattle.atl_instant.specs.Form.{form_by, form_meaning, form_order, form_spec, is_forming}
+use Rattle.atl_instant.specs.Form.{form_meaning, form_order, is_forming}
 use Rattle.atl_instant.specs.Give.{give_effect, give_spec, give_step, is_giving}
 use Rattle.atl_instant.specs.Guard.{guard_effect, guard_spec, guard_step, is_guarding}
 use Rattle.atl_instant.specs.Name.{is_naming, name_effect, name_spec, name_step}

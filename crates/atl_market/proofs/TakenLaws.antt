@@ -1,27 +1,24 @@
 -- Laws of the events of BUILD and of the phases with pots: each gives an event to each of its orders.
-use Rattle.std.proofs.Common.{◌≡◌, ◌≢◌, ◌==◌, ◌&&◌, ◌++◌, ◌<◌, ℕ, zero, suc, Bool, true, false, cond, List, [], ◌∷◌, length, map, filter, is_some, Option, Some, None, refl, sym, ap, ap₂, subst, ◌∙◌, arith}
+use Rattle.std.proofs.Common.{◌≡◌, ◌==◌, ◌&&◌, ◌++◌, ◌<◌, ℕ, zero, suc, Bool, true, false, cond, List, [], ◌∷◌, length, map, filter, is_some, Some, None, refl, sym, ap, ap₂, subst, ◌∙◌, arith}
 use Rattle.std.specs.Cmp.Lexicographic.{slice_cmp}
-use Rattle.std.specs.FinMap.{FinMap, entries, from_entries, values}
+use Rattle.std.specs.FinMap.{entries, from_entries, values}
 use Rattle.std.specs.List.{IsDistinct, slice_get}
 use Rattle.std.specs.Option.{option_map}
 use Rattle.std.specs.Ordering.{nat_cmp}
 use Rattle.std.proofs.lemmas.List.{append-nil}
 use Rattle.std.proofs.lemmas.List.Elements.{filter-append}
-use Rattle.atl_world.specs.Worlds.{WorldValue}
 use Rattle.atl_orders.specs.declared.order.Operands.TheVariants as operands
 use Rattle.atl_orders.specs.declared.verb.Verb.{Verb}
 use Rattle.atl_orders.specs.declared.verb.Verb.TheVariants as verbs
 use Rattle.atl_orders.specs.Bounds.{AreOperandsOf}
-use Rattle.atl_orders.specs.Mailing.{Reading}
 use Rattle.atl_orders.specs.Orders.{OperandsValue}
 use Rattle.atl_records.specs.declared.records.Unit.{Unit}
 use Rattle.atl_records.proofs.EveryLaws.{other_number}
 use Rattle.atl_campaign.specs.Campaign.{CampaignValue}
 use Rattle.atl_phase.specs.declared.phase_order.Arrangement.TheVariants.{ByUnit}
-use Rattle.atl_phase.specs.Fit.{AreFit}
 use Rattle.atl_phase.specs.Month.{Aliases, MonthValue}
-use Rattle.atl_phase.specs.PhaseOrders.{IsInMailing, Task, is_month_long, key_of, order_counts, orders_by_unit, orders_of, tasks_of}
-use Rattle.atl_phase.specs.Reports.{is_from, report_for, report_of}
+use Rattle.atl_phase.specs.PhaseOrders.{Task, is_month_long, key_of, order_counts, orders_by_unit, orders_of, tasks_of}
+use Rattle.atl_phase.specs.Reports.{is_from, report_for}
 use Rattle.atl_phase.proofs.EventLaws.{Fits, Gives, TakesThose, all_orders, gives_by_orders, one_reported, report_if, report_in_phase, reports_after, reports_at, reports_made, reports_of_orders}
 use Rattle.atl_phase.proofs.PickedLaws.{sorted-passing}
 use Rattle.atl_phase.proofs.ReportLaws.{alone, in_turn, is_at, line_of_order, one_in_phase, second_false}

@@ -1,5 +1,5 @@
 -- The law that each order that counts has exactly one event in the month: its phase gives it one, and no other phase does.
-use Rattle.std.proofs.Common.{◌≡◌, ◌==◌, ◌&&◌, ◌++◌, ◌<◌, ℕ, Bool, true, false, not, cond, List, [], ◌∷◌, map, filter, refl, sym, ap, ap₂, ◌∙◌, arith}
+use Rattle.std.proofs.Common.{◌≡◌, ◌==◌, ◌&&◌, ◌++◌, ◌<◌, ℕ, Bool, true, false, not, cond, List, [], ◌∷◌, map, filter, refl, sym, ap, ◌∙◌, arith}
 use Rattle.std.proofs.lemmas.List.{append-nil}
 use Rattle.std.specs.FinMap.{FinMap, empty}
 use Rattle.std.specs.Ordering.{nat_cmp}
@@ -15,15 +15,15 @@ use Rattle.atl_phase.specs.Meaning.{Meaning, then_also}
 use Rattle.atl_phase.specs.Month.{Aliases, MonthValue}
 use Rattle.atl_phase.specs.PhaseOrders.{IsInMailing, Task, is_month_long, order_counts, tasks_of, unit_of}
 use Rattle.atl_phase.specs.PhaseSpecs.{meaning_of}
-use Rattle.atl_phase.specs.Reports.{Counts, Report, is_from, report_for, report_of}
+use Rattle.atl_phase.specs.Reports.{Report, is_from, report_for, report_of}
 use Rattle.atl_phase.proofs.EventLaws.{Gives, gives_both, report_if, reports_after, reports_at}
 use Rattle.atl_phase.proofs.ReportLaws.{line_of_order, second_false}
 use Rattle.atl_instant.specs.Form.{form_meaning, is_forming}
 use Rattle.atl_instant.specs.Give.{give_spec, is_giving}
-use Rattle.atl_instant.specs.Guard.{guard_spec, is_guarding}
+use Rattle.atl_instant.specs.Guard.{is_guarding}
 use Rattle.atl_instant.specs.Name.{is_naming, name_spec}
 use Rattle.atl_instant.specs.Place.{is_placing, place_spec}
-use Rattle.atl_instant.specs.Quit.{is_quitting, quit_spec}
+use Rattle.atl_instant.specs.Quit.{is_quitting}
 use Rattle.atl_instant.specs.Transfer.{is_transferring, transfer_spec}
 use Rattle.atl_instant.proofs.TakenLaws.{form_gives, form_keeps_readings, give_gives, guard_gives, name_gives, names, place_gives, quit_gives, sets_guard, transfer_gives}
 use Rattle.atl_action.specs.Learners.{is_studying}

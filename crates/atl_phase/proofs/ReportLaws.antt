@@ -1,12 +1,12 @@
 -- A law of the orders of a phase: among them is each order that counts and has a verb of the phase, and only once; no
 -- other is of its faction and on its line. So a phase that gives each of its orders an event gives it just one.
-use Rattle.std.proofs.Common.{◌≡◌, ◌≢◌, ◌==◌, ◌&&◌, ℕ, suc, zero, ◌+◌, ◌≤◌, ◌<◌, Bool, true, false, cond, List, [], ◌∷◌, ◌++◌, map, filter, flat_map, slice_get, Option, Some, None, refl, sym, ap, ap₂, subst, ◌∙◌, arith}
+use Rattle.std.proofs.Common.{◌≡◌, ◌≢◌, ◌==◌, ◌&&◌, ℕ, suc, zero, ◌+◌, ◌≤◌, ◌<◌, Bool, true, false, cond, List, [], ◌∷◌, ◌++◌, map, filter, flat_map, slice_get, Some, refl, sym, ap, ap₂, ◌∙◌, arith}
 use mathlib.Core.Bool.{and_comm}
 use Rattle.std.proofs.lemmas.Bool.{true≢false}
 use Rattle.std.proofs.lemmas.List.Elements.{filter-append, filter_agree}
 use Rattle.std.proofs.lemmas.Option.{same_Some}
 use Rattle.std.specs.Cmp.Lexicographic.{slice_cmp, nat_list_cmp_total}
-use Rattle.std.specs.FinMap.{FinMap, entries, entries-insert, find, from_entries, get, get-entries, nat_cmp-IsAntisymmetric, put, slice_cmp-IsAntisymmetric, values}
+use Rattle.std.specs.FinMap.{FinMap, entries, entries-insert, find, from_entries, get-entries, put, values}
 use Rattle.std.specs.List.{AllByRecursion}
 use Rattle.std.specs.Ordering.{eq_by_cmp, nat_cmp}
 use Rattle.atl_world.proofs.GeneralLaws.{key_itself, same_key}
@@ -14,9 +14,8 @@ use Rattle.atl_world.specs.Worlds.{WorldValue}
 use Rattle.atl_orders.specs.Bounds.{LinesRise}
 use Rattle.atl_orders.specs.Mailing.{EntryValue, Reading}
 use Rattle.atl_orders.specs.declared.verb.Verb.{Verb}
-use Rattle.atl_records.proofs.EveryLaws.{none_some, other_number, same_number}
+use Rattle.atl_records.proofs.EveryLaws.{other_number, same_number}
 use Rattle.atl_campaign.proofs.GroupLaws.{filter_both}
-use Rattle.atl_campaign.proofs.KeyLaws.{IsDistinct-map}
 use Rattle.atl_campaign.proofs.ReadBackLaws.{Rise, entries_rise}
 use Rattle.atl_phase.specs.declared.phase_order.Arrangement.{Arrangement}
 use Rattle.atl_phase.specs.Fit.{AreFit}
