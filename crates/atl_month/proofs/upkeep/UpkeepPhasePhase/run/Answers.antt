@@ -15,7 +15,7 @@ charge_all-requires c =
     let w = c.args.world.now in
     let before = c.args.campaign.value in
     let list : c.deref-2.result.now ≡ upkeep_results w before = search rules in
-    (w, rw list (all_can_pay w before c.rules.ensures.world.rules.maintenance_least c.requires.needs c.requires.room))
+    (w, rw list (all_can_pay w before c.requires.needs c.requires.room))
 
 -- upkeep keeps the campaign steady and its books balanced, and moves each amount by less than 10^14
 pub returns-clause-leaves : goal.returns-clause-leaves
@@ -23,7 +23,7 @@ returns-clause-leaves c =
     let w = c.args.world.now in
     let before = c.args.campaign.value in
     let is : c.charge_all.new.campaign.value ≡ upkeep before (upkeep_results w before) = search rules in
-    rw is (upkeep_leaves_well w before c.rules.ensures.world.rules.maintenance_least c.requires.needs c.requires.room)
+    rw is (upkeep_leaves_well w before c.requires.needs c.requires.room)
 
 -- each unit is there, changed only by its upkeep among its faction's units in its region (`upkeep_keeps`)
 pub returns-clause-keeps : goal.returns-clause-keeps
