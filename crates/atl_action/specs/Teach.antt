@@ -71,8 +71,8 @@ men_at c n = option_map_or (λ u. u.holding.men) (get c.units n) 0
 abbrev pub untaught_men : CampaignValue → TaughtMen → (n : ℕ) → ℕ
 untaught_men c taught n = men_at c n - taught n
 
--- How many men of unit n are taught in a lesson for `places` men. The listed units take turns: each gets the places that
--- the units before it leave, up to its men who weren't taught yet.
+-- How many men of unit n are taught in a lesson for `places` men.
+-- The listed units take turns: each gets the places that the units before it leave, up to its untaught men.
 abbrev pub taught_in_lesson : CampaignValue → TaughtMen → (places : ℕ) → List ℕ → (n : ℕ) → ℕ
 taught_in_lesson c taught places [] n = 0
 taught_in_lesson c taught places (k ∷ ns) n =

@@ -30,8 +30,7 @@ use Rattle.std.specs.Cmp.{nat_cmp_total}
 use Rattle.std.specs.declared.cmp.Ordering.TheVariants.{Less, Equal, Greater}
 use Rattle.std.proofs.lemmas.List.Elements.{recursion_from_All}
 use Rattle.atl_orders.specs.declared.mailing.Mailing.{Mailing}
-use Rattle.atl_phase.specs.OrderEffects.{IsStillThere}
-use Rattle.atl_phase.specs.Unmailed.{IsLeft, IsLessBy, starved_in}
+use Rattle.atl_phase.specs.Unmailed.{IsLeft, starved_in}
 use Rattle.atl_phase.proofs.UnmailedLaws.{ClosesUnmailed, both_leave, then_closes}
 use Rattle.atl_phase.proofs.PhaseSpecLaws.{closed_together, each_also, leave_together}
 use Rattle.atl_month.proofs.PhaseLaws.{KeepsPhaseLaws, early_are, last_leave, later_are}
@@ -129,18 +128,20 @@ none_read f ms none = get-from_entries nat_cmp_total (map (λ r. (r.faction, r))
         ] refl
 
 -- Phases that do as `ClosesUnmailed` says leave units of factions without a mailing their items, and their men less the
--- starved. If the month begins without events, its events report these men. A unit all of whose men starved may be gone
+-- starved. If the month begins without events, its events report these men. A unit all of whose men starved is removed
 -- (`IsLeft`).
 phases_leave_unmailed : (phases : Meaning) (keeps : Frame) → ClosesUnmailed phases keeps → (w : WorldValue) (c d : CampaignValue) (m : MonthValue) (events : List Event) → m.events ≡ [] → ◌≡◌ {A = CampaignValue × List Event} (d, events) ((phases w c m).0, (phases w c m).1.events) → keeps w m c d
     → Every (λ n u. get m.readings u.faction ≡ None → IsLeft (starved_in events n) d n u) c.units
-phases_leave_unmailed phases keeps closes w c d m events begins is kept n u there none some =
+phases_leave_unmailed phases keeps closes w c d m events begins is kept n u there none =
     let state : d ≡ (phases w c m).0 = ap (λ (p : CampaignValue × List Event). p.0) is in
     let events_are : events ≡ (phases w c m).1.events = ap (λ (p : CampaignValue × List Event). p.1) is in
     let from_none : starved_in m.events n ≡ 0 = ap (λ es. starved_in es n) begins in
     let so_many : starved_in (phases w c m).1.events n - starved_in m.events n ≡ starved_in events n = omega (arith, from_none, ap (λ es. starved_in es n) events_are) in
-    subst (λ k. IsStillThere (IsLessBy k) d n u) so_many (subst (λ s. IsStillThere (IsLessBy (starved_in (phases w c m).1.events n - starved_in m.events n)) s n u) (sym state)
-    (closes.left w c m (subst (keeps w m c) state kept) n u there none (subst (λ k. k < u.holding.men) (sym so_many) some)))
+    subst (λ k. IsLeft k d n u) so_many (subst (λ s. IsLeft (starved_in (phases w c m).1.events n - starved_in m.events n) s n u) (sym state)
+    (closes.left w c m (subst (keeps w m c) state kept) n u there none))
 
+-- after a month each unit of a faction without a mailing has its name, no less of any item, and all men who didn't
+-- starve, or is removed where all its men starved (`UnmailedAreLeft`)
 pub unmailed_left : (w : WorldValue) (c d : CampaignValue) (ms : List Mailing) (words : List ℕ) (events : List Event) → (d, events) ≡ month_of w c (by_faction (map reading_of ms)) words
     → month_keeps w (new_month (by_faction (map reading_of ms)) words) c d → UnmailedAreLeft ms events c d
 unfolding month_of

@@ -1,6 +1,6 @@
 -- Laws of the sweep: what holds of a campaign after a unit without men passed money or items on to another
 -- (`PassesOn`).
-use Rattle.std.proofs.Common.{◌≡◌, ◌≢◌, ◌==◌, ℕ, ◌+◌, ◌-◌, ◌≤◌, ◌<◌, Bool, cond, List, [], ◌∷◌, length, Option, Some, None, refl, sym, ap, subst, ◌∙◌, arith, inl, inr}
+use Rattle.std.proofs.Common.{◌≡◌, ◌≢◌, ◌==◌, ℕ, ◌+◌, ◌-◌, ◌≤◌, ◌<◌, Bool, cond, List, [], ◌∷◌, length, min, Option, Some, None, refl, sym, ap, subst, ◌∙◌, arith, inl, inr}
 use Rattle.std.specs.Prelude.{ℤ, pos, neg_ℤ, ◌+ℤ◌, fold}
 use Rattle.std.proofs.lemmas.Int.{ints}
 use Rattle.std.proofs.lemmas.Bool.Decides.{nat_tests}
@@ -35,7 +35,7 @@ use Rattle.atl_phase.proofs.BookingLaws.{booked-near, within-neg}
 use Rattle.atl_phase.proofs.NoWorseLaws.{no_worse, no_worse_twice}
 use Rattle.atl_phase.specs.Bounds.{items_bound}
 use Rattle.atl_instant.proofs.QuitLaws.{held_in_items, amount_as_thing}
-use Rattle.atl_month.specs.Sweep.{IsKept, accepted_of, after_passing_item, after_passing_money, with_lost}
+use Rattle.atl_month.specs.Sweep.{IsKept, after_passing_item, after_passing_money, with_lost}
 use Rattle.std.proofs.lemmas.Bool.{cases_eq}
 
 -- ---- more than is booked
@@ -179,6 +179,10 @@ more_amount items i n j = elim (cases_eq j i) [
 
 -- ---- the part that a unit takes, and the rest
 
+-- how much of an amount a unit that has `have` of a thing accepts
+abbrev pub accepted_of : (amount have : ℕ) → ℕ
+accepted_of amount have = min amount (holding_limit - have)
+
 accepted_and_rest : (amount have : ℕ) → accepted_of amount have + (amount - accepted_of amount have) ≡ amount
 accepted_and_rest amount have = omega arith
 
@@ -197,13 +201,13 @@ module _ (w : WorldValue) (c : CampaignValue) (n k : ℕ) (apart : n ≢ k) (ste
 
   -- If booking all of an amount as lost is passing it on (`Passed`), so is booking the amount less the 0 that unit `k`
   -- takes.
-  all_left : (t : Thing) (amount : ℕ) → Passed t amount (with_lost c t amount) → Passed t amount (with_lost c t (amount - 0))
-  all_left t amount lost = let same : amount ≡ amount - 0 = omega arith in subst (λ a. Passed t amount (with_lost c t a)) same lost
+  all_left : (t : Thing) (amount : ℕ) → Passed t amount (with_lost c t amount) → Passed t amount (with_lost c t (amount - min amount 0))
+  all_left t amount lost = let same : amount ≡ amount - min amount 0 = omega arith in subst (λ a. Passed t amount (with_lost c t a)) same lost
 
   -- the campaign after unit `k`, if it is there, took money up to its room; the rest is booked as lost
   abbrev money_to : (amount : ℕ) → Option Unit → CampaignValue
   money_to amount o =
-      let taken = option_map_or (λ v. accepted_of amount v.holding.money) o 0 in
+      let taken = min amount (option_map_or (λ v. holding_limit - v.holding.money) o 0) in
       with_lost (option_map_or (λ v. with_money c k (v.holding.money + taken)) o c) Money (amount - taken)
 
   pub pass_money : (amount : ℕ) → Passed Money amount (after_passing_money c k amount)
@@ -234,7 +238,7 @@ module _ (w : WorldValue) (c : CampaignValue) (n k : ℕ) (apart : n ≢ k) (ste
   -- the campaign after unit `k`, if it is there, took an item up to its room; the rest is booked as lost
   abbrev item_to : (i amount : ℕ) → Option Unit → CampaignValue
   item_to i amount o =
-      let taken = option_map_or (λ v. accepted_of amount (amount_of v.holding.items i)) o 0 in
+      let taken = min amount (option_map_or (λ v. holding_limit - amount_of v.holding.items i) o 0) in
       with_lost (option_map_or (λ v. with_item c k i (amount_of v.holding.items i + taken)) o c) (Item i) (amount - taken)
 
   pub pass_item : (i amount : ℕ) → i < length w.items → Passed (Item i) amount (after_passing_item k c (i, amount))

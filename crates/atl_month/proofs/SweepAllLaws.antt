@@ -24,7 +24,7 @@ use Rattle.atl_records.proofs.EveryLaws.{none_some}
 use Rattle.atl_phase.specs.Meaning.{LeavesWell, both_move, most_moved}
 use Rattle.atl_phase.specs.Bounds.{moved_times}
 use Rattle.atl_phase.proofs.MeaningLaws.{both_leave_well, fold_leaves_well, near_same, same_month_among, well_unchanged, well_within}
-use Rattle.atl_month.specs.Sweep.{IsKept, after_passing_all, after_sweeping_faction, after_sweeping_unit, is_empty, loses_by, menless_units, receiver, sweep, IsSwept}
+use Rattle.atl_month.specs.Sweep.{IsKept, IsSweptUnit, after_passing_all, after_sweeping_faction, after_sweeping_unit, is_empty, loses_by, menless_units, receiver, sweep, IsSwept}
 use Rattle.atl_campaign.proofs.NumberListLaws.{IsListed, passing_listed}
 use Rattle.atl_campaign.proofs.GoneFactionLaws.{as_gone, count-gone, get-gone, get-gone_other, known-gone, none-gone, steady-gone, total-gone}
 use Rattle.atl_month.proofs.PassingLaws.{kept-refl, kept-trans}
@@ -105,6 +105,15 @@ module _ (w : WorldValue) where
       let (v, here, kept) = swept_at_keeps w c n steady m x there some in
       let (y, after, more) = all_keep ns (after_sweeping_unit c n) (swept_at_leaves_well w c n steady).leaves_it m v here (omega (arith, kept.men, some)) in
       (y, after, kept-trans x v y kept more)
+
+  -- in a steady campaign, after several units were swept each unit that is left was there, and nothing was taken from
+  -- it (`IsKept`)
+  pub all_were : (ns : List ℕ) (c : CampaignValue) → IsSteady w c → Every (λ m v. (x : Unit) × (get c.units m ≡ Some x) × IsKept x v) (fold after_sweeping_unit c ns).units
+  all_were [] c steady m v there = (v, there, kept-refl v)
+  all_were (n ∷ ns) c steady m v there =
+      let (y, here, more) = all_were ns (after_sweeping_unit c n) (swept_at_leaves_well w c n steady).leaves_it m v there in
+      let (apart, (x, was, kept)) = units_left_were_there w c n steady m y here in
+      (x, was, kept-trans x y v kept more)
 
 -- ---- factions
 
@@ -213,7 +222,21 @@ module _ (w : WorldValue) (c : CampaignValue) (steady : IsSteady w c) where
     near = both_well.near;
   }
 
-  pub sweep_keeps_all : Every (λ n u. 1 ≤ u.holding.men → (v : Unit) × (get (sweep c).units n ≡ Some v) × IsKept u v) c.units
-  sweep_keeps_all n u is some =
-      let (v, there, kept) = all_keep w (menless_units c) c steady n u is some in
-      (v, ap (λ (units : FinMap nat_cmp Unit). get units n) (units_stay (active units_swept) units_swept) ∙ there, kept)
+  -- the units after the sweep are those that are left once the units without men were swept
+  swept_at : (n : ℕ) → get (sweep c).units n ≡ get units_swept.units n
+  swept_at n = ap (λ (units : FinMap nat_cmp Unit). get units n) (units_stay (active units_swept) units_swept)
+
+  -- after the sweep each unit that had men is there, and nothing is taken from it; each unit without men is removed
+  pub sweep_keeps_all : Every (IsSweptUnit (sweep c)) c.units
+  sweep_keeps_all n u is = record {
+    kept = λ some. let (v, there, kept) = all_keep w (menless_units c) c steady n u is some in (v, swept_at n ∙ there, kept);
+    removed = λ none. by_unit none (get (sweep c).units n) refl;
+  }
+    where
+      -- for `sweep_keeps_all`: a unit that had no men isn't there, since each unit that is there has men, which it had
+      by_unit : u.holding.men ≡ 0 → (o : Option Unit) → get (sweep c).units n ≡ o → o ≡ None
+      by_unit none None there = refl
+      by_unit none (Some v) there =
+          let (x, was, kept) = all_were w (menless_units c) c steady n v (sym (swept_at n) ∙ there) in
+          let men = ap (λ (y : Unit). y.holding.men) (same_Some x u (sym was ∙ is)) in
+          absurd (omega (arith, have_men n v there, kept.men, men, none))

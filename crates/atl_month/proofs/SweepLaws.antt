@@ -31,11 +31,11 @@ use Rattle.atl_records.proofs.HoldingLaws.{amount_within}
 use Rattle.atl_phase.proofs.MeaningLaws.{near_more, near_room, room_less}
 use Rattle.atl_phase.specs.Bounds.{items_bound, HaveRoom}
 use Rattle.atl_instant.proofs.QuitLaws.{no_money, no_people, list_amount_is_found, held_in_items, amount_as_thing, moves_what_leaves}
-use Rattle.atl_month.specs.Sweep.{IsKept, after_passing_all, after_passing_money, loses_by, receiver, receives, accepted_of, after_passing_item, with_lost}
+use Rattle.atl_month.specs.Sweep.{IsKept, after_passing_all, after_passing_money, loses_by, receiver, receives, after_passing_item, with_lost}
 use Rattle.atl_records.proofs.RemovedLaws.{get-remove_other, still}
 use Rattle.atl_campaign.proofs.NumberListLaws.{IsListed, listed_passing}
 use Rattle.atl_campaign.proofs.LeavingLaws.{only_reduced, steady-without, total-without}
-use Rattle.atl_month.proofs.PassingLaws.{Owes, PassesOn, pass_items, pass_money, passes-trans, pass_item}
+use Rattle.atl_month.proofs.PassingLaws.{Owes, PassesOn, accepted_of, pass_items, pass_money, passes-trans, pass_item}
 use Rattle.atl_instant.specs.Quit.{loss_under}
 
 -- ---- how much of each thing a unit passes on

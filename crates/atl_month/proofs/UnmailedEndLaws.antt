@@ -1,8 +1,10 @@
 -- Laws of what upkeep, season and sweep leave to units of a faction that sent no mailing.
-use Rattle.std.proofs.Common.{◌≡◌, ◌==◌, ◌+◌, ◌-◌, ℕ, Bool, true, false, not, cond, List, [], ◌∷◌, map, filter, sum_by, Some, refl, sym, ap, subst, ◌∙◌, inl, inr, arith}
-use Rattle.std.specs.Prelude.{fold, if◌then◌else◌}
+use Rattle.std.proofs.Common.{◌≡◌, ◌≢◌, ◌==◌, ◌+◌, ◌-◌, ◌≤◌, ◌<◌, ℕ, Bool, true, false, not, cond, List, [], ◌∷◌, map, filter, sum_by, Some, refl, sym, ap, subst, ◌∙◌, inl, inr, arith}
+use Rattle.std.specs.Prelude.{if◌then◌else◌}
 use Rattle.std.specs.Ordering.{nat_cmp}
-use Rattle.std.specs.FinMap.{FinMap, get}
+use Rattle.std.specs.FinMap.{FinMap, entries, find, get, get-entries}
+use Rattle.std.specs.List.{AllByRecursion}
+use Rattle.std.proofs.lemmas.Option.{same_Some}
 use Rattle.std.proofs.lemmas.Bool.{cases_eq}
 use Rattle.std.proofs.lemmas.List.Sums.{sum_by-append, sum_by-cons}
 use Rattle.atl_world.specs.Worlds.{WorldValue}
@@ -10,62 +12,62 @@ use Rattle.atl_world.proofs.GeneralLaws.{is_equal}
 use Rattle.atl_records.specs.declared.event.Event.{Event}
 use Rattle.atl_records.specs.declared.records.Unit.{Unit}
 use Rattle.atl_campaign.specs.Campaign.{CampaignValue}
-use Rattle.atl_records.proofs.EveryLaws.{other_number}
+use Rattle.atl_records.proofs.EveryLaws.{first, none_some, other_number}
+use Rattle.atl_campaign.proofs.ReadBackLaws.{Rise, entries_rise}
 use Rattle.atl_phase.specs.Month.{MonthValue}
-use Rattle.atl_phase.specs.OrderEffects.{IsStillThere}
 use Rattle.atl_phase.specs.Unmailed.{IsLessBy, men_starved_by, starved_in}
 use Rattle.atl_phase.proofs.StructureLaws.{equal_passes}
 use Rattle.atl_phase.proofs.UnmailedLaws.{ClosesUnmailed, LeavesUnmailed, men_same, whole_leaves}
+use Rattle.atl_market.proofs.PotLaws.{found_other}
+use Rattle.atl_month.specs.declared.upkeep_sharing.UpkeepInput.{UpkeepInput}
 use Rattle.atl_month.specs.declared.upkeep_sharing.UpkeepResult.{UpkeepResult}
 use Rattle.atl_month.specs.Season.{season_keeps, season_meaning}
 use Rattle.atl_month.specs.Sweep.{sweep_keeps, sweep_meaning}
-use Rattle.atl_month.specs.Upkeep.{starved_event, starves, upkeep_at, upkeep_keeps, upkeep_meaning, upkeep_results}
-use Rattle.atl_month.proofs.UpkeepLaws.{other_unit, own_unit, unit_after_upkeep}
+use Rattle.atl_month.specs.Upkeep.{starved_event, starves, upkeep_input_of, upkeep_inputs_of, upkeep_keeps, upkeep_meaning, upkeep_results}
+use Rattle.atl_month.specs.UpkeepSharing.{peers_of}
+use Rattle.atl_month.proofs.UpkeepLaws.{unit_after_upkeep, upkeep_result_each, upkeep_result_one}
+use Rattle.atl_month.proofs.UpkeepSharingLaws.{can_spare}
 use Rattle.std.proofs.lemmas.Bool.Decides.{nat_tests}
 
 -- ---- upkeep
 
-less_plus : (a b : ℕ) (u v x : Unit) → IsLessBy a u v → IsLessBy b v x → IsLessBy (a + b) u x
-less_plus a b u v x one two = record {
-  faction = two.faction ∙ one.faction;
-  name = two.name ∙ one.name;
-  men = omega (arith, one.men, two.men);
-  items = λ i. omega (arith, one.items i, two.items i);
-}
-
-nobody_less : (u : Unit) → IsLessBy 0 u u
-nobody_less u = record { faction = refl; name = refl; men = omega arith; items = λ i. omega arith }
-
-fewer_by : (s : UpkeepResult) (u : Unit) → IsLessBy s.starved u (unit_after_upkeep s u)
-fewer_by s u = record { faction = refl; name = grind arith; men = grind (arith, nat_tests); items = λ i. grind arith }
+-- after its upkeep a unit has its men less exactly those who starved (`IsLessBy`), if no more starved than it had
+fewer_by : (s : UpkeepResult) (u : Unit) → s.starved ≤ u.holding.men → IsLessBy s.starved u (unit_after_upkeep s u)
+fewer_by s u few = record { faction = refl; name = grind arith; men = grind (arith, nat_tests, few); items = λ i. grind arith }
 
 -- how many men of unit `n` starve by one result of upkeep; 0 where the result is another unit's
 abbrev starved_of_n : ℕ → UpkeepResult → ℕ
 starved_of_n n s = if s.unit == n then s.starved else 0
 
-fewer_after_one : (c : CampaignValue) (s : UpkeepResult) (n : ℕ) (u : Unit) → get c.units n ≡ Some u → IsStillThere (IsLessBy (starved_of_n n s)) (upkeep_at c s) n u
-fewer_after_one c s n u there = elim (cases_eq n s.unit) [
-  | inl own ↦
-      let here : get c.units s.unit ≡ Some u = ap (get c.units) (sym own) ∙ there in
-      record {
-        unit = unit_after_upkeep s u;
-        there = ap (get (upkeep_at c s).units) own ∙ own_unit c s u here;
-        is_unaffected = subst (λ b. IsLessBy (if b then s.starved else 0) u (unit_after_upkeep s u)) (sym (equal_passes s.unit n (sym own))) (fewer_by s u);
-      }
-  | inr apart ↦
-      record {
-        unit = u;
-        there = other_unit c s n apart ∙ there;
-        is_unaffected = subst (λ b. IsLessBy (if b then s.starved else 0) u u) (sym (other_number s.unit n (λ same. apart (sym same)))) (nobody_less u);
-      }
-]
+module _ (m : ℕ) (all : List UpkeepInput) (n : ℕ) where
+  -- how many men of unit `n` starve by the upkeep of some units, where `all` are the units of the campaign
+  abbrev starving : List (ℕ × Unit) → ℕ
+  starving es = sum_by (starved_of_n n) (upkeep_result_each m all es)
 
-fewer_after_upkeep : (c : CampaignValue) (ss : List UpkeepResult) (n : ℕ) (u : Unit) → get c.units n ≡ Some u → IsStillThere (IsLessBy (sum_by (starved_of_n n) ss)) (fold upkeep_at c ss) n u
-fewer_after_upkeep c [] n u there = record { unit = u; there = there; is_unaffected = nobody_less u }
-fewer_after_upkeep c (s ∷ ss) n u there =
-    let one = fewer_after_one c s n u there in
-    let two = fewer_after_upkeep (upkeep_at c s) ss n one.unit one.there in
-    record { unit = two.unit; there = two.there; is_unaffected = subst (λ k. IsLessBy k u two.unit) (sym (sum_by-cons (starved_of_n n) s ss)) (less_plus (starved_of_n n s) (sum_by (starved_of_n n) ss) u one.unit two.unit one.is_unaffected two.is_unaffected) }
+  -- by the upkeep of another unit nobody of unit `n` starves
+  other_starving : (e : ℕ × Unit) (es : List (ℕ × Unit)) → e.0 ≢ n → starving (e ∷ es) ≡ starving es
+  other_starving e es apart =
+      let more = sum_by-cons (starved_of_n n) (upkeep_result_one m all (upkeep_input_of e)) (upkeep_result_each m all es) in
+      grind (arith, more, other_number e.0 n apart)
+
+  -- by the upkeep of units with greater numbers nobody of unit `n` starves
+  none_starving : (es : List (ℕ × Unit)) → AllByRecursion (λ e. n < e.0) es → starving es ≡ 0
+  none_starving [] above = refl
+  none_starving (e ∷ es) above = other_starving e es (λ same. omega (arith, above.0, same)) ∙ none_starving es above.1
+
+  -- by the upkeep of units with rising numbers, unit `n` among them, those of `n` starve who starve by its own upkeep
+  own_starving : (es : List (ℕ × Unit)) (u : Unit) → Rise es → find nat_cmp n es ≡ Some u → starving es ≡ (upkeep_result_one m all (upkeep_input_of (n, u))).starved
+  own_starving [] u rise found = none_some u found
+  own_starving ((k, v) ∷ es) u rise found = elim (cases_eq n k) [
+    | inl own ↦
+        let unit : v ≡ u = same_Some v u (sym (first (k, v) es) ∙ ap (λ j. find nat_cmp j ((k, v) ∷ es)) (sym own) ∙ found) in
+        let mine : (upkeep_result_one m all (upkeep_input_of (k, v))).starved ≡ (upkeep_result_one m all (upkeep_input_of (n, u))).starved =
+        (λ i. (upkeep_result_one m all (upkeep_input_of (sym own i, unit i))).starved) in
+        let more = sum_by-cons (starved_of_n n) (upkeep_result_one m all (upkeep_input_of (k, v))) (upkeep_result_each m all es) in
+        let rest = none_starving es (subst (λ j. AllByRecursion (λ e. j < e.0) es) (sym own) rise.0) in
+        grind (arith, more, rest, mine, equal_passes k n (sym own))
+    | inr apart ↦ other_starving (k, v) es (λ same. apart (sym same)) ∙ own_starving es u rise.1 (sym (found_other (k, v) es n apart) ∙ found)
+  ]
 
 abbrev by_event : ℕ → Event → ℕ
 by_event n e = if e.unit == n then men_starved_by e.verb e.outcome else 0
@@ -87,8 +89,16 @@ upkeep_leaves = record {
   readings = λ w c m. refl;
   starved_reported = λ w c m n. omega (arith, starved_add_up w c m n);
   left = λ w c m keeps n u there none.
-      let one = fewer_after_upkeep c (upkeep_results w c) n u there in
-      record { unit = one.unit; there = one.there; is_unaffected = subst (λ k. IsLessBy k u one.unit) (less (starved_in m.events n) (men_starved w c n) _ (starved_add_up w c m n)) one.is_unaffected };
+      let all = upkeep_inputs_of c in
+      let p = upkeep_input_of (n, u) in
+      let s = upkeep_result_one w.rules.maintenance all p in
+      let own = own_starving w.rules.maintenance all n (entries c.units) u (entries_rise c.units) (sym (get-entries c.units n) ∙ there) in
+      record {
+        unit = unit_after_upkeep s u;
+        there = keeps n u there;
+        is_unaffected = subst (λ k. IsLessBy k u (unit_after_upkeep s u)) (omega (arith, own, starved_add_up w c m n))
+            (fewer_by s u (can_spare w.rules.maintenance (peers_of u.region u.faction all) p).starved);
+      };
 }
   where
     men_starved : (w : WorldValue) (c : CampaignValue) (n : ℕ) → ℕ
@@ -96,9 +106,6 @@ upkeep_leaves = record {
 
     starved_add_up : (w : WorldValue) (c : CampaignValue) (m : MonthValue) (n : ℕ) → starved_in (upkeep_meaning w c m).1.events n ≡ starved_in m.events n + men_starved w c n
     starved_add_up w c m n = sum_by-append (by_event n) m.events (map starved_event (filter starves (upkeep_results w c))) ∙ ap (λ x. starved_in m.events n + x) (starved_are_reported (upkeep_results w c) n)
-
-    less : (x y z : ℕ) → z ≡ x + y → y ≡ z - x
-    less x y z is = omega (arith, is)
 
 -- ---- season and sweep
 
@@ -111,7 +118,11 @@ season_leaves =
 pub sweep_leaves : ClosesUnmailed sweep_meaning sweep_keeps
 sweep_leaves = record {
   starved_reported = λ w c m n. omega arith;
-  left = λ w c m keeps n u there none some.
-      let (v, after, kept) = keeps n u there (omega (arith, some)) in
-      record { unit = v; there = after; is_unaffected = record { faction = kept.no_worse.faction; name = kept.no_worse.name; men = omega (arith, kept.men); items = kept.no_worse.items } };
+  left = λ w c m keeps n u there none. record {
+    most = omega arith;
+    fewer = λ some.
+        let (v, after, kept) = (keeps n u there).kept (omega (arith, some)) in
+        record { unit = v; there = after; is_unaffected = record { faction = kept.no_worse.faction; name = kept.no_worse.name; men = omega (arith, kept.men); items = kept.no_worse.items } };
+    all = λ every. (keeps n u there).removed (omega (arith, every));
+  };
 }

@@ -245,7 +245,7 @@ upkeep_result_one m all p = upkeep_result_among m (peers_of p.region p.faction a
 abbrev pub upkeep_result_each : ℕ → (all : List UpkeepInput) → List (ℕ × Unit) → List UpkeepResult
 upkeep_result_each m all es = map (upkeep_result_one m all) (map upkeep_input_of es)
 
-module _ (w : WorldValue) (some : 1 ≤ w.rules.maintenance) (all : List UpkeepInput) where
+module _ (w : WorldValue) (all : List UpkeepInput) where
   abbrev step_moves : BookBound
   step_moves = takes_up_to most_amount
 
@@ -264,7 +264,7 @@ module _ (w : WorldValue) (some : 1 ≤ w.rules.maintenance) (all : List UpkeepI
       let can : CanPayUpkeep w c s = record {
         unit = u;
         there = there.0;
-        spare = can_spare w.rules.maintenance some (peers_of p.region p.faction all) p;
+        spare = can_spare w.rules.maintenance (peers_of p.region p.faction all) p;
         steady = steady;
         room = first_room step_moves c s rest room;
       } in
@@ -285,7 +285,7 @@ module _ (c : CampaignValue) where
   pub inputs_in_order : AreInOrder (upkeep_inputs_of c)
   inputs_in_order = in_order (entries c.units) (entries_rise c.units)
 
-module _ (w : WorldValue) (c : CampaignValue) (some : 1 ≤ w.rules.maintenance) (steady : IsSteady w c) (room : HaveRoom (takes_up_to most_moved) c) where
+module _ (w : WorldValue) (c : CampaignValue) (steady : IsSteady w c) (room : HaveRoom (takes_up_to most_moved) c) where
   abbrev list : List UpkeepResult
   list = upkeep_results w c
 
@@ -297,7 +297,7 @@ module _ (w : WorldValue) (c : CampaignValue) (some : 1 ≤ w.rules.maintenance)
 
   pub all_can_pay : CanInTurn (CanPayUpkeep w) upkeep_at c list
   all_can_pay =
-      upkeep_result_in_turn w some (upkeep_inputs_of c) (entries c.units) c (entries_rise c.units)
+      upkeep_result_in_turn w (upkeep_inputs_of c) (entries c.units) c (entries_rise c.units)
       (each-from_every (λ n u. get c.units n ≡ Some u) c.units (λ n u is. is)) steady
       (room_less (moved_times (length list) (takes_up_to most_amount)) (takes_up_to most_moved) c little room)
 

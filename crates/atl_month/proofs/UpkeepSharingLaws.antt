@@ -5,7 +5,7 @@ use Rattle.std.proofs.Common.{◌≡◌, ◌++◌, ℕ, zero, suc, ◌+◌, ◌-
 use Rattle.std.specs.Prelude.{All, nat_lt}
 use Rattle.std.specs.Ordering.{nat_cmp}
 use Rattle.std.specs.FinMap.{empty, get, get-empty}
-use Rattle.std.proofs.Math.Nat.{div-lt_iff_lt-mul}
+use Rattle.std.proofs.Math.Nat.{div-lt_iff_lt-mul, div-zero}
 use Rattle.std.proofs.lemmas.Bool.Decides.{nat_tests}
 use Rattle.std.proofs.lemmas.List.Elements.{filter-append}
 use Rattle.std.proofs.lemmas.List.Sums.{sum_by-append}
@@ -204,20 +204,22 @@ module _ (m : ℕ) (all before : List UpkeepInput) (p : UpkeepInput) (accounts :
 
 -- ---- a unit pays no more than it has
 
-few_starve : (m men short : ℕ) → 1 ≤ m → short ≤ m * men → starved_of m short ≤ men
-few_starve m men short some most =
-    let rounded : short + (m - 1) < (men + 1) * m = omega (arith, mul_comm m men) in
-    let fewer : starved_of m short < men + 1 = (div-lt_iff_lt-mul some).1 rounded in
+few_starve : (m men short : ℕ) → short ≤ m * men → starved_of m short ≤ men
+few_starve zero men short most = let none = div-zero (short + 0) in omega (arith, none)
+few_starve (suc k) men short most =
+    let some : 1 ≤ suc k = omega arith in
+    let rounded : short + (suc k - 1) < (men + 1) * suc k = omega (arith, mul_comm (suc k) men) in
+    let fewer : starved_of (suc k) short < men + 1 = (div-lt_iff_lt-mul some).1 rounded in
     omega arith
 
 pub can_spare : EachCanSpare
-can_spare m some peers p =
+can_spare m peers p =
     let given = given_among m peers in
     let before = filter (is_lower p.unit) peers in
     let short = short_of m p - amount_in_turn given (sum_by (short_of m) before) (short_of m p) in
     record {
       paid = within given (sum_by (left_of m) before) p.money (m * p.men);
-      starved = few_starve m p.men short some (omega arith);
+      starved = few_starve m p.men short (omega arith);
     }
   where
     within : (given before money due : ℕ) → min money due + amount_in_turn given before (money - min money due) ≤ money

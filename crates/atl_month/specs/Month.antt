@@ -93,7 +93,7 @@ TwoMoveAtMost = (e : BooksEntry) (t : Thing) → moving_phase_count e t ≤ 2
 abbrev pub orders_bound : BookBound
 orders_bound = both_move (book_bound_of early_phases) (book_bound_of later_phases)
 
--- the bound on how far all phases of a month together may move each amount of the books
+-- for proofs alone: the bound on how far all phases of a month together may move each amount of the books
 abbrev pub phases_bound : BookBound
 phases_bound = both_move orders_bound (book_bound_of last_phases)
 

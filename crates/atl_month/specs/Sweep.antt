@@ -1,6 +1,6 @@
 -- The sweep at the end of a month: units without men are removed, and factions without units are gone.
 -- See docs/RULES.md, "Sweep".
-use Rattle.std.specs.Prelude.{◌≡◌, ◌≤◌, ◌+◌, ◌-◌, ◌==◌, ◌&&◌, not, min, ℕ, pos, neg_ℤ, nat_lt, Bool, true, false, List, [], ◌∷◌, fold, Some, if◌then◌else◌}
+use Rattle.std.specs.Prelude.{◌≡◌, ◌≤◌, ◌+◌, ◌-◌, ◌==◌, ◌&&◌, not, min, ℕ, pos, neg_ℤ, nat_lt, Bool, true, false, List, [], ◌∷◌, fold, Some, None, if◌then◌else◌}
 use Rattle.std.specs.FinMap.{entries, get}
 use Rattle.std.specs.Option.{option_map_or}
 use Rattle.atl_world.specs.Worlds.{WorldValue}
@@ -11,7 +11,7 @@ use Rattle.atl_records.specs.declared.books.Thing.{Thing}
 use Rattle.atl_records.specs.declared.books.Thing.TheVariants.{Item, Money, People}
 use Rattle.atl_records.specs.declared.records.Unit.{Unit}
 use Rattle.atl_records.specs.Every.{Every}
-use Rattle.atl_records.specs.Holdings.{amount_of}
+use Rattle.atl_records.specs.Holdings.{HoldingValue, amount_of}
 use Rattle.atl_records.specs.Limits.{holding_limit}
 use Rattle.atl_campaign.specs.Good.{HaveMen, IsSteady, UnitlessAreGone}
 use Rattle.atl_campaign.specs.Owners.{first_or_zero, without_unit}
@@ -38,15 +38,15 @@ receiver c region faction = first_or_zero (numbers_where (receives region factio
 abbrev pub with_lost : CampaignValue → Thing → ℕ → CampaignValue
 with_lost c t amount = with_booking c Lost t (neg_ℤ (pos amount))
 
--- how much of an amount a unit that holds `have` accepts: as much as leaves it at most 999,999,999
-abbrev pub accepted_of : (amount have : ℕ) → ℕ
-accepted_of amount have = min amount (holding_limit - have)
+-- how much more of a thing a unit has room for, given with its number; `have` tells how much of it a holding has
+abbrev pub room_at : CampaignValue → (number : ℕ) → (have : HoldingValue → ℕ) → ℕ
+room_at c number have = option_map_or (λ u. holding_limit - have u.holding) (get c.units number) 0
 
 -- A campaign after money went to unit `to`, up to its room; the rest is booked as lost, all of it where the unit isn't
 -- there.
 unfoldable pub after_passing_money : CampaignValue → (to amount : ℕ) → CampaignValue
 after_passing_money c to amount =
-    let taken = option_map_or (λ v. accepted_of amount v.holding.money) (get c.units to) 0 in
+    let taken = min amount (room_at c to (λ h. h.money)) in
     let given = at_unit c to (λ v. with_money c to (v.holding.money + taken)) in
     with_lost given Money (amount - taken)
 
@@ -54,8 +54,7 @@ after_passing_money c to amount =
 -- the unit isn't there.
 unfoldable pub after_passing_item : ℕ → CampaignValue → ℕ × ℕ → CampaignValue
 after_passing_item to c (item, amount) =
-    let taken =
-    option_map_or (λ v. accepted_of amount (amount_of v.holding.items item)) (get c.units to) 0 in
+    let taken = min amount (room_at c to (λ h. amount_of h.items item)) in
     let given = at_unit c to (λ v. with_item c to item (amount_of v.holding.items item + taken)) in
     with_lost given (Item item) (amount - taken)
 
@@ -116,11 +115,16 @@ pub record IsKept (before after : Unit) : Type 0 where
   pub men : after.holding.men ≡ before.holding.men
   pub days : after.holding.days ≡ before.holding.days
 
--- What the sweep leaves alone: each unit with men is still there, no worse off, with its men and their days as they
--- were.
+-- what is left of a unit, given with its number, after the sweep
+pub record IsSweptUnit (after : CampaignValue) (number : ℕ) (u : Unit) : Type 0 where
+  -- a unit with men is still there, no worse off, with its men and their days as they were
+  pub kept : 1 ≤ u.holding.men → (v : Unit) × (get after.units number ≡ Some v) × IsKept u v
+  -- a unit without men is removed
+  pub removed : u.holding.men ≡ 0 → get after.units number ≡ None
+
+-- what the sweep leaves alone: each unit with men; those without are removed
 abbrev pub sweep_keeps : Frame
-sweep_keeps w m before after =
-    Every (λ n u. 1 ≤ u.holding.men → (v : Unit) × (get after.units n ≡ Some v) × IsKept u v) before.units
+sweep_keeps w m before after = Every (IsSweptUnit after) before.units
 
 -- the specification of the sweep as a phase of the month, which books Lost of money and items
 abbrev pub sweep_spec : PhaseSpec

@@ -48,24 +48,33 @@ given_among maintenance peers =
 
 -- ---- a unit among them
 
+-- the units of its faction in its region with lower numbers than the unit's, which have their turn before it
+abbrev pub peers_before : (peers : List UpkeepInput) → UpkeepInput → List UpkeepInput
+peers_before peers input = filter (λ p. nat_lt p.unit input.unit) peers
+
+-- the money that a unit gives in its turn, at this maintenance: all that it has left, until all is given
+abbrev pub given_by : ℕ → (peers : List UpkeepInput) → UpkeepInput → ℕ
+given_by maintenance peers input =
+    amount_in_turn (given_among maintenance peers) (sum_by (left_of maintenance) (peers_before peers input)) (left_of maintenance input)
+
+-- the money that a unit gets in its turn, at this maintenance: all that it is short of, until all is given
+abbrev pub given_to : ℕ → (peers : List UpkeepInput) → UpkeepInput → ℕ
+given_to maintenance peers input =
+    amount_in_turn (given_among maintenance peers) (sum_by (short_of maintenance) (peers_before peers input)) (short_of maintenance input)
+
 -- how many men starve if the money `short` is missing: `short` divided by `maintenance`, rounded up
 abbrev pub starved_of : (maintenance short : ℕ) → ℕ
 starved_of maintenance short = (short + (maintenance - 1)) / maintenance
 
--- What upkeep takes from a unit, where `peers` are the units of its faction in its region: peers with lower numbers
--- give first, and are covered first.
+-- what upkeep takes from a unit, where `peers` are the units of its faction in its region: what it pays for its own men
+-- and gives, and the men for whom money is missing still
 abbrev pub upkeep_result_among : ℕ → (peers : List UpkeepInput) → UpkeepInput → UpkeepResult
-upkeep_result_among maintenance peers input =
-    let given = given_among maintenance peers in
-    let before = filter (λ p. nat_lt p.unit input.unit) peers in
-    let gives = amount_in_turn given (sum_by (left_of maintenance) before) (left_of maintenance input) in
-    let gets = amount_in_turn given (sum_by (short_of maintenance) before) (short_of maintenance input) in
-    record {
-      unit = input.unit;
-      faction = input.faction;
-      paid = paid_by maintenance input + gives;
-      starved = starved_of maintenance (short_of maintenance input - gets);
-    }
+upkeep_result_among maintenance peers input = record {
+  unit = input.unit;
+  faction = input.faction;
+  paid = paid_by maintenance input + given_by maintenance peers input;
+  starved = starved_of maintenance (short_of maintenance input - given_to maintenance peers input);
+}
 
 -- what upkeep takes from each of some units; for each only the units of its faction in its region count
 abbrev pub upkeep_results_of : ℕ → List UpkeepInput → List UpkeepResult
@@ -79,8 +88,8 @@ pub record CanSpare (upkeep_result : UpkeepResult) (men money : ℕ) : Type 0 wh
   pub paid : upkeep_result.paid ≤ money
   pub starved : upkeep_result.starved ≤ men
 
--- the law that upkeep takes no more from any unit than its money and its men, where `maintenance` is at least 1
+-- the law that upkeep takes no more from any unit than its money and its men
 abbrev pub EachCanSpare : Type 0
 EachCanSpare =
-    (maintenance : ℕ) → 1 ≤ maintenance → (peers : List UpkeepInput) (input : UpkeepInput) →
+    (maintenance : ℕ) (peers : List UpkeepInput) (input : UpkeepInput) →
     CanSpare (upkeep_result_among maintenance peers input) input.men input.money

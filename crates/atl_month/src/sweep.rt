@@ -1,6 +1,6 @@
 //! The phase of the sweep: removes units without men; factions without units are gone then. See
 //! docs/RULES.md, "Sweep".
-ghost use Rattle.std.specs.Prelude.{◌≡◌, ◌≤◌, ◌<◌, ◌+◌, IfOk, OnOk, fold, length};
+ghost use Rattle.std.specs.Prelude.{◌≡◌, ◌≤◌, ◌<◌, ◌+◌, ◌-◌, IfOk, OnOk, fold, length, min};
 ghost use Rattle.atl_world.specs.Limits.{most_amount};
 ghost use Rattle.atl_records.specs.Books.{amount_in};
 ghost use Rattle.atl_campaign.specs.Covers.{MarksChanges};
@@ -10,7 +10,8 @@ ghost use Rattle.atl_records.specs.declared.books.BooksEntry.TheVariants.{Lost};
 ghost use Rattle.atl_records.specs.declared.books.Thing.TheVariants.{Item, Money};
 ghost use Rattle.atl_phase.specs.Meaning.{most_moved};
 ghost use Rattle.atl_phase.specs.Bounds.{HasRoom, HaveRoom, moved_times, items_bound};
-ghost use Rattle.atl_month.specs.Sweep.{IsSwept, accepted_of, after_passing_item, after_passing_money, after_sweeping_faction, after_sweeping_unit, loses_by, menless_units, sweep_keeps, sweep_meaning};
+ghost use Rattle.atl_records.specs.Limits.{holding_limit};
+ghost use Rattle.atl_month.specs.Sweep.{IsSwept, after_passing_item, after_passing_money, after_sweeping_faction, after_sweeping_unit, loses_by, menless_units, sweep_keeps, sweep_meaning};
 ghost use Rattle.atl_month.specs.Receivers.{AreReceivers};
 
 use crate::receivers::{Receivers, receiver_in, receivers_of};
@@ -27,7 +28,7 @@ use std::alloc::{AllocError, Global};
 pub struct SweepPhase;
 
 fn accepted_of(amount: u32, have: u32) -> u32
-    ensures { result ≡ accepted_of amount have }
+    ensures { result ≡ min amount (holding_limit - have) }
 {
     amount.min(HOLDING_LIMIT.saturating_sub(have))
 }

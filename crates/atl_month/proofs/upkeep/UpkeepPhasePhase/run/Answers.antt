@@ -13,14 +13,14 @@ charge_all-requires c =
     let w = c.args.world.now in
     let before = c.args.campaign.value in
     let list : c.deref-2.result.now ≡ upkeep_results w before = search rules in
-    (w, rw list (all_can_pay w before c.rules.ensures.world.rules.maintenance_least c.requires.needs c.requires.room))
+    (w, rw list (all_can_pay w before c.requires.needs c.requires.room))
 
 pub returns-clause-leaves : goal.returns-clause-leaves
 returns-clause-leaves c =
     let w = c.args.world.now in
     let before = c.args.campaign.value in
     let is : c.charge_all.new.campaign.value ≡ upkeep before (upkeep_results w before) = search rules in
-    rw is (upkeep_leaves_well w before c.rules.ensures.world.rules.maintenance_least c.requires.needs c.requires.room)
+    rw is (upkeep_leaves_well w before c.requires.needs c.requires.room)
 
 pub returns-clause-keeps : goal.returns-clause-keeps
 returns-clause-keeps c =
