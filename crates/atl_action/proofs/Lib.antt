@@ -2,6 +2,7 @@ pub mod TravelLaws
 pub mod PeopleLaws
 pub mod WalkLaws
 pub mod SailLaws
+pub mod TakenLaws
 pub mod UnmailedTravelLaws
 pub mod LearningLaws
 pub mod TeachLaws

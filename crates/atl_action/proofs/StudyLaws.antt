@@ -175,7 +175,7 @@ pub study_orderly : (taught : TaughtMen) → IsOrderly (study_step taught) IsSte
 study_orderly taught = record {
   well = λ w a c t x steady fit own.
       of_each_skill (λ effect. StepsWell IsSteady study_remaining w c (effect c x).0) w taught t.unit t.order_value.operands
-      (λ s is. study_well w (taught t.unit) c t.unit s x own.there steady (subst (AreOperandsOf w) is fit));
+      (λ s is. study_well w (taught t.unit) c t.unit s x own.there steady (subst (AreOperandsOf w) is fit.operands));
   unaffected_is_relation = unchanged_is_unaffected_relation;
   is_unaffected = λ w a c t x steady own k v there apart.
       of_each_skill (λ effect. IsStillThere IsUnchanged (effect c x).0 k v) w taught t.unit t.order_value.operands

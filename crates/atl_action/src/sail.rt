@@ -169,6 +169,7 @@ impl OrderPhase for SailPhase {
 
     ghost unaffected = { IsAtMostMoved };
 
+    /// Carries out SAIL in a direction.
     fn carry_out(
         &self,
         alloc: Global,
@@ -181,7 +182,7 @@ impl OrderPhase for SailPhase {
             Operands::Direction(direction) => Ok(Some(sail(
                 alloc, world, campaign, order, *direction,
             )?)),
-            _ => Ok(None),
+            _ => unreachable!(),
         }
     }
 

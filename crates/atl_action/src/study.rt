@@ -152,8 +152,8 @@ impl PhaseVerbs for StudyPhase {
     }
 }
 
-/// Takes the fee and adds the days of a skill by STUDY; an order with other operands is passed
-/// over. What a step does depends on how many men were taught, which the phase's value holds.
+/// Takes the fee and adds the days of a skill by STUDY. What a step does depends on how many men
+/// were taught, which the phase's value holds.
 impl OrderPhase for StudyPhase {
     ghost step = { λ s. study_step (amount_of s.taught) };
 
@@ -165,6 +165,7 @@ impl OrderPhase for StudyPhase {
 
     ghost unaffected = { IsUnchanged };
 
+    /// Carries out STUDY of a skill.
     fn carry_out(
         &self,
         _: Global,
@@ -178,7 +179,7 @@ impl OrderPhase for StudyPhase {
                 let taught = taught_at(&self.taught, order.unit);
                 Ok(Some(study(world, campaign, taught, order, *skill)?))
             }
-            _ => Ok(None),
+            _ => unreachable!(),
         }
     }
 

@@ -87,12 +87,13 @@ impl PhaseVerbs for MovePhase {
     }
 }
 
-/// Walks a unit in a direction by MOVE. An order with other operands is passed over.
+/// Walks a unit in a direction by MOVE.
 impl OrderPhase for MovePhase {
     ghost step = { λ _. walk_step };
 
     ghost holds = { IsSteady };
 
+    /// Carries out MOVE in a direction.
     fn carry_out(
         &self,
         _: Global,
@@ -103,7 +104,7 @@ impl OrderPhase for MovePhase {
     ) -> Result<Option<Outcome>, AllocError> {
         match &order.order.operands {
             Operands::Direction(direction) => Ok(Some(walk(world, campaign, order, *direction)?)),
-            _ => Ok(None),
+            _ => unreachable!(),
         }
     }
 

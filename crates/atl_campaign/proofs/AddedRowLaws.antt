@@ -7,10 +7,10 @@ use Rattle.std.specs.FinMap.{FinMap, get, insert, empty, get-empty, same_map, na
 use Rattle.std.proofs.lemmas.Bool.{cases_eq}
 use Rattle.std.proofs.lemmas.Bool.Decides.{nat_tests}
 use Rattle.atl_world.specs.Sums.{with_changed_value, with_changed_option}
-use Rattle.atl_campaign.specs.declared.parts.StoredHas.{StoredHas}
-use Rattle.atl_campaign.specs.declared.parts.StoredMarket.{StoredMarket}
-use Rattle.atl_campaign.specs.declared.parts.StoredRegion.{StoredRegion}
-use Rattle.atl_campaign.specs.declared.parts.StoredUnit.{StoredUnit}
+use Rattle.atl_rows.specs.declared.parts.StoredHas.{StoredHas}
+use Rattle.atl_rows.specs.declared.parts.StoredMarket.{StoredMarket}
+use Rattle.atl_rows.specs.declared.parts.StoredRegion.{StoredRegion}
+use Rattle.atl_rows.specs.declared.parts.StoredUnit.{StoredUnit}
 use Rattle.atl_campaign.specs.Assembling.{bare_unit, bare_region, with_has_row, with_market_row, with_rows_added}
 use Rattle.atl_campaign.specs.FromRows.{as_u32, is_of_unit_and_sort, put_rows, by_number, unit_with_goods, unit_of, region_with_stocks, region_of}
 use Rattle.atl_campaign.proofs.AssemblyLaws.{get_same, get_other, taken_or_not, is_same}

@@ -8,7 +8,7 @@ use Rattle.std.specs.Cmp.{nat_cmp_total, eq_by_cmp_equiv}
 use Rattle.std.specs.FinMap.{FinMap, get, insert, empty, get-insert, get-empty, nat_cmp-IsAntisymmetric}
 use Rattle.std.proofs.lemmas.Bool.{cases_eq, and_parts, false≢true}
 use Rattle.std.proofs.lemmas.Bool.Decides.{nat_tests}
-use Rattle.atl_campaign.specs.declared.parts.StoredHas.{StoredHas}
+use Rattle.atl_rows.specs.declared.parts.StoredHas.{StoredHas}
 use Rattle.atl_campaign.specs.FromRows.{as_u32, is_of_unit_and_sort, put_rows, things_had}
 use Rattle.atl_records.specs.Holdings.{AreAmounts}
 use Rattle.atl_records.specs.Limits.{holding_limit, most_u32}

@@ -1,56 +1,22 @@
 -- Laws of lists of keys: whether keys are distinct or sorted, found key by key.
-use Rattle.std.proofs.Common.{◌≡◌, ℕ, ◌+◌, ◌-◌, ◌<◌, ◌≤◌, ◌++◌, ◌⊎◌, inl, inr, List, [], ◌∷◌, Bool, true, false, ◌||◌, cond, take, drop, length, get_or, refl, sym, ap, subst, ◌∙◌, add-one, arith}
+use Rattle.std.proofs.Common.{◌≡◌, ℕ, ◌+◌, ◌-◌, ◌<◌, ◌≤◌, ◌⊎◌, inl, inr, List, [], ◌∷◌, Bool, false, drop, length, get_or, sym, ap, ◌∙◌, add-one, arith}
 use Rattle.std.specs.Prelude.{Result, Ok, Err, IfOk, map}
 use Rattle.std.specs.Bool.{Decides}
 use Rattle.std.specs.declared.cmp.Ordering.{Ordering}
 use Rattle.std.specs.declared.cmp.Ordering.TheVariants.{Less}
-use Rattle.std.specs.Cmp.{IsTotalOrder, eq_by_cmp_equiv}
-use Rattle.std.specs.Ordering.{eq_by_cmp}
-use Rattle.std.specs.List.{list_any, AllByRecursion, IsDistinct}
+use Rattle.std.specs.Cmp.{IsTotalOrder}
+use Rattle.std.specs.List.{AllByRecursion, IsDistinct}
 use Rattle.std.specs.List.Sorted.{IsStrictlySortedBy}
 use Rattle.std.proofs.Math.Seq.{drop-cons}
-use Rattle.std.proofs.lemmas.Bool.{false≢true, cases_order}
-use Rattle.std.proofs.lemmas.List.{get_or_default, take_more, take-append-drop}
-use Rattle.std.proofs.lemmas.List.Folds.{list_any-append}
-use Rattle.std.proofs.lemmas.Map.Keys.{IsDistinct-head, IsDistinct-tail, IsDistinct-push, sorted_from_all_adjacent}
-
-at_middle : {K : Type 0} (P : K → Type 0) (front rest : List K) (x : K) → AllByRecursion P (front ++ x ∷ rest) → P x
-at_middle P [] rest x h = h.0
-at_middle P (y ∷ front) rest x h = at_middle P front rest x h.1
+use Rattle.std.proofs.lemmas.Bool.{cases_order}
+use Rattle.std.proofs.lemmas.List.{get_or_default}
+use Rattle.std.proofs.lemmas.Map.Keys.{sorted_from_all_adjacent}
 
 pub rest_at : {K : Type 0} (keys : List K) (i : ℕ) (d : K) → i < length keys → drop i keys ≡ get_or keys i d ∷ drop (i + 1) keys
 rest_at keys i d h = rw add-one (drop-cons keys i d h)
 
 pub next_of : {K : Type 0} (keys : List K) (i : ℕ) (x : K) → i < length keys → x ≡ get_or keys i x → drop i keys ≡ x ∷ drop (i + 1) keys
 next_of keys i x h is = rest_at keys i x h ∙ ap (λ y. y ∷ drop (i + 1) keys) (sym is)
-
-cond_is_or : (b c : Bool) → cond b true c ≡ (c || (b || false))
-cond_is_or true true = refl
-cond_is_or true false = refl
-cond_is_or false true = refl
-cond_is_or false false = refl
-
-module _ {K : Type 0} {R : K → K → Ordering} (o : IsTotalOrder R) where
-  clash : (front rest : List K) (x : K) → list_any (eq_by_cmp R x) front ≡ true → IsDistinct (eq_by_cmp R) (front ++ x ∷ rest) → ⊥
-  clash [] rest x h apart = false≢true h
-  clash (y ∷ front) rest x h apart =
-      let other : eq_by_cmp R x y ≡ false = (eq_by_cmp_equiv o).symm x y ∙ at_middle (λ z. eq_by_cmp R y z ≡ false) front rest x (IsDistinct-head (eq_by_cmp R) y (front ++ x ∷ rest) apart) in
-      clash front rest x (sym (ap (λ b. b || list_any (eq_by_cmp R x) front) other) ∙ h) (IsDistinct-tail (eq_by_cmp R) y (front ++ x ∷ rest) apart)
-
-  pub is_twice : (keys : List K) (i : ℕ) (x : K) → i < length keys → x ≡ get_or keys i x → list_any (eq_by_cmp R x) (take i keys) ≡ true → IsDistinct (eq_by_cmp R) keys → ⊥
-  is_twice keys i x h is twice apart =
-      let parts : take i keys ++ x ∷ drop (i + 1) keys ≡ keys = ap (λ y. take i keys ++ y ∷ drop (i + 1) keys) is ∙ ap (λ ys. take i keys ++ ys) (sym (rest_at keys i x h)) ∙ take-append-drop i keys in
-      clash (take i keys) (drop (i + 1) keys) x twice (subst (IsDistinct (eq_by_cmp R)) (sym parts) apart)
-
-  pub still_apart : (keys : List K) (i : ℕ) (x : K) → i < length keys → x ≡ get_or keys i x → list_any (eq_by_cmp R x) (take i keys) ≡ false → IsDistinct (eq_by_cmp R) (take i keys) → IsDistinct (eq_by_cmp R) (take (i + 1) keys)
-  still_apart keys i x h is new apart =
-      subst (IsDistinct (eq_by_cmp R)) (ap (λ y. take i keys ++ y ∷ []) is ∙ sym (take_more keys i x h)) (IsDistinct-push (eq_by_cmp_equiv o) (take i keys) x apart new)
-
-  -- key q is among the first i + 1 keys exactly if it is x, the key at index i, or among the first i
-  pub seen_more : (keys : List K) (i : ℕ) (x q : K) → i < length keys → x ≡ get_or keys i x → cond (eq_by_cmp R x q) true (list_any (eq_by_cmp R q) (take i keys)) ≡ list_any (eq_by_cmp R q) (take (i + 1) keys)
-  seen_more keys i x q h is =
-      ap (λ b. cond b true (list_any (eq_by_cmp R q) (take i keys))) ((eq_by_cmp_equiv o).symm x q) ∙ cond_is_or (eq_by_cmp R q x) (list_any (eq_by_cmp R q) (take i keys))
-      ∙ sym (list_any-append (eq_by_cmp R q) (take i keys) (x ∷ [])) ∙ ap (list_any (eq_by_cmp R q)) (ap (λ y. take i keys ++ y ∷ []) is ∙ sym (take_more keys i x h))
 
 module _ {A B : Type 0} (f : A → B) (e : B → B → Bool) where
   each_map : (x : A) (xs : List A) → AllByRecursion (λ y. e (f x) (f y) ≡ false) xs → AllByRecursion (λ y. e (f x) y ≡ false) (map f xs)

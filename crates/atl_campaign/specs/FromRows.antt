@@ -5,15 +5,15 @@ use Rattle.std.specs.Ordering.{nat_cmp}
 use Rattle.std.specs.FinMap.{FinMap, empty, insert}
 use Rattle.atl_world.specs.Worlds.{WorldValue}
 use Rattle.atl_records.specs.Limits.{most_u16, most_u32}
-use Rattle.atl_campaign.specs.declared.parts.Parts.{Parts}
-use Rattle.atl_campaign.specs.declared.parts.StoredCampaignRow.{StoredCampaignRow}
-use Rattle.atl_campaign.specs.declared.parts.StoredFaction.{StoredFaction}
-use Rattle.atl_campaign.specs.declared.parts.StoredRegion.{StoredRegion}
-use Rattle.atl_campaign.specs.declared.parts.StoredUnit.{StoredUnit}
-use Rattle.atl_campaign.specs.declared.parts.StoredHas.{StoredHas}
-use Rattle.atl_campaign.specs.declared.parts.StoredStructure.{StoredStructure}
-use Rattle.atl_campaign.specs.declared.parts.StoredBooks.{StoredBooks}
-use Rattle.atl_campaign.specs.declared.parts.StoredMarket.{StoredMarket}
+use Rattle.atl_rows.specs.declared.parts.Parts.{Parts}
+use Rattle.atl_rows.specs.declared.parts.StoredCampaignRow.{StoredCampaignRow}
+use Rattle.atl_rows.specs.declared.parts.StoredFaction.{StoredFaction}
+use Rattle.atl_rows.specs.declared.parts.StoredRegion.{StoredRegion}
+use Rattle.atl_rows.specs.declared.parts.StoredUnit.{StoredUnit}
+use Rattle.atl_rows.specs.declared.parts.StoredHas.{StoredHas}
+use Rattle.atl_rows.specs.declared.parts.StoredStructure.{StoredStructure}
+use Rattle.atl_rows.specs.declared.parts.StoredBooks.{StoredBooks}
+use Rattle.atl_rows.specs.declared.parts.StoredMarket.{StoredMarket}
 use Rattle.atl_records.specs.declared.records.Faction.{Faction}
 use Rattle.atl_records.specs.declared.records.Region.{Region}
 use Rattle.atl_records.specs.declared.records.Structure.{Structure}

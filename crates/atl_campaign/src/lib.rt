@@ -9,7 +9,6 @@ mod gap_vec;
 mod index;
 mod lists;
 mod numbers;
-pub mod parts;
 mod regions;
 mod row_values;
 mod rows;
@@ -23,7 +22,7 @@ pub use atl_records::{
     MOST_STRUCTURES, MOST_UNITS, Outcome, Region, Structure, Thing, Unit, carry, goods, level,
     level_in, level_in_any, load,
 };
+pub use atl_rows::{Parts, parts};
 pub use campaign::{Campaign, assemble, founded};
 pub use early::good_campaigns_are_early;
-pub use parts::Parts;
 pub use row_values::{as_u16, as_u32, campaign_row_of, is_set};

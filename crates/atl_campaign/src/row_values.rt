@@ -2,7 +2,7 @@
 ghost use Rattle.std.specs.Prelude.{◌≡◌, length};
 ghost use Rattle.atl_campaign.specs.FromRows.{as_u32, as_u16, campaign_row_of, is_set};
 
-use crate::parts::{Parts, StoredCampaignRow};
+use atl_rows::parts::{Parts, StoredCampaignRow};
 
 /// A number of a row as one of 32 bits; a negative or larger one is read as the largest.
 pub fn as_u32(number: i64) -> u32

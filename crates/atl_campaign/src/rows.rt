@@ -9,11 +9,11 @@ ghost use Rattle.atl_records.specs.Grids.{accounts_under};
 ghost use Rattle.atl_campaign.specs.Rows.{flag, rows_by, campaign_row, faction_row, region_row, unit_row, structure_row, mail_row, report_row, has_row, books_row, market_row, rows_of_sort, held_rows, has_rows, stock_rows, market_rows, rows_under, books_rows, rows_of};
 
 use crate::campaign::Campaign;
-use crate::parts::{
+use atl_records::{Books, BooksEntry, Faction, Holding, Structure, Thing, Unit};
+use atl_rows::parts::{
     Parts, StoredBooks, StoredCampaignRow, StoredFaction, StoredHas, StoredMail, StoredMarket,
     StoredRegion, StoredReport, StoredStructure, StoredUnit,
 };
-use atl_records::{Books, BooksEntry, Faction, Holding, Structure, Thing, Unit};
 use atl_world::{Entries, Format, Sequence, Text};
 use std::alloc::{AllocError, Global};
 

@@ -9,7 +9,7 @@ use Rattle.std.proofs.lemmas.Bool.Decides.{nat_tests}
 use Rattle.std.proofs.lemmas.Option.{IfSome_then}
 use Rattle.std.specs.FinMap.{get}
 use Rattle.atl_world.specs.Worlds.{WorldValue}
-use Rattle.atl_orders.specs.Bounds.{IsOrderOf}
+use Rattle.atl_orders.specs.Bounds.{AreOperandsOf}
 use Rattle.atl_records.specs.declared.books.Thing.{Thing}
 use Rattle.atl_records.specs.declared.event.EventFault.{EventFault}
 use Rattle.atl_records.specs.declared.event.Outcome.{Outcome}
@@ -71,21 +71,21 @@ module _ {holds : Condition} {fit : Type 0} (w : WorldValue) (c : CampaignValue)
 
 -- the effect of each order for a unit of its writer's faction keeps `holds`, the books and the other units (`OrderKeeps`)
 abbrev pub StepKeeps : Condition → OrderMeaning → Type 0
-StepKeeps holds step = (w : WorldValue) (a : Aliases) (c : CampaignValue) (t : Task) (x : Unit) → IsUnitOf c t x → IfSome (step w a t) (λ effect. OrderKeeps holds (IsOrderOf w t.order_value) w c t.unit x.faction (effect c x).0)
+StepKeeps holds step = (w : WorldValue) (a : Aliases) (c : CampaignValue) (t : Task) (x : Unit) → IsUnitOf c t x → IfSome (step w a t) (λ effect. OrderKeeps holds (AreOperandsOf w t.order_value.operands) w c t.unit x.faction (effect c x).0)
 
 -- a phase is orderly (`IsOrderly`), if the effect of each order keeps `holds`, the books and the other units (`OrderKeeps`),
 -- and the phase passes over a unit's own order that doesn't affect the unit
 pub orderly_by : {holds : Condition} {step : OrderMeaning} {affects : Affects} → StepKeeps holds step
     → ((w : WorldValue) (a : Aliases) (t : Task) (n f : ℕ) → IsOwnOrder t n f → (affects t n f → ⊥) → step w a t ≡ None) → IsOrderly step holds nothing_remaining moves_nothing affects IsNoWorse
 orderly_by {holds} {step} keeps passed = record {
-  well = λ w a c t x h fit own. IfSome_then (step w a t) (keeps w a c t x own) (λ effect kept. kept.well h fit);
+  well = λ w a c t x h fit own. IfSome_then (step w a t) (keeps w a c t x own) (λ effect kept. kept.well h fit.operands);
   unaffected_is_relation = no_worse_is_relation;
   is_unaffected = λ w a c t x h own n u there other. by_step w c t x own n u there (step w a t) (keeps w a c t x own) (λ mine. passed w a t n u.faction mine other);
   bounded = λ w c h e t. omega arith;
 }
   where
     by_step : (w : WorldValue) (c : CampaignValue) (t : Task) (x : Unit) → IsUnitOf c t x → (n : ℕ) (u : Unit) → get c.units n ≡ Some u
-        → (o : Option OrderEffect) → IfSome o (λ effect. OrderKeeps holds (IsOrderOf w t.order_value) w c t.unit x.faction (effect c x).0) → (IsOwnOrder t n u.faction → o ≡ None) → IfSome o (λ effect. IsStillThere IsNoWorse (effect c x).0 n u)
+        → (o : Option OrderEffect) → IfSome o (λ effect. OrderKeeps holds (AreOperandsOf w t.order_value.operands) w c t.unit x.faction (effect c x).0) → (IsOwnOrder t n u.faction → o ≡ None) → IfSome o (λ effect. IsStillThere IsNoWorse (effect c x).0 n u)
     by_step w c t x own n u there None kept passes = tt
     by_step w c t x own n u there (Some effect) kept passes =
         let one = kept.others n u there (other_unit c t x n u own there (λ mine. let none : Some effect ≡ None = passes mine in cc)) in

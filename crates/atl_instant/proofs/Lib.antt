@@ -2,6 +2,7 @@ pub mod AmountsForLaws
 pub mod EffectLaws
 pub mod GiveLaws
 pub mod DaysLaws
+pub mod TakenLaws
 pub mod TransferLaws
 pub mod GuardingLaws
 pub mod RegionGuardLaws

@@ -34,12 +34,6 @@ use Rattle.atl_instant.proofs.EffectLaws.{OrderKeeps, StepKeeps, keeps_others, k
 use Rattle.atl_instant.proofs.GuardingLaws.{labelled, may_label, total-labelled}
 use Rattle.atl_instant.proofs.FactionLaws.{count-faction_name, known-faction_name, steady-faction_name}
 
--- an order that is neither NAME nor GUARD 0 is passed over
-pub name_other : (w : WorldValue) (n : ℕ) (text : List ℕ) (o : Operands Span) → ((what : NameKind) (span : Span) → o ≡ operands.Name what span → ⊥) → (o ≡ operands.Flag false → ⊥) → name_effect w n (operands_in text o) ≡ None
-name_other w n text (operands.Name what span) a b = absurd (a what span refl)
-name_other w n text (operands.Flag false) a b = absurd (b refl)
-name_other w n text other a b = refl
-
 -- what an order of NAME or GUARD 0 for unit n keeps (`OrderKeeps`), if the order fits the world (`fit`)
 module _ (fit : Type 0) (w : WorldValue) (c : CampaignValue) (n : ℕ) (u : Unit) (is : get c.units n ≡ Some u) where
   -- Campaign d, which an order for unit n makes of c, is early and in balance, if c is and the order fits the world

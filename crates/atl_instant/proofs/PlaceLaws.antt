@@ -39,14 +39,6 @@ use Rattle.atl_phase.proofs.UnbookedLaws.{same_total_of, unbooked_well}
 use Rattle.atl_instant.specs.Place.{enter, with_unit_inside, is_structure_in, leave, leave_fault, enter_fault, place_effect, place_step, promote_fault, promote}
 use Rattle.atl_instant.proofs.EffectLaws.{OrderKeeps, StepKeeps, keeps_all, keeps_others, keeps_unless, orderly_by}
 
--- an order whose operands are neither none (LEAVE) nor a number (ENTER) nor a unit (PROMOTE) is passed over
-pub place_other : (w : WorldValue) (a : Aliases) (f n : ℕ) (text : List ℕ) (o : Operands Span) → (o ≡ operands.Nothing → ⊥) → ((s : ℕ) → o ≡ operands.Number s → ⊥) → ((to : UnitRef) → o ≡ operands.Unit to → ⊥)
-    → place_effect w a f n (named text o) ≡ None
-place_other w a f n text operands.Nothing l b d = absurd (l refl)
-place_other w a f n text (operands.Number s) l b d = absurd (b s refl)
-place_other w a f n text (operands.Unit to) l b d = absurd (d to refl)
-place_other w a f n text other l b d = refl
-
 -- what an order of LEAVE, ENTER or PROMOTE for unit n keeps (`OrderKeeps`)
 module _ (fit : Type 0) (w : WorldValue) (c : CampaignValue) (n : ℕ) (u : Unit) (is : get c.units n ≡ Some u) where
   -- Campaign d, which an order for unit n makes of c, is early and in balance, if c is and the order fits the world

@@ -144,12 +144,13 @@ impl PhaseVerbs for GivePhase {
     }
 }
 
-/// Gives an item by GIVE, or money by PAY. An order with other operands is passed over.
+/// Gives an item by GIVE, or money by PAY.
 impl OrderPhase for GivePhase {
     ghost step = { λ _. give_step };
 
     ghost holds = { IsEarly };
 
+    /// Returns the outcome of an order of GIVE or PAY.
     fn carry_out(
         &self,
         _: Global,
@@ -167,7 +168,7 @@ impl OrderPhase for GivePhase {
                 let receiver = month.unit(order.faction, *to);
                 Ok(Some(give(campaign, order, receiver, Gift::Money, *number)?))
             }
-            _ => Ok(None),
+            _ => unreachable!(),
         }
     }
 

@@ -1,5 +1,7 @@
 //! GUARD 1: a unit begins to guard its region. See docs/RULES.md, "Guarding".
 ghost use Rattle.std.specs.Prelude.{◌≡◌, IfOk, OnOk};
+ghost use Rattle.atl_orders.specs.Bounds.{shape_of};
+ghost use Rattle.atl_orders.specs.Verbs.{row_of};
 ghost use Rattle.atl_world.specs.Worlds.{WorldValue};
 ghost use Rattle.atl_campaign.specs.Covers.{MarksChanges};
 ghost use Rattle.atl_campaign.specs.Campaign.{CampaignValue};
@@ -64,13 +66,14 @@ fn guard(
 }
 
 /// Carries out an order of GUARD 1, and returns its outcome, or None for GUARD 0, which is passed
-/// over. The map of guards must be that of the campaign.
+/// over. The order must have a flag, and the map of guards must be that of the campaign.
 fn carry_out(
     campaign: &mut Campaign,
     holders: &mut RegionGuards,
     order: PhaseOrder<'_>,
 ) -> Result<Option<Outcome>, AllocError>
     requires held { AreRegionGuards campaign.old.value holders.old }
+    requires flag { shape_of (task_of order).order_value.operands ≡ (row_of Verb.Guard).shape }
     ensures what { IfOk result
         (λ outcome. (campaign.new.value, outcome)
         ≡ order_result (guard_effect order.entry.unit (task_of order.entry).order_value.operands)
@@ -80,10 +83,12 @@ fn carry_out(
 {
     match &order.order.operands {
         Operands::Flag(true) => Ok(Some(guard(campaign, holders, order)?)),
-        _ => Ok(None),
+        Operands::Flag(false) => Ok(None),
+        _ => unreachable!(),
     }
 }
 
+/// The order must have a flag, and the map of guards must be that of the campaign.
 fn guard_one(
     campaign: &mut Campaign,
     holders: &mut RegionGuards,
@@ -91,6 +96,7 @@ fn guard_one(
     events: &mut Vec<Event>,
 ) -> Result<(), AllocError>
     requires held { AreRegionGuards campaign.old.value holders.old }
+    requires flag { shape_of (task_of order).order_value.operands ≡ (row_of Verb.Guard).shape }
     ensures step { (w : WorldValue) (m : MonthValue)
         → OnOk result ((campaign.new.value, with_events m events.new.items)
         ≡ one_order guard_step w (campaign.old.value, with_events m events.old.items)

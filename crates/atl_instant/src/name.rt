@@ -166,7 +166,7 @@ impl OrderPhase for NamePhase {
 
     ghost affects = { name_affects };
 
-    #[tactic(auto, using(crate::proofs::NameLaws::name_other))]
+    /// Returns the outcome of an order of NAME or GUARD 0, or None for GUARD 1.
     fn carry_out(
         &self,
         alloc: Global,
@@ -181,7 +181,8 @@ impl OrderPhase for NamePhase {
                 name: span,
             } => Ok(Some(give_name(alloc, world, campaign, order, *kind, *span)?)),
             Operands::Flag(false) => Ok(Some(leave_guard(campaign, order))),
-            _ => Ok(None),
+            Operands::Flag(true) => Ok(None),
+            _ => unreachable!(),
         }
     }
 

@@ -132,14 +132,13 @@ impl PhaseVerbs for PlacePhase {
     }
 }
 
-/// Carries out LEAVE, ENTER or PROMOTE by the form of the operands: none, a number, or a unit. An
-/// order with other operands is passed over.
+/// Carries out LEAVE, ENTER or PROMOTE by the form of the operands: none, a number, or a unit.
 impl OrderPhase for PlacePhase {
     ghost step = { λ _. place_step };
 
     ghost holds = { IsEarly };
 
-    #[tactic(auto, using(crate::proofs::PlaceLaws::place_other))]
+    /// Returns the outcome of LEAVE, ENTER or PROMOTE.
     fn carry_out(
         &self,
         _alloc: Global,
@@ -155,7 +154,7 @@ impl OrderPhase for PlacePhase {
                 let owner = month.unit(order.faction, *to);
                 Ok(Some(promote(campaign, order, owner)))
             }
-            _ => Ok(None),
+            _ => unreachable!(),
         }
     }
 

@@ -157,7 +157,7 @@ impl PhaseVerbs for QuitPhase {
     }
 }
 
-/// Removes all units of a faction by QUIT. An order with other operands is passed over.
+/// Removes all units of a faction by QUIT.
 impl OrderPhase for QuitPhase {
     ghost step = { λ _. quit_step };
 
@@ -169,6 +169,7 @@ impl OrderPhase for QuitPhase {
 
     ghost affects = { quit_affects };
 
+    /// Returns the outcome of an order of QUIT.
     fn carry_out(
         &self,
         alloc: Global,
@@ -179,7 +180,7 @@ impl OrderPhase for QuitPhase {
     ) -> Result<Option<Outcome>, AllocError> {
         match &order.order.operands {
             Operands::Number(number) => Ok(Some(quit(alloc, world, campaign, order, *number)?)),
-            _ => Ok(None),
+            _ => unreachable!(),
         }
     }
 

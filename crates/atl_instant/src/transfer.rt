@@ -168,12 +168,13 @@ impl PhaseVerbs for TransferPhase {
     }
 }
 
-/// Moves men with their days of study by TRANSFER. An order with other operands is passed over.
+/// Moves men with their days of study by TRANSFER.
 impl OrderPhase for TransferPhase {
     ghost step = { λ _. transfer_step };
 
     ghost holds = { IsEarly };
 
+    /// Returns the outcome of an order of TRANSFER.
     fn carry_out(
         &self,
         alloc: Global,
@@ -187,7 +188,7 @@ impl OrderPhase for TransferPhase {
                 let receiver = month.unit(order.faction, *to);
                 Ok(Some(transfer(alloc, campaign, order, receiver, *number)?))
             }
-            _ => Ok(None),
+            _ => unreachable!(),
         }
     }
 

@@ -11,6 +11,7 @@ pub mod ExchangeLaws
 pub mod RecruitLaws
 pub mod WorkLaws
 pub mod WorkOrderLaws
+pub mod TakenLaws
 pub mod UnmailedPotLaws
 pub mod BuildUsedLaws
 pub mod BuildBegunLaws

@@ -84,7 +84,7 @@ module _ {K X : Type 0} (R : K → K → Ordering) (exact : IsAntisymmetric R) (
 abbrev work_key : Task → List ℕ
 work_key = key_of ByUnit
 
-abbrev have_same_key : Task → Task → Bool
+abbrev pub have_same_key : Task → Task → Bool
 have_same_key a b = eq_by_cmp (slice_cmp nat_cmp) (work_key a) (work_key b)
 
 keys_tie : (a b : Task) → have_same_key a b ≡ true → work_key a ≡ work_key b
@@ -93,7 +93,7 @@ keys_tie a b h = slice_cmp-IsAntisymmetric nat_cmp-IsAntisymmetric (work_key a) 
 other_orders_differ_in_key : (a b : Task) → (a.unit ≡ b.unit → a.faction ≡ b.faction → ⊥) → have_same_key a b ≡ false
 other_orders_differ_in_key a b differ = false_from_ne_true (have_same_key a b) (λ h. let e = keys_tie a b h in differ (ap (λ k. get_or k 0 0) e) (ap (λ k. get_or k 2 0) e))
 
-month_long_keys_differ : (m : MonthValue) → IsDistinct have_same_key (orders_by_unit is_month_long m)
+pub month_long_keys_differ : (m : MonthValue) → IsDistinct have_same_key (orders_by_unit is_month_long m)
 month_long_keys_differ m = values_apart (slice_cmp nat_cmp) (slice_cmp-IsAntisymmetric nat_cmp-IsAntisymmetric) (key_of ByUnit) nat_list_cmp_total _
 
 -- ---- the units that have an order of their own faction
@@ -162,7 +162,7 @@ module _ (c : CampaignValue) where
         let own : is_of_faction o.faction (get c.units o.unit) ≡ true = ap (is_of_faction o.faction) there ∙ same_faction idle.unit.faction o.faction (sym idle.own ∙ sym faction) in
         false≢true (sym (ap (λ n. is_some (get writers n)) unit ∙ idle.unordered) ∙ listed own))
 
-    work_apart : IsDistinct have_same_key os → IsDistinct have_same_key (all_work c os)
+    pub work_apart : IsDistinct have_same_key os → IsDistinct have_same_key (all_work c os)
     work_apart apart =
         let chosen = filter (λ (o : Task). is_work o.order_value.verb) os in
         append_apart have_same_key chosen (all_idle_orders c os) (filter_apart (λ o. is_work o.order_value.verb) have_same_key os apart) idle_apart
@@ -230,7 +230,7 @@ module _ (c : CampaignValue) (ts : List Task) where
       by_test true = refl
       by_test false = refl
 
-  all_are : all_work c ts ≡ written_work ts ++ idle_work c ts
+  pub all_are : all_work c ts ≡ written_work ts ++ idle_work c ts
   all_are = ap (λ os. written_work ts ++ os) (idle_are (entries c.units) (each-from_every (λ n u. get c.units n ≡ Some u) c.units (λ n u is. is)))
 
 -- the code's list of all orders of WORK, sorted by its keys, is the list of the definition (`work_orders`)

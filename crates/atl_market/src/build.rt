@@ -222,8 +222,7 @@ impl PhaseVerbs for BuildPhase {
     }
 }
 
-/// Begins a structure by `BUILD kind`, or continues one by BUILD. An order with other operands, or
-/// with a kind that the world doesn't have, is passed over.
+/// Begins a structure by `BUILD kind`, or continues one by BUILD.
 impl OrderPhase for BuildPhase {
     ghost step = { λ _. build_step };
 
@@ -233,6 +232,7 @@ impl OrderPhase for BuildPhase {
 
     ghost book_bound = { build_moves };
 
+    /// Carries out `BUILD kind` or BUILD.
     fn carry_out(
         &self,
         alloc: Global,
@@ -244,10 +244,10 @@ impl OrderPhase for BuildPhase {
         match &order.order.operands {
             Operands::Kind(Some(number)) => match kind_of(world, *number) {
                 Some(kind) => Ok(Some(begin(alloc, world, campaign, order, *number, kind)?)),
-                None => Ok(None),
+                None => unreachable!(),
             },
             Operands::Kind(None) => Ok(Some(go_on(world, campaign, order)?)),
-            _ => Ok(None),
+            _ => unreachable!(),
         }
     }
 

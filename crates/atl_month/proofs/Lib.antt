@@ -12,3 +12,4 @@ pub mod UpkeepLaws
 pub mod UnmailedEndLaws
 pub mod PhaseLaws
 pub mod MoveLaws
+pub mod OneEventLaws

@@ -6,6 +6,7 @@ pub mod Accounts
 pub mod Upkeep
 pub mod UpkeepTaken
 pub mod Month
+pub mod OneEvent
 pub mod Sweep
 pub mod Receivers
 pub mod Unmailed

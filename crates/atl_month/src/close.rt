@@ -10,6 +10,7 @@ ghost use Rattle.atl_phase.specs.Month.{HaveOwnFactions, by_faction};
 ghost use Rattle.atl_phase.specs.Room.{OnePhaseHasRoom};
 ghost use Rattle.atl_phase.specs.Meaning.{IsSameMonth};
 ghost use Rattle.atl_month.specs.Month.{BooksAreNear, MailOrderDoesNotCount, PhasesMoveLittle, TwoMoveAtMost, after_month, month_keeps, month_moves, month_of, new_month};
+ghost use Rattle.atl_month.specs.OneEvent.{EachOrderHasOneEvent};
 ghost use Rattle.atl_month.specs.Unmailed.{UnmailedAreLeft};
 
 use crate::orders::OrderPhases;
@@ -70,6 +71,12 @@ pub fn close_month(
 /// same events. Does nothing.
 pub fn months_have_no_order()
     ensures { MailOrderDoesNotCount }
+{}
+
+/// The law that each order that counts has exactly one event in the month, of its faction, for its
+/// unit, on its line and of its verb. Does nothing. See docs/RULES.md, "Orders of a month".
+pub fn each_order_has_one_event()
+    ensures { EachOrderHasOneEvent }
 {}
 
 /// The laws of what a month books: each phase moves the amounts of its own entries alone, each by

@@ -12,7 +12,10 @@ mod sweep;
 mod upkeep;
 mod upkeep_sharing;
 
-pub use close::{close_month, months_have_no_order, one_phase_has_room, phases_move_little};
+pub use close::{
+    close_month, each_order_has_one_event, months_have_no_order, one_phase_has_room,
+    phases_move_little,
+};
 pub use orders::OrderPhases;
 pub use season::SeasonPhase;
 pub use sweep::SweepPhase;

@@ -58,7 +58,7 @@ module _ (world : WorldValue) (given : ℕ → Bool) where
   end_sound (Skipping (Some n)) h = (tt, h)
 
   block_sound : (n : ℕ) (r : Result NumberRead LineFault) → IsNumber n → Holds (λ (x : NumberRead). IsAlias x.0) r → IsStep world (block_step n given r)
-  block_sound n (Ok a) h k = cond_both (given a.0) _ _ (IsStep world) (λ _. (tt, h)) (λ _. ((h, k), (h, k)))
+  block_sound n (Ok a) h k = cond_both (given a.0) _ _ (IsStep world) (λ _. (tt, h)) (λ _. ((h, record { shape = refl; operands = k }), (h, k)))
   block_sound n (Err fault) h k = (tt, h)
 
   forming_sound : (state : ReaderState) (ws : List WordText) → IsStateInBounds state → IsStep world (form_step state given ws)

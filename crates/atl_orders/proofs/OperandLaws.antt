@@ -1,4 +1,5 @@
--- Every order that is read is in bounds: numbers in range, names by the rule, and things of the world.
+-- Every order that is read says what it is: its operands have the shape of its verb, numbers in range, names by the rule,
+-- and things of the world.
 use Rattle.std.proofs.Common.{◌≡◌, ℕ, ◌<◌, ◌≤◌, Bool, List, [], ◌∷◌, length, codes, Option, Some, None, Result, Ok, Err, refl, arith}
 use Rattle.std.specs.List.{All}
 use Rattle.std.specs.Str.{str_eq_ignore_ascii_case}
@@ -20,8 +21,8 @@ use Rattle.atl_orders.specs.Operands.{or_fault, not_zero, word_at, count_at, num
 use Rattle.atl_orders.specs.declared.verb.Shape.{Shape}
 use Rattle.atl_orders.specs.declared.verb.Shape.TheVariants as shapes
 use Rattle.atl_orders.specs.Verbs.{row_of}
-use Rattle.atl_orders.specs.Orders.{OperandsValue, OrderValue, kind_of_name, read_flag, read_units, read_unit_and_number, read_unit_and_goods, read_name, read_kind, read_operands, read_order}
-use Rattle.atl_orders.specs.Bounds.{IsWithin, IsNumber, IsAlias, IsUnitRef, AreOperandsOf, IsOrderOf}
+use Rattle.atl_orders.specs.Orders.{OperandsValue, OrderValue, kind_of_name, order_of, read_flag, read_units, read_unit_and_number, read_unit_and_goods, read_name, read_kind, read_operands, read_order}
+use Rattle.atl_orders.specs.Bounds.{IsWithin, IsNumber, IsAlias, IsUnitRef, AreOperandsOf, IsOrderOf, shape_of}
 
 -- a condition holds of the value of a result, or the result is a fault
 abbrev pub Holds : {X E : Type 0} → (X → Type 0) → Result X E → Type 0
@@ -126,7 +127,7 @@ kind_holds world (w ∷ ws) = value_or_fault _ UnknownThing _ (λ i h. index_wit
 abbrev AreOperandsInBounds : WorldValue → Result OperandsValue LineFault → Type 0
 AreOperandsInBounds world r = Holds (AreOperandsOf world) r
 
--- the order of a result, if it is no fault, has numbers in range, names by the rule, and things that a world has
+-- the order of a result, if it is no fault, has operands of its verb's shape, in bounds (`IsOrderOf`)
 abbrev pub IsOrderInBounds : WorldValue → Result OrderValue LineFault → Type 0
 IsOrderInBounds world r = Holds (IsOrderOf world) r
 
@@ -192,7 +193,46 @@ module _ (world : WorldValue) where
   operands_sound shapes.Skill ws = two_steps_hold _ (AreOperandsOf world) (skill_at world ws) _ (skill_holds world ws) (λ skill h. h)
   operands_sound shapes.Item ws = two_steps_hold _ (AreOperandsOf world) (item_at world ws) _ (item_holds world ws) (λ item h. h)
 
-  -- the order that a verb and the words after it give has its numbers, names and things in bounds (`IsOrderInBounds`)
+  -- the operands of a result, if it is no fault, have this shape
+  abbrev HaveShape : Shape → Result OperandsValue LineFault → Type 0
+  HaveShape shape r = Holds (λ os. shape_of os ≡ shape) r
+
+  -- a step of reading gives operands of a shape, if what comes after it does, whatever its value
+  shaped_by : {X : Type 0} (shape : Shape) (r : Result X LineFault) (f : X → Result OperandsValue LineFault) → ((x : X) → HaveShape shape (f x)) → HaveShape shape (r >>= f)
+  shaped_by shape r f h = two_steps_hold _ (λ os. shape_of os ≡ shape) r f (always_true_holds r) (λ x _. h x)
+
+  -- if words are read as a kind of structure or none, the operands have this shape
+  kind_shaped : (ws : List WordText) → HaveShape shapes.Kind (read_kind world ws)
+  kind_shaped [] = refl
+  kind_shaped (w ∷ ws) = shaped_by shapes.Kind (kind_at world (w ∷ ws)) _ (λ kind. refl)
+
+  -- the operands that the words after a verb give have the shape by which they are read
+  operands_shaped : (shape : Shape) (ws : List WordText) → HaveShape shape (read_operands world shape ws)
+  operands_shaped shapes.Nothing ws = refl
+  operands_shaped shapes.Alias ws = shaped_by shapes.Alias (alias_at ws) _ (λ n. refl)
+  operands_shaped shapes.Flag ws = shaped_by shapes.Flag (word_at ws) _ (λ w. shaped_by shapes.Flag (or_fault BadNumber (number_of 1 w.0.bytes)) _ (λ n. refl))
+  operands_shaped shapes.Number ws = shaped_by shapes.Number (number_at ws) _ (λ n. refl)
+  operands_shaped shapes.Unit ws = shaped_by shapes.Unit (unit_at ws) _ (λ u. refl)
+  operands_shaped shapes.Units ws = shaped_by shapes.Units (some_units_at ws) _ (λ us. refl)
+  operands_shaped shapes.UnitAndNumber ws = shaped_by shapes.UnitAndNumber (unit_at ws) _ (λ to. shaped_by shapes.UnitAndNumber (number_at to.1) _ (λ n. refl))
+  operands_shaped shapes.UnitAndGoods ws = shaped_by shapes.UnitAndGoods (unit_at ws) _ (λ to. shaped_by shapes.UnitAndGoods (amount_of_item_at world to.1) _ (λ goods. refl))
+  operands_shaped shapes.Goods ws = shaped_by shapes.Goods (amount_of_item_at world ws) _ (λ goods. refl)
+  operands_shaped shapes.Name ws =
+      shaped_by shapes.Name (word_at ws) _ (λ w.
+      shaped_by shapes.Name (or_fault UnknownThing (kind_of_name w.0)) _ (λ what.
+      shaped_by shapes.Name (word_at w.1) _ (λ v.
+      cond_both (name_ok (name_of v.0.bytes v.0.quoted)) _ _ (HaveShape shapes.Name) (λ _. refl) (λ _. tt))))
+  operands_shaped shapes.Direction ws = shaped_by shapes.Direction (direction_at ws) _ (λ d. refl)
+  operands_shaped shapes.Kind ws = kind_shaped ws
+  operands_shaped shapes.Skill ws = shaped_by shapes.Skill (skill_at world ws) _ (λ skill. refl)
+  operands_shaped shapes.Item ws = shaped_by shapes.Item (item_at world ws) _ (λ item. refl)
+
+  -- the order of a verb and its operands says what it is, if the operands have the verb's shape, and are in bounds
+  order_sound : (verb : Verb) (r : Result OperandsValue LineFault) → HaveShape (row_of verb).shape r → AreOperandsInBounds world r → IsOrderInBounds world (r >>= λ os. Ok (order_of verb os))
+  order_sound verb (Ok os) h k = record { shape = h; operands = k }
+  order_sound verb (Err fault) h k = tt
+
+  -- the order that a verb and the words after it give says what it is (`IsOrderInBounds`)
   pub said_sound : (verb : Verb) (ws : List WordText) → IsOrderInBounds world (read_order world verb ws)
   unfolding read_order
-  said_sound verb ws = two_steps_hold (AreOperandsOf world) (IsOrderOf world) (read_operands world (row_of verb).shape ws) _ (operands_sound (row_of verb).shape ws) (λ os h. h)
+  said_sound verb ws = order_sound verb (read_operands world (row_of verb).shape ws) (operands_shaped (row_of verb).shape ws) (operands_sound (row_of verb).shape ws)

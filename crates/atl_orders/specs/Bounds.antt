@@ -1,4 +1,5 @@
--- The bounds of all orders that are read: numbers in range, names by their rule, things of the world.
+-- What holds of all orders that are read: operands of the verb's shape, numbers in range, names by their rule, things of
+-- the world.
 use Rattle.std.specs.Prelude.{◌≡◌, ◌≤◌, ◌<◌, ℕ, true, List, [], ◌∷◌, length, Some, None, Ok}
 use Rattle.std.specs.List.{All}
 use Rattle.atl_orders.specs.Limits.{most_number, last_alias, last_faction}
@@ -7,7 +8,10 @@ use Rattle.atl_world.specs.Worlds.{WorldValue}
 use Rattle.atl_orders.specs.declared.order.UnitRef.{UnitRef}
 use Rattle.atl_orders.specs.declared.order.UnitRef.TheVariants.{Number, Alias}
 use Rattle.atl_orders.specs.declared.order.Operands.TheVariants as operands
+use Rattle.atl_orders.specs.declared.verb.Shape.{Shape}
+use Rattle.atl_orders.specs.declared.verb.Shape.TheVariants as shapes
 use Rattle.atl_orders.specs.Orders.{OperandsValue, OrderValue}
+use Rattle.atl_orders.specs.Verbs.{row_of}
 use Rattle.atl_orders.specs.Mailing.{EntryValue, Reading, reading}
 
 -- `IsWithin most n`: the number n is from 1 to `most`
@@ -45,13 +49,34 @@ AreOperandsOf world (operands.Kind (Some kind)) = kind < length world.kinds
 AreOperandsOf world (operands.Skill skill) = skill < length world.skills
 AreOperandsOf world (operands.Item item) = item < length world.items
 
--- an order is in bounds: its operands have numbers in range, names by the rule, and things that a world has
-abbrev pub IsOrderOf : WorldValue → OrderValue → Type 0
-IsOrderOf world order_value = AreOperandsOf world order_value.operands
+-- the shape of the words that name the operands
+abbrev pub shape_of : OperandsValue → Shape
+shape_of operands.Nothing = shapes.Nothing
+shape_of (operands.Alias alias) = shapes.Alias
+shape_of (operands.Flag flag) = shapes.Flag
+shape_of (operands.Number n) = shapes.Number
+shape_of (operands.Unit unit) = shapes.Unit
+shape_of (operands.Units units) = shapes.Units
+shape_of (operands.UnitAndNumber to n) = shapes.UnitAndNumber
+shape_of (operands.UnitAndGoods to amount item) = shapes.UnitAndGoods
+shape_of (operands.Goods amount item) = shapes.Goods
+shape_of (operands.Name what bytes) = shapes.Name
+shape_of (operands.Direction direction) = shapes.Direction
+shape_of (operands.Kind kind) = shapes.Kind
+shape_of (operands.Skill skill) = shapes.Skill
+shape_of (operands.Item item) = shapes.Item
 
--- an order of a mailing is in bounds: its operands, and the reference to the unit that it is for
+-- an order says what it is: its operands have the shape that the order table gives its verb, and are in bounds
+pub record IsOrderOf (world : WorldValue) (order_value : OrderValue) : Type 0 where
+  -- the operands have the shape of the words after the verb
+  pub shape : shape_of order_value.operands ≡ (row_of order_value.verb).shape
+  -- the operands have numbers in range, names by the rule, and things that the world has (`AreOperandsOf`)
+  pub operands : AreOperandsOf world order_value.operands
+
+-- an order of a mailing says what it is, and is in bounds, as is the reference to the unit that it is for
 pub record IsEntry (world : WorldValue) (e : EntryValue) : Type 0 where
   pub target : IsUnitRef e.target
+  -- the operands of the order have the shape of its verb, and are in bounds (`IsOrderOf`)
   pub order : IsOrderOf world e.order_value
 
 -- the line numbers of a mailing's orders are strictly ascending, and all are above the number given
@@ -65,6 +90,7 @@ pub record IsReading (world : WorldValue) (r : Reading) : Type 0 where
   pub entries : All (IsEntry world) r.entries
   pub lines : LinesRise 0 r.entries
 
--- Every text that is read as a mailing gives a faction, orders and line numbers that are in bounds (`IsReading`).
+-- Every text that is read as a mailing gives a faction, orders and line numbers that are in bounds, and orders whose
+-- operands have the shape of their verbs (`IsReading`).
 abbrev pub ReadingsKeepBounds : Type 0
 ReadingsKeepBounds = (world : WorldValue) (text : List ℕ) (r : Reading) → reading world text ≡ Ok r → IsReading world r

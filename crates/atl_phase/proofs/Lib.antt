@@ -25,3 +25,5 @@ pub mod UnbookedLaws
 pub mod FitLaws
 pub mod UnmailedLaws
 pub mod PhaseSpecLaws
+pub mod ReportLaws
+pub mod EventLaws

@@ -29,7 +29,7 @@ use Rattle.atl_phase.proofs.PhaseOrderLaws.{IsPhaseOrder, orders_count}
 
 -- ---- lines
 
-entry_line_above : (n i : ℕ) (es : List EntryValue) (e : EntryValue) → LinesRise n es → slice_get es i ≡ Some e → n < e.line
+pub entry_line_above : (n i : ℕ) (es : List EntryValue) (e : EntryValue) → LinesRise n es → slice_get es i ≡ Some e → n < e.line
 entry_line_above n i [] e rise is = cc
 entry_line_above n zero (x ∷ es) e rise is = let same = ap (λ (y : EntryValue). y.line) (same_Some x e is) in omega (arith, same, rise.0)
 entry_line_above n (suc i) (x ∷ es) e rise is = let after = entry_line_above x.line i es e rise.1 is in omega (arith, after, rise.0)

@@ -24,7 +24,7 @@ use Rattle.atl_phase.specs.declared.phase_order.Arrangement.TheVariants.{ByUnit,
 use Rattle.atl_phase.specs.declared.phase_order.PhaseOrder.{PhaseOrder}
 use Rattle.atl_phase.specs.Month.{Aliases, by_faction}
 use Rattle.atl_phase.specs.PhaseOrders.{Task, key_of, sorted_by, task_of, tasks_for, tasks_from, tasks_of, tasks_of_phase, unit_of}
-use Rattle.atl_phase.specs.OrderIndices.{AreByFaction, AreIndicesByMailing, AreOrderIndices, IsThere, all_tasks, every_verb, key_by, task_at}
+use Rattle.atl_phase.specs.OrderIndices.{AreByFaction, AreIndicesByMailing, AreOrderIndices, IsThere, all_tasks, key_by, task_at}
 use Rattle.atl_phase.proofs.MapOfListLaws.{entries-sorted, entries_of}
 use Rattle.atl_phase.proofs.MonthLaws.{by_faction_is, under_faction}
 
@@ -84,11 +84,11 @@ pub listed_tasks : (key : Task → List ℕ) (os list : List PhaseOrder) (ts : L
     → IsSortedByKey (λ o. key (task_of o)) (slice_cmp nat_cmp) list → map task_of list ≡ sorted_by key ts
 listed_tasks = sorted_by_keys task_of
 
--- the orders that count of all mailings, mailing by mailing, are those of the readings in the map by faction, if the
+-- the orders of a phase that count of all mailings, mailing by mailing, are those of the readings in the map by faction, if the
 -- mailings are sorted by faction
-all_tasks_are : (aliases : Aliases) (ms : List Mailing) → AreByFaction ms → all_tasks aliases ms ≡ tasks_of_phase every_verb aliases (entries (by_faction (map reading_of ms)))
-all_tasks_are aliases ms h =
-    let of_reading : ℕ × Reading → List Task = λ e. tasks_for every_verb (tasks_of aliases e.0 e.1) in
+all_tasks_are : (is_of : Verb → Bool) (aliases : Aliases) (ms : List Mailing) → AreByFaction ms → all_tasks is_of aliases ms ≡ tasks_of_phase is_of aliases (entries (by_faction (map reading_of ms)))
+all_tasks_are is_of aliases ms h =
+    let of_reading : ℕ × Reading → List Task = λ e. tasks_for is_of (tasks_of aliases e.0 e.1) in
     sym (ap (λ (c : FinMap nat_cmp Reading). flat_map of_reading (entries c)) (by_faction_is ms) ∙ ap (flat_map of_reading) (entries_of nat_cmp_total under_faction ms h) ∙ flat_map-map of_reading under_faction ms)
 
 -- ---- the indices of all orders
@@ -99,9 +99,9 @@ sorted_by_order_keys ByFaction ms list up = up
 
 -- the indices of all orders that count, once sorted by their own keys, name these orders as the arrangement sorts them
 -- (`AreOrderIndices`)
-pub sorted_places : (a : Arrangement) (aliases : Aliases) (ms : List Mailing) (os list : List OrderIndex) → AreByFaction ms → AreIndicesByMailing aliases ms os → IsPermutation os list → IsSortedByKey (key_by a) (slice_cmp nat_cmp) list
-    → AreOrderIndices a aliases ms list
-sorted_places a aliases ms os list h are p up = record {
+pub sorted_places : (is_of : Verb → Bool) (a : Arrangement) (aliases : Aliases) (ms : List Mailing) (os list : List OrderIndex) → AreByFaction ms → AreIndicesByMailing is_of aliases ms os → IsPermutation os list → IsSortedByKey (key_by a) (slice_cmp nat_cmp) list
+    → AreOrderIndices is_of a aliases ms list
+sorted_places is_of a aliases ms os list h are p up = record {
   there = All-permutation (IsThere ms) os list p are.there;
-  tasks = sorted_by_keys (task_at ms) (key_of a) os list _ (are.tasks ∙ all_tasks_are aliases ms h) (all_apart a aliases every_verb (by_faction (map reading_of ms))) p (sorted_by_order_keys a ms list up);
+  tasks = sorted_by_keys (task_at ms) (key_of a) os list _ (are.tasks ∙ all_tasks_are is_of aliases ms h) (all_apart a aliases is_of (by_faction (map reading_of ms))) p (sorted_by_order_keys a ms list up);
 }

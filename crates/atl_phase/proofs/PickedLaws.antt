@@ -1,6 +1,5 @@
 -- Laws of the orders of one phase, which are picked from the gathered indices of all orders that count.
-use Rattle.std.proofs.Common.{◌≡◌, ℕ, ◌+◌, ◌<◌, Bool, true, false, cond, ◌&&◌, List, [], ◌∷◌, ◌++◌, map, filter, take, length, get_or, IfOk, Result, Vec, refl, sym, ap, ap₂, ◌∙◌}
-use mathlib.Core.Bool.{and_comm}
+use Rattle.std.proofs.Common.{◌≡◌, ℕ, ◌+◌, ◌<◌, Bool, true, false, true≢false, cond, ◌&&◌, List, [], ◌∷◌, ◌++◌, map, filter, take, length, get_or, IfOk, Result, Vec, refl, sym, ap, ap₂, ◌∙◌}
 use Rattle.std.proofs.lemmas.List.{append-nil, map_more, map_push}
 use Rattle.std.specs.Ordering.{nat_cmp, eq_by_cmp}
 use Rattle.std.specs.Cmp.Lexicographic.{slice_cmp, nat_list_cmp_total}
@@ -18,12 +17,12 @@ use Rattle.atl_phase.specs.declared.phase_order.Arrangement.{Arrangement}
 use Rattle.atl_phase.specs.declared.phase_order.PhaseOrder.{PhaseOrder}
 use Rattle.atl_phase.specs.Month.{Aliases, by_faction}
 use Rattle.atl_phase.specs.PhaseOrders.{Task, key_of, order_counts, orders_of, sorted_by, task_of, tasks_for, tasks_of, tasks_of_phase, under_keys}
-use Rattle.atl_phase.specs.OrderIndices.{AreOrderIndices, every_verb, has_verb, task_at, tasks_picked}
+use Rattle.atl_phase.specs.OrderIndices.{AreOrderIndices, has_verb, task_at, tasks_picked}
 use Rattle.atl_phase.proofs.MapOfListLaws.{entries-passing}
 use Rattle.atl_phase.proofs.OrderKeyLaws.{all_apart, same_key}
 
 -- for `sorted-passing`: to map elements by f and keep those that pass p is to keep those whose f passes p, and map them
-filter-map : {X Y : Type 0} (p : Y → Bool) (f : X → Y) (xs : List X) → filter p (map f xs) ≡ map f (filter (λ x. p (f x)) xs)
+pub filter-map : {X Y : Type 0} (p : Y → Bool) (f : X → Y) (xs : List X) → filter p (map f xs) ≡ map f (filter (λ x. p (f x)) xs)
 filter-map p f [] = refl
 filter-map p f (x ∷ xs) =
     let rest = filter-map p f xs in
@@ -33,29 +32,45 @@ filter-map p f (x ∷ xs) =
     ]
 
 -- the sorted orders of those that pass a test are those of all sorted orders that pass, if no two keys are equal
-sorted-passing : (a : Arrangement) (p : Task → Bool) (ts : List Task) → IsDistinct (same_key a) ts → sorted_by (key_of a) (filter p ts) ≡ filter p (sorted_by (key_of a) ts)
+pub sorted-passing : (a : Arrangement) (p : Task → Bool) (ts : List Task) → IsDistinct (same_key a) ts → sorted_by (key_of a) (filter p ts) ≡ filter p (sorted_by (key_of a) ts)
 sorted-passing a p ts apart =
     let entry : Task → List ℕ × Task = λ t. (key_of a t, t) in
     ap (λ fs. values (from_entries {R = slice_cmp nat_cmp} fs)) (sym (filter-map (λ (e : List ℕ × Task). p e.1) entry ts))
     ∙ ap (map (λ e. e.1)) (entries-passing nat_list_cmp_total (slice_cmp-IsAntisymmetric nat_cmp-IsAntisymmetric) p (map entry ts) (IsDistinct-map entry (λ e f. eq_by_cmp (slice_cmp nat_cmp) e.0 f.0) ts apart))
     ∙ sym (filter-map p (λ e. e.1) (entries (under_keys (key_of a) ts)))
 
-module _ (is_of : Verb → Bool) (aliases : Aliases) where
-  picked_tasks : (es : List (ℕ × Reading)) → tasks_of_phase is_of aliases es ≡ filter (has_verb is_of) (tasks_of_phase every_verb aliases es)
+-- a test i that passes only what w passes, and another test o: what passes i and o are those that pass w and o, and i
+narrow : (w i o : Bool) → i ≡ (w && i) → (i && o) ≡ ((w && o) && i)
+narrow true true true h = refl
+narrow true true false h = refl
+narrow true false true h = refl
+narrow true false false h = refl
+narrow false true o h = absurd (true≢false h)
+narrow false false o h = refl
+
+-- a test made twice passes what it passes once
+pub twice : (b : Bool) → b ≡ (b && b)
+twice true = refl
+twice false = refl
+
+-- the phase's verbs (`is_of`) are among those of the indices (`wide`)
+module _ (wide is_of : Verb → Bool) (within : (v : Verb) → is_of v ≡ (wide v && is_of v)) (aliases : Aliases) where
+  picked_tasks : (es : List (ℕ × Reading)) → tasks_of_phase is_of aliases es ≡ filter (has_verb is_of) (tasks_of_phase wide aliases es)
   picked_tasks [] = refl
   picked_tasks (e ∷ es) =
       let ts = tasks_of aliases e.0 e.1 in
-      ap₂ (λ us vs. us ++ vs) (filter_agree (λ t. has_verb is_of t && order_counts ts t) (λ t. order_counts ts t && has_verb is_of t) (λ t. and_comm (has_verb is_of t) (order_counts ts t)) ts ∙ sym (filter_both (order_counts ts) (has_verb is_of) ts)) (picked_tasks es)
-      ∙ sym (filter-append (has_verb is_of) (tasks_for every_verb ts) (tasks_of_phase every_verb aliases es))
+      let counts : Task → Bool = λ t. wide t.order_value.verb && order_counts ts t in
+      ap₂ (λ us vs. us ++ vs) (filter_agree (λ t. has_verb is_of t && order_counts ts t) (λ t. counts t && has_verb is_of t) (λ t. narrow (wide t.order_value.verb) (is_of t.order_value.verb) (order_counts ts t) (within t.order_value.verb)) ts ∙ sym (filter_both counts (has_verb is_of) ts)) (picked_tasks es)
+      ∙ sym (filter-append (has_verb is_of) (tasks_for wide ts) (tasks_of_phase wide aliases es))
 
-  picked_orders : (a : Arrangement) (readings : FinMap nat_cmp Reading) (ts : List Task) → ts ≡ orders_of every_verb a aliases readings → filter (has_verb is_of) ts ≡ orders_of is_of a aliases readings
+  picked_orders : (a : Arrangement) (readings : FinMap nat_cmp Reading) (ts : List Task) → ts ≡ orders_of wide a aliases readings → filter (has_verb is_of) ts ≡ orders_of is_of a aliases readings
   picked_orders a readings ts all =
-      ap (filter (has_verb is_of)) all ∙ sym (sorted-passing a (has_verb is_of) _ (all_apart a aliases every_verb readings))
+      ap (filter (has_verb is_of)) all ∙ sym (sorted-passing a (has_verb is_of) _ (all_apart a aliases wide readings))
       ∙ ap (sorted_by (key_of a)) (sym (picked_tasks (entries readings)))
 
-  -- The list that the code returns has the orders of the phase, if it has those that are picked from the indices of all
-  -- orders that count. The code reads the mailings `ms` as `ns`, and the indices `places` as `qs`.
-  pub picked_list : {Z E : Type 0} (a : Arrangement) (ms ns : List Mailing) (places qs : List OrderIndex) (r : Result (Vec PhaseOrder Z) E) → ns ≡ ms → qs ≡ places → AreOrderIndices a aliases ms places
+  -- The list that the code returns has the orders of the phase, if it has those that are picked from the indices of the
+  -- orders of more verbs that count. The code reads the mailings `ms` as `ns`, and the indices `places` as `qs`.
+  pub picked_list : {Z E : Type 0} (a : Arrangement) (ms ns : List Mailing) (places qs : List OrderIndex) (r : Result (Vec PhaseOrder Z) E) → ns ≡ ms → qs ≡ places → AreOrderIndices wide a aliases ms places
       → IfOk r (λ list. map task_of list.items ≡ tasks_picked is_of ns qs) → IfOk r (λ list. map task_of list.items ≡ orders_of is_of a aliases (by_faction (map reading_of ms)))
   picked_list a ms ns places qs r same_mailings same_places all =
       IfOk-weaker r (λ list. map task_of list.items ≡ tasks_picked is_of ns qs) (λ list. map task_of list.items ≡ orders_of is_of a aliases (by_faction (map reading_of ms)))

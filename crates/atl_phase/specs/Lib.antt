@@ -8,6 +8,7 @@ pub mod OrderIndices
 pub mod NoWorse
 pub mod Fit
 pub mod OneOrder
+pub mod Reports
 pub mod OrderEffects
 pub mod Outcomes
 pub mod InTurn

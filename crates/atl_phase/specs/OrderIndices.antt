@@ -52,9 +52,9 @@ counts_by_lines lines unit line (Some slot) = line == line_in lines (slot_number
 abbrev pub every_verb : Verb → Bool
 every_verb verb = true
 
--- the orders that count of all mailings, mailing by mailing
-abbrev pub all_tasks : Aliases → List Mailing → List Task
-all_tasks aliases mailings = flat_map (λ m. tasks_for every_verb (tasks_of aliases m.faction (reading_of m))) mailings
+-- the orders of all mailings that count and have one of a phase's verbs, mailing by mailing
+abbrev pub all_tasks : (Verb → Bool) → Aliases → List Mailing → List Task
+all_tasks is_of aliases mailings = flat_map (λ m. tasks_for is_of (tasks_of aliases m.faction (reading_of m))) mailings
 
 -- whether an order has one of a phase's verbs, which are those that pass the test
 abbrev pub has_verb : (Verb → Bool) → Task → Bool
@@ -110,19 +110,19 @@ pub record AddsIndicesOf (mailings : List Mailing) (ts : List Task) (old new : L
   pub there : All (IsThere mailings) old → All (IsThere mailings) new
   pub tasks : map (task_at mailings) new ≡ map (task_at mailings) old ++ ts
 
--- the new indices name the orders that the old ones name, and after them the orders that count of the mailing at an
--- index of the list
-abbrev pub AddsMailing : Aliases → List Mailing → ℕ → List OrderIndex → List OrderIndex → Type 0
-AddsMailing aliases mailings index = AddsIndicesOf mailings (tasks_for every_verb (tasks_at aliases mailings index))
+-- the new indices name the orders that the old ones name, and after them those of the mailing at an index of the list
+-- that count and have one of a phase's verbs
+abbrev pub AddsMailing : (Verb → Bool) → Aliases → List Mailing → ℕ → List OrderIndex → List OrderIndex → Type 0
+AddsMailing is_of aliases mailings index = AddsIndicesOf mailings (tasks_for is_of (tasks_at aliases mailings index))
 
--- the indices name the orders that count of all mailings, mailing by mailing
-abbrev pub AreIndicesByMailing : Aliases → List Mailing → List OrderIndex → Type 0
-AreIndicesByMailing aliases mailings = AreIndicesOf mailings (all_tasks aliases mailings)
+-- the indices name the orders of all mailings that count and have one of a phase's verbs, mailing by mailing
+abbrev pub AreIndicesByMailing : (Verb → Bool) → Aliases → List Mailing → List OrderIndex → Type 0
+AreIndicesByMailing is_of aliases mailings = AreIndicesOf mailings (all_tasks is_of aliases mailings)
 
--- the indices name the orders that count of all mailings, sorted as the arrangement says
-abbrev pub AreOrderIndices : Arrangement → Aliases → List Mailing → List OrderIndex → Type 0
-AreOrderIndices arrangement aliases mailings =
-    AreIndicesOf mailings (orders_of every_verb arrangement aliases (by_faction (map reading_of mailings)))
+-- the indices name the orders of all mailings that count and have one of a phase's verbs, sorted as the arrangement says
+abbrev pub AreOrderIndices : (Verb → Bool) → Arrangement → Aliases → List Mailing → List OrderIndex → Type 0
+AreOrderIndices is_of arrangement aliases mailings =
+    AreIndicesOf mailings (orders_of is_of arrangement aliases (by_faction (map reading_of mailings)))
 
 -- the orders that some indices name and that have a verb of the phase, in the order of the indices
 abbrev pub tasks_picked : (Verb → Bool) → List Mailing → List OrderIndex → List Task
@@ -133,4 +133,4 @@ tasks_picked is_of mailings places = filter (has_verb is_of) (map (task_at maili
 pub record IsSortedMonth {Z : Type 0} (aliases : Aliases) (mailings : List Mailing)
     (gathered_indices : Option (Vec OrderIndex Z)) : Type 0 where
   pub sorted : AreByFaction mailings
-  pub gathered : IfSome gathered_indices (λ places. AreOrderIndices ByUnit aliases mailings places.items)
+  pub gathered : IfSome gathered_indices (λ places. AreOrderIndices every_verb ByUnit aliases mailings places.items)

@@ -7,7 +7,7 @@ ghost use Rattle.atl_phase.specs.PhaseOrders.{orders_of, task_of, unit_of};
 
 use crate::last_lines::unit_of;
 use crate::order_indices::{OrderIndex, order_indices};
-use crate::orders::{PhaseVerbs, phase_orders_at};
+use crate::orders::{EveryVerb, PhaseVerbs, phase_orders_at};
 use crate::phase_order::{Arrangement, PhaseOrder};
 use atl_campaign::Event;
 use atl_orders::{Mailing, UnitRef};
@@ -142,15 +142,23 @@ impl Month {
     pub fn gather(&mut self, alloc: Global) -> Result<(), AllocError>
         ensures { self.new ≡ self.old }
     {
-        let places = order_indices(alloc, Arrangement::ByUnit, &self.aliases, &self.mailings)?;
+        let arrangement = Arrangement::ByUnit;
+        let places = order_indices(
+            alloc,
+            &EveryVerb,
+            arrangement,
+            &self.aliases,
+            &self.mailings,
+        )?;
         self.gathered_indices = Some(places);
         Ok(())
     }
 
     /// The orders that count and have a verb of the phase, in the order of the arrangement. It
     /// takes memory for each of them. If the month's orders aren't gathered, or not in this
-    /// arrangement, it also takes memory for each order of all mailings, and n log n steps for n of
-    /// them. See docs/RULES.md, "Orders of a month".
+    /// arrangement, it also takes memory for each order of the mailings that have one with a verb
+    /// of the phase, and n log n steps for n orders of the phase. See docs/RULES.md, "Orders of a
+    /// month".
     pub fn orders<P: PhaseVerbs>(
         &self,
         alloc: Global,
@@ -165,7 +173,13 @@ impl Month {
                 phase_orders_at(alloc, phase, &self.mailings, places)
             }
             _ => {
-                let places = order_indices(alloc, arrangement, &self.aliases, &self.mailings)?;
+                let places = order_indices(
+                    alloc,
+                    phase,
+                    arrangement,
+                    &self.aliases,
+                    &self.mailings,
+                )?;
                 phase_orders_at(alloc, phase, &self.mailings, &places)
             }
         }

@@ -1,14 +1,17 @@
-//! Finds the orders that count of all mailings, and sorts their indices. See docs/RULES.md,
+//! Finds the orders of all mailings that count for a phase, and sorts their indices. See docs/RULES.md,
 //! "Orders of a month".
-ghost use Rattle.std.specs.Prelude.{◌≡◌, ◌<◌, length, IfOk, OnOk};
+ghost use Rattle.std.specs.Prelude.{◌≡◌, ◌<◌, ◌&&◌, length, IfOk, OnOk};
+ghost use Rattle.std.specs.List.{list_any};
 ghost use Rattle.std.specs.List.Sorted.{IsPermutation, IsSortedByKey};
 ghost use Rattle.std.specs.Cmp.Lexicographic.{slice_cmp};
 ghost use Rattle.std.specs.Ordering.{nat_cmp};
-ghost use Rattle.atl_phase.specs.OrderIndices.{AddsMailing, AreByFaction, AreIndicesByMailing, AreLastLines, AreOrderIndices, key_by, tasks_at};
+ghost use Rattle.atl_orders.specs.Verbs.{row_of};
+ghost use Rattle.atl_phase.specs.OrderIndices.{AddsMailing, AreByFaction, AreIndicesByMailing, AreLastLines, AreOrderIndices, counts_by_lines, key_by, tasks_at};
 
 use crate::last_lines::{LastLines, last_lines, order_counts, unit_of};
+use crate::orders::PhaseVerbs;
 use crate::phase_order::Arrangement;
-use atl_orders::Mailing;
+use atl_orders::{Entry, Mailing};
 use atl_world::Numbered;
 use std::alloc::{AllocError, Global};
 
@@ -42,9 +45,20 @@ impl OrderIndex {
     }
 }
 
-/// Adds to the list the indices of a mailing's orders that count. `lines` has the greatest line of
-/// each slot and unit in that mailing.
-fn add_counting(
+/// Whether an order of a mailing counts and has a verb of the phase. `lines` has the greatest line
+/// of each slot and unit in that mailing.
+fn counts<P: PhaseVerbs>(phase: &P, lines: &LastLines, unit: u32, entry: &Entry) -> bool
+    ensures { result ≡ (P.is_of entry.now.order.verb
+        && counts_by_lines lines.now unit entry.now.line (row_of entry.now.order.verb).slot) }
+{
+    let verb = entry.order.verb;
+    phase.has(verb) && order_counts(lines, unit, entry.line, verb.row().slot)
+}
+
+/// Adds to the list the indices of a mailing's orders that count and have a verb of the phase.
+/// `lines` has the greatest line of each slot and unit in that mailing.
+fn add_counting<P: PhaseVerbs>(
+    phase: &P,
     aliases: &Numbered<Numbered<u32>>,
     mailings: &[Mailing],
     at: usize,
@@ -53,14 +67,15 @@ fn add_counting(
 ) -> Result<(), AllocError>
     requires within { at < length mailings.now }
     requires lines { AreLastLines (tasks_at aliases.now mailings.now at) lines.now }
-    ensures { OnOk result (AddsMailing aliases.now mailings.now at list.old.items list.new.items) }
+    ensures { OnOk result
+        (AddsMailing P.is_of aliases.now mailings.now at list.old.items list.new.items) }
 {
     let mailing = &mailings[at];
     let entries = mailing.entries.as_slice();
     for index in 0..entries.len() {
         let entry = &entries[index];
         let unit = unit_of(aliases, mailing.faction, entry.target);
-        if order_counts(lines, unit, entry.line, entry.order.verb.row().slot) {
+        if counts(phase, lines, unit, entry) {
             list.push(OrderIndex {
                 unit,
                 line: entry.line,
@@ -73,35 +88,73 @@ fn add_counting(
     Ok(())
 }
 
-fn indices_by_mailing(
+/// Whether a mailing has an order with a verb of the phase.
+fn has_order<P: PhaseVerbs>(phase: &P, mailing: &Mailing) -> bool
+    ensures { result ≡ list_any (λ e. P.is_of e.order.verb) mailing.now.entries }
+{
+    let entries = mailing.entries.as_slice();
+    for i in 0..entries.len() {
+        if phase.has(entries[i].order.verb) {
+            return true;
+        }
+    }
+    false
+}
+
+/// Adds to the list the indices of a mailing's orders that count and have a verb of the phase. It
+/// takes no memory where the mailing has no such order.
+fn add_mailing<P: PhaseVerbs>(
     alloc: Global,
+    phase: &P,
+    aliases: &Numbered<Numbered<u32>>,
+    mailings: &[Mailing],
+    at: usize,
+    list: &mut Vec<OrderIndex>,
+) -> Result<(), AllocError>
+    requires { at < length mailings.now }
+    ensures { OnOk result
+        (AddsMailing P.is_of aliases.now mailings.now at list.old.items list.new.items) }
+{
+    if !has_order(phase, &mailings[at]) {
+        return Ok(());
+    }
+    let lines = last_lines(alloc, aliases, &mailings[at])?;
+    add_counting(phase, aliases, mailings, at, &lines, list)
+}
+
+/// The indices of all orders that count and have a verb of the phase, mailing by mailing.
+fn indices_by_mailing<P: PhaseVerbs>(
+    alloc: Global,
+    phase: &P,
     aliases: &Numbered<Numbered<u32>>,
     mailings: &[Mailing],
 ) -> Result<Vec<OrderIndex>, AllocError>
-    ensures { IfOk result (λ list. AreIndicesByMailing aliases.now mailings.now list.items) }
+    ensures { IfOk result (λ list.
+        AreIndicesByMailing P.is_of aliases.now mailings.now list.items) }
 {
     let mut list = Vec::new(alloc);
     for at in 0..mailings.len() {
-        let lines = last_lines(alloc, aliases, &mailings[at])?;
-        add_counting(aliases, mailings, at, &lines, &mut list)?;
+        add_mailing(alloc, phase, aliases, mailings, at, &mut list)?;
     }
     Ok(list)
 }
 
-/// The indices of the orders that count of all mailings, sorted as the arrangement says.
-/// The mailings are sorted by faction, no two of one faction. It takes memory for each order, and
-/// n log n steps.
-pub(crate) fn order_indices(
+/// The indices of the orders of all mailings that count and have a verb of the phase, sorted as the
+/// arrangement says. The mailings are sorted by faction, no two of one faction. It takes memory for
+/// each order of the mailings that have one with such a verb, and n log n steps for n orders of the
+/// phase.
+pub(crate) fn order_indices<P: PhaseVerbs>(
     alloc: Global,
+    phase: &P,
     arrangement: Arrangement,
     aliases: &Numbered<Numbered<u32>>,
     mailings: &[Mailing],
 ) -> Result<Vec<OrderIndex>, AllocError>
     requires { AreByFaction mailings.now }
     ensures { IfOk result (λ list.
-        AreOrderIndices arrangement aliases.now mailings.now list.items) }
+        AreOrderIndices P.is_of arrangement aliases.now mailings.now list.items) }
 {
-    let mut list = indices_by_mailing(alloc, aliases, mailings)?;
+    let mut list = indices_by_mailing(alloc, phase, aliases, mailings)?;
     sort(&mut list, arrangement);
     Ok(list)
 }

@@ -1,6 +1,6 @@
 //! Phases that carry out their orders one by one, and the loop over the orders. See docs/RULES.md,
 //! "Orders of a month".
-ghost use Rattle.std.specs.Prelude.{◌≡◌, IfOk, IfSome, OnOk, Some};
+ghost use Rattle.std.specs.Prelude.{◌≡◌, IfOk, IfSome, OnOk, Some, true};
 ghost use Rattle.std.specs.FinMap.{get};
 ghost use Rattle.std.specs.Option.{option_copied};
 ghost use Rattle.atl_campaign.specs.Covers.{MarksChanges};
@@ -46,10 +46,10 @@ pub trait OrderPhase: PhaseVerbs {
 
     /// Carries out an order of the phase's verbs, and returns its outcome, or None where the phase
     /// passes it over. Before it `holds` is true, the books have room for what may still be booked
-    /// (`remaining`), and the order is such as can be read with the world. An order for a unit that
-    /// isn't there, or is another faction's, changes nothing, and is NotYours unless it is passed
-    /// over. AllocError without memory; the campaign may then be changed in part. See
-    /// docs/RULES.md, "Orders of a month".
+    /// (`remaining`), and the order has a verb of the phase, and is such as can be read with the
+    /// world. An order for a unit that isn't there, or is another faction's, changes nothing, and is
+    /// NotYours unless it is passed over. AllocError without memory; the campaign may then be
+    /// changed in part. See docs/RULES.md, "Orders of a month".
     fn carry_out(
         &self,
         alloc: Global,
@@ -60,6 +60,7 @@ pub trait OrderPhase: PhaseVerbs {
     ) -> Result<Option<Outcome>, AllocError>
         requires holds { holds world.now campaign.old.value }
         requires room { HaveRoom (remaining campaign.old.value) campaign.old.value }
+        requires verb { Self.is_of (task_of order).order_value.verb ≡ true }
         requires fit { IsOrderOf world.now (task_of order).order_value }
         ensures step { IfOk result
             (λ outcome. (campaign.new.value, outcome)
@@ -108,6 +109,7 @@ fn carry_one<P: OrderPhase>(
 ) -> Result<(), AllocError>
     requires holds { P.holds world.now campaign.old.value }
     requires room { HaveRoom (P.remaining campaign.old.value) campaign.old.value }
+    requires verb { P.is_of (task_of order).order_value.verb ≡ true }
     requires fit { IsOrderOf world.now (task_of order).order_value }
     ensures step { OnOk result
         ((campaign.new.value, with_events month.now events.new.items)

@@ -4,7 +4,7 @@ ghost use Rattle.std.specs.List.{All};
 ghost use Rattle.atl_orders.specs.declared.verb.Verb.{Verb};
 ghost use Rattle.atl_phase.specs.PhaseOrders.{OrdersAreInMailings, is_month_long, task_of};
 ghost use Rattle.atl_phase.specs.OneOrder.{OneOrderCounts};
-ghost use Rattle.atl_phase.specs.OrderIndices.{IsThere, task_at, tasks_picked};
+ghost use Rattle.atl_phase.specs.OrderIndices.{IsThere, every_verb, task_at, tasks_picked};
 
 use crate::last_lines::is_same_slot;
 use crate::order_indices::OrderIndex;
@@ -29,6 +29,19 @@ impl PhaseVerbs for MonthLongVerbs {
 
     fn has(&self, verb: Verb) -> bool {
         is_same_slot(Slot::MonthLong, verb.row().slot)
+    }
+}
+
+/// All verbs, for the orders of every phase.
+pub(crate) struct EveryVerb;
+
+/// Has each verb.
+impl PhaseVerbs for EveryVerb {
+    ghost is_of = { every_verb };
+
+    /// True for each verb.
+    fn has(&self, _verb: Verb) -> bool {
+        true
     }
 }
 

@@ -175,21 +175,29 @@ module _ (c : CampaignValue) (f q : ℕ) where
       all_watched (numbers_of_faction f c.units) empty false (get-empty nat_cmp q)
       ∙ ap (λ t. cond t (there q) None) (or_none (list_any (λ n. watches_in f q (get c.units n)) (numbers_of_faction f c.units)) ∙ region_is_seen_by_unit c f q)
 
--- the numbers gathered from the faction's units are those of the regions that it sees, in rising order
-pub entries-with_all_watched : (c : CampaignValue) (f : ℕ) → entries (with_all_watched c f (numbers_of_faction f c.units) empty) ≡ map (λ e. (e.0, tt)) (filter (λ e. sees_region c f e.0) (entries c.regions))
-entries-with_all_watched c f =
-    let seen = where_key nat_cmp (sees_region c f) (entries c.regions) in
-    let numbers : List (ℕ × Prim.Unit {0}) = map number_alone seen in
-    let sorted : T (is_sorted nat_cmp numbers) = rw (sorted-alone seen) (is_sorted-where_key nat_cmp (sees_region c f) (entries c.regions) (entries_sorted c.regions)) in
-    ap entries (same_map nat_cmp_total nat_cmp-IsAntisymmetric (with_all_watched c f (numbers_of_faction f c.units) empty) (from_sorted numbers) (λ q.
-    get-with_all_watched c f q ∙ sym (get-from_sorted nat_cmp numbers q sorted ∙ find-alone q seen
-    ∙ ap (option_map forget_value) (find-where_key nat_cmp (sees_region c f) q (λ x e. ap (sees_region c f) (sym (nat_cmp-IsAntisymmetric q x e))) (entries c.regions) ∙ ap (λ o. cond (sees_region c f q) o None) (sym (get-entries c.regions q)))
-    ∙ alone_chosen (sees_region c f q) (get c.regions q))))
+-- a set that has just those numbers of a map that pass a test has them in the order of the map
+pub chosen_numbers : {V : Type 0} (m : FinMap nat_cmp V) (t : ℕ → Bool) (seen : FinMap nat_cmp (Prim.Unit {0}))
+    → ((q : ℕ) → get seen q ≡ cond (t q) (option_map forget_value (get m q)) None)
+    → entries seen ≡ map (λ e. (e.0, tt)) (filter (λ e. t e.0) (entries m))
+chosen_numbers {V} m t seen are =
+    let chosen : List (ℕ × V) = where_key nat_cmp t (entries m) in
+    let numbers : List (ℕ × Prim.Unit {0}) = map number_alone chosen in
+    let sorted : T (is_sorted nat_cmp numbers) = rw (sorted-alone chosen) (is_sorted-where_key nat_cmp t (entries m) (entries_sorted m)) in
+    ap entries (same_map nat_cmp_total nat_cmp-IsAntisymmetric seen (from_sorted numbers) (λ q.
+    are q ∙ sym (get-from_sorted nat_cmp numbers q sorted ∙ find-alone q chosen
+    ∙ ap (option_map forget_value) (find-where_key nat_cmp t q (λ x e. ap t (sym (nat_cmp-IsAntisymmetric q x e))) (entries m) ∙ ap (λ o. cond (t q) o None) (sym (get-entries m q)))
+    ∙ alone_chosen (t q) (get m q))))
     ∙ entries-from_sorted nat_cmp numbers sorted
 
--- regions looked up by the numbers of chosen entries
-module _ {A : Type 0} (m : FinMap nat_cmp Region) (make : ℕ → Region → A) where
-  looked_up : (p : ℕ × Region → Bool) (es : List (ℕ × Region)) → EachEntry (λ n r. get m n ≡ Some r) es
+-- the numbers gathered from the faction's units are those of the regions that it sees, in rising order
+pub entries-with_all_watched : (c : CampaignValue) (f : ℕ) → entries (with_all_watched c f (numbers_of_faction f c.units) empty) ≡ map (λ e. (e.0, tt)) (filter (λ e. sees_region c f e.0) (entries c.regions))
+entries-with_all_watched c f = chosen_numbers c.regions (sees_region c f) (with_all_watched c f (numbers_of_faction f c.units) empty) (λ q. get-with_all_watched c f q)
+
+-- values looked up by the numbers of chosen entries
+module _ {A V : Type 0} (m : FinMap nat_cmp V) (make : ℕ → V → A) where
+  -- if the map `m` has each entry of `es`, then to look up in `m` the values of those entries that pass `p`, by number,
+  -- and apply `make` to each, gives what `make` gives of these entries
+  looked_up : (p : ℕ × V → Bool) (es : List (ℕ × V)) → EachEntry (λ n v. get m n ≡ Some v) es
       → filter_map (λ (e : ℕ × Prim.Unit {0}). option_map (make e.0) (get m e.0)) (map number_alone (filter p es)) ≡ map (λ e. make e.0 e.1) (filter p es)
   looked_up p [] h = refl
   looked_up p (e ∷ es) h =
@@ -198,7 +206,7 @@ module _ {A : Type 0} (m : FinMap nat_cmp Region) (make : ℕ → Region → A) 
         | false ↦ looked_up p es h.1
       ]
 
--- to look up in a map the regions of those entries that pass `p`, by number, and apply `make` to each, gives what
--- `make` gives of these entries
-pub regions_looked_up : {A : Type 0} (m : FinMap nat_cmp Region) (make : ℕ → Region → A) (p : ℕ × Region → Bool) → filter_map (λ (e : ℕ × Prim.Unit {0}). option_map (make e.0) (get m e.0)) (map (λ e. (e.0, tt)) (filter p (entries m))) ≡ map (λ e. make e.0 e.1) (filter p (entries m))
-regions_looked_up m make p = looked_up m make p (entries m) (each-from_every (λ n r. get m n ≡ Some r) m (λ n r is. is))
+-- to look up in a map the values of those entries that pass `p`, by number, and apply `make` to each, gives what `make`
+-- gives of these entries
+pub values_looked_up : {A V : Type 0} (m : FinMap nat_cmp V) (make : ℕ → V → A) (p : ℕ × V → Bool) → filter_map (λ (e : ℕ × Prim.Unit {0}). option_map (make e.0) (get m e.0)) (map (λ e. (e.0, tt)) (filter p (entries m))) ≡ map (λ e. make e.0 e.1) (filter p (entries m))
+values_looked_up m make p = looked_up m make p (entries m) (each-from_every (λ n v. get m n ≡ Some v) m (λ n v is. is))

@@ -1,11 +1,13 @@
--- For proofs alone: the numbers of the regions that a faction sees, gathered from its units one after another.
-use Rattle.std.specs.Prelude.{ℕ, List, [], ◌∷◌, if◌then◌else◌, Option, Some, None}
+-- For proofs alone: the numbers of the regions that a faction sees, gathered from its units one after another, and those
+-- of the units that it sees in a region, gathered from the region's lists; and lists of units by a key of theirs.
+use Rattle.std.specs.Prelude.{ℕ, List, [], ◌∷◌, nat_le, if◌then◌else◌, Option, Some, None}
 use Rattle.std.specs.Ordering.{nat_cmp}
-use Rattle.std.specs.FinMap.{FinMap, get, insert}
+use Rattle.std.specs.FinMap.{FinMap, get, insert, empty, entries}
 use Rattle.atl_records.specs.declared.records.Region.{Region}
 use Rattle.atl_records.specs.declared.records.Unit.{Unit}
 use Rattle.atl_campaign.specs.Campaign.{CampaignValue}
 use Rattle.atl_report.specs.Watching.{is_watching}
+use Rattle.atl_report.specs.Sites.{with_listed}
 
 -- the set of region numbers with `n` added, if the campaign has a region of number `n`
 abbrev pub with_region : FinMap nat_cmp (Prim.Unit {0}) → ℕ → Option Region → FinMap nat_cmp (Prim.Unit {0})
@@ -23,3 +25,33 @@ with_watched c f seen (Some u) = if is_watching f (Some u) then with_region seen
 abbrev pub with_all_watched : CampaignValue → ℕ → List ℕ → FinMap nat_cmp (Prim.Unit {0}) → FinMap nat_cmp (Prim.Unit {0})
 with_all_watched c f [] seen = seen
 with_all_watched c f (n ∷ ns) seen = with_all_watched c f ns (with_watched c f seen (get c.units n))
+
+-- `with_keyed key lists n unit`: the lists by key with a unit's number added to the list of its key
+abbrev pub with_keyed : (Unit → ℕ) → FinMap nat_cmp (List ℕ) → ℕ → Option Unit → FinMap nat_cmp (List ℕ)
+with_keyed key lists n None = lists
+with_keyed key lists n (Some u) = with_listed lists (key u) n
+
+-- `with_all_keyed units key lists ns`: the lists by key with the number of each listed unit added to the list of its key
+abbrev pub with_all_keyed : FinMap nat_cmp Unit → (Unit → ℕ) → FinMap nat_cmp (List ℕ) → List ℕ → FinMap nat_cmp (List ℕ)
+with_all_keyed units key lists [] = lists
+with_all_keyed units key lists (n ∷ ns) = with_all_keyed units key (with_keyed key lists n (get units n)) ns
+
+-- the set of numbers with those of a list added
+abbrev pub with_numbers : FinMap nat_cmp (Prim.Unit {0}) → List ℕ → FinMap nat_cmp (Prim.Unit {0})
+with_numbers seen [] = seen
+with_numbers seen (n ∷ ns) = with_numbers (insert seen n tt) ns
+
+-- `with_level observation seen level ns`: the set of numbers with those of a list added, if its level is at most the
+-- given level of observation
+abbrev pub with_level : ℕ → FinMap nat_cmp (Prim.Unit {0}) → ℕ → List ℕ → FinMap nat_cmp (Prim.Unit {0})
+with_level observation seen level ns = if nat_le level observation then with_numbers seen ns else seen
+
+-- the set of numbers with those of each list added whose level is at most the given level of observation
+abbrev pub with_levels : ℕ → FinMap nat_cmp (Prim.Unit {0}) → List (ℕ × List ℕ) → FinMap nat_cmp (Prim.Unit {0})
+with_levels observation seen [] = seen
+with_levels observation seen (e ∷ es) = with_levels observation (with_level observation seen e.0 e.1) es
+
+-- `numbers_seen own levels observation`: the numbers of a faction's own units in a region, and those of all units there
+-- whose hiding level is at most the given level of observation
+abbrev pub numbers_seen : List ℕ → FinMap nat_cmp (List ℕ) → ℕ → FinMap nat_cmp (Prim.Unit {0})
+numbers_seen own levels observation = with_levels observation (with_numbers empty own) (entries levels)

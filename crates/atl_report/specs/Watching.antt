@@ -1,5 +1,5 @@
 -- Which regions a faction sees, and which units there. See docs/RULES.md, "Sight".
-use Rattle.std.specs.Prelude.{◌==◌, ◌&&◌, ◌||◌, ℕ, Bool, false, nat_lt, nat_le, max, List, [], ◌∷◌, map, if◌then◌else◌, Option}
+use Rattle.std.specs.Prelude.{◌==◌, ◌&&◌, ◌||◌, ℕ, Bool, false, nat_lt, nat_le, max, List, [], ◌∷◌, map, filter, if◌then◌else◌, Option}
 use Rattle.std.specs.List.{list_any}
 use Rattle.std.specs.Option.{option_map_or}
 use Rattle.std.specs.FinMap.{get}
@@ -7,7 +7,7 @@ use Rattle.atl_world.specs.Worlds.{WorldValue}
 use Rattle.atl_records.specs.declared.records.Unit.{Unit}
 use Rattle.atl_campaign.specs.Good.{guards}
 use Rattle.atl_records.specs.Levels.{level_in_any}
-use Rattle.atl_campaign.specs.Campaign.{CampaignValue, numbers_in_region}
+use Rattle.atl_campaign.specs.Campaign.{CampaignValue, numbers_in_region, numbers_of_faction}
 use Rattle.atl_report.specs.declared.watch.Watch.{Watch}
 
 -- whether a unit exists, is the given faction's, and has men, so that the faction sees its region
@@ -18,23 +18,38 @@ is_watching faction unit = option_map_or (λ u. u.faction == faction && nat_lt 0
 abbrev pub sees_region : CampaignValue → ℕ → ℕ → Bool
 sees_region c faction region = list_any (λ n. is_watching faction (get c.units n)) (numbers_in_region region c.units)
 
--- the observation level of a unit, if it is of the given faction; 0 for another faction's unit, or without a unit
-abbrev pub observation_of : WorldValue → ℕ → Option Unit → ℕ
-observation_of w faction unit =
-    option_map_or (λ u. if u.faction == faction then level_in_any u.holding w.rules.observation else 0) unit 0
+-- whether a unit exists, and is in the given region
+abbrev pub is_in : ℕ → Option Unit → Bool
+is_in region unit = option_map_or (λ u. u.region == region) unit false
+
+-- `own_units_in c faction region`: the numbers of a faction's units in a region, in ascending order
+abbrev pub own_units_in : CampaignValue → ℕ → ℕ → List ℕ
+own_units_in c faction region = filter (λ n. is_in region (get c.units n)) (numbers_of_faction faction c.units)
+
+-- the level of observation of a unit; 0 without a unit
+abbrev pub observation_of : WorldValue → Option Unit → ℕ
+observation_of w unit = option_map_or (λ u. level_in_any u.holding w.rules.observation) unit 0
 
 -- the greatest number of a list, 0 of an empty one
 abbrev pub greatest : List ℕ → ℕ
 greatest [] = 0
 greatest (n ∷ ns) = max n (greatest ns)
 
--- `observation_in w c faction region`: the best observation level of a faction's units in a region
-abbrev pub observation_in : WorldValue → CampaignValue → ℕ → ℕ → ℕ
-observation_in w c faction region = greatest (map (λ n. observation_of w faction (get c.units n)) (numbers_in_region region c.units))
+-- the best level of observation of the units with the given numbers, 0 of none
+abbrev pub best_observation : WorldValue → CampaignValue → List ℕ → ℕ
+best_observation w c numbers = greatest (map (λ n. observation_of w (get c.units n)) numbers)
 
 -- `watch_over w c faction region`: a faction's watch in a region, with the best observation level of its units there
 abbrev pub watch_over : WorldValue → CampaignValue → ℕ → ℕ → Watch
-watch_over w c faction region = record { faction = faction; region = region; observation = observation_in w c faction region }
+watch_over w c faction region = record {
+  faction = faction;
+  region = region;
+  observation = best_observation w c (own_units_in c faction region);
+}
+
+-- the level of observation from which other factions see a unit: 0 if it guards, else its level of stealth
+abbrev pub hiding_level : WorldValue → Unit → ℕ
+hiding_level w u = if guards u then 0 else level_in_any u.holding w.rules.stealth
 
 -- whether a unit in the watched region is seen: it is the watching faction's own, a guard, or its stealth level is at
 -- most the faction's best observation level there

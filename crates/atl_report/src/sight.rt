@@ -1,16 +1,17 @@
 //! Collects what a faction sees into a view. See docs/RULES.md, "Sight".
 ghost use Rattle.std.specs.Prelude.{◌≡◌, IfOk, OnOk, Some, filter, map};
 ghost use Rattle.std.specs.FinMap.{get, entries};
-ghost use Rattle.atl_report.specs.Watching.{sees_region};
-ghost use Rattle.atl_report.specs.Sight.{side_of, item_views, skill_views, unit_view, unit_views, shown_owner, structure_view, structure_views, market_view, market_views, region_market_views, region_view, region_views, view_of, shown_name};
-ghost use Rattle.atl_report.specs.Sites.{AreSites};
+ghost use Rattle.atl_report.specs.Watching.{sees_region, own_units_in};
+ghost use Rattle.atl_report.specs.Sight.{side_of, item_views, skill_views, unit_view, unit_views, shown_owner, structure_view, structure_views, structures_in, market_view, market_views, region_market_views, region_view, region_views, view_of, shown_name};
+ghost use Rattle.atl_report.specs.Sites.{AreRegionLists};
 ghost use Rattle.atl_report.specs.Gathering.{with_region};
 
-use crate::sites::{Sites, sites_in, sites_of};
+use crate::region_units::{own_by_region, units_seen};
+use crate::sites::{RegionLists, listed_under, no_lists, sites_in};
 use crate::views::{
     ItemView, MarketView, RegionView, Side, SkillView, StructureView, UnitView, View,
 };
-use crate::watch::{Watch, is_guard, is_seen, is_seen_there, is_watching, watch_over};
+use crate::watch::{Watch, is_guard, is_seen_there, is_watching, watch_over};
 use atl_campaign::{Campaign, Holding, Region, Structure, Unit, level};
 use atl_world::{Market, Numbered, RegionPlan, Sequence, Text, World};
 use std::alloc::{AllocError, Global};
@@ -92,20 +93,24 @@ fn unit_view(
     })
 }
 
+/// their numbers; `own` has the numbers of the faction's own units there.
 fn unit_views(
     alloc: Global,
     world: &World,
     campaign: &Campaign,
+    lists: &RegionLists,
+    own: &[u32],
     watch: Watch,
 ) -> Result<Sequence<UnitView>, AllocError>
+    requires lists { AreRegionLists world.now campaign.now.value lists.now }
+    requires own { own.now ≡ own_units_in campaign.now.value watch.faction watch.region }
     ensures { IfOk result (λ units. units ≡ unit_views world.now campaign.now.value watch) }
 {
+    let seen = units_seen(alloc, world, campaign, &lists.levels, own, watch)?;
     let mut units = Sequence::new(alloc);
-    for number in campaign.in_region(watch.region) {
-        if let Some(unit) = campaign.unit(*number) {
-            if is_seen(world, watch, unit) {
-                units.push(unit_view(alloc, campaign, watch.faction, *number, unit)?)?;
-            }
+    for (number, ()) in seen.iter() {
+        if let Some(unit) = campaign.unit(number) {
+            units.push(unit_view(alloc, campaign, watch.faction, number, unit)?)?;
         }
     }
     Ok(units)
@@ -141,26 +146,49 @@ fn structure_view(
     })
 }
 
-/// The views of all structures of the watched region, which `sites` lists, in the order of their
-/// numbers.
-fn structure_views(
+/// The views of the structures of the watched region, whose numbers are `numbers`, in their order.
+fn structure_views_of(
     alloc: Global,
     world: &World,
     campaign: &Campaign,
-    sites: &Sites,
+    numbers: &[u32],
     watch: Watch,
 ) -> Result<Sequence<StructureView>, AllocError>
-    requires { AreSites campaign.now.value.structures sites.now }
+    requires { numbers.now ≡ structures_in watch.region campaign.now.value.structures }
     ensures { IfOk result (λ structures. structures
         ≡ structure_views world.now campaign.now.value watch) }
 {
     let mut structures = Sequence::new(alloc);
-    for number in sites_in(sites, watch.region) {
+    for number in numbers {
         if let Some(structure) = campaign.structure(*number) {
             structures.push(structure_view(alloc, world, campaign, watch, *number, structure)?)?;
         }
     }
     Ok(structures)
+}
+
+/// The views of all structures of the watched region, in the order of their numbers.
+fn structure_views(
+    alloc: Global,
+    world: &World,
+    campaign: &Campaign,
+    lists: &RegionLists,
+    watch: Watch,
+) -> Result<Sequence<StructureView>, AllocError>
+    requires { AreRegionLists world.now campaign.now.value lists.now }
+    ensures { IfOk result (λ structures. structures
+        ≡ structure_views world.now campaign.now.value watch) }
+{
+    match &lists.sites {
+        Some(sites) => {
+            let listed = listed_under(sites, watch.region);
+            structure_views_of(alloc, world, campaign, listed, watch)
+        }
+        None => {
+            let listed = sites_in(alloc, campaign, watch.region)?;
+            structure_views_of(alloc, world, campaign, listed.as_slice(), watch)
+        }
+    }
 }
 
 fn market_view(number: u32, market: &Market, region: &Region) -> MarketView
@@ -203,17 +231,19 @@ fn region_market_views(
     }
 }
 
-/// The view of a region: peasants, money, markets, all structures, which `sites` lists, and the
-/// units that are seen.
+/// The view of a region: peasants, money, markets, all structures, and the units that are seen;
+/// `own` has the numbers of the faction's units there.
 fn region_view(
     alloc: Global,
     world: &World,
     campaign: &Campaign,
-    sites: &Sites,
+    lists: &RegionLists,
+    own: &[u32],
     watch: Watch,
     region: &Region,
 ) -> Result<RegionView, AllocError>
-    requires { AreSites campaign.now.value.structures sites.now }
+    requires lists { AreRegionLists world.now campaign.now.value lists.now }
+    requires own { own.now ≡ own_units_in campaign.now.value watch.faction watch.region }
     ensures { IfOk result (λ seen. seen
         ≡ region_view world.now campaign.now.value watch region.now) }
 {
@@ -222,8 +252,8 @@ fn region_view(
         peasants: region.peasants,
         money: region.money,
         markets: region_market_views(alloc, world, watch.region, region)?,
-        structures: structure_views(alloc, world, campaign, sites, watch)?,
-        units: unit_views(alloc, world, campaign, watch)?,
+        structures: structure_views(alloc, world, campaign, lists, watch)?,
+        units: unit_views(alloc, world, campaign, lists, own, watch)?,
     })
 }
 
@@ -261,49 +291,50 @@ fn regions_seen(
     Ok(seen)
 }
 
-/// The views of the regions that a faction sees, in the order of their numbers; `sites` lists the
-/// structures of each region.
+/// The views of the regions that a faction sees, in the order of their numbers.
 fn region_views(
     alloc: Global,
     world: &World,
     campaign: &Campaign,
-    sites: &Sites,
+    lists: &RegionLists,
     faction: u32,
 ) -> Result<Sequence<RegionView>, AllocError>
-    requires { AreSites campaign.now.value.structures sites.now }
+    requires { AreRegionLists world.now campaign.now.value lists.now }
     ensures { IfOk result (λ regions. regions ≡ region_views world.now campaign.now.value faction) }
 {
     let seen = regions_seen(alloc, campaign, faction)?;
+    let own = own_by_region(alloc, campaign, faction)?;
     let mut regions = Sequence::new(alloc);
     for (number, ()) in seen.iter() {
         if let Some(region) = campaign.region(number) {
-            let watch = watch_over(world, campaign, faction, number);
-            regions.push(region_view(alloc, world, campaign, sites, watch, region)?)?;
+            let here = listed_under(&own, number);
+            let watch = watch_over(world, campaign, faction, number, here);
+            regions.push(region_view(alloc, world, campaign, lists, here, watch, region)?)?;
         }
     }
     Ok(regions)
 }
 
-/// What a faction sees, as `view` gives it, from lists of each region's structures (`sites_of`).
-/// With these lists the views of many factions go over the campaign's structures only once. The
-/// call goes over the faction's units and what is in the regions seen, and no further. AllocError
-/// without memory.
+/// What a faction sees, as `view` gives it, from lists of each region's structures and units
+/// (`lists_of`). With these lists the views of many factions go over the campaign only once. The
+/// call goes over the faction's units and what it sees, and no further: units that are hidden from
+/// it cost nothing. AllocError without memory.
 #[tactic(auto, unfolding(crate::specs::Sight::view_of))]
 pub fn view_over(
     alloc: Global,
     world: &World,
     campaign: &Campaign,
-    sites: &Sites,
+    lists: &RegionLists,
     faction: u32,
 ) -> Result<View, AllocError>
-    requires { AreSites campaign.now.value.structures sites.now }
+    requires { AreRegionLists world.now campaign.now.value lists.now }
     ensures definition { IfOk result (λ seen. seen ≡ view_of world.now campaign.now.value faction) }
 {
     Ok(View {
         month: campaign.month(),
         faction,
         name: shown_name(alloc, campaign, faction)?,
-        regions: region_views(alloc, world, campaign, sites, faction)?,
+        regions: region_views(alloc, world, campaign, lists, faction)?,
     })
 }
 
@@ -311,8 +342,8 @@ pub fn view_over(
 /// all markets and structures, and the units that are the faction's own, guard, or have a stealth
 /// level at most the faction's best observation level there. Of its own units the faction sees the
 /// money, the items and the skills too. A structure's owner is 0 where there is none, or the owner
-/// isn't seen. The call goes over the campaign's structures once, and else over the faction's units
-/// and what is in the regions seen. AllocError without memory. See docs/RULES.md, "Sight".
+/// isn't seen. For each region seen the call goes over all its units and over all structures of the
+/// campaign: for the views of many factions there is `view_over`. AllocError without memory. See docs/RULES.md, "Sight".
 pub fn view(
     alloc: Global,
     world: &World,
@@ -321,6 +352,6 @@ pub fn view(
 ) -> Result<View, AllocError>
     ensures definition { IfOk result (λ seen. seen ≡ view_of world.now campaign.now.value faction) }
 {
-    let sites = sites_of(alloc, campaign)?;
-    view_over(alloc, world, campaign, &sites, faction)
+    let lists = no_lists(alloc);
+    view_over(alloc, world, campaign, &lists, faction)
 }

@@ -1,49 +1,119 @@
-//! Lists the numbers of the structures of each region, for the views of what factions see.
+//! Lists the numbers of the structures and of the units of each region, for the views of what
+//! factions see.
 ghost use Rattle.std.specs.Prelude.{◌≡◌, IfOk, OnOk};
+ghost use Rattle.atl_world.specs.Worlds.{WorldValue};
+ghost use Rattle.atl_campaign.specs.Campaign.{CampaignValue};
 ghost use Rattle.atl_campaign.specs.KeptLists.{list_of};
-ghost use Rattle.atl_report.specs.Sites.{AreSites, with_site};
+ghost use Rattle.atl_report.specs.Sight.{structures_in};
+ghost use Rattle.atl_report.specs.Sites.{AreSites, AreRegionLists, with_listed};
 
+use crate::region_units::{Levels, levels_of};
 use atl_campaign::Campaign;
-use atl_world::{Numbered, Sequence};
+use atl_world::{Numbered, Sequence, World, let_go};
 use std::alloc::{AllocError, Global};
 
 /// The numbers of each region's structures, sorted, by the region's number.
 /// A region without structures may have no list.
 pub type Sites = Numbered<Sequence<u32>>;
 
-/// Adds a structure's number at the end of a region's list.
+/// The structures and the units of each region, by the region's number.
+pub struct RegionLists {
+    /// The structures of all regions. If it is None, a view lists those of its regions by itself.
+    pub sites: Option<Sites>,
+    /// The units of a region by hiding level: the observation level from which other factions see a
+    /// unit. A view lists those of a region that isn't here by itself.
+    pub levels: Numbered<Levels>,
+}
+
+/// Drops the lists of structures and of units.
+impl Drop for RegionLists {
+    fn drop(self) {
+        let_go!(self: RegionLists { sites, levels });
+    }
+}
+
+/// Adds a number at the end of a key's list.
 /// After an AllocError the lists must not be used further.
-fn add_site(alloc: Global, sites: &mut Sites, region: u32, number: u32) -> Result<(), AllocError>
-    ensures { OnOk result (sites.new ≡ with_site sites.old region number) }
+pub(crate) fn add_listed(
+    alloc: Global,
+    lists: &mut Numbered<Sequence<u32>>,
+    key: u32,
+    number: u32,
+) -> Result<(), AllocError>
+    ensures { OnOk result (lists.new ≡ with_listed lists.old key number) }
 {
-    match sites.get_mut(region) {
+    match lists.get_mut(key) {
         Some(listed) => listed.push(number),
         None => {
             let mut listed = Sequence::new(alloc);
             listed.push(number)?;
-            sites.insert(region, listed)
+            lists.insert(key, listed)
         }
     }
 }
 
 /// The numbers of each region's structures, sorted, from one pass over the campaign. They stay
 /// right until a structure is begun or moved. AllocError without memory.
-pub fn sites_of(alloc: Global, campaign: &Campaign) -> Result<Sites, AllocError>
+fn sites_of(alloc: Global, campaign: &Campaign) -> Result<Sites, AllocError>
     ensures { IfOk result (AreSites campaign.now.value.structures) }
 {
     let mut sites = Numbered::new(alloc);
     for (number, structure) in campaign.structures() {
-        add_site(alloc, &mut sites, structure.region, number)?;
+        add_listed(alloc, &mut sites, structure.region, number)?;
     }
     Ok(sites)
 }
 
-/// The numbers of a region's structures, sorted, from the lists of all regions.
-pub(crate) fn sites_in(sites: &Sites, region: u32) -> &[u32]
-    ensures { result.now ≡ list_of sites.now region }
+/// The numbers of a region's structures, sorted, from one pass over the campaign's.
+pub(crate) fn sites_in(
+    alloc: Global,
+    campaign: &Campaign,
+    region: u32,
+) -> Result<Sequence<u32>, AllocError>
+    ensures { IfOk result (λ listed. listed
+        ≡ structures_in region campaign.now.value.structures) }
 {
-    match sites.get(region) {
+    let mut listed = Sequence::new(alloc);
+    for (number, structure) in campaign.structures() {
+        if structure.region == region {
+            listed.push(number)?;
+        }
+    }
+    Ok(listed)
+}
+
+/// The numbers in the list of a key, which is empty where there is none.
+pub(crate) fn listed_under(lists: &Numbered<Sequence<u32>>, key: u32) -> &[u32]
+    ensures { result.now ≡ list_of lists.now key }
+{
+    match lists.get(key) {
         Some(listed) => listed.as_slice(),
         None => &[],
+    }
+}
+
+/// The lists of the structures and the units of all regions, from one pass over the campaign. They
+/// stay right until a structure is begun, or a unit or a structure is changed or moved. AllocError
+/// without memory.
+pub fn lists_of(
+    alloc: Global,
+    world: &World,
+    campaign: &Campaign,
+) -> Result<RegionLists, AllocError>
+    ensures { IfOk result (AreRegionLists world.now campaign.now.value) }
+{
+    Ok(RegionLists {
+        sites: Some(sites_of(alloc, campaign)?),
+        levels: levels_of(alloc, world, campaign)?,
+    })
+}
+
+/// No lists: a view with these lists all that it needs by itself.
+pub(crate) fn no_lists(alloc: Global) -> RegionLists
+    ensures { (w : WorldValue) (c : CampaignValue) → AreRegionLists w c result }
+{
+    RegionLists {
+        sites: None,
+        levels: Numbered::new(alloc),
     }
 }

@@ -3,7 +3,7 @@ ghost use Rattle.std.specs.Prelude.{◌≡◌, Some, nat_le};
 ghost use Rattle.std.specs.Option.{option_copied};
 ghost use Rattle.atl_campaign.specs.Good.{guards};
 ghost use Rattle.atl_records.specs.Levels.{level_in_any};
-ghost use Rattle.atl_report.specs.Watching.{is_watching, observation_of, observation_in, watch_over, is_seen, is_seen_there};
+ghost use Rattle.atl_report.specs.Watching.{is_watching, own_units_in, best_observation, watch_over, hiding_level, is_seen, is_seen_there};
 
 use atl_campaign::{Campaign, Unit, level_in_any};
 use atl_world::World;
@@ -30,35 +30,46 @@ pub(crate) fn is_guard(unit: &Unit) -> bool
     unit.holding.guard() && unit.holding.men() > 0
 }
 
-fn observation_of(world: &World, faction: u32, unit: &Unit) -> u32
-    ensures { result ≡ observation_of world.now faction (Some unit.now) }
-{
-    if unit.faction == faction {
-        level_in_any(&unit.holding, world.rules().observation)
-    } else {
-        0
-    }
-}
-
-fn observation_in(world: &World, campaign: &Campaign, faction: u32, region: u32) -> u32
-    ensures { result ≡ observation_in world.now campaign.now.value faction region }
+/// The best observation level of the units with the given numbers, 0 of none.
+fn best_observation(world: &World, campaign: &Campaign, numbers: &[u32]) -> u32
+    ensures { result ≡ best_observation world.now campaign.now.value numbers.now }
 {
     let mut best = 0u32;
-    for number in campaign.in_region(region) {
+    for number in numbers {
         if let Some(unit) = campaign.unit(*number) {
-            best = best.max(observation_of(world, faction, unit));
+            best = best.max(level_in_any(&unit.holding, world.rules().observation));
         }
     }
     best
 }
 
-pub(crate) fn watch_over(world: &World, campaign: &Campaign, faction: u32, region: u32) -> Watch
+/// units there, whose numbers are `own`.
+pub(crate) fn watch_over(
+    world: &World,
+    campaign: &Campaign,
+    faction: u32,
+    region: u32,
+    own: &[u32],
+) -> Watch
+    requires { own.now ≡ own_units_in campaign.now.value faction region }
     ensures { result ≡ watch_over world.now campaign.now.value faction region }
 {
     Watch {
         faction,
         region,
-        observation: observation_in(world, campaign, faction, region),
+        observation: best_observation(world, campaign, own),
+    }
+}
+
+/// The observation level from which other factions see a unit: 0 if it guards, else its stealth
+/// level.
+pub(crate) fn hiding_level(world: &World, unit: &Unit) -> u32
+    ensures { result ≡ hiding_level world.now unit.now }
+{
+    if is_guard(unit) {
+        0
+    } else {
+        level_in_any(&unit.holding, world.rules().stealth)
     }
 }
 
@@ -71,7 +82,7 @@ fn is_identified(world: &World, watch: Watch, unit: &Unit) -> bool
 
 /// Whether a unit in the watched region is seen: it is the watching faction's own, guards, or its
 /// stealth level is at most the faction's best observation level there.
-pub(crate) fn is_seen(world: &World, watch: Watch, unit: &Unit) -> bool
+fn is_seen(world: &World, watch: Watch, unit: &Unit) -> bool
     ensures { result ≡ is_seen world.now watch unit.now }
 {
     unit.faction == watch.faction || is_guard(unit) || is_identified(world, watch, unit)

@@ -38,7 +38,8 @@ use Rattle.atl_phase.specs.Month.{HaveOwnFactions, by_faction}
 use Rattle.atl_month.specs.Month.{after_month, month_of}
 use Rattle.atl_report.specs.Report.{report_of}
 use Rattle.atl_report.specs.Sight.{view_of}
-use Rattle.atl_report.specs.Sites.{AreSites}
+use Rattle.atl_report.specs.Sites.{AreRegionLists}
+use Rattle.atl_report.specs.declared.sites.RegionLists.{RegionLists}
 use Rattle.atl_service.specs.declared.closing.ReadMail.{ReadMail}
 use Rattle.atl_service.specs.declared.reporting.MonthResult.{MonthResult}
 use Rattle.atl_service.specs.Months.{AreFactions, HasRead, ReadSoFar, reported_to_all}
@@ -216,9 +217,10 @@ read_ends w c r rest none (mailings, all, outcome, sent) = record {
 pub fold_further : {A B : Type 0} (step : A → B → A) (old new last : A) (all : List B) (i : ℕ) (d : B) → i < length all → new ≡ step old (get_or all i d) → fold step old (drop i all) ≡ last → fold step new (drop (i + 1) all) ≡ last
 fold_further step old new last all i d h is whole = ap (λ a. fold step a (drop (i + 1) all)) is ∙ subst (λ l. fold step old l ≡ last) (drop_more all i d h) whole
 
-pub sites_stay : (w : WorldValue) (faults : ℕ → List FaultyLine) (events : List Event) (c d : CampaignValue) (n : ℕ) → d ≡ reported_to w faults events c n → (sites : FinMap nat_cmp (List ℕ)) → AreSites c.structures sites → AreSites d.structures sites
-sites_stay w faults events c d n is sites listed =
-    subst (λ (s : CampaignValue). AreSites s.structures sites) (sym is) listed
+-- lists of the structures and the units by region are still right (`AreRegionLists`) after a report is stored
+pub lists_stay : (w : WorldValue) (faults : ℕ → List FaultyLine) (events : List Event) (c d : CampaignValue) (n : ℕ) → d ≡ reported_to w faults events c n → (lists : RegionLists) → AreRegionLists w c lists → AreRegionLists w d lists
+lists_stay w faults events c d n is lists listed =
+    subst (λ (s : CampaignValue). AreRegionLists w s lists) (sym is) (record { sites = listed.sites; levels = listed.levels })
 
 -- ---- what the store requires, and what is written
 

@@ -1,15 +1,16 @@
 -- What answering one command does to campaign and tables while the service is open: from campaign `before` and
 -- connection `old` to `after` and `new`. A disk is clean if each read has returned what was written (docs/PROVED.md,
 -- "Premises").
-use Rattle.std.specs.Prelude.{◌≡◌, ℕ, List, false, ⊤}
+use Rattle.std.specs.Prelude.{◌≡◌, ℕ, List, false, ⊤, Result, IfOk, IfErr, OnOk, OnErr}
 use Rattle.sqlite_trees.specs.declared.store.Store.{Ghosts}
 use Rattle.sqlite.specs.Held.{Held, state}
 use Rattle.sqlite.specs.State.{HasCleanDisk}
 use Rattle.atl_world.specs.Worlds.{WorldValue}
 use Rattle.atl_orders.specs.declared.fault.MailFault.{MailFault}
 use Rattle.atl_orders.specs.declared.fault.MailFault.TheVariants as mail
-use Rattle.atl_campaign.specs.Campaign.{CampaignValue}
+use Rattle.atl_campaign.specs.Campaign.{CampaignValue, MarkedCampaign}
 use Rattle.atl_campaign.specs.Good.{IsGood}
+use Rattle.atl_campaign.specs.Marks.{no_marks}
 use Rattle.atl_store.specs.Keeps.{Keeps, IsLater, LeavesOthersAlone}
 use Rattle.atl_store.specs.declared.fault.WriteFault.{WriteFault}
 use Rattle.atl_store.specs.declared.fault.WriteFault.TheVariants as write
@@ -21,6 +22,7 @@ use Rattle.atl_service.specs.declared.command.Answer.TheVariants.{Joined, Mailed
 use Rattle.atl_service.specs.declared.command.Fault.{Fault as Failure}
 use Rattle.atl_service.specs.declared.command.Fault.TheVariants as fault
 use Rattle.atl_service.specs.declared.command.Refusal.TheVariants as why
+use Rattle.atl_service.specs.Causes.{OfCommand, HasCause}
 use Rattle.atl_service.specs.Left.{LeavesGood}
 use Rattle.atl_service.specs.Step.{step}
 
@@ -73,6 +75,28 @@ pub record LeavesIdle {S : Type 0} (g : Ghosts S) (old new : Held S) : Type 0 wh
 abbrev pub fault_of_write : WriteFault → Failure
 fault_of_write write.Memory = fault.Memory
 fault_of_write write.Store = fault.Store
+
+-- A command may be answered: the campaign is good, and the connection is in no transaction.
+pub record IsReadyToAnswer {S : Type 0} (w : WorldValue) (c : CampaignValue) (conn : Held S) : Type 0 where
+  -- the campaign is good (`IsGood`)
+  pub good : IsGood w c
+  -- the connection is in no transaction
+  pub idle : conn.in_transaction ≡ false
+
+-- A command was answered, or failed with a fault of the write that has its cause. Either way the connection is in no
+-- transaction, and an answer leaves nothing marked, if nothing was.
+pub record AnswersOrFails {S : Type 0} (g : Ghosts S) (w : WorldValue) (before : MarkedCampaign) (old : Held S)
+    (command : Command) (result : Result Answer WriteFault) (after : MarkedCampaign) (new : Held S) : Type 0 where
+  -- an answer and what it leaves are those of `step` (`Answers`)
+  pub ok : IfOk result (Answers g w before.value old command after.value new)
+  -- after a fault, on a clean disk, the tables still hold the campaign before the command (`CommandLeavesAfterFault`)
+  pub err : OnErr result (CommandLeavesAfterFault g w before.value old command new)
+  -- a fault has its cause (`HasCause`)
+  pub cause : IfErr result (λ fault. HasCause g (OfCommand w before.value command) old new (fault_of_write fault))
+  -- the connection is in no transaction, and tables that aren't the campaign's are left alone (`LeavesIdle`)
+  pub leaves : LeavesIdle g old new
+  -- if nothing of the campaign was marked before, nothing is after an answer
+  pub unmarked : before.marks ≡ no_marks → OnOk result (after.marks ≡ no_marks)
 
 -- Why a mailing was not stored: `step` refuses it for this reason; or memory ran out, and then nothing more is
 -- required.

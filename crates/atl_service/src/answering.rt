@@ -3,12 +3,10 @@
 ghost use Rattle.std.specs.Prelude.{◌≡◌, length, false, Ok, Err, Some, IfOk, IfErr, OnOk, OnErr};
 ghost use Rattle.std.specs.FinMap as map;
 ghost use Rattle.atl_orders.specs.Mailing.{IsMailingOf};
-ghost use Rattle.atl_campaign.specs.Good.{IsGood, IsActive};
-ghost use Rattle.atl_campaign.specs.Marks.{no_marks};
+ghost use Rattle.atl_campaign.specs.Good.{IsActive};
 ghost use Rattle.atl_campaign.specs.Campaign.{with_mail};
 ghost use Rattle.atl_service.specs.Step.{faction_with_pass, step};
-ghost use Rattle.atl_service.specs.Answering.{Answers, Denies, CommandLeavesAfterFault, IsNoFault, LeavesIdle, fault_of_write, mail_error};
-ghost use Rattle.atl_service.specs.Causes.{OfCommand, HasCause};
+ghost use Rattle.atl_service.specs.Answering.{AnswersOrFails, Denies, IsNoFault, IsReadyToAnswer, mail_error};
 
 use crate::closing::close;
 use crate::command::{Answer, Command, Refusal};
@@ -31,19 +29,9 @@ fn join<S: Alter>(
     pass: &Sequence<u8>,
     word: u32,
 ) -> Result<Answer, WriteFault>
-    requires good { IsGood world.now campaign.old.value }
-    requires idle { conn.old.in_transaction ≡ false }
-    ensures ok { IfOk result
-        (Answers S.Store world.now campaign.old.value conn.old
-        (Command.Join name.now pass.now word) campaign.new.value conn.new) }
-    ensures err { OnErr result
-        (CommandLeavesAfterFault S.Store world.now campaign.old.value conn.old
-        (Command.Join name.now pass.now word) conn.new) }
-    ensures cause { IfErr result
-        (λ fault. HasCause S.Store (OfCommand world.now campaign.old.value
-        (Command.Join name.now pass.now word)) conn.old conn.new (fault_of_write fault)) }
-    ensures leaves { LeavesIdle S.Store conn.old conn.new }
-    ensures unmarked { campaign.old.marks ≡ no_marks → OnOk result (campaign.new.marks ≡ no_marks) }
+    requires { IsReadyToAnswer world.now campaign.old.value conn.old }
+    ensures { AnswersOrFails S.Store world.now campaign.old conn.old
+        (Command.Join name.now pass.now word) result campaign.new conn.new }
 {
     if !name_ok(name.as_slice()) {
         return Ok(Answer::Refused(Refusal::BadName));
@@ -160,19 +148,9 @@ fn mail<S: Alter>(
     pass: &Sequence<u8>,
     text: &Sequence<u8>,
 ) -> Result<Answer, WriteFault>
-    requires good { IsGood world.now campaign.old.value }
-    requires idle { conn.old.in_transaction ≡ false }
-    ensures ok { IfOk result
-        (Answers S.Store world.now campaign.old.value conn.old
-        (Command.Mail faction pass.now text.now) campaign.new.value conn.new) }
-    ensures err { OnErr result
-        (CommandLeavesAfterFault S.Store world.now campaign.old.value conn.old
-        (Command.Mail faction pass.now text.now) conn.new) }
-    ensures cause { IfErr result
-        (λ fault. HasCause S.Store (OfCommand world.now campaign.old.value
-        (Command.Mail faction pass.now text.now)) conn.old conn.new (fault_of_write fault)) }
-    ensures leaves { LeavesIdle S.Store conn.old conn.new }
-    ensures unmarked { campaign.old.marks ≡ no_marks → OnOk result (campaign.new.marks ≡ no_marks) }
+    requires { IsReadyToAnswer world.now campaign.old.value conn.old }
+    ensures { AnswersOrFails S.Store world.now campaign.old conn.old
+        (Command.Mail faction pass.now text.now) result campaign.new conn.new }
 {
     let mailing = match mailing_to_keep(alloc, world, campaign, faction, pass, text) {
         Ok(mailing) => mailing,
@@ -222,19 +200,9 @@ pub(crate) fn answer_to<S: Alter>(
     conn: &mut Connection<S>,
     command: &Command,
 ) -> Result<Answer, WriteFault>
-    requires good { IsGood world.now campaign.old.value }
-    requires idle { conn.old.in_transaction ≡ false }
-    ensures ok { IfOk result
-        (Answers S.Store world.now campaign.old.value conn.old command.now campaign.new.value
-        conn.new) }
-    ensures err { OnErr result
-        (CommandLeavesAfterFault S.Store world.now campaign.old.value conn.old command.now
-        conn.new) }
-    ensures cause { IfErr result
-        (λ fault. HasCause S.Store (OfCommand world.now campaign.old.value command.now) conn.old
-        conn.new (fault_of_write fault)) }
-    ensures leaves { LeavesIdle S.Store conn.old conn.new }
-    ensures unmarked { campaign.old.marks ≡ no_marks → OnOk result (campaign.new.marks ≡ no_marks) }
+    requires { IsReadyToAnswer world.now campaign.old.value conn.old }
+    ensures { AnswersOrFails S.Store world.now campaign.old conn.old
+        command.now result campaign.new conn.new }
 {
     match command {
         Command::Join { name, pass, word } => {

@@ -7,10 +7,8 @@ ghost use Rattle.atl_orders.specs.Mailing.{IsMailingOf, IsReadWith};
 ghost use Rattle.atl_campaign.specs.Covers.{MarksChanges};
 ghost use Rattle.atl_campaign.specs.Good.{IsGood};
 ghost use Rattle.atl_records.specs.Limits.{last_month};
-ghost use Rattle.atl_campaign.specs.Marks.{no_marks};
 ghost use Rattle.atl_service.specs.declared.command.Command.TheVariants as command;
-ghost use Rattle.atl_service.specs.Answering.{Answers, CommandLeavesAfterFault, LeavesIdle, fault_of_write};
-ghost use Rattle.atl_service.specs.Causes.{OfCommand, HasCause};
+ghost use Rattle.atl_service.specs.Answering.{AnswersOrFails, IsReadyToAnswer};
 ghost use Rattle.atl_service.specs.Closing.{closed};
 ghost use Rattle.atl_service.specs.Months.{AreFactions, HasRead, MayClose, reported_to_all};
 ghost use Rattle.atl_service.specs.Step.{step};
@@ -144,19 +142,9 @@ pub(crate) fn close<S: Alter>(
     pass: &Sequence<u8>,
     words: &Sequence<u32>,
 ) -> Result<Answer, WriteFault>
-    requires good { IsGood world.now campaign.old.value }
-    requires idle { conn.old.in_transaction ≡ false }
-    ensures ok { IfOk result
-        (Answers S.Store world.now campaign.old.value conn.old
-        (command.Close month pass.now words.now) campaign.new.value conn.new) }
-    ensures err { OnErr result
-        (CommandLeavesAfterFault S.Store world.now campaign.old.value conn.old
-        (command.Close month pass.now words.now) conn.new) }
-    ensures cause { IfErr result
-        (λ fault. HasCause S.Store (OfCommand world.now campaign.old.value
-        (command.Close month pass.now words.now)) conn.old conn.new (fault_of_write fault)) }
-    ensures leaves { LeavesIdle S.Store conn.old conn.new }
-    ensures unmarked { campaign.old.marks ≡ no_marks → OnOk result (campaign.new.marks ≡ no_marks) }
+    requires { IsReadyToAnswer world.now campaign.old.value conn.old }
+    ensures { AnswersOrFails S.Store world.now campaign.old conn.old
+        (command.Close month pass.now words.now) result campaign.new conn.new }
 {
     if let Err(refusal) = check_close(world, campaign, month, pass, words) {
         return Ok(Answer::Refused(refusal));

@@ -4,7 +4,8 @@ ghost use Rattle.std.specs.Prelude.{◌≡◌, OnOk, OnErr, unwrap_or, []};
 ghost use Rattle.std.specs.FinMap as map;
 ghost use Rattle.atl_campaign.specs.Covers.{MarksChanges};
 ghost use Rattle.atl_campaign.specs.Marking.{mark_report};
-ghost use Rattle.atl_report.specs.Sites.{AreSites};
+ghost use Rattle.atl_report.specs.Sight.{view_of};
+ghost use Rattle.atl_report.specs.Sites.{AreRegionLists};
 ghost use Rattle.atl_service.specs.Closing.{reported_to, reported_with};
 ghost use Rattle.atl_service.specs.Months.{reported_to_all};
 ghost use Rattle.atl_service.specs.Sorting.{AreSorted};
@@ -12,7 +13,7 @@ ghost use Rattle.atl_service.specs.Sorting.{AreSorted};
 use crate::sorting::{events_by_faction, list_of};
 use atl_campaign::{Campaign, Event};
 use atl_orders::FaultyLine;
-use atl_report::{Sites, report_text, sites_of, view_over};
+use atl_report::{RegionLists, View, lists_of, report_text, view, view_over};
 use atl_world::{Numbered, Sequence, Text, World, let_go};
 use std::alloc::{AllocError, Global};
 
@@ -30,27 +31,26 @@ impl Drop for MonthResult {
     }
 }
 
-/// Stores a new report for a faction: what it sees, the faulty lines `faults` of its mailing, and
+/// Stores a new report for a faction: what it sees (`seen`), the faulty lines `faults` of its mailing, and
 /// its own events among `events`. The report becomes dirty. If memory runs out, the campaign stays
 /// as it is.
 fn store_report_with(
     alloc: Global,
     world: &World,
     campaign: &mut Campaign,
-    sites: &Sites,
+    seen: &View,
     faction: u32,
     faults: &[FaultyLine],
     events: &[Event],
 ) -> Result<(), AllocError>
-    requires { AreSites campaign.old.value.structures sites.now }
+    requires { seen.now ≡ view_of world.now campaign.old.value faction }
     ensures ok { OnOk result
         (campaign.new.value ≡ reported_with world.now campaign.old.value faction faults.now
         events.now) }
     ensures marks { OnOk result (campaign.new.marks ≡ mark_report campaign.old faction) }
     ensures err { OnErr result (campaign.new ≡ campaign.old) }
 {
-    let seen = view_over(alloc, world, campaign, sites, faction)?;
-    let text = report_text(alloc, world, &seen, faults, events)?;
+    let text = report_text(alloc, world, seen, faults, events)?;
     campaign.set_report(faction, Text::from_string(text))?;
     Ok(())
 }
@@ -68,20 +68,20 @@ pub(crate) fn store_first_report(
     ensures marks { OnOk result (campaign.new.marks ≡ mark_report campaign.old faction) }
     ensures err { OnErr result (campaign.new ≡ campaign.old) }
 {
-    let sites = sites_of(alloc, campaign)?;
-    store_report_with(alloc, world, campaign, &sites, faction, &[], &[])
+    let seen = view(alloc, world, campaign, faction)?;
+    store_report_with(alloc, world, campaign, &seen, faction, &[], &[])
 }
 
 fn report_to(
     alloc: Global,
     world: &World,
     campaign: &mut Campaign,
-    sites: &Sites,
+    lists: &RegionLists,
     faction: u32,
     outcome: &MonthResult,
     sorted: &Numbered<Sequence<Event>>,
 ) -> Result<(), AllocError>
-    requires sites { AreSites campaign.old.value.structures sites.now }
+    requires lists { AreRegionLists world.now campaign.old.value lists.now }
     requires sorted { AreSorted outcome.now.events.items sorted.now }
     ensures what { OnOk result
         (campaign.new.value ≡ reported_to world.now
@@ -91,31 +91,34 @@ fn report_to(
 {
     let faults = list_of(&outcome.faults, faction);
     let events = list_of(sorted, faction);
-    store_report_with(alloc, world, campaign, sites, faction, faults, events)
+    let seen = view_over(alloc, world, campaign, lists, faction)?;
+    store_report_with(alloc, world, campaign, &seen, faction, faults, events)
 }
 
+/// Stores a report of the month for each faction that gets one, by the structures and the units
+/// of each region (`lists`) and the events of each faction (`sorted`).
 fn report_to_each(
     alloc: Global,
     world: &World,
     campaign: &mut Campaign,
-    sites: &Sites,
+    lists: &RegionLists,
     outcome: &MonthResult,
     sorted: &Numbered<Sequence<Event>>,
 ) -> Result<(), AllocError>
-    requires sites { AreSites campaign.old.value.structures sites.now }
+    requires lists { AreRegionLists world.now campaign.old.value lists.now }
     requires sorted { AreSorted outcome.now.events.items sorted.now }
     ensures what { OnOk result
         (campaign.new.value ≡ reported_to_all world.now campaign.old.value outcome.now) }
     ensures marks { OnOk result (MarksChanges campaign.old campaign.new) }
 {
     for faction in outcome.factions.iter() {
-        report_to(alloc, world, campaign, sites, *faction, outcome, sorted)?;
+        report_to(alloc, world, campaign, lists, *faction, outcome, sorted)?;
     }
     Ok(())
 }
 
-/// Stores a report of the month for each faction that gets one. The structures of each region
-/// and the events of each faction are found once for all of them.
+/// Stores a report of the month for each faction that gets one. The structures and the
+/// units of each region and the events of each faction are listed once for all of them.
 pub(crate) fn report_to_all(
     alloc: Global,
     world: &World,
@@ -126,7 +129,7 @@ pub(crate) fn report_to_all(
         (campaign.new.value ≡ reported_to_all world.now campaign.old.value outcome.now) }
     ensures marks { OnOk result (MarksChanges campaign.old campaign.new) }
 {
-    let sites = sites_of(alloc, campaign)?;
+    let lists = lists_of(alloc, world, campaign)?;
     let sorted = events_by_faction(alloc, &outcome.events)?;
-    report_to_each(alloc, world, campaign, &sites, outcome, &sorted)
+    report_to_each(alloc, world, campaign, &lists, outcome, &sorted)
 }

@@ -21,6 +21,7 @@ use atl_world::{World, let_go};
 use sqlite::{Alter, Connection};
 use std::alloc::{AllocError, Global};
 use std::marker::Model;
+use std::mem;
 
 /// A world and its campaign, in memory and in the tables of a connection. After a fault the service
 /// is closed: then every command is answered Closed.
@@ -173,7 +174,8 @@ impl<S: Alter> Service<S> {
         &self.world
     }
 
-    /// Ends the service and returns its connection, with the tables as they are.
+    /// Ends the service and returns its connection, with the tables as they are. The memory of world
+    /// and campaign stays taken until the process ends, which gives it back in one step.
     pub fn end(self) -> Connection<S>
         ensures value { result ≡ self.conn }
         ensures tables { IfSome self.campaign
@@ -182,10 +184,12 @@ impl<S: Alter> Service<S> {
         let Service {
             alloc: _,
             conn: connection,
-            world: _,
-            campaign: _,
+            world,
+            campaign,
             is_open: _,
         } = self;
+        mem::forget(world);
+        mem::forget(campaign);
         connection
     }
 }

@@ -10,6 +10,4 @@ pub mod Statements
 pub mod Causes
 pub mod Stored
 pub mod Reading
-pub mod Rows
 pub mod Errors
-pub mod Marked

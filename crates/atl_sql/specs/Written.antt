@@ -6,7 +6,10 @@ use Rattle.atl_sql.specs.declared.rows.has.HasRow.{HasRow}
 use Rattle.atl_sql.specs.declared.rows.has.ThingKind.{ThingKind}
 use Rattle.atl_sql.specs.declared.rows.has.ThingKind.TheVariants.{Item, Skill}
 use Rattle.atl_sql.specs.declared.rows.books.BooksRow.{BooksRow}
-use Rattle.atl_sql.specs.Shown.{has_row, books_row, CampaignRowValue}
+use Rattle.atl_sql.specs.declared.rows.faction.FactionRow.{FactionRow}
+use Rattle.atl_sql.specs.declared.rows.structure.StructureRow.{StructureRow}
+use Rattle.atl_sql.specs.declared.rows.unit.UnitRow.{UnitRow}
+use Rattle.atl_sql.specs.Shown.{faction_row, unit_row, structure_row, has_row, books_row, CampaignRowValue}
 
 -- the month, the next numbers and the pass text of a campaign row that is handed in to be written
 abbrev pub head_shown : CampaignRow → CampaignRowValue
@@ -18,6 +21,18 @@ head_shown row =
       next_structure = row.next_structure;
       pass = row.pass.now;
     }
+
+-- a row of `faction` that is handed in to be written, as SQL shows it
+abbrev pub faction_shown : FactionRow → Row
+faction_shown row = faction_row row.number row.joined_as.now row.name.now row.pass.now row.gone
+
+-- a row of `unit` that is handed in to be written, as SQL shows it
+abbrev pub unit_shown : UnitRow → Row
+unit_shown row = unit_row row.number row.faction row.name.now row.region row.structure row.men row.money row.guard
+
+-- a row of `structure` that is handed in to be written, as SQL shows it
+abbrev pub structure_shown : StructureRow → Row
+structure_shown row = structure_row row.number row.kind row.name.now row.region row.done row.owner
 
 -- the number of a kind of goods in the column `sort` of `has`: 0 for an item, 1 for a skill
 abbrev pub sort_number : ThingKind → ℕ

@@ -3,7 +3,6 @@
 #![tactic(auto)]
 
 pub mod fault;
-pub mod numbered_rows;
 pub mod rows;
 pub mod schema;
 mod statement;

@@ -7,10 +7,12 @@ pub mod faction;
 pub mod has;
 pub mod mail;
 pub mod market;
+mod numbered;
 pub mod region;
 pub mod report;
 pub(crate) mod stored;
 pub mod structure;
 pub mod unit;
 
+pub use numbered::{NumberedTable, take_out};
 pub use stored::{HasSelect, RowWithId, Stored, parse_rows};

@@ -11,3 +11,4 @@ pub mod SaidLaws
 pub mod CheckLaws
 pub mod GuardLaws
 pub mod DifferLaws
+pub mod RisingLaws

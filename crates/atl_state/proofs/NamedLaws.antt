@@ -12,11 +12,11 @@ use Rattle.atl_world.specs.Names.{name_ok, pass_ok}
 use Rattle.atl_world.specs.Worlds.{WorldValue}
 use Rattle.atl_world.specs.declared.format.Format.{Format}
 use Rattle.atl_records.specs.Limits.{most_in_joining, most_in_month}
-use Rattle.atl_campaign.specs.declared.parts.Parts.{Parts}
-use Rattle.atl_campaign.specs.declared.parts.StoredFaction.{StoredFaction}
-use Rattle.atl_campaign.specs.declared.parts.StoredUnit.{StoredUnit}
-use Rattle.atl_campaign.specs.declared.parts.StoredStructure.{StoredStructure}
-use Rattle.atl_campaign.specs.declared.parts.StoredBooks.{StoredBooks}
+use Rattle.atl_rows.specs.declared.parts.Parts.{Parts}
+use Rattle.atl_rows.specs.declared.parts.StoredFaction.{StoredFaction}
+use Rattle.atl_rows.specs.declared.parts.StoredUnit.{StoredUnit}
+use Rattle.atl_rows.specs.declared.parts.StoredStructure.{StoredStructure}
+use Rattle.atl_rows.specs.declared.parts.StoredBooks.{StoredBooks}
 use Rattle.atl_records.specs.declared.records.Faction.{Faction}
 use Rattle.atl_records.specs.declared.books.BooksEntry.{BooksEntry}
 use Rattle.atl_records.specs.declared.books.Thing.{Thing}

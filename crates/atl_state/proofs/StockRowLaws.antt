@@ -6,8 +6,8 @@ use Rattle.std.specs.List.Sorted.{IsPermutation}
 use Rattle.std.specs.FinMap.{entries}
 use Rattle.std.proofs.lemmas.List.Sorted.{IsPermutation-sym, IsPermutation-trans}
 use Rattle.atl_world.specs.declared.format.Format.TheVariants.{Second}
-use Rattle.atl_campaign.specs.declared.parts.StoredMarket.{StoredMarket}
-use Rattle.atl_campaign.specs.declared.parts.StoredRegion.{StoredRegion}
+use Rattle.atl_rows.specs.declared.parts.StoredMarket.{StoredMarket}
+use Rattle.atl_rows.specs.declared.parts.StoredRegion.{StoredRegion}
 use Rattle.atl_records.specs.declared.records.Region.{Region}
 use Rattle.atl_campaign.specs.FromRows.{as_u32, stocks_of, region_of, by_number}
 use Rattle.atl_campaign.specs.RowRules.{Key, market_key}

@@ -10,7 +10,7 @@ use Rattle.atl_state.specs.declared.checking.CheckFault.{CheckFault}
 use Rattle.atl_state.specs.declared.checking.CheckFault.TheVariants.{Damaged, Memory}
 use Rattle.atl_state.specs.declared.checking.Rule.{Rule}
 use Rattle.atl_state.specs.declared.checking.Rule.TheVariants.{OneRow, Ranges, Names, Known, Next, Days, Gone, Owners, Water, Guards, Books, Mail}
-use Rattle.atl_campaign.specs.declared.parts.Parts.{Parts}
+use Rattle.atl_rows.specs.declared.parts.Parts.{Parts}
 use Rattle.atl_records.specs.Books.{amount_in, entry_index}
 use Rattle.atl_campaign.specs.FromRows.{campaign_of}
 use Rattle.atl_campaign.specs.Good.{AreKnown, AreNumbered, AreDays, GoneHaveNone, UnitlessAreGone, AreOwned, AreAfloat, AreOfOneFaction, guards, HasValidMail, AreReported, HasNoStocks, IsGood}

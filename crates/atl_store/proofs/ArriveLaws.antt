@@ -19,7 +19,7 @@ use Rattle.atl_sql.specs.declared.rows.has.ThingKind.{ThingKind}
 use Rattle.atl_sql.specs.Sets.{Set, HasExactly, put}
 use Rattle.atl_sql.specs.Tables.{Books, books_table}
 use Rattle.atl_sql.specs.Shown.{int, books_key, books_row}
-use Rattle.atl_sql.specs.Rows.{RowsOf, HasRowsOf, BooksRowsOf, things_of}
+use Rattle.atl_store.specs.Rows.{RowsOf, HasRowsOf, BooksRowsOf, things_of}
 use Rattle.atl_store.specs.GroupedRows.{amount_lines}
 use Rattle.atl_store.specs.Arriving.{rows_with_amount, WritesAmount}
 use Rattle.atl_sql.specs.Statements.{deletion, upsert}

@@ -20,11 +20,11 @@ use Rattle.atl_records.specs.declared.books.Thing.{Thing}
 use Rattle.atl_records.proofs.AccountLaws.{same_account}
 use Rattle.atl_sql.specs.Tables.{books_table}
 use Rattle.atl_sql.specs.Shown.{int, books_key, books_row}
-use Rattle.atl_sql.specs.Rows.{BooksRowsOf}
+use Rattle.atl_store.specs.Rows.{BooksRowsOf}
 use Rattle.atl_store.specs.GroupedRows.{amount_lines}
 use Rattle.atl_store.specs.Arriving.{WritesAmount}
 use Rattle.atl_sql.specs.Inside.{DoesInside, HasTables}
-use Rattle.atl_sql.specs.Marked.{entry_and_thing_pass, amount_marked, is_marked_amount}
+use Rattle.atl_store.specs.Marked.{entry_and_thing_pass, amount_marked, is_marked_amount}
 use Rattle.atl_store.specs.Rewriting.{RewritesAmounts, RewritesBooks, equals_number, is_among, is_of_marked_amount}
 use Rattle.atl_store.proofs.HasTableLaws.{optional_has, has_optional}
 use Rattle.atl_store.proofs.LedgerLaws.{books_key_determines_numbers, differs_zero, is_differing}

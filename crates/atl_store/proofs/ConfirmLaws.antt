@@ -13,8 +13,8 @@ use Rattle.atl_store.specs.Gathering.{IsCommitted, FailsToConfirm}
 use Rattle.atl_sql.specs.Errors.{is_memory}
 use Rattle.atl_store.specs.Faults.{load_fault}
 use Rattle.atl_store.specs.Loading.{TablesStay}
-use Rattle.atl_sql.specs.Statements.{selection}
-use Rattle.atl_sql.specs.Tables.{HasTablesOf, campaign_table}
+use Rattle.atl_sql.specs.Statements.{selection_with_ids}
+use Rattle.atl_sql.specs.Tables.{HasTablesOf, books_table}
 use Rattle.atl_store.specs.declared.fault.LoadFault.{LoadFault}
 use Rattle.atl_store.specs.declared.fault.LoadFault.TheVariants as load
 use Rattle.atl_sql.proofs.StreamLaws.{fails_stay}
@@ -45,12 +45,13 @@ module _ (sql : List ℕ) (old new : State) (plain : IsPlain (understood old.now
   refused_stays settled clean e (inl (inr h)) = rolled_stays settled clean h.3
   refused_stays settled clean e (inr h) = unchanged_stays (fails_stay sql old new plain h.0 _ e h.0.returning (subst IsPlain h.1.is plain).0 h.2)
 
--- the SELECT of the campaign row is refused when it is asked a second time
-module _ (f : Format) {S : Type 0} (g : Ghosts S) (old during : Held S) (begins : HasTablesOf f old.schema) (e : Error) (failed : FailsToQuery (selection campaign_table 1) [] (state g old) (state g during) e) where
+-- the SELECT of the books is refused when it is asked a second time
+module _ (f : Format) {S : Type 0} (g : Ghosts S) (old during : Held S) (begins : HasTablesOf f old.schema) (e : Error) (failed : FailsToQuery (selection_with_ids books_table 2) [] (state g old) (state g during) e) where
   error_of : (memory : Bool) → is_memory e ≡ memory → FailsToConfirm g old f (cond memory load.Memory load.Store)
   error_of true is = (begins, (during, e, failed, is))
   error_of false is = inr (begins, (during, e, failed, is))
 
+  -- if the books can't be read a second time, confirming fails with the fault of the SELECT's error
   pub unconfirmed : {A : Type 0} (r : Result A LoadFault) → IsErrAnd r (λ says. says ≡ load_fault e) → IfErr r (FailsToConfirm g old f)
   unconfirmed (Ok a) says = tt
   unconfirmed (Err fault) says = subst (FailsToConfirm g old f) (sym says) (error_of (is_memory e) refl)

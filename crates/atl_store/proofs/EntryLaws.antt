@@ -13,7 +13,7 @@ use Rattle.sqlite_rules.specs.Lists.{Has}
 use Rattle.sqlite_rules.proofs.ListLemmas.{has_either, has_left, has_right}
 use Rattle.atl_sql.specs.Sets.{Set, HasExactly, put, puts}
 use Rattle.atl_sql.specs.Shown.{int}
-use Rattle.atl_sql.specs.Rows.{RowsOf, rows_in_order}
+use Rattle.atl_store.specs.Rows.{RowsOf, rows_in_order}
 use Rattle.atl_store.specs.GroupedRows.{DifferInKey}
 use Rattle.atl_sql.proofs.ListLaws.{has_map, map_has}
 

@@ -15,11 +15,11 @@ use Rattle.atl_sql.specs.Sets.{Set, HasExactly, puts, rows_in}
 use Rattle.atl_sql.specs.Tables.{Part, key_width_of, table_of}
 use Rattle.atl_sql.specs.Shown.{int}
 use Rattle.atl_store.specs.GroupedRows.{DifferInKey, AreGroups, groups_of}
-use Rattle.atl_sql.specs.Rows.{rows_for}
+use Rattle.atl_store.specs.Rows.{rows_for}
 use Rattle.atl_sql.specs.Statements.{upsert}
 use Rattle.atl_store.specs.OwnStatements.{OfRow, puts_row}
 use Rattle.atl_sql.specs.Inside.{DoesInside, HasTables, DoesBoth, Drops, PutsRows}
-use Rattle.atl_sql.specs.Marked.{first_column_passes}
+use Rattle.atl_store.specs.Marked.{first_column_passes}
 use Rattle.atl_store.specs.Rewriting.{RewritesGroup, equals_number}
 use Rattle.atl_store.proofs.EntryLaws.{apart_append, empty_table_has_put_rows, puts_has, below_has, less_apart, got_entry, entry_got, in_order, same_number, flat_has, has_flat}
 use Rattle.atl_store.proofs.RewriteLaws.{begins_key, key_begins, kept_only, rewrites_key}

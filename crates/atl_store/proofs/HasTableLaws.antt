@@ -13,7 +13,7 @@ use Rattle.atl_sql.specs.declared.rows.has.ThingKind.{ThingKind}
 use Rattle.atl_sql.specs.declared.rows.has.ThingKind.TheVariants.{Item, Skill}
 use Rattle.atl_sql.specs.Shown.{int, has_key, has_row}
 use Rattle.atl_sql.specs.Written.{sort_number}
-use Rattle.atl_sql.specs.Rows.{things_of, things_under, amount_under, HasRowsOf}
+use Rattle.atl_store.specs.Rows.{things_of, things_under, amount_under, HasRowsOf}
 use Rattle.atl_store.specs.GroupedRows.{DifferInKey, AreGroups, amount_rows, kind_lines, goods_lines, unit_goods_lines}
 use Rattle.atl_store.proofs.EntryLaws.{apart_append, below_has, less_apart, got_entry, entry_got, in_order, flat_has, has_flat}
 

@@ -12,13 +12,13 @@ use Rattle.atl_campaign.specs.Marks.{Marks}
 use Rattle.atl_sql.specs.Sets.{Set, HasExactly, rows_in}
 use Rattle.atl_sql.specs.Tables.{Part, Own, Goods, Books, Markets, IsNumberedPart, key_width_of, table_of}
 use Rattle.atl_sql.specs.Shown.{int}
-use Rattle.atl_sql.specs.Rows.{RowsOf, rows_in_order, rows_for}
+use Rattle.atl_store.specs.Rows.{RowsOf, rows_in_order, rows_for}
 use Rattle.atl_sql.specs.Statements.{deletion, upsert}
 use Rattle.atl_store.specs.OwnStatements.{OfRow, OfChange, puts_row, drops_row}
 use Rattle.atl_sql.specs.Inside.{PutsRows}
 use Rattle.atl_store.specs.Filling.{FillsPart}
 use Rattle.atl_store.specs.Changing.{IfElse, rows_after_rewrite}
-use Rattle.atl_sql.specs.Marked.{begins_marked, is_marked}
+use Rattle.atl_store.specs.Marked.{begins_marked, is_marked}
 use Rattle.atl_store.specs.Rewriting.{Becomes, RewritesMarked, RewritesPart}
 use Rattle.atl_store.proofs.EntryLaws.{same_number}
 use Rattle.atl_store.proofs.FillLaws.{numbered_filled}

@@ -17,12 +17,12 @@ use Rattle.sqlite_trees.specs.View.{is_int}
 use Rattle.sqlite_rules.specs.Lists.{Has}
 use Rattle.sqlite_rules.proofs.ListLemmas.{all_from, all_has}
 use Rattle.atl_world.specs.declared.format.Format.TheVariants.{Second}
-use Rattle.atl_campaign.specs.declared.parts.Parts.{Parts}
-use Rattle.atl_campaign.specs.declared.parts.StoredCampaignRow.{StoredCampaignRow}
+use Rattle.atl_rows.specs.declared.parts.Parts.{Parts}
+use Rattle.atl_rows.specs.declared.parts.StoredCampaignRow.{StoredCampaignRow}
 use Rattle.atl_store.specs.Gathering.{HaveDistinctRowids, AllHaveDistinctRowids, HaveDistinctIntegers, IsMadeOf, FailsWithout, ReadRows, without_ids, column_count}
 use Rattle.atl_store.specs.Loading.{shows_rowids, has_row_values, books_values, market_values, other_parts, rows_read}
 use Rattle.atl_sql.specs.Reading.{select_of_part}
-use Rattle.atl_sql.specs.Rows.{rows_in_order}
+use Rattle.atl_store.specs.Rows.{rows_in_order}
 use Rattle.atl_sql.specs.Sets.{AreKeyedByRowid, visible_row, rows_in}
 use Rattle.atl_sql.specs.Shown.{has_stored, books_stored, market_stored}
 use Rattle.atl_sql.specs.Tables.{Part, Own, Goods, Books, Markets, table_of}

@@ -18,7 +18,7 @@ use Rattle.atl_records.proofs.BookLaws.{none_past}
 use Rattle.atl_records.proofs.EveryEntryLaws.{entry_there}
 use Rattle.atl_sql.specs.Sets.{HasExactly, puts}
 use Rattle.atl_sql.specs.Shown.{books_key, books_row}
-use Rattle.atl_sql.specs.Rows.{BooksRowsOf}
+use Rattle.atl_store.specs.Rows.{BooksRowsOf}
 use Rattle.atl_store.specs.GroupedRows.{DifferInKey, amount_lines, entries_lines, things_lines}
 use Rattle.atl_store.proofs.EntryLaws.{apart_append, empty_table_has_put_rows, flat_has, has_flat}
 use Rattle.atl_store.proofs.HasTableLaws.{optional_has, has_optional, optional_apart}

@@ -23,13 +23,13 @@ use Rattle.atl_state.specs.declared.checking.CheckFault.{CheckFault}
 use Rattle.atl_state.specs.declared.checking.CheckFault.TheVariants as check
 use Rattle.atl_state.specs.declared.checking.Rule.{Rule}
 use Rattle.atl_state.specs.declared.checking.Rule.TheVariants.{OneRow, Ranges, Names, Known, Next, Days, Gone, Owners, Water, Guards, Books, Mail}
-use Rattle.atl_campaign.specs.declared.parts.Parts.{Parts}
-use Rattle.atl_campaign.specs.declared.parts.StoredCampaignRow.{StoredCampaignRow}
+use Rattle.atl_rows.specs.declared.parts.Parts.{Parts}
+use Rattle.atl_rows.specs.declared.parts.StoredCampaignRow.{StoredCampaignRow}
 use Rattle.atl_store.specs.Faults.{fault_of_check}
 use Rattle.atl_store.specs.Gathering.{IsCommitted, FailsWithout, FoundBySelects, FailsToRead, FailsToConfirm, ReadRows, AreOfFormat, AllHaveDistinctRowids, HaveDistinctIntegers, without_ids, column_count, OwnRead, IsMadeOf, ReadsSome, GathersAll, IsConfirmed, IsLoaded}
 use Rattle.atl_store.specs.Keeps.{Keeps, Stores}
 use Rattle.atl_store.specs.Loading.{HaveRows, rows_read, own_stored, KeepsOneRow, BreaksRule, MayReturnDamaged, RefusesToLoadIn, KeepsIn, LoadsIn, Loads, LeavesAlone, AfterReads, AreMade, AllSelectsShowTyped, MayReturnMemory, FailedMeanwhile, RefusesAgain, shows_rowids, tables_with_rowids, other_parts, other_selects}
-use Rattle.atl_sql.specs.Rows.{HoldsIn}
+use Rattle.atl_store.specs.Rows.{HoldsIn}
 use Rattle.atl_sql.specs.Statements.{selection}
 use Rattle.atl_sql.specs.Reading.{select_of_part}
 use Rattle.atl_sql.specs.Sets.{AreKeyedByRowid, rows_in}
@@ -205,7 +205,7 @@ module _ (f : Format) {S : Type 0} (g : Ghosts S) where
     }
 
     -- if the schema after the reads isn't the format's, the tables aren't made as the format has them, the disk failed,
-    -- or asking for the campaign row again is refused
+    -- or asking for the books again is refused
     other_schema : ¬ HasTablesOf f mid.schema → (¬ AreMade f g old) ⊎ (FailedMeanwhile g old ⊎ RefusesAgain g old false)
     other_schema other = elim (cases_Bool (state g mid).is_open) [
       | inl up ↦ inl (λ made. other (subst (λ (d : Database). HasTablesOf f d.schema) (sym ((first.stays clean).same up).0) made.begins))

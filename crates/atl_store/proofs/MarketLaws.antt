@@ -14,11 +14,11 @@ use Rattle.atl_campaign.specs.Campaign.{CampaignValue}
 use Rattle.atl_sql.specs.Shown.{int, market_key, market_row}
 use Rattle.atl_sql.specs.Tables.{market_table}
 use Rattle.atl_sql.specs.Inside.{DoesInside, HasTables, Puts, Drops}
-use Rattle.atl_sql.specs.Marked.{region_and_item_pass}
+use Rattle.atl_store.specs.Marked.{region_and_item_pass}
 use Rattle.atl_store.specs.Rewriting.{FindsByNumbers, RewritesChosenStocks, is_owner_and_thing}
 use Rattle.atl_store.proofs.RewriteLaws.{equal_by_order, is_itself, rewrites_key, kept_only}
 use Rattle.atl_store.proofs.WholeLaws.{inside_weaker}
-use Rattle.atl_sql.specs.Rows.{MarketRowsOf}
+use Rattle.atl_store.specs.Rows.{MarketRowsOf}
 use Rattle.atl_store.specs.GroupedRows.{AreGroups, region_stock_lines}
 use Rattle.atl_store.proofs.EntryLaws.{got_entry, entry_got, in_order}
 use Rattle.atl_store.proofs.HasTableLaws.{amounts_have, have_amount, amounts_apart}

@@ -9,10 +9,10 @@ use Rattle.atl_campaign.specs.Campaign.{MarkedCampaign}
 use Rattle.atl_sql.specs.Sets.{rows_in}
 use Rattle.atl_sql.specs.Tables.{Part, Own, table_of, all_parts, campaign_table}
 use Rattle.atl_sql.specs.Shown.{campaign_row}
-use Rattle.atl_sql.specs.Rows.{campaign_row_of, rows_for}
+use Rattle.atl_store.specs.Rows.{campaign_row_of, rows_for}
 use Rattle.atl_sql.specs.PutsCampaignRow.{PutsCampaignRow}
 use Rattle.atl_sql.specs.Inside.{DoesInside, HasTables, Alters}
-use Rattle.atl_sql.specs.Marked.{is_marked}
+use Rattle.atl_store.specs.Marked.{is_marked}
 use Rattle.atl_store.specs.Changing.{campaign_row_after, own_after, WritesChanges}
 use Rattle.atl_store.specs.Rewriting.{Becomes, Rewrites, RewritesCampaignRow, RewritesParts, RewritesWithOwn}
 use Rattle.atl_sql.proofs.CarryLaws.{carries_none}

@@ -17,9 +17,9 @@ use Rattle.sqlite_value.specs.declared.value.Value.TheVariants.{Int}
 use Rattle.atl_sql.specs.Sets.{Set, rows_in}
 use Rattle.atl_sql.specs.Tables.{all_tables}
 use Rattle.atl_sql.specs.Shown.{int}
-use Rattle.atl_sql.specs.Rows.{RowsOf}
+use Rattle.atl_store.specs.Rows.{RowsOf}
 use Rattle.atl_sql.specs.Inside.{DoesInside, HasTables, Puts, Drops}
-use Rattle.atl_sql.specs.Marked.{first_column_passes, begins_marked}
+use Rattle.atl_store.specs.Marked.{first_column_passes, begins_marked}
 use Rattle.atl_store.specs.Changing.{IfElse}
 use Rattle.atl_store.specs.Rewriting.{Rewrites, RewritesNumber, equals_number, is_among}
 use Rattle.atl_sql.proofs.CarryLaws.{carries_then, carries_none}

@@ -13,7 +13,7 @@ use Rattle.sqlite.specs.Table.{Table}
 use Rattle.atl_campaign.specs.Marks.{MarkedThings}
 use Rattle.atl_sql.specs.Sets.{Set}
 use Rattle.atl_sql.specs.Inside.{DoesInside, HasTables}
-use Rattle.atl_sql.specs.Marked.{has_thing}
+use Rattle.atl_store.specs.Marked.{has_thing}
 use Rattle.atl_store.specs.Rewriting.{FindsByNumbers, Rewrites, equals_number, is_among, is_owner_and_thing, is_owner_and_listed}
 use Rattle.atl_store.proofs.EntryLaws.{in_order}
 use Rattle.atl_store.proofs.RewriteLaws.{Remaining, one_less_remaining, all_rewritten, equal_by_order}

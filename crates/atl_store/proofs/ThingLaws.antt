@@ -12,9 +12,9 @@ use Rattle.atl_sql.specs.declared.rows.has.ThingKind.TheVariants.{Item, Skill}
 use Rattle.atl_sql.specs.Written.{sort_number}
 use Rattle.atl_sql.specs.Tables.{has_table}
 use Rattle.atl_sql.specs.Shown.{int, has_key, has_row}
-use Rattle.atl_sql.specs.Rows.{HasRowsOf, amount_under}
+use Rattle.atl_store.specs.Rows.{HasRowsOf, amount_under}
 use Rattle.atl_sql.specs.Inside.{DoesInside, HasTables, Puts, Drops}
-use Rattle.atl_sql.specs.Marked.{unit_and_thing_pass}
+use Rattle.atl_store.specs.Marked.{unit_and_thing_pass}
 use Rattle.atl_store.specs.Rewriting.{FindsByNumbers, RewritesThings, is_owner_and_thing}
 use Rattle.atl_store.proofs.HasTableLaws.{three_same, row_has_amount, amount_has_row}
 use Rattle.atl_store.proofs.RewriteLaws.{equal_by_order, is_itself, rewrites_key, kept_only}

@@ -18,7 +18,7 @@ use Rattle.atl_sql.specs.Inside.{Alters, Puts}
 use Rattle.atl_sql.specs.Tables.{Part, Own, Factions, Units, Reports, Books, table_of, campaign_table, faction_table, unit_table, mail_table, report_table, books_table}
 use Rattle.atl_sql.specs.Shown.{CampaignRowValue, campaign_row, mail_row, report_row, books_key}
 use Rattle.atl_store.specs.GroupedRows.{amount_lines}
-use Rattle.atl_sql.specs.Rows.{row_of_campaign, row_of_faction, row_of_unit}
+use Rattle.atl_store.specs.Rows.{row_of_campaign, row_of_faction, row_of_unit}
 
 -- What a write of a join needs: the campaign has the faction, its report, and the unit numbered `next_unit - 1`.
 -- The books have money and people among their things.

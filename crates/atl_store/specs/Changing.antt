@@ -9,8 +9,8 @@ use Rattle.atl_campaign.specs.Campaign.{CampaignValue, MarkedCampaign}
 use Rattle.atl_sql.specs.Sets.{Set, HasExactly, rows_in}
 use Rattle.atl_sql.specs.Tables.{Part, campaign_table, table_of}
 use Rattle.atl_sql.specs.Shown.{CampaignRowValue, campaign_row}
-use Rattle.atl_sql.specs.Marked.{is_marked}
-use Rattle.atl_sql.specs.Rows.{campaign_row_of, row_of_campaign, rows_for}
+use Rattle.atl_store.specs.Marked.{is_marked}
+use Rattle.atl_store.specs.Rows.{campaign_row_of, row_of_campaign, rows_for}
 
 -- one of two propositions by a flag, such as whether a row is marked: `Wanted` if it is true, else `Were`
 abbrev pub IfElse : Bool → Type 0 → Type 0 → Type 0

@@ -6,7 +6,7 @@ use Rattle.atl_campaign.specs.Campaign.{CampaignValue}
 use Rattle.atl_sql.specs.Sets.{HasExactly, rows_in}
 use Rattle.atl_sql.specs.Tables.{Part, campaign_table}
 use Rattle.atl_sql.specs.Inside.{Changes}
-use Rattle.atl_sql.specs.Rows.{row_of_campaign, rows_for, Holds}
+use Rattle.atl_store.specs.Rows.{row_of_campaign, rows_for, Holds}
 
 -- one part is filled: if its table had no row, it has exactly the campaign's rows afterwards; `own` is the campaign row
 abbrev pub Fills : CampaignValue → Row → Part → List Row → List Row → Type 0

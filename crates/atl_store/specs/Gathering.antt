@@ -21,16 +21,16 @@ use Rattle.atl_tables.specs.World.{world_of_text}
 use Rattle.atl_state.specs.Checking.{IsChecked, KeepsRule}
 use Rattle.atl_campaign.specs.Campaign.{MarkedCampaign}
 use Rattle.atl_state.specs.declared.checking.Rule.TheVariants.{OneRow}
-use Rattle.atl_campaign.specs.declared.parts.Parts.{Parts}
-use Rattle.atl_campaign.specs.declared.parts.StoredCampaignRow.{StoredCampaignRow}
+use Rattle.atl_rows.specs.declared.parts.Parts.{Parts}
+use Rattle.atl_rows.specs.declared.parts.StoredCampaignRow.{StoredCampaignRow}
 use Rattle.atl_sql.specs.Errors.{is_memory}
 use Rattle.atl_store.specs.Loading.{HaveRows, AreOwnRow, AreOfOtherFormat, HasOtherType, KeepsOneRow, other_parts, other_selects, shows_rowids, tables_with_rowids, rows_read, AfterReads, AllSelectsShowTyped, RefusesOne}
 use Rattle.atl_sql.specs.Reading.{Selects, select_of_part}
-use Rattle.atl_sql.specs.Statements.{selection}
+use Rattle.atl_sql.specs.Statements.{selection, selection_with_ids}
 use Rattle.atl_sql.specs.Sets.{AreKeyedByRowid, rows_in}
 use Rattle.atl_sql.specs.Shown.{campaign_stored}
 use Rattle.atl_sql.specs.Stored.{Form}
-use Rattle.atl_sql.specs.Tables.{Part, all_parts, campaign_table, table_of, parts_in, HasTablesOf}
+use Rattle.atl_sql.specs.Tables.{Part, all_parts, campaign_table, books_table, table_of, parts_in, HasTablesOf}
 use Rattle.atl_sql.specs.declared.fault.ReadFault.{ReadFault}
 use Rattle.atl_sql.specs.declared.fault.ReadFault.TheVariants as read
 use Rattle.atl_store.specs.declared.fault.LoadFault.{LoadFault}
@@ -216,15 +216,15 @@ module _ {S : Type 0} (g : Ghosts S) (old : Held S) where
 
   -- ---- the schema
 
-  -- the SELECT of the campaign row, asked again to confirm, is refused; `memory` says whether for lack of memory
+  -- the SELECT of the books, asked again to confirm, is refused; `memory` says whether for lack of memory
   abbrev pub IsRefusedAgain : Bool → Type 0
   IsRefusedAgain memory =
       (during : Held S) × (e : Error)
-      × FailsToQuery (selection campaign_table 1) [] (state g old) (state g during) e
+      × FailsToQuery (selection_with_ids books_table 2) [] (state g old) (state g during) e
       × (is_memory e ≡ memory)
 
-  -- When the test of the schema may return each fault: Store or Memory, by what the SELECT of the campaign row is
-  -- refused for.
+  -- When the test of the schema may return each fault: Store or Memory, by what the SELECT of the books is refused
+  -- for.
   -- Store also comes if the schema isn't the format's; then that SELECT isn't asked. No other fault is returned.
   abbrev pub FailsToConfirm : Format → LoadFault → Type 0
   FailsToConfirm f Store = (¬ HasTablesOf f old.schema) ⊎ (HasTablesOf f old.schema × IsRefusedAgain false)

@@ -14,7 +14,7 @@ use Rattle.atl_campaign.specs.Good.{IsGood}
 use Rattle.atl_sql.specs.Tables.{HasAll, IsSoundDatabase}
 use Rattle.atl_sql.specs.Inside.{HasTables, Carries, IsBlank}
 use Rattle.atl_sql.specs.Making.{has_campaign}
-use Rattle.atl_sql.specs.Rows.{Holds}
+use Rattle.atl_store.specs.Rows.{Holds}
 use Rattle.atl_store.specs.Faults.{create_fault}
 use Rattle.atl_sql.specs.Causes.{IsFaultOfError}
 use Rattle.atl_store.specs.OwnStatements.{OfFounding}

@@ -14,3 +14,5 @@ pub mod OneCampaign
 pub mod OneWorld
 pub mod UpgradeSteps
 pub mod Upgrading
+pub mod Rows
+pub mod Marked

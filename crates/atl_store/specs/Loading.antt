@@ -22,20 +22,20 @@ use Rattle.atl_campaign.specs.Marks.{no_marks}
 use Rattle.atl_campaign.specs.Campaign.{CampaignValue, MarkedCampaign}
 use Rattle.atl_state.specs.declared.checking.Rule.{Rule}
 use Rattle.atl_state.specs.declared.checking.Rule.TheVariants as rules
-use Rattle.atl_campaign.specs.declared.parts.Parts.{Parts}
-use Rattle.atl_campaign.specs.declared.parts.StoredBooks.{StoredBooks}
-use Rattle.atl_campaign.specs.declared.parts.StoredHas.{StoredHas}
-use Rattle.atl_campaign.specs.declared.parts.StoredCampaignRow.{StoredCampaignRow}
-use Rattle.atl_campaign.specs.declared.parts.StoredMarket.{StoredMarket}
+use Rattle.atl_rows.specs.declared.parts.Parts.{Parts}
+use Rattle.atl_rows.specs.declared.parts.StoredBooks.{StoredBooks}
+use Rattle.atl_rows.specs.declared.parts.StoredHas.{StoredHas}
+use Rattle.atl_rows.specs.declared.parts.StoredCampaignRow.{StoredCampaignRow}
+use Rattle.atl_rows.specs.declared.parts.StoredMarket.{StoredMarket}
 use Rattle.atl_sql.specs.Errors.{is_memory}
 use Rattle.atl_store.specs.Keeps.{ChangesNothing, HoldsCampaign}
 use Rattle.atl_sql.specs.Reading.{Selects, RefusesToSelect, select_of_part}
-use Rattle.atl_sql.specs.Rows.{HoldsIn}
+use Rattle.atl_store.specs.Rows.{HoldsIn}
 use Rattle.atl_sql.specs.Shown.{int, campaign_row_stored, faction_stored, region_stored, unit_stored, structure_stored, mail_stored, report_stored, campaign_forms, faction_forms, region_forms, unit_forms, has_forms, structure_forms, mail_forms, report_forms, books_forms, market_forms}
-use Rattle.atl_sql.specs.Statements.{selection}
+use Rattle.atl_sql.specs.Statements.{selection, selection_with_ids}
 use Rattle.atl_sql.specs.Sets.{rows_in, AreKeyedByRowid}
 use Rattle.atl_sql.specs.Stored.{Form, first_columns, AreTyped}
-use Rattle.atl_sql.specs.Tables.{Part, Own, Factions, Regions, Units, Goods, Structures, Mail, Reports, Books, Markets, campaign_table, table_of, parts_in, HasTablesOf}
+use Rattle.atl_sql.specs.Tables.{Part, Own, Factions, Regions, Units, Goods, Structures, Mail, Reports, Books, Markets, campaign_table, books_table, table_of, parts_in, HasTablesOf}
 use Rattle.atl_store.specs.WorldText.{world_text}
 use Rattle.atl_sql.specs.declared.fault.ReadFault.{ReadFault}
 use Rattle.atl_sql.specs.declared.fault.ReadFault.TheVariants as read
@@ -223,18 +223,18 @@ module _ {S : Type 0} (g : Ghosts S) (old : Held S) where
     -- the disk failed during the reads
     pub failed : MoreFaults (state g old).faults (state g after).faults
 
-  -- the SELECT of the campaign row, asked again after other reads, is refused; `memory` says whether for lack of memory
+  -- the SELECT of the books, asked again after other reads, is refused; `memory` says whether for lack of memory
   pub record RefusesAgain (memory : Bool) : Type 0 where
-    -- the connection after the other reads, before the campaign row is asked for again
+    -- the connection after the other reads, before the books are asked for again
     pub before : Held S
     -- the other reads left the tables as they were
     pub leaves : AfterReads g old before
-    -- the connection once the SELECT of the campaign row is refused
+    -- the connection once the SELECT of the books is refused
     pub during : Held S
     -- the error with which this SELECT ends
     pub error : Error
-    -- the SELECT of the campaign row ends with this error
-    pub refused : FailsToQuery (selection campaign_table 1) [] (state g before) (state g during) error
+    -- the SELECT of the books ends with this error
+    pub refused : FailsToQuery (selection_with_ids books_table 2) [] (state g before) (state g during) error
     -- the error is lack of memory exactly if `memory` is true
     pub memory_is : is_memory error ≡ memory
 
@@ -321,7 +321,7 @@ module _ (f : Format) {S : Type 0} (g : Ghosts S) (old : Held S) where
 
   -- All tables but `campaign` are read, each value of its column's form, but the tables can't be confirmed.
   -- The tables aren't made as the format has them (`AreMade`), or the disk failed meanwhile.
-  -- Or the SELECT of the campaign row, asked again, is refused for another cause than memory.
+  -- Or the SELECT of the books, asked again, is refused for another cause than memory.
   abbrev pub CannotConfirm : Type 0
   CannotConfirm = AllSelectsShowTyped g old (other_selects f) × ((¬ AreMade) ⊎ (FailedMeanwhile g old ⊎ RefusesAgain g old false))
 

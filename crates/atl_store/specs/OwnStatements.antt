@@ -11,7 +11,7 @@ use Rattle.atl_records.specs.declared.books.Thing.TheVariants.{Money, People}
 use Rattle.atl_records.specs.declared.records.Faction.{Faction}
 use Rattle.atl_records.specs.declared.records.Unit.{Unit}
 use Rattle.atl_sql.specs.Shown.{int, campaign_row_values, mail_row, report_row, books_key, books_row}
-use Rattle.atl_sql.specs.Rows.{campaign_row_of, row_of_faction, row_of_unit, rows_for}
+use Rattle.atl_store.specs.Rows.{campaign_row_of, row_of_faction, row_of_unit, rows_for}
 use Rattle.atl_sql.specs.Statements.{Statements, OneStatement, Creations, campaign_upsert, upgrading_upsert, deletion, upsert}
 use Rattle.atl_sql.specs.Tables.{Part, Markets, books_table, creation_of, faction_table, IsGroupedPart, key_width_of, mail_table, report_table, table_of, unit_table}
 

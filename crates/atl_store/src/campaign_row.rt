@@ -1,6 +1,6 @@
 //! Writes the campaign row: in a founding, a join, a change, and an upgrade.
 ghost use Rattle.std.specs.Prelude.{◌≡◌};
-ghost use Rattle.atl_sql.specs.Rows.{campaign_row_of};
+ghost use Rattle.atl_store.specs.Rows.{campaign_row_of};
 ghost use Rattle.atl_sql.specs.PutsCampaignRow.{PutsCampaignRow, UpgradesCampaignRow};
 ghost use Rattle.atl_store.specs.Rewriting.{RewritesCampaignRow};
 ghost use Rattle.atl_sql.specs.Shown.{campaign_row_values};

@@ -3,7 +3,7 @@ ghost use Rattle.std.specs.Prelude.{refl};
 ghost use Rattle.atl_sql.specs.Tables.{Goods, has_table};
 ghost use Rattle.atl_sql.specs.Shown.{has_row};
 ghost use Rattle.atl_sql.specs.Written.{sort_number};
-ghost use Rattle.atl_sql.specs.Rows.{HasRowsOf};
+ghost use Rattle.atl_store.specs.Rows.{HasRowsOf};
 ghost use Rattle.atl_store.specs.GroupedRows.{goods_lines, unit_goods_lines, all_goods_lines};
 ghost use Rattle.atl_store.specs.OwnStatements.{OfChange};
 ghost use Rattle.atl_sql.specs.Writes.{Writes, WritesRows};

@@ -4,7 +4,7 @@ ghost use Rattle.std.specs.Ordering.{nat_cmp};
 ghost use Rattle.std.specs.FinSet.{FinSet};
 ghost use Rattle.sqlite.specs.Order.{Row as SqlRow};
 ghost use Rattle.atl_sql.specs.Tables.{Part, IsGroupedPart, key_width_of, table_of};
-ghost use Rattle.atl_sql.specs.Rows.{rows_for};
+ghost use Rattle.atl_store.specs.Rows.{rows_for};
 ghost use Rattle.atl_sql.specs.Shown.{int};
 ghost use Rattle.atl_store.specs.GroupedRows.{AreGroups};
 ghost use Rattle.atl_store.specs.OwnStatements.{OfChange};
@@ -15,8 +15,8 @@ ghost use Rattle.atl_world.specs.Tracking.{IsAscendingListOf};
 ghost use Rattle.atl_campaign.specs.Marks.{Marks};
 ghost use Rattle.atl_campaign.specs.Campaign.{CampaignValue};
 
+use crate::numbered_rows::NumberedRow;
 use atl_campaign::Campaign;
-use atl_sql::numbered_rows::NumberedRow;
 use atl_world::MarkedNumbers;
 use sqlite::{Alter, Error, Transaction};
 

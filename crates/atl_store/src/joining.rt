@@ -7,7 +7,7 @@ ghost use Rattle.atl_records.specs.declared.books.BooksEntry.TheVariants.{Joinin
 ghost use Rattle.atl_records.specs.declared.books.Thing.TheVariants.{Money, People};
 ghost use Rattle.atl_sql.specs.Tables.{faction_table, unit_table, report_table};
 ghost use Rattle.atl_sql.specs.Shown.{report_row};
-ghost use Rattle.atl_sql.specs.Rows.{campaign_row_of, row_of_faction, row_of_unit};
+ghost use Rattle.atl_store.specs.Rows.{campaign_row_of, row_of_faction, row_of_unit};
 ghost use Rattle.atl_sql.specs.PutsCampaignRow.{PutsCampaignRow};
 ghost use Rattle.atl_sql.specs.Causes.{IsFaultOfError};
 ghost use Rattle.atl_store.specs.Faults.{write_fault};
@@ -20,8 +20,8 @@ ghost use Rattle.atl_store.specs.Keeps.{Keeps, LeavesAfterFault, IsLater, Leaves
 use crate::campaign_row::put_campaign_row;
 use crate::fault::WriteFault;
 use crate::ledger::write_amount;
+use crate::numbered_rows::NumberedRow;
 use atl_campaign::{BooksEntry, Campaign, Faction, Thing, Unit};
-use atl_sql::numbered_rows::NumberedRow;
 use atl_world::Text;
 use sqlite::{Alter, Connection, Error, Transaction};
 

@@ -15,6 +15,7 @@ mod ledger;
 mod loading;
 mod mailing;
 mod markets;
+mod numbered_rows;
 mod one_campaign;
 mod reopening;
 mod rewriting;

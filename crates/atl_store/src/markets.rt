@@ -2,8 +2,8 @@
 ghost use Rattle.std.specs.Prelude.{refl};
 ghost use Rattle.atl_sql.specs.Tables.{Markets, market_table};
 ghost use Rattle.atl_sql.specs.Shown.{market_row};
-ghost use Rattle.atl_sql.specs.Marked.{region_and_item_pass};
-ghost use Rattle.atl_sql.specs.Rows.{MarketRowsOf};
+ghost use Rattle.atl_store.specs.Marked.{region_and_item_pass};
+ghost use Rattle.atl_store.specs.Rows.{MarketRowsOf};
 ghost use Rattle.atl_store.specs.GroupedRows.{region_stock_lines, all_stocks_lines};
 ghost use Rattle.atl_store.specs.OwnStatements.{OfChange};
 ghost use Rattle.atl_sql.specs.Writes.{Writes, WritesRows};

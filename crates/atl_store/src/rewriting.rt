@@ -6,8 +6,8 @@ ghost use Rattle.atl_sql.specs.Writes.{Writes};
 ghost use Rattle.atl_sql.specs.Inside.{DoesInside, HasTables};
 ghost use Rattle.atl_store.specs.Rewriting.{RewritesNumber, RewritesMarked};
 
+use crate::numbered_rows::NumberedRow;
 use atl_campaign::Campaign;
-use atl_sql::numbered_rows::{NumberedRow, take_out};
 use sqlite::{Alter, Error, Transaction};
 
 fn rewrite<V: NumberedRow + Drop, S: Alter>(
@@ -21,7 +21,7 @@ fn rewrite<V: NumberedRow + Drop, S: Alter>(
 {
     match V::find_value(campaign, number) {
         Some(value) => value.put(tx, number),
-        None => take_out::<V, S>(tx, number),
+        None => V::take_out(tx, number),
     }
 }
 

@@ -8,7 +8,7 @@ ghost use Rattle.atl_campaign.specs.Marks.{Marks, MarkedThings};
 ghost use Rattle.atl_store.specs.OwnStatements.{OfChange};
 ghost use Rattle.atl_sql.specs.Writes.{Writes};
 ghost use Rattle.atl_sql.specs.Inside.{DoesInside, HasTables};
-ghost use Rattle.atl_sql.specs.Marked.{has_thing};
+ghost use Rattle.atl_store.specs.Marked.{has_thing};
 ghost use Rattle.atl_store.specs.Rewriting.{FindsByNumbers, Rewrites, is_owner_and_thing, is_owner_and_listed};
 
 use atl_campaign::Campaign;

@@ -1,11 +1,11 @@
 //! Writes the single items and skills of units that are marked, row by row.
 ghost use Rattle.std.specs.Prelude.{◌≡◌};
-ghost use Rattle.atl_sql.specs.Rows.{HasRowsOf, amount_under};
+ghost use Rattle.atl_store.specs.Rows.{HasRowsOf, amount_under};
 ghost use Rattle.atl_store.specs.OwnStatements.{OfChange};
 ghost use Rattle.atl_sql.specs.Tables.{has_table};
 ghost use Rattle.atl_sql.specs.Writes.{Writes};
 ghost use Rattle.atl_sql.specs.Inside.{DoesInside, HasTables};
-ghost use Rattle.atl_sql.specs.Marked.{unit_and_thing_pass};
+ghost use Rattle.atl_store.specs.Marked.{unit_and_thing_pass};
 ghost use Rattle.atl_store.specs.Rewriting.{RewritesThings, is_owner_and_thing, marked_things};
 
 use crate::singles::SingleAmounts;

@@ -11,10 +11,9 @@ ghost use Rattle.atl_store.specs.Rewriting.{RewritesPart};
 use crate::goods::{put_all_goods, rewrite_goods};
 use crate::ledger::{put_all_books, rewrite_books};
 use crate::markets::{put_all_stocks, rewrite_stocks};
+use crate::numbered_rows::{Mapped, put_each, put_units};
 use crate::rewriting::rewrite_marked;
 use atl_campaign::{Campaign, Faction, Region, Structure, Unit};
-use atl_sql::numbered_rows::{Mapped, put_each};
-use atl_sql::rows::unit::put_units;
 use atl_world::{Numbered, Sequence, Text};
 use sqlite::{Alter, Error, Transaction};
 

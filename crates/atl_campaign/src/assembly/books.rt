@@ -4,9 +4,9 @@ ghost use Rattle.atl_records.specs.Limits.{possible_things};
 ghost use Rattle.atl_campaign.specs.FromRows.{with_books_row, with_books_rows};
 ghost use Rattle.atl_records.specs.Books.{no_amounts};
 
-use crate::parts::StoredBooks;
 use crate::row_values::as_u32;
 use atl_records::{Books, BooksEntry, Thing};
+use atl_rows::parts::StoredBooks;
 use std::alloc::{AllocError, Global};
 
 /// Puts the amount of a row of `books` into the books, if they have the row's entry and thing.

@@ -8,10 +8,10 @@ ghost use Rattle.atl_campaign.specs.FromRows.{as_u32};
 ghost use Rattle.atl_campaign.specs.RowRules.{has_in_range};
 
 use crate::arena::Arena;
-use crate::parts::{StoredHas, StoredMarket};
 use crate::row_values::as_u32;
 use crate::rows::{ITEM_SORT, SKILL_SORT};
 use atl_records::{Region, Unit};
+use atl_rows::parts::{StoredHas, StoredMarket};
 use atl_world::Numbered;
 use std::alloc::AllocError;
 

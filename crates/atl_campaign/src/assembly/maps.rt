@@ -10,12 +10,12 @@ ghost use Rattle.atl_campaign.specs.RowRules.{faction_named};
 
 use super::goods::put_stocks;
 use super::records::{bare_region, faction_of, structure_of};
-use crate::parts::{
-    Parts, StoredFaction, StoredMail, StoredMarket, StoredRegion, StoredReport, StoredStructure,
-};
 use crate::regions::Regions;
 use crate::row_values::as_u32;
 use atl_records::{Faction, Region, Structure};
+use atl_rows::parts::{
+    Parts, StoredFaction, StoredMail, StoredMarket, StoredRegion, StoredReport, StoredStructure,
+};
 use atl_world::{MarkedMap, Numbered, Sequence, Text};
 use std::alloc::{AllocError, Global};
 

@@ -6,9 +6,9 @@ ghost use Rattle.atl_campaign.specs.Assembling.{bare_region};
 ghost use Rattle.atl_campaign.specs.FromRows.{as_u32, faction_of, structure_of};
 ghost use Rattle.atl_campaign.specs.RowRules.{faction_named};
 
-use crate::parts::{StoredFaction, StoredRegion, StoredStructure};
 use crate::row_values::{as_u16, as_u32, is_set};
 use atl_records::{Faction, Region, Structure};
+use atl_rows::parts::{StoredFaction, StoredRegion, StoredStructure};
 use atl_world::{Numbered, Sequence, Text};
 use std::alloc::{AllocError, Global};
 

@@ -13,10 +13,10 @@ use super::goods::put_things;
 use super::records::name_of;
 use crate::arena::Arena;
 use crate::lists::{UnitLists, list_keys_of};
-use crate::parts::{Parts, StoredHas, StoredUnit};
 use crate::row_values::{as_u32, is_set};
 use crate::units::Units;
 use atl_records::{Holding, Unit};
+use atl_rows::parts::{Parts, StoredHas, StoredUnit};
 use atl_world::Numbered;
 use std::alloc::{AllocError, Global};
 

@@ -7,9 +7,9 @@ ghost use Rattle.atl_campaign.specs.RowRules.{are_named, first_tables_in_range};
 
 use super::Campaign;
 use crate::assembly::{CampaignMaps, books_of, campaign_maps_of, lists_of, pass_of, roster_of};
-use crate::parts::Parts;
 use crate::row_values::{as_u32, campaign_row_of};
 use atl_records::{ENTRY_COUNT, FIRST_ITEM};
+use atl_rows::parts::Parts;
 use atl_world::{Marks, World};
 use std::alloc::{AllocError, Global};
 

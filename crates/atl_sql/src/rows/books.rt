@@ -8,7 +8,7 @@ ghost use Rattle.atl_sql.specs.Writes.{WritesRow, TakesOut};
 use crate::rows::columns::two_integers;
 use crate::rows::stored::{HasSelect, RowWithId, Stored};
 use crate::statement::run;
-use atl_campaign::parts::StoredBooks;
+use atl_rows::parts::StoredBooks;
 use atl_world::Format;
 use sqlite::{Alter, Error, Row, Transaction, params};
 use std::alloc::Global;

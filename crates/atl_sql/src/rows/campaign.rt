@@ -15,7 +15,7 @@ use crate::fault::ReadFault;
 use crate::rows::columns::{text_bytes, three_integers, utf8_text};
 use crate::rows::stored::{HasSelect, Stored, select};
 use crate::statement::run;
-use atl_campaign::parts::StoredCampaignRow;
+use atl_rows::parts::StoredCampaignRow;
 use atl_world::Format;
 use sqlite::{Alter, Connection, Error, Row, Transaction, params};
 use std::alloc::Global;

@@ -1,68 +1,44 @@
 //! The rows of the table `faction`: a row for each faction, gone or not.
 ghost use Rattle.std.specs.Prelude.{refl};
-ghost use Rattle.atl_sql.specs.Tables.{Factions};
-ghost use Rattle.atl_sql.specs.Rows.{row_of_faction};
+ghost use Rattle.atl_sql.specs.Tables.{Factions, faction_table};
 ghost use Rattle.atl_sql.specs.Shown.{faction_stored, faction_forms};
+ghost use Rattle.atl_sql.specs.Written.{faction_shown};
+ghost use Rattle.atl_sql.specs.Writes.{WritesRow};
 
-use crate::numbered_rows::{Mapped, NumberedRow};
 use crate::rows::columns::{integer, text_bytes};
+use crate::rows::numbered::NumberedTable;
 use crate::rows::stored::{HasSelect, Stored};
 use crate::statement::run;
-use atl_campaign::parts::StoredFaction;
-use atl_campaign::{Campaign, Faction};
-use atl_world::{Entries, Format, MarkedNumbers};
+use atl_rows::parts::StoredFaction;
+use atl_world::Format;
 use sqlite::{Alter, Error, Row, Transaction, params};
 use std::alloc::Global;
 
-/// What makes a faction one row of `faction`: its number, `joined_as`, `name`, `pass` and `gone`.
-impl NumberedRow for Faction {
-    ghost part = { Factions };
-
-    ghost is_numbered = { tt };
-
-    ghost line = { row_of_faction };
-
-    ghost numbered = { λ n v. refl };
-
-    ghost values = { λ c. c.factions };
-
-    ghost marks = { λ m. m.factions };
-
-    ghost are_rows = { λ own c r. (λ is. is, λ is. is) };
-
-    ghost are_marked = { λ m r. refl };
-
-    fn find_value(campaign: &Campaign, number: u32) -> Option<&Faction> {
-        campaign.faction(number)
-    }
-
-    fn marked_numbers(campaign: &Campaign) -> MarkedNumbers<'_> {
-        campaign.marked_factions()
-    }
-
-    fn delete_text() -> &'static str {
-        "DELETE FROM faction WHERE number = ?1"
-    }
-
-    fn put<S: Alter>(&self, tx: &mut Transaction<'_, S>, number: u32) -> Result<(), Error> {
-        run(
-            tx,
-            "INSERT INTO faction (number, joined_as, name, pass, gone) VALUES (?1, ?2, ?3, ?4, ?5) ON CONFLICT (number) DO UPDATE SET joined_as = ?2, name = ?3, pass = ?4, gone = ?5",
-            params![
-                number,
-                self.joined_as.as_str(),
-                self.name.as_str(),
-                self.pass.as_str(),
-                self.gone
-            ],
-        )
-    }
+/// A row of `faction`: the faction's number, names and pass text, and whether it is gone.
+#[derive(Clone, Copy, Debug)]
+pub struct FactionRow<'a> {
+    /// The faction's number.
+    pub number: u32,
+    /// The name that the faction joined under.
+    pub joined_as: &'a str,
+    /// The name that the faction shows.
+    pub name: &'a str,
+    /// The faction's pass text.
+    pub pass: &'a str,
+    /// Whether the faction has no unit left.
+    pub gone: bool,
 }
 
-impl Mapped for Faction {
-    fn all(campaign: &Campaign) -> Entries<'_, Faction> {
-        campaign.factions()
-    }
+/// Inserts a row of `faction`, or changes the row with the same number.
+pub fn put_faction<S: Alter>(tx: &mut Transaction<'_, S>, row: &FactionRow<'_>) -> Result<(), Error>
+    ensures { WritesRow S.Store faction_table 1 (faction_shown row.now) result tx.old.conn
+        tx.new.conn }
+{
+    run(
+        tx,
+        "INSERT INTO faction (number, joined_as, name, pass, gone) VALUES (?1, ?2, ?3, ?4, ?5) ON CONFLICT (number) DO UPDATE SET joined_as = ?2, name = ?3, pass = ?4, gone = ?5",
+        params![row.number, row.joined_as, row.name, row.pass, row.gone],
+    )
 }
 
 /// Reads a row of `faction`: names and pass text as bytes, the number and `gone` as integers.
@@ -97,5 +73,14 @@ impl HasSelect for StoredFaction {
             Format::First,
             "SELECT number, joined_as, name, pass, gone FROM faction ORDER BY number",
         )
+    }
+}
+
+/// Makes `faction` a table from which a row is deleted by its number.
+impl NumberedTable for StoredFaction {
+    ghost is_numbered = { tt };
+
+    fn delete_text() -> &'static str {
+        "DELETE FROM faction WHERE number = ?1"
     }
 }

@@ -8,7 +8,7 @@ ghost use Rattle.atl_sql.specs.Writes.{WritesRow, TakesOut};
 use crate::rows::columns::{three_integers, two_integers};
 use crate::rows::stored::{HasSelect, RowWithId, Stored};
 use crate::statement::run;
-use atl_campaign::parts::StoredHas;
+use atl_rows::parts::StoredHas;
 use atl_world::Format;
 use sqlite::{Alter, Error, Row, Transaction, params};
 use std::alloc::Global;

@@ -4,13 +4,12 @@ ghost use Rattle.atl_sql.specs.Tables.{Mail, mail_table};
 ghost use Rattle.atl_sql.specs.Shown.{mail_row, mail_stored, mail_forms};
 ghost use Rattle.atl_sql.specs.Writes.{WritesRow};
 
-use crate::numbered_rows::{Mapped, NumberedRow};
 use crate::rows::columns::{bytes, integer};
+use crate::rows::numbered::NumberedTable;
 use crate::rows::stored::{HasSelect, Stored};
 use crate::statement::run;
-use atl_campaign::Campaign;
-use atl_campaign::parts::StoredMail;
-use atl_world::{Entries, Format, MarkedNumbers, Sequence};
+use atl_rows::parts::StoredMail;
+use atl_world::Format;
 use sqlite::{Alter, Error, Row, Transaction, params};
 use std::alloc::Global;
 
@@ -28,48 +27,6 @@ pub fn put_mail<S: Alter>(
         "INSERT INTO mail (faction, text) VALUES (?1, ?2) ON CONFLICT (faction) DO UPDATE SET text = ?2",
         params![faction, text],
     )
-}
-
-/// What makes the text of a mailing one row of `mail`: its faction's number, and the text byte for
-/// byte.
-impl NumberedRow for Sequence<u8> {
-    ghost part = { Mail };
-
-    ghost is_numbered = { tt };
-
-    ghost line = { mail_row };
-
-    ghost numbered = { λ n v. refl };
-
-    ghost values = { λ c. c.mail };
-
-    ghost marks = { λ m. m.mail };
-
-    ghost are_rows = { λ own c r. (λ is. is, λ is. is) };
-
-    ghost are_marked = { λ m r. refl };
-
-    fn find_value(campaign: &Campaign, number: u32) -> Option<&Sequence<u8>> {
-        campaign.mail_of(number)
-    }
-
-    fn marked_numbers(campaign: &Campaign) -> MarkedNumbers<'_> {
-        campaign.marked_mail()
-    }
-
-    fn delete_text() -> &'static str {
-        "DELETE FROM mail WHERE faction = ?1"
-    }
-
-    fn put<S: Alter>(&self, tx: &mut Transaction<'_, S>, number: u32) -> Result<(), Error> {
-        put_mail(tx, number, self.as_slice())
-    }
-}
-
-impl Mapped for Sequence<u8> {
-    fn all(campaign: &Campaign) -> Entries<'_, Sequence<u8>> {
-        campaign.mail()
-    }
 }
 
 /// Reads a row of `mail`: the faction's number as an integer, and the text as the bytes of a blob.
@@ -95,5 +52,14 @@ impl HasSelect for StoredMail {
             Format::First,
             "SELECT faction, text FROM mail ORDER BY faction",
         )
+    }
+}
+
+/// Makes `mail` a table from which a row is deleted by its number.
+impl NumberedTable for StoredMail {
+    ghost is_numbered = { tt };
+
+    fn delete_text() -> &'static str {
+        "DELETE FROM mail WHERE faction = ?1"
     }
 }

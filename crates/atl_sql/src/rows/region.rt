@@ -1,61 +1,33 @@
 //! The rows of the table `region`: a row for each region.
 ghost use Rattle.std.specs.Prelude.{refl};
-ghost use Rattle.atl_sql.specs.Tables.{Regions};
-ghost use Rattle.atl_sql.specs.Rows.{row_of_region};
-ghost use Rattle.atl_sql.specs.Shown.{region_stored, region_forms};
+ghost use Rattle.atl_sql.specs.Tables.{Regions, region_table};
+ghost use Rattle.atl_sql.specs.Shown.{region_row, region_stored, region_forms};
+ghost use Rattle.atl_sql.specs.Writes.{WritesRow};
 
-use crate::numbered_rows::{Mapped, NumberedRow};
 use crate::rows::columns::three_integers;
+use crate::rows::numbered::NumberedTable;
 use crate::rows::stored::{HasSelect, Stored};
 use crate::statement::run;
-use atl_campaign::parts::StoredRegion;
-use atl_campaign::{Campaign, Region};
-use atl_world::{Entries, Format, MarkedNumbers};
+use atl_rows::parts::StoredRegion;
+use atl_world::Format;
 use sqlite::{Alter, Error, Row, Transaction, params};
 use std::alloc::Global;
 
-impl NumberedRow for Region {
-    ghost part = { Regions };
-
-    ghost is_numbered = { tt };
-
-    ghost line = { row_of_region };
-
-    ghost numbered = { λ n v. refl };
-
-    ghost values = { λ c. c.regions };
-
-    ghost marks = { λ m. m.regions };
-
-    ghost are_rows = { λ own c r. (λ is. is, λ is. is) };
-
-    ghost are_marked = { λ m r. refl };
-
-    fn find_value(campaign: &Campaign, number: u32) -> Option<&Region> {
-        campaign.region(number)
-    }
-
-    fn marked_numbers(campaign: &Campaign) -> MarkedNumbers<'_> {
-        campaign.marked_regions()
-    }
-
-    fn delete_text() -> &'static str {
-        "DELETE FROM region WHERE number = ?1"
-    }
-
-    fn put<S: Alter>(&self, tx: &mut Transaction<'_, S>, number: u32) -> Result<(), Error> {
-        run(
-            tx,
-            "INSERT INTO region (number, peasants, money) VALUES (?1, ?2, ?3) ON CONFLICT (number) DO UPDATE SET peasants = ?2, money = ?3",
-            params![number, self.peasants, self.money],
-        )
-    }
-}
-
-impl Mapped for Region {
-    fn all(campaign: &Campaign) -> Entries<'_, Region> {
-        campaign.regions()
-    }
+/// Inserts a region's row into `region`, or changes the row with the same number.
+pub fn put_region<S: Alter>(
+    tx: &mut Transaction<'_, S>,
+    number: u32,
+    peasants: u32,
+    money: u32,
+) -> Result<(), Error>
+    ensures { WritesRow S.Store region_table 1 (region_row number peasants money) result tx.old.conn
+        tx.new.conn }
+{
+    run(
+        tx,
+        "INSERT INTO region (number, peasants, money) VALUES (?1, ?2, ?3) ON CONFLICT (number) DO UPDATE SET peasants = ?2, money = ?3",
+        params![number, peasants, money],
+    )
 }
 
 /// Reads number, peasants and money of a row of `region` as integers.
@@ -84,5 +56,14 @@ impl HasSelect for StoredRegion {
             Format::First,
             "SELECT number, peasants, money FROM region ORDER BY number",
         )
+    }
+}
+
+/// Makes `region` a table from which a row is deleted by its number.
+impl NumberedTable for StoredRegion {
+    ghost is_numbered = { tt };
+
+    fn delete_text() -> &'static str {
+        "DELETE FROM region WHERE number = ?1"
     }
 }

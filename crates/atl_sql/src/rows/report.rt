@@ -1,60 +1,32 @@
 //! The rows of the table `report`: the last report of each faction.
 ghost use Rattle.std.specs.Prelude.{refl};
-ghost use Rattle.atl_sql.specs.Tables.{Reports};
+ghost use Rattle.atl_sql.specs.Tables.{Reports, report_table};
 ghost use Rattle.atl_sql.specs.Shown.{report_row, report_stored, report_forms};
+ghost use Rattle.atl_sql.specs.Writes.{WritesRow};
 
-use crate::numbered_rows::{Mapped, NumberedRow};
 use crate::rows::columns::{integer, utf8_text};
+use crate::rows::numbered::NumberedTable;
 use crate::rows::stored::{HasSelect, Stored};
 use crate::statement::run;
-use atl_campaign::Campaign;
-use atl_campaign::parts::StoredReport;
-use atl_world::{Entries, Format, MarkedNumbers, Text};
+use atl_rows::parts::StoredReport;
+use atl_world::{Format, Text};
 use sqlite::{Alter, Error, Row, Transaction, params};
 use std::alloc::Global;
 
-impl NumberedRow for Text {
-    ghost part = { Reports };
-
-    ghost is_numbered = { tt };
-
-    ghost line = { report_row };
-
-    ghost numbered = { λ n v. refl };
-
-    ghost values = { λ c. c.reports };
-
-    ghost marks = { λ m. m.reports };
-
-    ghost are_rows = { λ own c r. (λ is. is, λ is. is) };
-
-    ghost are_marked = { λ m r. refl };
-
-    fn find_value(campaign: &Campaign, number: u32) -> Option<&Text> {
-        campaign.report(number)
-    }
-
-    fn marked_numbers(campaign: &Campaign) -> MarkedNumbers<'_> {
-        campaign.marked_reports()
-    }
-
-    fn delete_text() -> &'static str {
-        "DELETE FROM report WHERE faction = ?1"
-    }
-
-    fn put<S: Alter>(&self, tx: &mut Transaction<'_, S>, number: u32) -> Result<(), Error> {
-        run(
-            tx,
-            "INSERT INTO report (faction, text) VALUES (?1, ?2) ON CONFLICT (faction) DO UPDATE SET text = ?2",
-            params![number, self.as_str()],
-        )
-    }
-}
-
-impl Mapped for Text {
-    fn all(campaign: &Campaign) -> Entries<'_, Text> {
-        campaign.reports()
-    }
+/// Inserts the row of a faction's report into `report`, or replaces the text of the faction's row.
+pub fn put_report<S: Alter>(
+    tx: &mut Transaction<'_, S>,
+    faction: u32,
+    text: &str,
+) -> Result<(), Error>
+    ensures { WritesRow S.Store report_table 1 (report_row faction text.now) result tx.old.conn
+        tx.new.conn }
+{
+    run(
+        tx,
+        "INSERT INTO report (faction, text) VALUES (?1, ?2) ON CONFLICT (faction) DO UPDATE SET text = ?2",
+        params![faction, text],
+    )
 }
 
 /// Reads a row of `report`: the faction's number as an integer, and the text as UTF-8.
@@ -83,5 +55,14 @@ impl HasSelect for StoredReport {
             Format::First,
             "SELECT faction, text FROM report ORDER BY faction",
         )
+    }
+}
+
+/// Makes `report` a table from which a row is deleted by its number.
+impl NumberedTable for StoredReport {
+    ghost is_numbered = { tt };
+
+    fn delete_text() -> &'static str {
+        "DELETE FROM report WHERE faction = ?1"
     }
 }

@@ -1,68 +1,57 @@
 //! The rows of the table `structure`: a row for each structure.
 ghost use Rattle.std.specs.Prelude.{refl};
-ghost use Rattle.atl_sql.specs.Tables.{Structures};
-ghost use Rattle.atl_sql.specs.Rows.{row_of_structure};
+ghost use Rattle.atl_sql.specs.Tables.{Structures, structure_table};
 ghost use Rattle.atl_sql.specs.Shown.{structure_stored, structure_forms};
+ghost use Rattle.atl_sql.specs.Written.{structure_shown};
+ghost use Rattle.atl_sql.specs.Writes.{WritesRow};
 
-use crate::numbered_rows::{Mapped, NumberedRow};
 use crate::rows::columns::{text_bytes, three_integers, two_integers};
+use crate::rows::numbered::NumberedTable;
 use crate::rows::stored::{HasSelect, Stored};
 use crate::statement::run;
-use atl_campaign::parts::StoredStructure;
-use atl_campaign::{Campaign, Structure};
-use atl_world::{Entries, Format, MarkedNumbers};
+use atl_rows::parts::StoredStructure;
+use atl_world::Format;
 use sqlite::{Alter, Error, Row, Transaction, params};
 use std::alloc::Global;
 
-impl NumberedRow for Structure {
-    ghost part = { Structures };
-
-    ghost is_numbered = { tt };
-
-    ghost line = { row_of_structure };
-
-    ghost numbered = { λ n v. refl };
-
-    ghost values = { λ c. c.structures };
-
-    ghost marks = { λ m. m.structures };
-
-    ghost are_rows = { λ own c r. (λ is. is, λ is. is) };
-
-    ghost are_marked = { λ m r. refl };
-
-    fn find_value(campaign: &Campaign, number: u32) -> Option<&Structure> {
-        campaign.structure(number)
-    }
-
-    fn marked_numbers(campaign: &Campaign) -> MarkedNumbers<'_> {
-        campaign.marked_structures()
-    }
-
-    fn delete_text() -> &'static str {
-        "DELETE FROM structure WHERE number = ?1"
-    }
-
-    fn put<S: Alter>(&self, tx: &mut Transaction<'_, S>, number: u32) -> Result<(), Error> {
-        run(
-            tx,
-            "INSERT INTO structure (number, kind, name, region, done, owner) VALUES (?1, ?2, ?3, ?4, ?5, ?6) ON CONFLICT (number) DO UPDATE SET kind = ?2, name = ?3, region = ?4, done = ?5, owner = ?6",
-            params![
-                number,
-                u32::from(self.kind),
-                self.name.as_str(),
-                self.region,
-                self.done,
-                self.owner
-            ],
-        )
-    }
+/// A row of `structure`: the structure's number, kind, name and region, how much of it is done, and
+/// its owner.
+#[derive(Clone, Copy, Debug)]
+pub struct StructureRow<'a> {
+    /// The structure's number.
+    pub number: u32,
+    /// The index of the structure's kind in the world's list of kinds, from 0.
+    pub kind: u16,
+    /// The name that the structure shows.
+    pub name: &'a str,
+    /// The number of the region where the structure is.
+    pub region: u32,
+    /// How much of the structure is built.
+    pub done: u32,
+    /// The number of the unit inside that owns it, or 0 where no unit is inside.
+    pub owner: u32,
 }
 
-impl Mapped for Structure {
-    fn all(campaign: &Campaign) -> Entries<'_, Structure> {
-        campaign.structures()
-    }
+/// Inserts a row of `structure`, or changes the row with the same number.
+pub fn put_structure<S: Alter>(
+    tx: &mut Transaction<'_, S>,
+    row: &StructureRow<'_>,
+) -> Result<(), Error>
+    ensures { WritesRow S.Store structure_table 1 (structure_shown row.now) result tx.old.conn
+        tx.new.conn }
+{
+    run(
+        tx,
+        "INSERT INTO structure (number, kind, name, region, done, owner) VALUES (?1, ?2, ?3, ?4, ?5, ?6) ON CONFLICT (number) DO UPDATE SET kind = ?2, name = ?3, region = ?4, done = ?5, owner = ?6",
+        params![
+            row.number,
+            u32::from(row.kind),
+            row.name,
+            row.region,
+            row.done,
+            row.owner
+        ],
+    )
 }
 
 /// Reads a row of `structure`: the name as bytes, and the other columns as integers.
@@ -95,5 +84,14 @@ impl HasSelect for StoredStructure {
             Format::First,
             "SELECT number, kind, name, region, done, owner FROM structure ORDER BY number",
         )
+    }
+}
+
+/// Makes `structure` a table from which a row is deleted by its number.
+impl NumberedTable for StoredStructure {
+    ghost is_numbered = { tt };
+
+    fn delete_text() -> &'static str {
+        "DELETE FROM structure WHERE number = ?1"
     }
 }

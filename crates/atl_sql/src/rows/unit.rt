@@ -1,80 +1,58 @@
 //! The rows of the table `unit`: a row for each unit.
 ghost use Rattle.std.specs.Prelude.{refl};
 ghost use Rattle.atl_sql.specs.Tables.{Units, unit_table};
-ghost use Rattle.atl_sql.specs.Rows.{rows_in_order, row_of_unit};
 ghost use Rattle.atl_sql.specs.Shown.{unit_stored, unit_forms};
-ghost use Rattle.atl_sql.specs.Writes.{WritesRows};
+ghost use Rattle.atl_sql.specs.Written.{unit_shown};
+ghost use Rattle.atl_sql.specs.Writes.{WritesRow};
 
-use crate::numbered_rows::NumberedRow;
 use crate::rows::columns::{text_bytes, three_integers, two_integers};
+use crate::rows::numbered::NumberedTable;
 use crate::rows::stored::{HasSelect, Stored};
 use crate::statement::run;
-use atl_campaign::parts::StoredUnit;
-use atl_campaign::{Campaign, SlotEntries, Unit};
-use atl_world::{Format, MarkedNumbers};
+use atl_rows::parts::StoredUnit;
+use atl_world::Format;
 use sqlite::{Alter, Error, Row, Transaction, params};
 use std::alloc::Global;
 
-impl NumberedRow for Unit {
-    ghost part = { Units };
-
-    ghost is_numbered = { tt };
-
-    ghost line = { row_of_unit };
-
-    ghost numbered = { λ n v. refl };
-
-    ghost values = { λ c. c.units };
-
-    ghost marks = { λ m. m.rows };
-
-    ghost are_rows = { λ own c r. (λ is. is, λ is. is) };
-
-    ghost are_marked = { λ m r. refl };
-
-    fn find_value(campaign: &Campaign, number: u32) -> Option<&Unit> {
-        campaign.unit(number)
-    }
-
-    fn marked_numbers(campaign: &Campaign) -> MarkedNumbers<'_> {
-        campaign.marked_rows()
-    }
-
-    fn delete_text() -> &'static str {
-        "DELETE FROM unit WHERE number = ?1"
-    }
-
-    fn put<S: Alter>(&self, tx: &mut Transaction<'_, S>, number: u32) -> Result<(), Error> {
-        run(
-            tx,
-            "INSERT INTO unit (number, faction, name, region, structure, men, money, guard) VALUES (?1, ?2, ?3, ?4, ?5, ?6, ?7, ?8) ON CONFLICT (number) DO UPDATE SET faction = ?2, name = ?3, region = ?4, structure = ?5, men = ?6, money = ?7, guard = ?8",
-            params![
-                number,
-                self.faction,
-                self.holding.name().as_str(),
-                self.region,
-                self.structure,
-                self.holding.men(),
-                self.holding.money(),
-                self.holding.guard()
-            ],
-        )
-    }
+/// A row of `unit`: the unit's number, faction, name, place, men, money and guard flag.
+#[derive(Clone, Copy, Debug)]
+pub struct UnitRow<'a> {
+    /// The unit's number.
+    pub number: u32,
+    /// The number of the unit's faction.
+    pub faction: u32,
+    /// The name that the unit shows.
+    pub name: &'a str,
+    /// The number of the region where the unit is.
+    pub region: u32,
+    /// The number of the structure that the unit is inside, or 0 where it is inside none.
+    pub structure: u32,
+    /// How many men the unit has.
+    pub men: u32,
+    /// The unit's money.
+    pub money: u32,
+    /// The guard flag.
+    pub guard: bool,
 }
 
-/// Inserts the row of each of these units into `unit`, or changes the row that has its number.
-pub fn put_units<S: Alter>(
-    tx: &mut Transaction<'_, S>,
-    units: SlotEntries<'_, Unit>,
-) -> Result<(), Error>
-    ensures { WritesRows S.Store unit_table 1 (rows_in_order row_of_unit units.entry) result
-        tx.old.conn
-        tx.new.conn }
+/// Inserts a row of `unit`, or changes the row with the same number.
+pub fn put_unit<S: Alter>(tx: &mut Transaction<'_, S>, row: &UnitRow<'_>) -> Result<(), Error>
+    ensures { WritesRow S.Store unit_table 1 (unit_shown row.now) result tx.old.conn tx.new.conn }
 {
-    for (number, unit) in units {
-        unit.put(tx, number)?;
-    }
-    Ok(())
+    run(
+        tx,
+        "INSERT INTO unit (number, faction, name, region, structure, men, money, guard) VALUES (?1, ?2, ?3, ?4, ?5, ?6, ?7, ?8) ON CONFLICT (number) DO UPDATE SET faction = ?2, name = ?3, region = ?4, structure = ?5, men = ?6, money = ?7, guard = ?8",
+        params![
+            row.number,
+            row.faction,
+            row.name,
+            row.region,
+            row.structure,
+            row.men,
+            row.money,
+            row.guard
+        ],
+    )
 }
 
 /// Reads a row of `unit`: the name as bytes, and the other columns as integers.
@@ -110,5 +88,14 @@ impl HasSelect for StoredUnit {
             Format::First,
             "SELECT number, faction, name, region, structure, men, money, guard FROM unit ORDER BY number",
         )
+    }
+}
+
+/// Makes `unit` a table from which a row is deleted by its number.
+impl NumberedTable for StoredUnit {
+    ghost is_numbered = { tt };
+
+    fn delete_text() -> &'static str {
+        "DELETE FROM unit WHERE number = ?1"
     }
 }

@@ -1,7 +1,7 @@
 //! The part of rule 2 that no two rows of a table have the same key.
-ghost use Rattle.std.specs.Prelude.{◌≡◌, IfOk, map, true, ◌↔◌, IsTrue};
+ghost use Rattle.std.specs.Prelude.{◌≡◌, IfOk, map, ◌↔◌, IsTrue};
 ghost use Rattle.std.specs.List.{IsDistinct};
-ghost use Rattle.std.specs.List.Sorted.{IsStrictlySortedBy};
+ghost use Rattle.std.specs.List.Sorted.{IsPermutation, IsSorted, IsStrictlySortedBy};
 ghost use Rattle.std.specs.Ordering.{eq_by_cmp};
 ghost use Rattle.atl_campaign.specs.RowRules.{Key, faction_key, region_key, unit_key, has_key, structure_key, mail_key, report_key, books_key, market_key, HaveDistinctKeys, HaveDistinctKeysByTable};
 
@@ -11,7 +11,6 @@ use atl_campaign::parts::{
 };
 use std::alloc::{AllocError, Global};
 use std::cmp::Ordering;
-use std::collections::BTreeSet;
 
 /// A row of a table, with its key as three numbers.
 trait Keyed {
@@ -106,7 +105,7 @@ fn keys_of<R: Keyed>(alloc: Global, rows: &[R]) -> Result<Vec<(i64, i64, i64)>, 
 
 /// Whether the values rise: each is above the one before it.
 fn are_sorted<K: Ord + Drop>(keys: &[K]) -> bool
-    ensures { result ≡ true → IsStrictlySortedBy K.cmp keys.now }
+    ensures { IsTrue result ↔ (IsStrictlySortedBy K.cmp keys.now) }
 {
     for i in 1..keys.len() {
         match keys[i - 1].cmp(&keys[i]) {
@@ -117,6 +116,19 @@ fn are_sorted<K: Ord + Drop>(keys: &[K]) -> bool
     true
 }
 
+/// The values in their order, none above one after it.
+fn sorted<K: Ord + Copy + Drop>(alloc: Global, keys: &[K]) -> Result<Vec<K>, AllocError>
+    ensures ordered { IfOk result (λ sorted. IsSorted K.cmp sorted.items) }
+    ensures same { IfOk result (λ sorted. IsPermutation keys.now sorted.items) }
+{
+    let mut sorted = Vec::with_capacity(alloc, keys.len())?;
+    for key in keys {
+        sorted.push(*key)?;
+    }
+    sorted.sort_unstable();
+    Ok(sorted)
+}
+
 /// Whether no two of the values are equal. Where the values don't rise, the test takes memory for
 /// each of them, and n log n steps.
 pub fn are_distinct<K: Ord + Copy + Drop>(alloc: Global, keys: &[K]) -> Result<bool, AllocError>
@@ -125,13 +137,8 @@ pub fn are_distinct<K: Ord + Copy + Drop>(alloc: Global, keys: &[K]) -> Result<b
     if are_sorted(keys) {
         return Ok(true);
     }
-    let mut seen = BTreeSet::new(alloc);
-    for key in keys {
-        if !seen.insert(*key)? {
-            return Ok(false);
-        }
-    }
-    Ok(true)
+    let sorted = sorted(alloc, keys)?;
+    Ok(are_sorted(&sorted))
 }
 
 fn have_distinct_keys<R: Keyed>(alloc: Global, rows: &[R]) -> Result<bool, AllocError>

@@ -10,7 +10,7 @@ use std::process::Abort;
 use std::test::Fail;
 
 /// Calls that set one part each, and what each marks. Avalon has joined, and a lodge is begun.
-static CALLS: [Row; 18] = [
+static CALLS: [Row; 20] = [
     (Step::Month(12), Question::Month, "12", "1, the campaign"),
     (
         Step::Faction(1, FactionChange::Name("Bree")),
@@ -55,6 +55,18 @@ static CALLS: [Row; 18] = [
         Question::Region(FAR),
         "77 peasants, 88 money",
         "1, regions [3]",
+    ),
+    (
+        Step::Region(FAR, RegionChange::Peasants(77)),
+        Question::Region(FAR),
+        "77 peasants, 88 money",
+        "0",
+    ),
+    (
+        Step::Region(FAR, RegionChange::Money(88)),
+        Question::Region(FAR),
+        "77 peasants, 88 money",
+        "0",
     ),
     (
         Step::Unit(1, UnitChange::Name("Bill")),

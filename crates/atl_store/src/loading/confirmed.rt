@@ -12,7 +12,8 @@ use sqlite::{Alter, Connection};
 
 /// Tests that the schema begins with the tables of the format and that the connection is open; the
 /// fault is Store if not, or Memory if memory runs out. A disk that failed while a read was rolled
-/// back has shut the connection, which only the next statement shows.
+/// back has shut the connection, which only the next statement shows. That statement reads the
+/// books, the one table that doesn't grow with the campaign.
 pub(crate) fn confirm<S: Alter>(conn: &mut Connection<S>, format: Format) -> Result<(), LoadFault>
     requires idle { conn.old.in_transaction ≡ false }
     requires settled { IsCommitted (state S.Store conn.old) }
@@ -26,7 +27,7 @@ pub(crate) fn confirm<S: Alter>(conn: &mut Connection<S>, format: Format) -> Res
         return Err(LoadFault::Store);
     }
     conn.query_all(
-        "SELECT id, format, month, next_faction, next_unit, next_structure, pass, world FROM campaign ORDER BY id",
+        "SELECT entry, thing, amount, rowid FROM books ORDER BY entry, thing",
         &[],
     )?;
     Ok(())

@@ -241,6 +241,27 @@ SELECT amount FROM has WHERE sort = 0 AND thing = 1 -> 2";
     play_new(&rt, rt.alloc(), script)
 }
 
+/// Only regions whose peasants changed are written. Those of regions 1 and 3 are changed by hand;
+/// then region 1 is set to what the campaign has, which marks nothing, and region 3 to another
+/// number. Region 1 keeps what was set by hand.
+#[test]
+fn only_changed_regions_are_written(rt: HostRuntime) -> Result<(), Fail> {
+    let script = "create isle
+load
+set peasants 1 77
+set peasants 3 78
+write
+sql UPDATE region SET peasants = 5
+set peasants 1 77
+marks -> 0
+set peasants 3 79
+marks -> 1
+write
+SELECT peasants FROM region WHERE number = 1 -> 5
+SELECT peasants FROM region WHERE number = 3 -> 79";
+    play_new(&rt, rt.alloc(), script)
+}
+
 #[test]
 fn stocks_come_back(rt: HostRuntime) -> Result<(), Fail> {
     let script = "create isle with markets

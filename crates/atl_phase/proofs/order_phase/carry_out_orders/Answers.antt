@@ -1,4 +1,5 @@
-use Rattle.std.proofs.Common.{◌≡◌, [], ap, subst, sym, ◌∙◌, map, arith}
+use Rattle.std.proofs.Common.{◌≡◌, [], ap, subst, sym, ◌∙◌, map, true, arith}
+use Rattle.std.proofs.lemmas.List.Elements.{All-from_recursion}
 use Rattle.std.proofs.lemmas.List.{append-nil}
 use Rattle.std.specs.Prelude.{fold}
 use Rattle.atl_orders.specs.Bounds.{IsOrderOf}
@@ -11,6 +12,8 @@ use Rattle.atl_phase.specs.OrderEffects.{AreUnaffected, meaning_by_orders, one_o
 use Rattle.atl_phase.specs.Bounds.{StepsWell}
 use Rattle.atl_phase.proofs.FoldLaws.{each_mapped, fold_after_step, fold_ended, fold_mapped}
 use Rattle.atl_phase.proofs.MeaningLaws.{room_less}
+use Rattle.atl_phase.specs.declared.phase_order.Arrangement.TheVariants.{ByUnit}
+use Rattle.atl_phase.proofs.PhaseOrderLaws.{orders_have_verbs}
 use Rattle.atl_phase.proofs.OrderEffectLaws.{leaves_well, order_well, orders_fit, orders_leave_others, room_left, well_same, well_twice}
 use Rattle.atl_phase.proofs.order_phase.carry_out_orders.Goals as goal
 
@@ -29,6 +32,18 @@ carry_one-requires-clause-room g c =
     let P = g.P.OrderPhase in
     room_left c.args.world.now c.args.campaign.now.value c.loop-order.campaign.value c.loop-order.invariant.well
     (room_less (P.remaining c.args.campaign.now.value) P.book_bound c.args.campaign.now.value (c.is_orderly.ensures.bounded c.args.world.now c.args.campaign.now.value c.requires.holds) c.requires.room)
+
+-- the next order has a verb of the phase
+pub carry_one-requires-clause-verb : goal.carry_one-requires-clause-verb
+carry_one-requires-clause-verb g c =
+    let m = c.args.month.now in
+    let is_of = g.P.PhaseVerbs.is_of in
+    let o = c.order-item.result in
+    subst (λ x. is_of (task_of x).order_value.verb ≡ true) (sym c.order-item.is)
+    (each_mapped (λ t. is_of t.order_value.verb ≡ true) task_of c.deref-order-items.result.now (orders_by_unit is_of m)
+    (ap (map task_of) c.deref-order-items.ensures.value ∙ c.in_ok-orders.ensures)
+    (All-from_recursion (λ t. is_of t.order_value.verb ≡ true) (orders_by_unit is_of m) (orders_have_verbs is_of ByUnit m.aliases m.readings))
+    c.loop-order.order-index o c.loop-order-test.true)
 
 pub carry_one-requires-clause-fit : goal.carry_one-requires-clause-fit
 carry_one-requires-clause-fit g c =

@@ -4,7 +4,7 @@ use Rattle.std.specs.FinMap.{entries, get}
 use Rattle.std.specs.List.{filter_map}
 use Rattle.atl_report.specs.Sight.{region_view}
 use Rattle.atl_report.specs.Watching.{sees_region, watch_over}
-use Rattle.atl_report.proofs.SightLaws.{regions_looked_up}
+use Rattle.atl_report.proofs.SightLaws.{values_looked_up}
 use Rattle.atl_report.proofs.sight.region_views.Goals as goal
 
 pub loop-number-init : goal.loop-number-init
@@ -16,4 +16,4 @@ loop-number-init c =
     let none : c.new-regions.result ≡ [] = search rules in
     ap (λ l. l ++ filter_map (λ (e : ℕ × Prim.Unit {0}). option_map (region_view w campaign (watch_over w campaign faction e.0)) (get campaign.regions e.0)) c.into_iter-number-iterator.result) none
     ∙ ap (filter_map (λ (e : ℕ × Prim.Unit {0}). option_map (region_view w campaign (watch_over w campaign faction e.0)) (get campaign.regions e.0))) listed
-    ∙ regions_looked_up campaign.regions (λ n r. region_view w campaign (watch_over w campaign faction n) r) (λ e. sees_region campaign faction e.0)
+    ∙ values_looked_up campaign.regions (λ n r. region_view w campaign (watch_over w campaign faction n) r) (λ e. sees_region campaign faction e.0)

@@ -1,6 +1,6 @@
 use Rattle.atl_sql.specs.Tables.{market_table}
-use Rattle.atl_sql.specs.Rows.{MarketRowsOf}
-use Rattle.atl_sql.specs.Marked.{begins_marked, has_thing, region_and_item_pass}
+use Rattle.atl_store.specs.Rows.{MarketRowsOf}
+use Rattle.atl_store.specs.Marked.{begins_marked, has_thing, region_and_item_pass}
 use Rattle.atl_store.proofs.MarketLaws.{finds_stocks, stocks_grouped}
 use Rattle.atl_store.proofs.RewriteLaws.{both_rewritten}
 use Rattle.atl_store.proofs.WholeLaws.{then_done}

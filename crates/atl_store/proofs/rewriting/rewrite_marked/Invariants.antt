@@ -1,5 +1,5 @@
 use Rattle.atl_sql.specs.Tables.{table_of}
-use Rattle.atl_sql.specs.Rows.{RowsOf}
+use Rattle.atl_store.specs.Rows.{RowsOf}
 use Rattle.atl_store.specs.OwnStatements.{OfChange}
 use Rattle.atl_sql.specs.Inside.{DoesInside, HasTables}
 use Rattle.atl_store.proofs.RewriteLaws.{RemainingNumbers}

@@ -2,7 +2,7 @@ use Rattle.std.proofs.Common.{◌+◌, drop, List, sym, ap, ◌∙◌, ◌≡◌
 use Rattle.std.proofs.lemmas.Int.{to_z-of_z}
 use Rattle.std.specs.Ordering.{nat_cmp}
 use Rattle.std.specs.FinMap.{FinMap, insert}
-use Rattle.atl_campaign.specs.declared.parts.StoredStructure.{StoredStructure}
+use Rattle.atl_rows.specs.declared.parts.StoredStructure.{StoredStructure}
 use Rattle.atl_records.specs.declared.records.Structure.{Structure}
 use Rattle.atl_campaign.specs.FromRows.{as_u32, structure_of, put_rows}
 use Rattle.atl_campaign.proofs.KeyLaws.{next_of}

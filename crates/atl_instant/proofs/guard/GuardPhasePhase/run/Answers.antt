@@ -1,4 +1,10 @@
-use Rattle.std.proofs.Common.{◌≡◌, [], ap, subst, sym, ◌∙◌, map, arith}
+use Rattle.std.proofs.Common.{◌≡◌, [], ap, subst, sym, ◌∙◌, map, true, arith}
+use Rattle.std.proofs.lemmas.List.Elements.{All-from_recursion}
+use Rattle.atl_orders.specs.declared.verb.Verb.TheVariants as verbs
+use Rattle.atl_phase.specs.declared.phase_order.Arrangement.TheVariants.{ByUnit}
+use Rattle.atl_phase.proofs.PhaseOrderLaws.{orders_have_verbs}
+use Rattle.atl_phase.proofs.EventLaws.{Fits}
+use Rattle.atl_instant.proofs.TakenLaws.{guard_shape}
 use Rattle.std.proofs.lemmas.List.{append-nil}
 use Rattle.std.specs.Prelude.{fold}
 use Rattle.atl_orders.specs.Bounds.{IsOrderOf}
@@ -26,6 +32,18 @@ loop-order-init c = record {
   held = subst (AreRegionGuards c.args.campaign.value) (sym c.in_ok-holders.ensures) (holders_are c.args.campaign.value c.requires.needs.guarded);
   marks = marks-refl c.args.campaign;
 }
+
+-- the next order of GUARD has a flag
+pub guard_one-requires-clause-flag : goal.guard_one-requires-clause-flag
+guard_one-requires-clause-flag c =
+    let m = c.args.month in
+    let ts = orders_by_unit is_guarding m in
+    let verbs_fit = All-from_recursion (λ t. is_guarding t.order_value.verb ≡ true) ts (orders_have_verbs is_guarding ByUnit m.aliases m.readings) in
+    let fit = orders_fit c.args._world.now m.aliases m.readings c.requires.read is_guarding in
+    subst (λ x. Fits verbs.Guard (task_of x).order_value.operands) (sym c.order-item.is)
+    (each_mapped (λ t. Fits verbs.Guard t.order_value.operands) task_of c.deref-order-items.result.now ts
+    (ap (map task_of) c.deref-order-items.ensures.value ∙ c.in_ok-orders.ensures) (λ k d l. guard_shape _ _ (verbs_fit k d l) (fit k d l).shape)
+    c.loop-order.order-index c.order-item.result c.loop-order-test.true)
 
 pub loop-order-preserved : goal.loop-order-preserved
 loop-order-preserved c =

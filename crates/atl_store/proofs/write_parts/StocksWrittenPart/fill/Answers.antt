@@ -1,5 +1,5 @@
 use Rattle.atl_sql.specs.Tables.{Markets}
-use Rattle.atl_sql.specs.Rows.{MarketRowsOf}
+use Rattle.atl_store.specs.Rows.{MarketRowsOf}
 use Rattle.atl_store.specs.GroupedRows.{region_stock_lines}
 use Rattle.atl_store.specs.Filling.{FillsPart}
 use Rattle.atl_store.specs.OwnStatements.{puts_row}

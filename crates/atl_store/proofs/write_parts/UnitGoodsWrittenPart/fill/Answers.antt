@@ -1,5 +1,5 @@
 use Rattle.atl_sql.specs.Tables.{Goods}
-use Rattle.atl_sql.specs.Rows.{HasRowsOf}
+use Rattle.atl_store.specs.Rows.{HasRowsOf}
 use Rattle.atl_store.specs.GroupedRows.{unit_goods_lines}
 use Rattle.atl_store.specs.Filling.{FillsPart}
 use Rattle.atl_store.specs.OwnStatements.{puts_row}

@@ -1,6 +1,6 @@
 use Rattle.std.proofs.Common.{refl}
 use Rattle.atl_sql.specs.Tables.{Units}
-use Rattle.atl_sql.specs.Rows.{row_of_unit}
+use Rattle.atl_store.specs.Rows.{row_of_unit}
 use Rattle.atl_store.specs.Filling.{FillsPart}
 use Rattle.atl_store.proofs.EntryLaws.{lines_rows}
 use Rattle.atl_store.proofs.KeptLaws.{puts_line, kept_filled}

@@ -1,7 +1,0 @@
-use Rattle.std.proofs.Common.{rules}
-use Rattle.atl_sql.proofs.NumberedRowLaws.{drops_part}
-use Rattle.atl_sql.proofs.StatementLaws.{runs_with}
-use Rattle.atl_sql.proofs.numbered_rows.take_out.Goals as goal
-
-pub returns : goal.returns
-returns g c = runs_with g.S.Store _ _ _ _ (drops_part g.V.NumberedRow.part g.V.NumberedRow.is_numbered c.args.number) (search rules) (rw c.delete_text.ensures at c.run.ensures)

@@ -1,9 +1,0 @@
-use Rattle.std.proofs.Common.{rules, refl}
-use Rattle.atl_sql.specs.Tables.{Factions}
-use Rattle.atl_sql.proofs.NumberedRowLaws.{puts_part}
-use Rattle.atl_sql.proofs.StatementLaws.{runs_with}
-use Rattle.atl_sql.proofs.Terms.{cast_int}
-use Rattle.atl_sql.proofs.rows.faction.FactionNumberedRow.put.Goals as goal
-
-pub returns : goal.returns
-returns g c = runs_with g.S.Store _ _ _ _ (puts_part Factions tt c.args.number _ (refl, (refl, (refl, (cast_int _, tt))))) (search rules) c.run.ensures

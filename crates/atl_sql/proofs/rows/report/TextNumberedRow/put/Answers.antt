@@ -1,8 +1,0 @@
-use Rattle.std.proofs.Common.{rules, refl}
-use Rattle.atl_sql.specs.Tables.{Reports}
-use Rattle.atl_sql.proofs.NumberedRowLaws.{puts_part}
-use Rattle.atl_sql.proofs.StatementLaws.{runs_with}
-use Rattle.atl_sql.proofs.rows.report.TextNumberedRow.put.Goals as goal
-
-pub returns : goal.returns
-returns g c = runs_with g.S.Store _ _ _ _ (puts_part Reports tt c.args.number _ (refl, tt)) (search rules) c.run.ensures

@@ -1,0 +1,10 @@
+use Rattle.std.proofs.Common.{rules, refl}
+use Rattle.atl_sql.specs.Tables.{Units}
+use Rattle.atl_sql.proofs.NumberedRowLaws.{puts_part}
+use Rattle.atl_sql.proofs.StatementLaws.{runs_with}
+use Rattle.atl_sql.proofs.Terms.{cast_int}
+use Rattle.atl_sql.proofs.rows.unit.put_unit.Goals as goal
+
+-- the upsert puts the row of the unit's number (`WritesRow`)
+pub returns : goal.returns
+returns g c = runs_with g.S.Store _ _ _ _ (puts_part Units tt c.args.row.now.number _ (cast_int _, (refl, (cast_int _, (cast_int _, (cast_int _, (cast_int _, (cast_int _, tt)))))))) (search rules) c.run.ensures

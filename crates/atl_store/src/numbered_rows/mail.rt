@@ -1,0 +1,54 @@
+//! The mailings of a campaign as rows of `mail`.
+ghost use Rattle.std.specs.Prelude.{refl};
+ghost use Rattle.atl_sql.specs.Tables.{Mail};
+ghost use Rattle.atl_sql.specs.Shown.{mail_row};
+
+use super::{Mapped, NumberedRow};
+use atl_campaign::Campaign;
+use atl_rows::parts::StoredMail;
+use atl_sql::rows::mail::put_mail;
+use atl_sql::rows::take_out;
+use atl_world::{Entries, MarkedNumbers, Sequence};
+use sqlite::{Alter, Error, Transaction};
+
+/// Its row has its faction's number, and the mailing byte for byte.
+impl NumberedRow for Sequence<u8> {
+    ghost part = { Mail };
+
+    ghost is_numbered = { tt };
+
+    ghost line = { mail_row };
+
+    ghost numbered = { λ n v. refl };
+
+    ghost values = { λ c. c.mail };
+
+    ghost marks = { λ m. m.mail };
+
+    ghost are_rows = { λ own c r. (λ is. is, λ is. is) };
+
+    ghost are_marked = { λ m r. refl };
+
+    fn find_value(campaign: &Campaign, number: u32) -> Option<&Sequence<u8>> {
+        campaign.mail_of(number)
+    }
+
+    fn marked_numbers(campaign: &Campaign) -> MarkedNumbers<'_> {
+        campaign.marked_mail()
+    }
+
+    fn put<S: Alter>(&self, tx: &mut Transaction<'_, S>, number: u32) -> Result<(), Error> {
+        put_mail(tx, number, self.as_slice())
+    }
+
+    fn take_out<S: Alter>(tx: &mut Transaction<'_, S>, number: u32) -> Result<(), Error> {
+        take_out::<StoredMail, S>(tx, number)
+    }
+}
+
+/// Lets a campaign's mailings be listed by the numbers of their factions.
+impl Mapped for Sequence<u8> {
+    fn all(campaign: &Campaign) -> Entries<'_, Sequence<u8>> {
+        campaign.mail()
+    }
+}

@@ -1,0 +1,62 @@
+//! The structures of a campaign as rows of `structure`.
+ghost use Rattle.std.specs.Prelude.{refl};
+ghost use Rattle.atl_sql.specs.Tables.{Structures};
+ghost use Rattle.atl_store.specs.Rows.{row_of_structure};
+
+use super::{Mapped, NumberedRow};
+use atl_campaign::{Campaign, Structure};
+use atl_rows::parts::StoredStructure;
+use atl_sql::rows::structure::{StructureRow, put_structure};
+use atl_sql::rows::take_out;
+use atl_world::{Entries, MarkedNumbers};
+use sqlite::{Alter, Error, Transaction};
+
+/// Its row has its number, kind, name and region, how much of it is done, and its owner.
+impl NumberedRow for Structure {
+    ghost part = { Structures };
+
+    ghost is_numbered = { tt };
+
+    ghost line = { row_of_structure };
+
+    ghost numbered = { λ n v. refl };
+
+    ghost values = { λ c. c.structures };
+
+    ghost marks = { λ m. m.structures };
+
+    ghost are_rows = { λ own c r. (λ is. is, λ is. is) };
+
+    ghost are_marked = { λ m r. refl };
+
+    fn find_value(campaign: &Campaign, number: u32) -> Option<&Structure> {
+        campaign.structure(number)
+    }
+
+    fn marked_numbers(campaign: &Campaign) -> MarkedNumbers<'_> {
+        campaign.marked_structures()
+    }
+
+    fn put<S: Alter>(&self, tx: &mut Transaction<'_, S>, number: u32) -> Result<(), Error> {
+        let row = StructureRow {
+            number,
+            kind: self.kind,
+            name: self.name.as_str(),
+            region: self.region,
+            done: self.done,
+            owner: self.owner,
+        };
+        put_structure(tx, &row)
+    }
+
+    fn take_out<S: Alter>(tx: &mut Transaction<'_, S>, number: u32) -> Result<(), Error> {
+        take_out::<StoredStructure, S>(tx, number)
+    }
+}
+
+/// Lets a campaign's structures be listed by number.
+impl Mapped for Structure {
+    fn all(campaign: &Campaign) -> Entries<'_, Structure> {
+        campaign.structures()
+    }
+}
