@@ -105,7 +105,7 @@ try cuts 'strace python3' tests/faults/cuts.py
 try memory 'sqlite3 curl cc python3' tests/faults/memory.sh 11 997
 
 # the types of what is in Python, and the office
-try python_types mypy mypy --strict office tests/office tests/program tests/tools
+try python_types mypy mypy --strict office tests/office tests/program tests/pages tests/tools
 try office python3 python3 -B -m unittest discover -s tests/office -t .
 try office_year python3 tests/office/year_by_mail.py
 try office_stopped 'python3 openssl strace' tests/office/stopped.py
