@@ -35,6 +35,15 @@ def seconds(words):
     return time.perf_counter() - begin
 
 
+def processor_seconds(words):
+    """The processor time of a run, of the program itself and of the system for it."""
+    process = started(words)
+    _, status, usage = os.wait4(process.pid, 0)
+    process.returncode = os.waitstatus_to_exitcode(status)
+    confirm(process, words)
+    return usage.ru_utime + usage.ru_stime
+
+
 def instructions(words):
     """The instructions of a run, in millions, by valgrind's callgrind, which other work on the machine doesn't change."""
     with tempfile.NamedTemporaryFile() as out:
