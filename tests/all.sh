@@ -84,6 +84,7 @@ try upgrade sqlite3 tests/program/upgrade.sh
 try http 'sqlite3 curl python3' tests/program/http.sh
 try slow python3 tests/program/slow.sh
 try given_up 'python3 strace' tests/program/given_up.py
+try grown python3 python3 -B tests/program/grown.py
 
 # pages: what they print, name and count
 try first_hour '' examples/first_hour.sh
@@ -99,10 +100,11 @@ try island '' cmp worlds/isle.toml crates/atl_phase_tests/data/island.toml
 try crowd python3 is_same_crowd
 try simulate python3 tests/model/simulate.py
 
-# faults: kills, power cuts, refused memory
+# faults: kills, power cuts, refused memory, files that can't be opened
 try killed 'sqlite3 strace' tests/faults/killed.sh 40
 try cuts 'strace python3' tests/faults/cuts.py
 try memory 'sqlite3 curl cc python3' tests/faults/memory.sh 11 997
+try opening 'python3 strace' python3 -B tests/faults/opening.py
 
 # the office
 try office_types mypy mypy --strict office tests/office
