@@ -84,6 +84,7 @@ try upgrade python3 python3 -B tests/program/upgrade.py
 try http 'curl python3' python3 -B tests/program/month_by_http.py
 try slow python3 python3 -B tests/program/slow.py
 try given_up 'python3 strace' python3 -B tests/program/given_up.py
+try grown python3 python3 -B tests/program/grown.py
 
 # pages: what they print, name and count
 try first_hour '' examples/first_hour.sh
@@ -99,10 +100,11 @@ try island '' cmp worlds/isle.toml crates/atl_phase_tests/data/island.toml
 try crowd python3 is_same_crowd
 try simulate python3 tests/model/simulate.py
 
-# faults: kills, power cuts, refused memory
+# faults: kills, power cuts, refused memory, files that can't be opened
 try killed 'sqlite3 strace' tests/faults/killed.sh 40
 try cuts 'strace python3' tests/faults/cuts.py
 try memory 'sqlite3 curl cc python3' tests/faults/memory.sh 11 997
+try opening 'python3 strace' python3 -B tests/faults/opening.py
 
 # the types of what is in Python, and the office
 try python_types mypy mypy --strict office tests/office tests/program tests/pages tests/tools
