@@ -59,7 +59,10 @@ def print_instructions(title, both):
 
 
 def answer(words):
-    return subprocess.run(words, stdout=subprocess.PIPE, check=True).stdout
+    ended = subprocess.run(words, stdout=subprocess.PIPE)
+    if ended.returncode != 0:
+        sys.exit(f"status {ended.returncode} of {words}")
+    return ended.stdout
 
 
 def compare(print_figures, ordinary, title, base, faction, password):
