@@ -1,6 +1,6 @@
 //! Answers one command while the service is open: refuses it, or changes campaign and tables.
 //! See docs/RULES.md, "Refusals and faults".
-ghost use Rattle.std.specs.Prelude.{◌≡◌, length, false, Ok, Err, Some, IfOk, IfErr, OnOk, OnErr};
+ghost use Rattle.std.specs.Prelude.{◌≡◌, length, Ok, Err, Some, IfOk, IfErr, OnOk};
 ghost use Rattle.std.specs.FinMap as map;
 ghost use Rattle.atl_orders.specs.Mailing.{IsMailingOf};
 ghost use Rattle.atl_campaign.specs.Good.{IsActive};

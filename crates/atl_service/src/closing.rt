@@ -1,6 +1,6 @@
 //! Closes a month: reads the mail, runs the phases, stores the reports, writes the tables. See
 //! docs/RULES.md, "Closing a month".
-ghost use Rattle.std.specs.Prelude.{◌≡◌, ◌<◌, ℕ, false, IfOk, IfErr, OnOk, OnErr, length};
+ghost use Rattle.std.specs.Prelude.{◌≡◌, ◌<◌, ℕ, IfOk, IfErr, OnOk, length};
 ghost use Rattle.std.specs.FinMap as map;
 ghost use Rattle.atl_orders.specs.declared.fault.MailFault.TheVariants.{Memory};
 ghost use Rattle.atl_orders.specs.Mailing.{IsMailingOf, IsReadWith};
