@@ -1,0 +1,10 @@
+//! One description for each table of a campaign: the form of each column, and the texts of its
+//! statements. See docs/FORMATS.md, "Tables".
+#![tactic(auto)]
+
+pub mod reading;
+pub mod record;
+pub mod records;
+pub mod table;
+
+pub use record::{Record, Written};
