@@ -3,6 +3,7 @@ use Rattle.std.proofs.Common.{◌≡◌, ℕ, suc, ◌+◌, ◌<◌, ◌≤◌, 
 use Rattle.std.proofs.lemmas.Bool.{cond_both}
 use Rattle.std.proofs.lemmas.Bool.Decides.{nat_tests}
 use Rattle.std.proofs.lemmas.List.Elements.{All-nil, All-cons, All-head, All-tail}
+use Rattle.std.proofs.Math.Nat.{zero-add}
 use Rattle.atl_world.specs.Worlds.{WorldValue}
 use Rattle.atl_orders.specs.declared.fault.MailFault.{MailFault}
 use Rattle.atl_orders.specs.declared.fault.MailFault.TheVariants.{NoHeader}
@@ -31,9 +32,6 @@ data HasHeaderOrNone (n : ℕ) (all : List (List ℕ)) : Type 0 where
 lines_after_next : (n k : ℕ) → k + (n + 1) ≡ suc k + n
 lines_after_next n k = omega arith
 
-from_none : (n : ℕ) → 0 + n ≡ n
-from_none n = omega arith
-
 with_line_above : (n : ℕ) (line : List ℕ) (rest : List (List ℕ)) → IsNoHeader line → header_from n (line ∷ rest) ≡ header_from (n + 1) rest → HasHeaderOrNone (n + 1) rest → HasHeaderOrNone n (line ∷ rest)
 with_line_above n line rest h e (none a f) = none (All-cons IsNoHeader line rest h a) (e ∙ f)
 with_line_above n line rest h e (one above header below is f) =
@@ -41,7 +39,7 @@ with_line_above n line rest h e (one above header below is f) =
     (e ∙ f ∙ ap (λ k. header_line k below (faction_of (words header))) (lines_after_next n (length above)))
 
 with_first_line : (t : Bool) (n : ℕ) (line : List ℕ) (rest : List (List ℕ)) → is_header line ≡ t → header_from n (line ∷ rest) ≡ cond t (header_line n rest (faction_of (words line))) (header_from (n + 1) rest) → HasHeaderOrNone (n + 1) rest → HasHeaderOrNone n (line ∷ rest)
-with_first_line true n line rest h e f = one [] line rest (record { whole = refl; leads = h; first = All-nil IsNoHeader }) (e ∙ ap (λ k. header_line k rest (faction_of (words line))) (sym (from_none n)))
+with_first_line true n line rest h e f = one [] line rest (record { whole = refl; leads = h; first = All-nil IsNoHeader }) (e ∙ ap (λ k. header_line k rest (faction_of (words line))) (sym (zero-add n)))
 with_first_line false n line rest h e f = with_line_above n line rest h e f
 
 has_header_or_none : (n : ℕ) (all : List (List ℕ)) → HasHeaderOrNone n all
@@ -56,7 +54,7 @@ no_header_found n (line ∷ rest) a = rw (All-head IsNoHeader line rest a) (no_h
 
 first_one : (n : ℕ) (above : List (List ℕ)) (header : List ℕ) (below : List (List ℕ)) → HaveNoHeader above → is_header header ≡ true → header_from n (above ++ header ∷ below) ≡ header_line (length above + n) below (faction_of (words header))
 unfolding header_from
-first_one n [] header below a h = rw h (ap (λ k. header_line k below (faction_of (words header))) (sym (from_none n)))
+first_one n [] header below a h = rw h (ap (λ k. header_line k below (faction_of (words header))) (sym (zero-add n)))
 first_one n (line ∷ above) header below a h = rw (All-head IsNoHeader line above a) (first_one (n + 1) above header below (All-tail IsNoHeader line above a) h ∙ ap (λ k. header_line k below (faction_of (words header))) (lines_after_next n (length above)))
 
 -- ---- a whole text

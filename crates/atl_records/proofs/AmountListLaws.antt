@@ -1,6 +1,6 @@
 -- Laws of the list of the books' amounts: it has the accounts in order, with the amounts that are not 0. Of a list of
 -- accounts `listed_of` keeps those whose amount is not 0.
-use Rattle.std.proofs.Common.{◌≡◌, ℕ, zero, suc, ◌<◌, ◌+◌, ◌&&◌, ◌||◌, T, Bool, true, false, not, cond, List, [], ◌∷◌, ◌++◌, length, map, Option, Some, None, refl, sym, ap, subst, ◌∙◌, arith, inl, inr}
+use Rattle.std.proofs.Common.{◌≡◌, ℕ, zero, suc, ◌<◌, ◌+◌, ◌&&◌, ◌||◌, T, Bool, true, false, not, cond, List, [], ◌∷◌, ◌++◌, map, Option, Some, None, refl, sym, ap, subst, ◌∙◌, arith, inl, inr}
 use Rattle.std.specs.Prelude.{ℤ, ⊤, nat_lt}
 use Rattle.std.specs.List.{AllByRecursion, flat_map, list_all, list_any, range_with_len}
 use Rattle.std.specs.declared.cmp.Ordering.TheVariants.{Less, Equal, Greater}
@@ -10,6 +10,7 @@ use Rattle.std.specs.FinMap.{FinMap, empty, entries, entries_sorted, find, get, 
 use Rattle.std.specs.FinMap.Entries.{below_all, same_entries}
 use Rattle.std.proofs.lemmas.Bool.{and_parts, cases_lt, false≢true}
 use Rattle.std.proofs.lemmas.Bool.Decides.{nat_tests}
+use Rattle.std.proofs.lemmas.List.{nil_from_length}
 use Rattle.atl_records.specs.declared.books.BooksEntry.{BooksEntry}
 use Rattle.atl_records.specs.Books.{Account, BooksValue, account_cmp, all_entries, amount_in, AreBooks, entry_index, is_zero, thing_at, thing_index}
 use Rattle.atl_records.specs.Grids.{accounts, accounts_under, listed_of}
@@ -34,7 +35,7 @@ less_thing : (e : BooksEntry) (i k : ℕ) → i < k → account_cmp (e, thing_at
 less_thing e i k h =
     ap (λ o. ordering_then o (nat_cmp (thing_index (thing_at i)) (thing_index (thing_at k)))) (tied_itself nat_cmp_total (entry_index e)) ∙ (λ j. nat_cmp (index_of_thing_at i j) (index_of_thing_at k j)) ∙ sym (nat_cmp_is i k Less h)
 
-all_append : {A : Type 0} (P : A → Type 0) (xs ys : List A) → AllByRecursion P xs → AllByRecursion P ys → AllByRecursion P (xs ++ ys)
+pub all_append : {A : Type 0} (P : A → Type 0) (xs ys : List A) → AllByRecursion P xs → AllByRecursion P ys → AllByRecursion P (xs ++ ys)
 all_append P [] ys h k = k
 all_append P (x ∷ xs) ys h k = (h.0, all_append P xs ys h.1 k)
 
@@ -190,9 +191,5 @@ module _ (P : Account → ℤ → Type 0) where
   pub amount_of_each : (m : FinMap account_cmp ℤ) → AllByRecursion (λ x. P x.0 x.1) (entries m) → (a : Account) (z : ℤ) → get m a ≡ Some z → P a z
   amount_of_each m h a z is = found_of (entries m) a z h (sym (get-entries m a) ∙ is)
 
-no_length : {A : Type 0} (xs : List A) → length xs ≡ 0 → xs ≡ []
-no_length [] h = refl
-no_length (x ∷ xs) h = absurd (omega arith)
-
 pub entries-none : entries (empty {X = ℤ} {R = account_cmp}) ≡ []
-entries-none = no_length (entries (empty {X = ℤ} {R = account_cmp})) (sym (len-entries (empty {X = ℤ} {R = account_cmp})) ∙ len-empty account_cmp ℤ)
+entries-none = nil_from_length (entries (empty {X = ℤ} {R = account_cmp})) (sym (len-entries (empty {X = ℤ} {R = account_cmp})) ∙ len-empty account_cmp ℤ)

@@ -89,7 +89,7 @@ abbrev added_under : BooksEntry → ℤ → BooksEntry → ℤ
 added_under e n f = cond (entry_index f == entry_index e) n (pos 0)
 
 -- an amount plus 0 is the amount: for amounts to which a booking adds nothing
-plus_zero : (z : ℤ) → z ≡ z +ℤ pos 0
+pub plus_zero : (z : ℤ) → z ≡ z +ℤ pos 0
 plus_zero z = omega (arith, ints)
 
 regroup : (x y z w : ℤ) → (x +ℤ y) +ℤ (z +ℤ w) ≡ (x +ℤ z) +ℤ (y +ℤ w)

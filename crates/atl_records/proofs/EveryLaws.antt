@@ -1,14 +1,14 @@
 -- Laws of what holds of each value of a map (`Every`) or entry of a list (`EachEntry`), and of which numbers have a
 -- value (`HasValue`). They say so after an insertion, by the list of a map's entries, and with a function applied to
 -- each value.
-use Rattle.std.proofs.Common.{◌≡◌, ◌≢◌, ◌==◌, ◌↔◌, ℕ, zero, suc, ◌<◌, T, Bool, true, false, ◌||◌, cond, List, [], ◌∷◌, length, get_or, map, filter, Option, Some, None, option_map, refl, sym, ap, ◌∙◌, subst, arith}
+use Rattle.std.proofs.Common.{◌≡◌, ◌≢◌, ◌==◌, ◌↔◌, ℕ, zero, suc, ◌<◌, T, Bool, true, false, cond, List, [], ◌∷◌, length, get_or, map, filter, Option, Some, None, option_map, refl, sym, ap, ◌∙◌, subst, arith}
 use Rattle.std.specs.declared.cmp.Ordering.TheVariants.{Less, Equal, Greater}
 use Rattle.std.specs.List.{list_any}
 use Rattle.std.specs.Ordering.{nat_cmp, is_eq, is_lt}
 use Rattle.std.specs.Cmp.{nat_cmp_total, ranked}
 use Rattle.std.specs.FinMap.{FinMap, get, insert, find, entries, entries_sorted, is_sorted, get-entries, get-insert, get-empty, empty, nat_cmp-IsAntisymmetric}
 use Rattle.std.specs.FinMap.Entries.{below_all}
-use Rattle.std.proofs.lemmas.Bool.{and_parts, false≢true}
+use Rattle.std.proofs.lemmas.Bool.{and_parts, false≢true, or_parts}
 use Rattle.atl_world.specs.Sums.{numbers_where, map_values}
 use Rattle.atl_world.proofs.MappedLaws.{get-mapped}
 use Rattle.atl_world.proofs.SumLaws.{chosen-cons}
@@ -121,12 +121,6 @@ module _ {V : Type 0} where
         | Equal ↦ λ same. let one : e.1 ≡ v = cc in rw (← one) apart.0
         | Greater ↦ fails p es n v apart.1
       ] is
-    where
-      -- if "a or b" is false, both a and b are false: for `fails`, where a says whether the first value passes, and b
-      -- whether a later one does
-      or_parts : (a b : Bool) → (a || b) ≡ false → (a ≡ false) × (b ≡ false)
-      or_parts true b h = cc
-      or_parts false b h = (refl, h)
 
   pub every-from_none : (p : V → Bool) (m : FinMap nat_cmp V) → list_any (λ e. p e.1) (entries m) ≡ false → Every (λ n v. p v ≡ false) m
   every-from_none p m h n v is = fails p (entries m) n v h (sym (get-entries m n) ∙ is)

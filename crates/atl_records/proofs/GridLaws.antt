@@ -5,7 +5,7 @@ use Rattle.std.specs.List.{flat_map, list_any, range_with_len}
 use Rattle.std.specs.Ordering.{eq_by_cmp}
 use Rattle.std.specs.FinMap.{get, get-empty, same_map}
 use Rattle.std.proofs.lemmas.List.{ext_get_or, get_or-map, get_or-set_same, get_or-set_other, get_or_default, get_or_past, get_or-replicate, length-map, length-set, length-replicate}
-use Rattle.std.proofs.lemmas.Bool.{cases_eq, cases_lt, false≢true}
+use Rattle.std.proofs.lemmas.Bool.{cases_eq, cases_lt, false≢true, or_right}
 use Rattle.std.proofs.lemmas.Bool.Decides.{nat_tests}
 use Rattle.atl_records.specs.Limits.{entry_count}
 use Rattle.atl_records.specs.declared.books.BooksEntry.{BooksEntry}
@@ -19,11 +19,6 @@ use Rattle.atl_records.proofs.EveryEntryLaws.{entry_in_place, entry_small}
 
 -- ---- accounts among those of the first things
 
--- "x or y" is true if y is: for `any_later` and `any_under`, where y says whether a later element passes
-or_later : (x y : Bool) → y ≡ true → (x || y) ≡ true
-or_later true y h = refl
-or_later false y h = h
-
 module _ {A : Type 0} (p : A → Bool) where
   any_first : (xs ys : List A) → list_any p xs ≡ true → list_any p (xs ++ ys) ≡ true
   any_first [] ys h = absurd (false≢true h)
@@ -32,7 +27,7 @@ module _ {A : Type 0} (p : A → Bool) where
 
   any_later : (xs ys : List A) → list_any p ys ≡ true → list_any p (xs ++ ys) ≡ true
   any_later [] ys h = h
-  any_later (x ∷ xs) ys h = or_later (p x) (list_any p (xs ++ ys)) (any_later xs ys h)
+  any_later (x ∷ xs) ys h = or_right (p x) (list_any p (xs ++ ys)) (any_later xs ys h)
 
   any_flat : (f : BooksEntry → List A) (e : BooksEntry) (es : List BooksEntry) → list_any (λ d. entry_index d == entry_index e) es ≡ true → list_any p (f e) ≡ true → list_any p (flat_map f es) ≡ true
   any_flat f e [] h its = absurd (false≢true h)
@@ -54,7 +49,7 @@ any_under e t a (suc n) l h =
     let others = list_any (eq_by_cmp account_cmp (e, t)) (map (λ i. (e, thing_at i)) (range_with_len (a + 1) n)) in
     elim (cases_eq a (thing_index t)) [
       | inl same ↦ ap (λ b. b || others) (ap (λ u. eq_by_cmp account_cmp (e, t) (e, u)) (ap thing_at same ∙ thing_at_index t) ∙ account_itself (e, t))
-      | inr apart ↦ or_later (eq_by_cmp account_cmp (e, t) (e, thing_at a)) others (any_under e t (a + 1) n (omega arith) (omega arith))
+      | inr apart ↦ or_right (eq_by_cmp account_cmp (e, t) (e, thing_at a)) others (any_under e t (a + 1) n (omega arith) (omega arith))
     ]
 
 pub any_accounts : (things : ℕ) (e : BooksEntry) (t : Thing) → thing_index t < things → list_any (eq_by_cmp account_cmp (e, t)) (accounts things) ≡ true

@@ -2,6 +2,7 @@
 use Rattle.std.proofs.Common.{◌≡◌, ℕ, ◌+◌, ◌<◌, Bool, true, false, not, cond, ◌||◌, List, length, map, take, get_or, refl, sym, ap, ◌∙◌}
 use Rattle.std.proofs.lemmas.List.Folds.{list_any_more}
 use Rattle.std.proofs.lemmas.Map.Text.{btree_set_updates_text}
+use Rattle.std.proofs.lemmas.Bool.{not-false, not-true}
 use Rattle.std.specs.BTreeSet.{BTreeSet, Updates}
 use Rattle.std.specs.Char.{to_ascii_lowercase}
 use Rattle.std.specs.List.{list_any}
@@ -26,20 +27,12 @@ unfolding same_name
 has_more seen grown lowered name put same other =
     rw same at (btree_set_updates_text (string_bytes lowered) seen grown true put (map to_ascii_lowercase other)) ∙ choice_is_or (same_name name other) (has_name seen other)
 
-not_new_was_there : (new there : Bool) → new ≡ not there → new ≡ false → there ≡ true
-not_new_was_there new true said h = refl
-not_new_was_there new false said h = sym h ∙ said
-
-new_was_not_there : (new there : Bool) → new ≡ not there → new ≡ true → there ≡ false
-new_was_not_there new true said h = sym h ∙ said
-new_was_not_there new false said h = refl
-
 module _ {A Z : Type 0} (title : A → List ℕ) (all : List A) (i : ℕ) (x : A) (seen : BTreeSet (String Z)) (so_far : HasNames title (take i all) seen) where
   pub came_before : (new : Bool) → new ≡ not (has_name seen (title x)) → new ≡ false → list_any (λ y. same_name (title y) (title x)) (take i all) ≡ true
-  came_before new said h = sym (so_far (title x)) ∙ not_new_was_there new _ said h
+  came_before new said h = sym (so_far (title x)) ∙ not-false _ (sym said ∙ h)
 
   pub comes_first : (new : Bool) → new ≡ not (has_name seen (title x)) → new ≡ true → list_any (λ y. same_name (title y) (title x)) (take i all) ≡ false
-  comes_first new said h = sym (so_far (title x)) ∙ new_was_not_there new _ said h
+  comes_first new said h = sym (so_far (title x)) ∙ not-true _ (sym said ∙ h)
 
   pub has_one_more : (grown : BTreeSet (String Z)) → i < length all → x ≡ get_or all i x → ((other : List ℕ) → has_name grown other ≡ (has_name seen other || same_name (title x) other)) → HasNames title (take (i + 1) all) grown
   has_one_more grown below here put name =

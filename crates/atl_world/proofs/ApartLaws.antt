@@ -1,7 +1,7 @@
 -- Laws of sets with no number in common. `Marks` keeps the marked numbers in two such sets: m, which has room for all
 -- marks (`AreMarks`), and l, the set of the recent marks.
 use Rattle.std.proofs.Common.{◌≡◌, ℕ, ◌+◌, ◌<◌, ◌≤◌, Bool, true, false, cond, not, ◌&&◌, ◌||◌, List, [], ◌∷◌, length, get_or, refl, sym, ap, ◌∙◌, inl, inr, arith}
-use Rattle.std.proofs.lemmas.Bool.{cases_order, false≢true, and_parts, false_from_ne_true}
+use Rattle.std.proofs.lemmas.Bool.{cases_order, false≢true, and_parts, false_from_ne_true, or_parts}
 use Rattle.std.specs.List.{list_any}
 use Rattle.std.specs.Ordering.{nat_cmp, eq_by_cmp}
 use Rattle.std.specs.Cmp.{nat_cmp_total}
@@ -11,6 +11,7 @@ use Rattle.atl_world.specs.SortedNumbers.{AreApart, AreMarks}
 use Rattle.atl_world.proofs.GeneralLaws.{key_itself, same_key}
 use Rattle.atl_world.proofs.SetLaws.{sets_are_equal, remove_absent, union-empty, union-insert, len-within, len-below, not_and_is_false, or_without_first_is_second}
 use Rattle.atl_world.proofs.SortedListLaws.{contains-is_at}
+use mathlib.Core.Bool.{and-false}
 
 abbrev NumberSet : Type 0
 NumberSet = set.FinSet nat_cmp
@@ -55,11 +56,6 @@ union-remove s t n = sets_are_equal _ _ (λ q.
     ∙ sym (set.contains-remove nat_cmp_total (set.union s t) n q))
 
 -- ---- how many numbers two sets have
-
--- if "a or b" is false, both a and b are false: for `in_neither`, where they say whether m and l have the number n
-or_false_parts : (a b : Bool) → (a || b) ≡ false → (a ≡ false) × (b ≡ false)
-or_false_parts true b h = absurd (false≢true (sym h))
-or_false_parts false b h = (refl, h)
 
 -- `len-apart` by recursion over a list `ks` that has all numbers of t: the union of s and t, which share no number, has
 -- as many numbers as both together
@@ -116,14 +112,8 @@ apart_insert s t n h missing = record {
 
 apart_remove : (s t : NumberSet) (n : ℕ) → AreApart s t → AreApart (set.remove s n) (set.remove t n)
 apart_remove s t n h = record {
-  apart = λ q e. set.contains-remove nat_cmp_total t n q ∙ ap (λ b. not (eq_by_cmp nat_cmp q n) && b) (h.apart q (is_in_whole_set s n q e)) ∙ and_false _;
+  apart = λ q e. set.contains-remove nat_cmp_total t n q ∙ ap (λ b. not (eq_by_cmp nat_cmp q n) && b) (h.apart q (is_in_whole_set s n q e)) ∙ and-false _;
 }
-  where
-    -- "b and false" is false: for `apart_remove`, where b says that a number isn't n, and the set t doesn't have this
-    -- number
-    and_false : (b : Bool) → (b && false) ≡ false
-    and_false true = refl
-    and_false false = refl
 
 -- ---- marks in two sets
 
@@ -136,7 +126,7 @@ no_marks room recent = none_recent set.empty room recent (let none : set.len {R 
 -- a number n is to be marked, where v is the set of all marks: those of m and the recent ones of l
 module _ (m l v : RoomySet) (n : ℕ) (seen : ◌≡◌ {A = RoomySet} (record { numbers = set.union m.numbers l.numbers; room = m.room }) v) (marks : AreMarks m l) where
   in_neither : set.contains v.numbers n ≡ false → (set.contains m.numbers n ≡ false) × (set.contains l.numbers n ≡ false)
-  in_neither h = or_false_parts _ _ (sym (set.contains-union nat_cmp_total m.numbers l.numbers n) ∙ ap (λ (w : RoomySet). set.contains w.numbers n) seen ∙ h)
+  in_neither h = or_parts _ _ (sym (set.contains-union nat_cmp_total m.numbers l.numbers n) ∙ ap (λ (w : RoomySet). set.contains w.numbers n) seen ∙ h)
 
   pub fits_recent : set.contains v.numbers n ≡ false → set.len l.numbers < l.room → set.len (set.insert l.numbers n) ≤ l.room
   fits_recent missing room = let more = len-new l.numbers n (in_neither missing).1 in omega (arith, more, room)

@@ -6,7 +6,7 @@ use Rattle.std.specs.Cmp.{ranked}
 use Rattle.std.specs.FinMap.{is_sorted}
 use Rattle.std.proofs.lemmas.Bool.{and_parts, false≢true}
 
-less_by_comparison : (k q : ℕ) → is_lt (nat_cmp k q) ≡ true → k < q
+pub less_by_comparison : (k q : ℕ) → is_lt (nat_cmp k q) ≡ true → k < q
 less_by_comparison k q h =
     elim (nat_cmp k q) as (λ r. nat_cmp k q ≡ r → is_lt r ≡ true → k < q) [
       | Less ↦ λ e _. ranked k q Less (sym e)

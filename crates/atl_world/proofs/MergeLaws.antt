@@ -17,7 +17,8 @@ use Rattle.std.specs.Set.{sorted_merge, merge_step}
 use Rattle.std.specs.FinSet as numbers
 use Rattle.atl_world.specs.Tracking.{IsAscendingListOf}
 use Rattle.atl_world.proofs.GeneralLaws.{same_key}
-use Rattle.atl_world.proofs.SetLaws.{sets_are_equal, or_false_is_same, or_swaps_first_two, or_is_associative}
+use Rattle.atl_world.proofs.SetLaws.{sets_are_equal, or_swaps_first_two, or_is_associative}
+use mathlib.Core.Bool.{or-false}
 
 abbrev IsRising : List ℕ → Type 0
 IsRising xs = IsStrictlySortedBy nat_cmp xs
@@ -52,7 +53,7 @@ module _ (n : ℕ) where
   -- n is in the merge of x ∷ xs and a second list exactly if it is in one of them, given that this is so for xs. (`on`
   -- merges xs with a list.)
   has-step : (x : ℕ) (xs : List ℕ) (on : List ℕ → List ℕ) → ((ys : List ℕ) → is_listed (on ys) ≡ (is_listed xs || is_listed ys)) → (ys : List ℕ) → is_listed (merge_with_first x xs on ys) ≡ (is_listed (x ∷ xs) || is_listed ys)
-  has-step x xs on h [] = sym (or_false_is_same (is_listed (x ∷ xs)))
+  has-step x xs on h [] = sym (or-false (is_listed (x ∷ xs)))
   has-step x xs on h (y ∷ ys) = by_rank (λ zs. is_listed zs ≡ (is_listed (x ∷ xs) || is_listed (y ∷ ys))) (nat_cmp x y) _ _ _
       (λ _. ap (λ b. eq_by_cmp nat_cmp n x || b) (h (y ∷ ys)) ∙ sym (or_is_associative (eq_by_cmp nat_cmp n x) (is_listed xs) (is_listed (y ∷ ys))))
       (λ e. ap (λ b. eq_by_cmp nat_cmp n x || b) (h ys) ∙ or_repeated (eq_by_cmp nat_cmp n x) (eq_by_cmp nat_cmp n y) (is_listed xs) (is_listed ys) (ap (eq_by_cmp nat_cmp n) (nat_cmp-IsAntisymmetric x y e)))

@@ -1,13 +1,14 @@
 -- Laws of sets of numbers: when two are equal, numbers put in and taken out, unions, and how many numbers there are.
 use Rattle.std.proofs.Common.{◌≡◌, ℕ, zero, suc, ◌+◌, ◌-◌, ◌<◌, ◌≤◌, Bool, true, false, cond, not, ◌&&◌, ◌||◌, List, [], ◌∷◌, length, refl, sym, ap, ◌∙◌, arith}
 use Rattle.std.specs.List.{list_any}
-use Rattle.std.proofs.lemmas.Bool.{false≢true, and_parts, false_from_ne_true}
+use Rattle.std.proofs.lemmas.Bool.{false≢true, and_parts, false_from_ne_true, or_left}
 use Rattle.std.specs.Ordering.{nat_cmp, eq_by_cmp, is_eq}
 use Rattle.std.specs.declared.cmp.Ordering.TheVariants.{Less, Equal, Greater}
 use Rattle.std.specs.Cmp.{nat_cmp_total, ranked}
 use Rattle.std.specs.FinMap.{nat_cmp-IsAntisymmetric}
 use Rattle.std.specs.FinSet as set
-use Rattle.atl_world.proofs.GeneralLaws.{key_itself}
+use Rattle.atl_world.proofs.GeneralLaws.{key_itself, chosen_is_at_most_next}
+use mathlib.Core.Bool.{or-false}
 
 pub sets_are_equal : (s t : set.FinSet nat_cmp) → ((q : ℕ) → set.contains s q ≡ set.contains t q) → s ≡ t
 sets_are_equal s t h = set.same_set nat_cmp_total nat_cmp-IsAntisymmetric s t h
@@ -87,10 +88,6 @@ len-within_by (k ∷ ks) s t all h =
 pub len-within : (s t : set.FinSet nat_cmp) → ((q : ℕ) → set.contains s q ≡ true → set.contains t q ≡ true) → set.len s ≤ set.len t
 len-within s t h = len-within_by (set.items s) s t (λ q e. sym (set.contains-items s q) ∙ e) h
 
-pub or_false_is_same : (b : Bool) → (b || false) ≡ b
-or_false_is_same true = refl
-or_false_is_same false = refl
-
 -- the first two of three may be swapped in "or": whether a number is in a set (a), is the one put in (b), or is in
 -- another set (c)
 pub or_swaps_first_two : (a b c : Bool) → (a || (b || c)) ≡ (b || (a || c))
@@ -99,7 +96,7 @@ or_swaps_first_two true false c = refl
 or_swaps_first_two false b c = refl
 
 pub union-empty : (s : set.FinSet nat_cmp) → set.union s set.empty ≡ s
-union-empty s = sets_are_equal _ _ (λ q. set.contains-union nat_cmp_total s set.empty q ∙ ap (λ b. set.contains s q || b) (set.contains-empty nat_cmp q) ∙ or_false_is_same _)
+union-empty s = sets_are_equal _ _ (λ q. set.contains-union nat_cmp_total s set.empty q ∙ ap (λ b. set.contains s q || b) (set.contains-empty nat_cmp q) ∙ or-false _)
 
 pub union-insert : (s t : set.FinSet nat_cmp) (k : ℕ) → set.union s (set.insert t k) ≡ set.insert (set.union s t) k
 union-insert s t k = sets_are_equal _ _ (λ q.
@@ -115,24 +112,14 @@ insert-union s t k = sets_are_equal _ _ (λ q.
     set.contains-union nat_cmp_total (set.insert s k) t q ∙ ap (λ b. b || set.contains t q) (set.contains-insert nat_cmp_total s k q) ∙ or_is_associative (eq_by_cmp nat_cmp q k) (set.contains s q) (set.contains t q)
     ∙ sym (set.contains-insert nat_cmp_total (set.union s t) k q ∙ ap (λ b. eq_by_cmp nat_cmp q k || b) (set.contains-union nat_cmp_total s t q)))
 
--- Whichever of n and n + 1 a truth value b chooses, it is at most n + 1. For `len-union`, where b says whether a set of
--- n numbers has the number put in already.
-chosen_is_at_most_one_more : (b : Bool) (n : ℕ) → cond b n (n + 1) ≤ n + 1
-chosen_is_at_most_one_more true n = omega arith
-chosen_is_at_most_one_more false n = omega arith
-
 pub len-union : (s : set.FinSet nat_cmp) (ks : List ℕ) → set.len (set.union s (set.from_list ks)) ≤ set.len s + length ks
 len-union s [] = let e : set.len (set.union s set.empty) ≡ set.len s = ap set.len (union-empty s) in omega (arith, e)
 len-union s (k ∷ ks) =
     let rest = len-union s ks in
     let e : set.len (set.union s (set.from_list (k ∷ ks))) ≡ cond (set.contains (set.union s (set.from_list ks)) k) (set.len (set.union s (set.from_list ks))) (set.len (set.union s (set.from_list ks)) + 1)
     = ap set.len (union-insert s (set.from_list ks) k) ∙ set.len-insert nat_cmp_total (set.union s (set.from_list ks)) k in
-    let l = chosen_is_at_most_one_more (set.contains (set.union s (set.from_list ks)) k) (set.len (set.union s (set.from_list ks))) in
+    let l = chosen_is_at_most_next (set.contains (set.union s (set.from_list ks)) k) (set.len (set.union s (set.from_list ks))) in
     omega (arith, rest, e, l)
-
-pub or_holds_by_first : (a b : Bool) → a ≡ true → (a || b) ≡ true
-or_holds_by_first true b h = refl
-or_holds_by_first false b h = absurd (false≢true h)
 
 -- ---- the numbers of a list, which come one after another
 
@@ -141,7 +128,7 @@ union-next s k ks = insert-union s (set.from_list ks) k ∙ sym (union-insert s 
 
 pub len-next : (s t : set.FinSet nat_cmp) (k : ℕ) (ks : List ℕ) → set.union s (set.from_list (k ∷ ks)) ≡ t → set.len (set.insert s k) ≤ set.len t
 len-next s t k ks h =
-    len-within (set.insert s k) t (λ q e. ap (λ u. set.contains u q) (sym (union-next s k ks ∙ h)) ∙ set.contains-union nat_cmp_total (set.insert s k) (set.from_list ks) q ∙ or_holds_by_first _ _ e)
+    len-within (set.insert s k) t (λ q e. ap (λ u. set.contains u q) (sym (union-next s k ks ∙ h)) ∙ set.contains-union nat_cmp_total (set.insert s k) (set.from_list ks) q ∙ or_left _ _ e)
 
 -- A count l is at most one more than r, which is l, or l less one if b is true. For `len-below`, where r counts a set
 -- of l numbers without m, and b says whether it has m.

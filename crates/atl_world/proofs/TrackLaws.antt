@@ -1,7 +1,7 @@
 -- Laws of maps by number with marks: there stays room for the marks, and taking a new value out undoes putting it in.
 use Rattle.std.proofs.Common.{◌≡◌, ℕ, ◌+◌, ◌≤◌, Bool, true, false, cond, not, ◌&&◌, ◌||◌, length, Option, Some, None, refl, sym, ap, ◌∙◌, arith}
 use Rattle.std.specs.Prelude.{is_some}
-use Rattle.std.proofs.lemmas.Bool.{false≢true}
+use Rattle.std.proofs.lemmas.Bool.{false≢true, or_right, or_left}
 use Rattle.std.proofs.lemmas.List.{length-map}
 use Rattle.std.specs.Ordering.{nat_cmp, eq_by_cmp, is_eq}
 use Rattle.std.specs.declared.cmp.Ordering.TheVariants.{Less, Equal, Greater}
@@ -13,13 +13,9 @@ use Rattle.atl_world.specs.RoomySets.{valued_or_marked}
 use Rattle.atl_world.specs.Tracking.{marked_with, with_value, without_value_at, without_new_value}
 pub use Rattle.atl_world.proofs.GeneralLaws.{is_true}
 use Rattle.atl_world.proofs.GeneralLaws.{key_itself, same_key}
-use Rattle.atl_world.proofs.SetLaws.{sets_are_equal, insert_twice, insert_undone, contains_inserted, or_holds_by_first, len-within, len-union}
+use Rattle.atl_world.proofs.SetLaws.{sets_are_equal, insert_twice, insert_undone, contains_inserted, len-within, len-union}
 use Rattle.atl_world.proofs.SumLaws.{remove_undoes_insert}
-
--- if b is true, so is "a or b": for numbers of which a says whether they have a mark, and b whether they have a value
-or_holds_by_second : (a b : Bool) → b ≡ true → (a || b) ≡ true
-or_holds_by_second true b h = refl
-or_holds_by_second false b h = h
+use mathlib.Core.Bool.{or-false}
 
 -- P holds of the result of the test whether q is n, if P holds of false, and of true where q is n. For laws of what a
 -- set or a map that was changed at n has at q.
@@ -36,7 +32,7 @@ module _ {V : Type 0} where
       ∙ ap (λ b. set.contains m q || b) (set.contains-from_list nat_cmp_total (keys v) q ∙ sym (contains_key-keys v q))
 
   key_has_value_or_mark : (v : FinMap nat_cmp V) (m : set.FinSet nat_cmp) (n q : ℕ) → is_some (get v n) ≡ true → q ≡ n → (set.contains m q || is_some (get v q)) ≡ true
-  key_has_value_or_mark v m n q h e = or_holds_by_second (set.contains m q) (is_some (get v q)) (ap (λ k. is_some (get v k)) e ∙ h)
+  key_has_value_or_mark v m n q h e = or_right (set.contains m q) (is_some (get v q)) (ap (λ k. is_some (get v k)) e ∙ h)
 
   pub held-marked : (v : FinMap nat_cmp V) (m : set.FinSet nat_cmp) (n : ℕ) → is_some (get v n) ≡ true → valued_or_marked v (set.insert m n) ≡ valued_or_marked v m
   held-marked v m n h = sets_are_equal _ _ (λ q.
@@ -59,13 +55,7 @@ module _ {V : Type 0} where
       ∙ sym (contains-held v m q))
 
   pub held-cleared : (v : FinMap nat_cmp V) (m : set.FinSet nat_cmp) → valued_or_marked (empty {X = V} {R = nat_cmp}) (valued_or_marked v m) ≡ valued_or_marked v m
-  held-cleared v m = sets_are_equal _ _ (λ q. contains-held empty (valued_or_marked v m) q ∙ ap (λ o. set.contains (valued_or_marked v m) q || is_some o) (get-empty {X = V} nat_cmp q) ∙ nothing_more (set.contains (valued_or_marked v m) q))
-    where
-      -- "b or false" is b: for `held-cleared`, where b says whether a number is marked, and the empty map has no value
-      -- under it
-      nothing_more : (b : Bool) → (b || false) ≡ b
-      nothing_more true = refl
-      nothing_more false = refl
+  held-cleared v m = sets_are_equal _ _ (λ q. contains-held empty (valued_or_marked v m) q ∙ ap (λ o. set.contains (valued_or_marked v m) q || is_some o) (get-empty {X = V} nat_cmp q) ∙ or-false (set.contains (valued_or_marked v m) q))
 
   -- ---- the room for marks
 
@@ -88,11 +78,11 @@ module _ {V : Type 0} where
   pub fits-marked : (v : FinMap nat_cmp V) (m : set.FinSet nat_cmp) (r n : ℕ) → is_some (get v n) ≡ true → Room v m r → set.len (set.insert m n) ≤ r
   fits-marked v m r n h room =
       let all : set.len (valued_or_marked v (set.insert m n)) ≡ set.len (valued_or_marked v m) = ap set.len (held-marked v m n h) in
-      let l = len-within (set.insert m n) (valued_or_marked v (set.insert m n)) (λ q e. contains-held v (set.insert m n) q ∙ or_holds_by_first _ _ e) in
+      let l = len-within (set.insert m n) (valued_or_marked v (set.insert m n)) (λ q e. contains-held v (set.insert m n) q ∙ or_left _ _ e) in
       omega (arith, all, l, room)
 
   pub Room-unmarked : (v : FinMap nat_cmp V) (m : set.FinSet nat_cmp) (r : ℕ) → Room v m r → Room v set.empty r
-  Room-unmarked v m r = room_is_enough_for_fewer v v m set.empty r (λ q e. or_holds_by_second (set.contains m q) (is_some (get v q)) (ap (λ b. b || is_some (get v q)) (sym (set.contains-empty nat_cmp q)) ∙ e))
+  Room-unmarked v m r = room_is_enough_for_fewer v v m set.empty r (λ q e. or_right (set.contains m q) (is_some (get v q)) (ap (λ b. b || is_some (get v q)) (sym (set.contains-empty nat_cmp q)) ∙ e))
 
   pub Room-taken : (v : FinMap nat_cmp V) (m : set.FinSet nat_cmp) (r n : ℕ) → Room v m r → Room (remove v n) (set.remove m n) r
   Room-taken v m r n = room_is_enough_for_fewer v (remove v n) m (set.remove m n) r (λ q e. holds_of_key_test n q (λ b. ((not b && set.contains m q) || is_some (cond b None (get v q))) ≡ true → (set.contains m q || is_some (get v q)) ≡ true) (λ _ h. absurd (false≢true h)) (λ h. h)
