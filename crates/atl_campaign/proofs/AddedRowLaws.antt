@@ -13,7 +13,10 @@ use Rattle.atl_rows.specs.declared.parts.StoredRegion.{StoredRegion}
 use Rattle.atl_rows.specs.declared.parts.StoredUnit.{StoredUnit}
 use Rattle.atl_campaign.specs.Assembling.{bare_unit, bare_region, with_has_row, with_market_row, with_rows_added}
 use Rattle.atl_campaign.specs.FromRows.{as_u32, is_of_unit_and_sort, put_rows, by_number, unit_with_goods, unit_of, region_with_stocks, region_of}
-use Rattle.atl_campaign.proofs.AssemblyLaws.{get_same, get_other, taken_or_not, is_same}
+use Rattle.atl_campaign.proofs.AssemblyLaws.{taken_or_not}
+use Rattle.atl_world.proofs.GeneralLaws.{is_equal}
+use Rattle.atl_world.proofs.TrackLaws.{get_inserted}
+use Rattle.atl_records.proofs.EveryLaws.{get-insert_other}
 
 -- ---- what may be there
 
@@ -21,17 +24,17 @@ map_none : {V : Type 0} (o : Option V) → o ≡ option_map (λ v. v) o
 map_none None = refl
 map_none (Some v) = refl
 
-map_twice : {V : Type 0} (f g : V → V) (o : Option V) → option_map f (option_map g o) ≡ option_map (λ v. f (g v)) o
+pub map_twice : {V : Type 0} (f g : V → V) (o : Option V) → option_map f (option_map g o) ≡ option_map (λ v. f (g v)) o
 map_twice f g None = refl
 map_twice f g (Some v) = refl
 
 at_same : {V : Type 0} (f : V → V) (m : FinMap nat_cmp V) (k : ℕ) (o : Option V) → get m k ≡ o → get (with_changed_option f m k o) k ≡ option_map f o
 at_same f m k None e = e
-at_same f m k (Some v) e = get_same m k (f v)
+at_same f m k (Some v) e = get_inserted m k (f v)
 
 at_other : {V : Type 0} (f : V → V) (m : FinMap nat_cmp V) (k n : ℕ) (o : Option V) → n ≢ k → get (with_changed_option f m k o) n ≡ get m n
 at_other f m k n None apart = refl
-at_other f m k n (Some v) apart = get_other m k n (f v) apart
+at_other f m k n (Some v) apart = get-insert_other m k n (f v) apart
 
 module _ {R V : Type 0} (owner : R → ℕ) (more : R → V → V) where
   -- the value v of number n with each row of number n added to it, in the order of the rows
@@ -68,8 +71,8 @@ module _ {R V : Type 0} (owner : R → ℕ) (more : R → V → V) where
         elim (cases_eq k n) [
           | inl same ↦
               subst (λ q. option_map (value_with_rows q rows) (get (insert m k (before t)) q) ≡ get (insert l k (after t)) q) same
-              (ap (option_map (value_with_rows k rows)) (get_same m k (before t)) ∙ ap Some (each t) ∙ sym (get_same l k (after t)))
-          | inr apart ↦ ap (option_map (value_with_rows n rows)) (get_other m k n (before t) (λ e. apart (sym e))) ∙ all n ∙ sym (get_other l k n (after t) (λ e. apart (sym e)))
+              (ap (option_map (value_with_rows k rows)) (get_inserted m k (before t)) ∙ ap Some (each t) ∙ sym (get_inserted l k (after t)))
+          | inr apart ↦ ap (option_map (value_with_rows n rows)) (get-insert_other m k n (before t) (λ e. apart (sym e))) ∙ all n ∙ sym (get-insert_other l k n (after t) (λ e. apart (sym e)))
         ]
 
     put_each : (ts : List T) (m l : FinMap nat_cmp V) → Becomes m l → Becomes (put_rows number before ts m) (put_rows number after ts l)
@@ -102,7 +105,7 @@ picked r items items' days days' true false false h = refl
 
 -- a sort that is 0 (items) is not 1 (skills)
 no_skill : (s : ℕ) → (s == 0) ≡ true → (s == 1) ≡ false
-no_skill s h = ap (λ k. k == 1) (is_same s 0 h)
+no_skill s h = ap (λ k. k == 1) (is_equal s 0 h)
 
 unit_given : (r : StoredUnit) (n : ℕ) (has : List StoredHas) (items days : FinMap nat_cmp ℕ)
     → value_with_rows (λ h. as_u32 h.unit) with_has_row n has (unit_with_goods r items days) ≡ unit_with_goods r (put_rows thing_of amount_of (filter (is_of_unit_and_sort n 0) has) items) (put_rows thing_of amount_of (filter (is_of_unit_and_sort n 1) has) days)

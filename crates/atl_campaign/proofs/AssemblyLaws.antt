@@ -1,33 +1,21 @@
 -- Laws of assembling a campaign from rows in range: their numbers are read as themselves, and items are within limits.
-use Rattle.std.proofs.Common.{◌≡◌, ◌≢◌, ◌==◌, ℕ, zero, suc, ◌≤◌, ◌<◌, ◌&&◌, ◌||◌, List, [], ◌∷◌, Bool, true, false, cond, filter, length, get_or, Some, None, nat_le, refl, sym, ap, subst, ◌∙◌, arith, inl, inr}
+use Rattle.std.proofs.Common.{◌≡◌, ◌==◌, ℕ, zero, suc, ◌≤◌, ◌<◌, ◌&&◌, List, [], ◌∷◌, Bool, true, false, cond, filter, length, get_or, Some, None, nat_le, refl, sym, ap, subst, ◌∙◌, arith, inl, inr}
 use Rattle.std.specs.Prelude.{ℤ, pos, negsuc, min, Result, Ok, Err, IfOk, IsUtf8}
 use Rattle.std.specs.List.{list_all}
-use Rattle.std.specs.declared.cmp.Ordering.TheVariants.{Less, Equal, Greater}
-use Rattle.std.specs.Ordering.{nat_cmp, is_eq, eq_by_cmp}
-use Rattle.std.specs.Cmp.{nat_cmp_total, eq_by_cmp_equiv}
-use Rattle.std.specs.FinMap.{FinMap, get, insert, empty, get-insert, get-empty, nat_cmp-IsAntisymmetric}
+use Rattle.std.specs.Ordering.{nat_cmp}
+use Rattle.std.specs.FinMap.{FinMap, get, insert, empty, get-empty}
 use Rattle.std.proofs.lemmas.Bool.{cases_eq, and_parts, false≢true}
 use Rattle.std.proofs.lemmas.Bool.Decides.{nat_tests}
+use Rattle.std.proofs.lemmas.Option.{same_Some}
 use Rattle.atl_rows.specs.declared.parts.StoredHas.{StoredHas}
 use Rattle.atl_campaign.specs.FromRows.{as_u32, is_of_unit_and_sort, put_rows, things_had}
 use Rattle.atl_records.specs.Holdings.{AreAmounts}
 use Rattle.atl_records.specs.Limits.{holding_limit, most_u32}
 use Rattle.atl_campaign.specs.RowRules.{is_from, has_in_range}
-
--- ---- what a map has under a number after an insertion
-
-pub get_same : {V : Type 0} (m : FinMap nat_cmp V) (k : ℕ) (v : V) → get (insert m k v) k ≡ Some v
-get_same m k v = get-insert nat_cmp_total m k v k ∙ ap (λ b. cond b (Some v) (get m k)) ((eq_by_cmp_equiv nat_cmp_total).refl k)
-
-distinct_compare_unequal : (n k : ℕ) → n ≢ k → eq_by_cmp nat_cmp n k ≡ false
-distinct_compare_unequal n k h = elim (nat_cmp n k) as (λ r. nat_cmp n k ≡ r → is_eq r ≡ false) [
-  | Less ↦ λ _. refl
-  | Equal ↦ λ e. absurd (h (nat_cmp-IsAntisymmetric n k e))
-  | Greater ↦ λ _. refl
-] refl
-
-pub get_other : {V : Type 0} (m : FinMap nat_cmp V) (k n : ℕ) (v : V) → n ≢ k → get (insert m k v) n ≡ get m n
-get_other m k n v h = get-insert nat_cmp_total m k v n ∙ ap (λ b. cond b (Some v) (get m n)) (distinct_compare_unequal n k h)
+use Rattle.atl_world.proofs.GeneralLaws.{is_equal}
+use Rattle.atl_world.proofs.TrackLaws.{get_inserted}
+use Rattle.atl_world.proofs.SetLaws.{or_without_first_is_second}
+use Rattle.atl_records.proofs.EveryLaws.{get-insert_other}
 
 -- ---- what units have, and regions in stock
 
@@ -66,33 +54,23 @@ not_skill (pos zero) h = refl
 not_skill (pos (suc n)) h = absurd (grind arith)
 not_skill (negsuc n) h = refl
 
-or_right : (b c : Bool) → b ≡ false → (b || c) ≡ true → c ≡ true
-or_right true c h e = absurd (false≢true (sym h))
-or_right false c h e = e
-
-pub is_same : (m n : ℕ) → (m == n) ≡ true → m ≡ n
-is_same m n h = grind (arith, nat_tests)
-
 -- a row of `has` for an item, if it is in range, has an amount from 1 to holding_limit
 pub item_amount : (r : StoredHas) → has_in_range r ≡ true → as_u32 r.sort ≡ 0 → (1 ≤ amount_of r) × (amount_of r ≤ holding_limit)
 item_amount r h sort =
-    let item = or_right (is_from 1 1 r.sort) (is_from 0 0 r.sort && is_from 1 holding_limit r.amount) (not_skill r.sort sort) h in
+    let item = or_without_first_is_second (is_from 1 1 r.sort) (is_from 0 0 r.sort && is_from 1 holding_limit r.amount) (not_skill r.sort sort) h in
     let range = from_range 1 holding_limit r.amount (omega arith) (and_parts (is_from 0 0 r.sort) (is_from 1 holding_limit r.amount) item).1 in
     (range.1, range.2)
 
 amount_in_range : (n : ℕ) (r : StoredHas) → has_in_range r ≡ true → is_of_unit_and_sort n 0 r ≡ true → (1 ≤ amount_of r) × (amount_of r ≤ holding_limit)
-amount_in_range n r h of = item_amount r h (is_same (as_u32 r.sort) 0 (and_parts (as_u32 r.unit == n) (as_u32 r.sort == 0) of).1)
-
-some_same : (a b : ℕ) → Some a ≡ Some b → a ≡ b
-some_same a b e = cc
+amount_in_range n r h of = item_amount r h (is_equal (as_u32 r.sort) 0 (and_parts (as_u32 r.unit == n) (as_u32 r.sort == 0) of).1)
 
 AreAmounts-insert : (m : FinMap nat_cmp ℕ) (k v : ℕ) → (1 ≤ v) × (v ≤ holding_limit) → AreAmounts m → AreAmounts (insert m k v)
 AreAmounts-insert m k v h old item amount e =
     elim (cases_eq item k) [
       | inl same ↦
-          let is = some_same v amount (sym (ap (get (insert m k v)) same ∙ get_same m k v) ∙ e) in
+          let is = same_Some v amount (sym (ap (get (insert m k v)) same ∙ get_inserted m k v) ∙ e) in
           (omega (arith, is, h.0), omega (arith, is, h.1))
-      | inr apart ↦ old item amount (sym (get_other m k item v apart) ∙ e)
+      | inr apart ↦ old item amount (sym (get-insert_other m k item v apart) ∙ e)
     ]
 
 -- for put_in_range: a map's amounts stay from 1 to holding_limit (AreAmounts), whether row r is put in or not. Row r is

@@ -2,6 +2,7 @@
 use Rattle.std.proofs.Common.{◌≡◌, ◌≢◌, ◌==◌, ◌||◌, ℕ, Bool, true, false, if◌then◌else◌, Option, Some, None, refl, sym, ap, ◌∙◌, subst, inl, inr, arith, true≢false}
 use Rattle.std.specs.Prelude.{ℤ, List, cond, is_some, option_map, unwrap_or}
 use Rattle.std.proofs.lemmas.Bool.Decides.{nat_tests}
+use Rattle.std.proofs.lemmas.Bool.{or_parts}
 use Rattle.std.specs.Cmp.{nat_cmp_total, unsigned_ties}
 use Rattle.std.specs.Ordering.{nat_cmp, eq_by_cmp}
 use Rattle.std.specs.FinMap.{FinMap, get, get-insert}
@@ -11,7 +12,7 @@ use Rattle.std.specs.Option.{option_map_or}
 use Rattle.atl_world.specs.Groups.{group_of}
 use Rattle.atl_world.specs.Sums.{with_changed_value, with_changed_option}
 use Rattle.atl_world.specs.Tracking.{marked_with}
-use Rattle.atl_world.proofs.GeneralLaws.{same_key}
+use Rattle.atl_world.proofs.GeneralLaws.{same_key, is_equal}
 use Rattle.atl_records.specs.declared.books.BooksEntry.{BooksEntry}
 use Rattle.atl_records.specs.declared.books.Thing.{Thing}
 use Rattle.atl_records.specs.declared.records.Faction.{Faction}
@@ -99,15 +100,11 @@ both_stay : (a b c d : Bool) → (a ≡ true → b ≡ true) → (c ≡ true →
 both_stay true b c d one two h = ap (λ x. x || d) (one refl)
 both_stay false b c d one two h = ap (λ x. b || x) (two h) ∙ or-true b
 
-neither : (a b : Bool) → (a || b) ≡ false → (a ≡ false) × (b ≡ false)
-neither true b h = absurd (true≢false h)
-neither false b h = (refl, h)
-
 pub whole_stays : (goods : FinSet nat_cmp) (things : MarkedThings) (n : ℕ) → ThingsStayMarked goods things (insert goods n) things
 whole_stays goods things n k t = both_stay (contains goods k) (contains (insert goods n) k) (is_some (get (group_of things k) t)) (is_some (get (group_of things k) t)) (put_stays goods n k) (λ h. h)
 
 pub apart_by_whole : (goods : FinSet nat_cmp) (things : MarkedThings) (n k t : ℕ) → is_thing_marked (insert goods n) things k t ≡ false → k ≢ n
-apart_by_whole goods things n k t free = unmarked_differs_from_put goods n k (neither (contains (insert goods n) k) (is_some (get (group_of things k) t)) free).0
+apart_by_whole goods things n k t free = unmarked_differs_from_put goods n k (or_parts (contains (insert goods n) k) (is_some (get (group_of things k) t)) free).0
 
 module _ (goods : FinSet nat_cmp) (things : MarkedThings) (n thing : ℕ) where
   -- once `thing` of unit or region n is marked, thing t of unit or region k has a mark of its own exactly if it is that
@@ -137,7 +134,7 @@ module _ (goods : FinSet nat_cmp) (things : MarkedThings) (n thing : ℕ) where
   apart_by_thing k t free same_unit same =
       let there = put_in k t ∙ ap (λ b. cond b (eq_by_cmp nat_cmp t thing || is_some (get (group_of things n) t)) (is_some (get (group_of things k) t))) (equal_numbers_compare_equal k n same_unit)
       ∙ ap (λ b. b || is_some (get (group_of things n) t)) (equal_numbers_compare_equal t thing same) in
-      absurd (true≢false (sym there ∙ (neither (contains goods k) (is_some (get (group_of (with_thing things n thing) k) t)) free).1))
+      absurd (true≢false (sym there ∙ (or_parts (contains goods k) (is_some (get (group_of (with_thing things n thing) k) t)) free).1))
 
 -- ---- the parts of a campaign, which are marked each for itself
 
@@ -329,10 +326,6 @@ row-marked f same c n =
       | _ ↦ λ k free. refl
     ]))
 
--- numbers that pass the test of equality are equal
-equal : (a b : ℕ) → (a == b) ≡ true → a ≡ b
-equal a b same = grind (arith, nat_tests)
-
 -- a number of region n, which `of` reads, is set to x by f; if it was another, the region's row is marked
 module _ (of : Region → ℕ) (f : Region → Region) (x : ℕ) (same : (r : Region) → (f r).stocks ≡ r.stocks) (again : (r : Region) → of r ≡ x → f r ≡ r) (c : MarkedCampaign) (n : ℕ) where
   -- setting a region's number to what it is already needs no mark (MarksChanges)
@@ -355,7 +348,7 @@ module _ (of : Region → ℕ) (f : Region → Region) (x : ℕ) (same : (r : Re
           → MarksChanges c (record { value = region_changed f c.value n; marks = record c.marks { regions = marked_with c.marks.regions n (if b then None else get c.value.regions n) } })
       by_number true was =
           holds_of_changed (λ m o. MarksChanges c (record c { value = record c.value { regions = m } })) f c.value.regions n (marks-refl c)
-          (λ v is. number_stays v is (sym (ap (λ o. option_map_or of o 0) is) ∙ equal (option_map_or of (get c.value.regions n) 0) x was))
+          (λ v is. number_stays v is (sym (ap (λ o. option_map_or of o 0) is) ∙ is_equal (option_map_or of (get c.value.regions n) 0) x was))
       by_number false was = row-marked f same c n
 
 -- setting the peasants of a region, with its row marked if they were others (`mark_peasants`), marks all that changes
@@ -453,7 +446,7 @@ module _ (c : MarkedCampaign) (n item amount : ℕ) where
   marks-stock m how = by_amount (stock_of c.value n item == amount) refl
     where
       was : (v : Region) → get c.value.regions n ≡ Some v → (stock_of c.value n item == amount) ≡ true → amount_of v.stocks item ≡ amount
-      was v is same = sym (ap (in_stock item) is) ∙ equal (stock_of c.value n item) amount same
+      was v is same = sym (ap (in_stock item) is) ∙ is_equal (stock_of c.value n item) amount same
 
       either : (b : Bool) → (stock_of c.value n item == amount) ≡ b → after_regions (with_changed_value stocked c.value.regions n) (item_alone (to_restock b)) × after_regions (with_changed_value stocked c.value.regions n) (all_of_region (to_restock b))
       either true same =

@@ -33,13 +33,14 @@ use Rattle.atl_records.specs.Holdings.{IsHolding}
 use Rattle.atl_records.specs.Limits.{last_month, most_units, last_unit, men_limit, holding_limit, most_structures, most_u32}
 use Rattle.atl_campaign.specs.RowRules.{is_from, campaign_row_in_range, faction_in_range, region_in_range, unit_in_range, has_in_range, structure_in_range, books_in_range, books_bound, market_in_range, are_few, first_tables_in_range, numbers_in_range, AreRowsInRange}
 use Rattle.atl_campaign.specs.Stocks.{stock_limit}
-use Rattle.atl_campaign.proofs.AssemblyLaws.{is_same, AreAmounts-had}
+use Rattle.atl_campaign.proofs.AssemblyLaws.{AreAmounts-had}
 use Rattle.atl_campaign.proofs.ReadBackLaws.{every_by}
 use Rattle.atl_records.proofs.AccountLaws.{index_of_thing_at}
 use Rattle.atl_records.proofs.BookLaws.{AreBooks-no_amounts, AreBooks-with_amount}
 use Rattle.atl_records.proofs.EveryLaws.{every-empty, every-insert}
 use Rattle.atl_campaign.proofs.GroupLaws.{kept}
 use Rattle.atl_campaign.proofs.MapOfRowsLaws.{each_passes}
+use Rattle.atl_world.proofs.GeneralLaws.{is_equal, chosen_is_at_most_next}
 
 -- ---- maps of rows
 
@@ -55,14 +56,10 @@ module _ {R V : Type 0} (number : R → ℕ) (value : R → V) where
   pub by_number-every : (P : ℕ → V → Type 0) (p : R → Bool) → ((r : R) → p r ≡ true → P (number r) (value r)) → (rows : List R) → list_all p rows ≡ true → Every P (by_number number value rows)
   by_number-every P p each rows all = put-every P p each rows empty all (every-empty P)
 
-  at_most : (b : Bool) (n : ℕ) → cond b n (n + 1) ≤ n + 1
-  at_most true n = omega arith
-  at_most false n = omega arith
-
   put-len : (rows : List R) (m : FinMap nat_cmp V) → len (put_rows number value rows m) ≤ length rows + len m
   put-len [] m = omega arith
   put-len (r ∷ rows) m =
-      let more : len (insert m (number r) (value r)) ≤ len m + 1 = rw (len-insert nat_cmp_total m (number r) (value r)) (at_most (contains_key m (number r)) (len m)) in
+      let more : len (insert m (number r) (value r)) ≤ len m + 1 = rw (len-insert nat_cmp_total m (number r) (value r)) (chosen_is_at_most_next (contains_key m (number r)) (len m)) in
       omega (arith, put-len rows (insert m (number r) (value r)), more)
 
   pub by_number-len : (rows : List R) → len (by_number number value rows) ≤ length rows
@@ -122,7 +119,7 @@ IsStockInRange w n m = (1 ≤ as_u32 m.stock) × (as_u32 m.stock ≤ stock_limit
 
 row_stock_in_range : (w : WorldValue) (n : ℕ) (m : StoredMarket) → market_in_range w m ≡ true → (as_u32 m.region == n) ≡ true → IsStockInRange w n m
 row_stock_in_range w n m range of =
-    subst (λ k. IsStockInRange w k m) (is_same (as_u32 m.region) n of) (in_range 1 (stock_limit w (as_u32 m.region) (as_u32 m.item)) most_u32 m.stock (omega arith) range)
+    subst (λ k. IsStockInRange w k m) (is_equal (as_u32 m.region) n of) (in_range 1 (stock_limit w (as_u32 m.region) (as_u32 m.item)) most_u32 m.stock (omega arith) range)
 
 stocks_in_range : (w : WorldValue) (n : ℕ) (markets : List StoredMarket) → list_all (market_in_range w) markets ≡ true → Every (λ i amount. (1 ≤ amount) × (amount ≤ stock_limit w n i)) (stocks_of n markets)
 stocks_in_range w n markets all =

@@ -16,10 +16,10 @@ use Rattle.atl_records.specs.declared.records.Unit.{Unit}
 use Rattle.atl_campaign.specs.FromRows.{as_u32, is_of_unit_and_sort, things_had, unit_of, by_number}
 use Rattle.atl_campaign.specs.RowRules.{Key, key_cmp, has_key}
 use Rattle.atl_campaign.specs.Rows.{is_zero, has_row, rows_of_sort, held_rows, has_rows}
-use Rattle.atl_campaign.proofs.AssemblyLaws.{is_same}
 use Rattle.atl_campaign.proofs.GroupLaws as group
 use Rattle.atl_campaign.proofs.GroupLaws.{filter_both, filter_each, gathered, lines_order, of_group}
 use Rattle.atl_campaign.proofs.MapOfRowsLaws.{HaveDistinctNumbers, HasNumber, each_follows, flat_order}
+use Rattle.atl_world.proofs.GeneralLaws.{is_equal}
 
 -- a row of `has` is of one of the given units, and of sort 0 (items) or 1 (days)
 abbrev pub IsOfUnits : List StoredUnit → StoredHas → Type 0
@@ -70,10 +70,10 @@ abbrev IsRowOfUnit : ℕ → ℕ → StoredHas → Type 0
 IsRowOfUnit n sort h = KeyFitsU32 h × (is_of_unit_and_sort n sort h ≡ true)
 
 its_unit : (n sort : ℕ) (h : StoredHas) → IsRowOfUnit n sort h → h.unit ≡ pos n
-its_unit n sort h (exact, of) = exact.unit ∙ ap pos (is_same (as_u32 h.unit) n (and_parts (as_u32 h.unit == n) (as_u32 h.sort == sort) of).0)
+its_unit n sort h (exact, of) = exact.unit ∙ ap pos (is_equal (as_u32 h.unit) n (and_parts (as_u32 h.unit == n) (as_u32 h.sort == sort) of).0)
 
 its_sort : (n sort : ℕ) (h : StoredHas) → IsRowOfUnit n sort h → h.sort ≡ pos sort
-its_sort n sort h (exact, of) = exact.sort ∙ ap pos (is_same (as_u32 h.sort) sort (and_parts (as_u32 h.unit == n) (as_u32 h.sort == sort) of).1)
+its_sort n sort h (exact, of) = exact.sort ∙ ap pos (is_equal (as_u32 h.sort) sort (and_parts (as_u32 h.unit == n) (as_u32 h.sort == sort) of).1)
 
 same_row : (n sort : ℕ) (h : StoredHas) → IsRowOfUnit n sort h → FitsU32 h.amount → has_row n sort (thing_of h) (amount_of h) ≡ h
 same_row n sort h had amount = λ i. record { unit = sym (its_unit n sort h had) i; sort = sym (its_sort n sort h had) i; thing = sym had.0.thing i; amount = sym amount i }

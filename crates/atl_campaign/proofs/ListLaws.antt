@@ -10,6 +10,7 @@ use Rattle.std.proofs.lemmas.Bool.{cases_eq}
 use Rattle.atl_world.proofs.SumLaws.{numbers_where-insert_other, numbers_where-insert_known, put_back_keeps_map, remove_undoes_insert}
 use Rattle.atl_world.specs.Sums.{with_changed_value, with_changed_option, numbers_where}
 use Rattle.atl_world.proofs.Maps.{entries-empty}
+use Rattle.atl_world.proofs.GeneralLaws.{key_itself}
 use Rattle.atl_campaign.specs.Ordered.{put_number, take_number}
 use Rattle.atl_campaign.specs.KeptLists.{AreInsideLists, AreLists, AreUnitLists, SameLists, ListsUnit, UnlistsUnit, list_of, list_keys_of, listed_unless, relisted_inside, unlisted_unless}
 use Rattle.atl_campaign.specs.declared.lists.ListKeys.{ListKeys}
@@ -18,15 +19,8 @@ use Rattle.atl_records.specs.declared.records.Unit.{Unit}
 use Rattle.atl_campaign.proofs.OrderedLaws.{numbers_where-insert_new, numbers_where-lost, numbers_where-gained, taken_put}
 use Rattle.atl_records.proofs.EveryLaws.{same_number, other_number}
 
-number_compares_equal : (k : ℕ) → is_eq (nat_cmp k k) ≡ true
-number_compares_equal k = elim (nat_cmp k k) as (λ o. nat_cmp k k ≡ o → is_eq o ≡ true) [
-  | Less ↦ λ e. let l = ranked k k Less (sym e) in absurd (omega arith)
-  | Equal ↦ λ _. refl
-  | Greater ↦ λ e. let l = ranked k k Greater (sym e) in absurd (omega arith)
-] refl
-
 removed_unit_is_absent : (units : FinMap nat_cmp Unit) (k : ℕ) → get (remove units k) k ≡ None
-removed_unit_is_absent units k = get-remove nat_cmp_total units k k ∙ ap (λ b. cond b None (get units k)) (number_compares_equal k)
+removed_unit_is_absent units k = get-remove nat_cmp_total units k k ∙ ap (λ b. cond b None (get units k)) (key_itself k)
 
 each_list_after_put : (lists : FinMap nat_cmp (List ℕ)) (k : ℕ) (xs : List ℕ) (P : ℕ → List ℕ → Type 0) → P k xs → ((r : ℕ) → k ≢ r → P r (list_of lists r)) → (r : ℕ) → P r (list_of (insert lists k xs) r)
 each_list_after_put lists k xs P here there r =
@@ -84,7 +78,7 @@ pub listed_else : (lists : FinMap nat_cmp (List ℕ)) (k : ℕ) (xs : List ℕ) 
 listed_else lists k xs r = each_list_after_put lists k xs (λ q ys. k ≢ q → ys ≡ list_of lists q) (λ apart. absurd (apart refl)) (λ q _ _. refl) r
 
 pub listed_there : (lists : FinMap nat_cmp (List ℕ)) (k : ℕ) (xs : List ℕ) → list_of (insert lists k xs) k ≡ xs
-listed_there lists k xs = ap (λ o. unwrap_or o []) (get-insert nat_cmp_total lists k xs k ∙ ap (λ b. cond b (Some xs) (get lists k)) (number_compares_equal k))
+listed_there lists k xs = ap (λ o. unwrap_or o []) (get-insert nat_cmp_total lists k xs k ∙ ap (λ b. cond b (Some xs) (get lists k)) (key_itself k))
 
 pub AreLists-undone_at : (belongs_to : Unit → ℕ) (units : FinMap nat_cmp Unit) (old mid new : FinMap nat_cmp (List ℕ)) (n key : ℕ) → mid ≡ insert old key (put_number n (list_of old key)) → SameLists new (insert mid key (take_number n (list_of mid key)))
     → AreLists belongs_to units old → AreLists belongs_to units new
@@ -186,7 +180,7 @@ AreUnitLists-kept units lists n u v is same old = record {
 }
 
 put_there : (units : FinMap nat_cmp Unit) (n : ℕ) (u : Unit) → get (insert units n u) n ≡ Some u
-put_there units n u = get-insert nat_cmp_total units n u n ∙ ap (λ b. cond b (Some u) (get units n)) (number_compares_equal n)
+put_there units n u = get-insert nat_cmp_total units n u n ∙ ap (λ b. cond b (Some u) (get units n)) (key_itself n)
 
 -- the lists by region, faction and structure have just the units of each (AreUnitLists) again once a new unit is put
 -- into them and taken out again

@@ -13,11 +13,11 @@ use Rattle.std.proofs.lemmas.List.{append-nil, append_assoc}
 use Rattle.std.proofs.lemmas.List.Concat.{flat_map_single}
 use Rattle.std.proofs.lemmas.List.Sorted.{IsPermutation-refl, IsPermutation-sym, IsPermutation-trans, IsPermutation-append_left, IsPermutation-append_right, IsPermutation-append_comm, length_permutation}
 use Rattle.atl_world.proofs.Maps.{entries-empty}
+use Rattle.atl_world.proofs.TrackLaws.{get_inserted}
 use Rattle.atl_campaign.specs.FromRows.{put_rows, by_number}
 use Rattle.atl_campaign.specs.Rows.{rows_by}
 use Rattle.atl_records.specs.Every.{Every, HasValue}
-use Rattle.atl_campaign.proofs.AssemblyLaws.{get_same, get_other}
-use Rattle.atl_records.proofs.EveryLaws.{none_some, there-new, there-insert}
+use Rattle.atl_records.proofs.EveryLaws.{none_some, there-new, there-insert, get-insert_other}
 
 abbrev pub HaveDistinctNumbers : {R : Type 0} → (R → ℕ) → List R → Type 0
 HaveDistinctNumbers number [] = ⊤
@@ -49,7 +49,7 @@ module _ {V A : Type 0} (f : ℕ × V → List A) where
 module _ {R V : Type 0} (number : R → ℕ) (value : R → V) where
   still_none : (m : FinMap nat_cmp V) (k : ℕ) (v : V) (rows : List R) → AllByRecursion (λ s. number s ≢ k) rows → AllByRecursion (λ s. get m (number s) ≡ None) rows → AllByRecursion (λ s. get (insert m k v) (number s) ≡ None) rows
   still_none m k v [] h n = tt
-  still_none m k v (s ∷ rows) h n = (get_other m k (number s) v h.0 ∙ n.0, still_none m k v rows h.1 n.1)
+  still_none m k v (s ∷ rows) h n = (get-insert_other m k (number s) v h.0 ∙ n.0, still_none m k v rows h.1 n.1)
 
   all_none : (rows : List R) → AllByRecursion (λ s. get (empty {X = V} {R = nat_cmp}) (number s) ≡ None) rows
   all_none [] = tt
@@ -119,11 +119,11 @@ each_passes p P good (r ∷ rows) h = let parts = and_parts (p r) (list_all p ro
 module _ {R V : Type 0} (number : R → ℕ) (value : R → V) where
   put_keep : (rows : List R) (m : FinMap nat_cmp V) (k : ℕ) → AllByRecursion (λ s. number s ≢ k) rows → get (put_rows number value rows m) k ≡ get m k
   put_keep [] m k h = refl
-  put_keep (r ∷ rows) m k h = put_keep rows (insert m (number r) (value r)) k h.1 ∙ get_other m (number r) k (value r) (λ e. h.0 (sym e))
+  put_keep (r ∷ rows) m k h = put_keep rows (insert m (number r) (value r)) k h.1 ∙ get-insert_other m (number r) k (value r) (λ e. h.0 (sym e))
 
   put_found : (rows : List R) (m : FinMap nat_cmp V) → HaveDistinctNumbers number rows → AllByRecursion (λ r. get (put_rows number value rows m) (number r) ≡ Some (value r)) rows
   put_found [] m h = tt
-  put_found (r ∷ rows) m h = (put_keep rows (insert m (number r) (value r)) (number r) h.0 ∙ get_same m (number r) (value r), put_found rows (insert m (number r) (value r)) h.1)
+  put_found (r ∷ rows) m h = (put_keep rows (insert m (number r) (value r)) (number r) h.0 ∙ get_inserted m (number r) (value r), put_found rows (insert m (number r) (value r)) h.1)
 
   pub rows_found : (rows : List R) → HaveDistinctNumbers number rows → AllByRecursion (λ r. get (by_number number value rows) (number r) ≡ Some (value r)) rows
   rows_found rows h = put_found rows empty h
@@ -154,7 +154,7 @@ module _ {R V : Type 0} (number : R → ℕ) (value : R → V) where
         | inr there ↦
             elim (cases_eq (number r) n) [
               | inl same ↦ inl (inl same)
-              | inr apart ↦ inr (there.0, sym (get_other m (number r) n (value r) (λ e. apart (sym e))) ∙ there.1)
+              | inr apart ↦ inr (there.0, sym (get-insert_other m (number r) n (value r) (λ e. apart (sym e))) ∙ there.1)
             ]
       ]
 

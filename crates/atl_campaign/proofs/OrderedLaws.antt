@@ -2,18 +2,20 @@
 -- or replaced.
 use Rattle.std.proofs.Common.{◌≡◌, ℕ, suc, ◌+◌, not, ◌<◌, Bool, true, false, cond, nat_le, List, [], ◌∷◌, ◌++◌, map, filter, take, drop, Some, None, refl, sym, ap, ◌∙◌, arith}
 use Rattle.std.specs.declared.cmp.Ordering.TheVariants.{Less, Equal, Greater}
-use Rattle.std.specs.Ordering.{nat_cmp, is_lt, is_eq}
+use Rattle.std.specs.Ordering.{nat_cmp, is_eq}
 use Rattle.std.specs.Cmp.{nat_cmp_total, ranked}
 use Rattle.std.specs.FinMap.{FinMap, get, insert, find, put, entries, entries_sorted, entries-insert, get-entries, get-remove, is_sorted}
 use Rattle.std.specs.FinMap as keyed
 use Rattle.std.specs.FinMap.Entries.{by_order, below_all}
-use Rattle.std.proofs.lemmas.Bool.{and_parts, false≢true}
+use Rattle.std.proofs.lemmas.Bool.{and_parts}
 use Rattle.std.proofs.lemmas.Bool.Decides.{nat_tests}
 use Rattle.atl_world.specs.Sums.{numbers_where}
 use Rattle.atl_world.proofs.SumLaws.{chosen-cons, numbers_where-insert_other, put_back_keeps_map, put_over}
+use Rattle.atl_world.proofs.GeneralLaws.{key_itself, is_true}
+use Rattle.atl_world.proofs.EntryOrderLaws.{less_by_comparison}
 use Rattle.std.specs.List.{remove}
 use Rattle.atl_campaign.specs.Ordered.{first_not_below, put_number, take_number}
-use Rattle.atl_records.proofs.EveryLaws.{is_true, none_some}
+use Rattle.atl_records.proofs.EveryLaws.{none_some}
 
 -- ---- put_number and take_number as recursions
 
@@ -63,14 +65,6 @@ taken_put n (x ∷ xs) =
 
 -- ---- the numbers whose values pass a test
 
-pub less_by_cmp : (k q : ℕ) → is_lt (nat_cmp k q) ≡ true → k < q
-less_by_cmp k q h =
-    elim (nat_cmp k q) as (λ r. nat_cmp k q ≡ r → is_lt r ≡ true → k < q) [
-      | Less ↦ λ e _. ranked k q Less (sym e)
-      | Equal ↦ λ e g. absurd (false≢true g)
-      | Greater ↦ λ e g. absurd (false≢true g)
-    ] refl h
-
 -- for put_first: n comes first once it is put into ys, with a greater x in front where t is true, if it comes first
 -- once it is put into ys alone
 first_holds : (n x : ℕ) (t : Bool) (xs ys : List ℕ) → n < x → put_number n ys ≡ n ∷ ys → put_number n (cond t (x ∷ ys) ys) ≡ n ∷ cond t (x ∷ ys) ys
@@ -82,13 +76,6 @@ later_step : (n x : ℕ) (t : Bool) (ys zs : List ℕ) → x < n → zs ≡ put_
 later_step n x true ys zs l h = let e : nat_le n x ≡ false = grind (arith, nat_tests) in ap (λ q. x ∷ q) h ∙ sym (put_number-cons n x ys ∙ ap (λ b. cond b (n ∷ x ∷ ys) (x ∷ put_number n ys)) e)
 later_step n x false ys zs l h = h
 
-ties : (k : ℕ) → is_eq (nat_cmp k k) ≡ true
-ties k = elim (nat_cmp k k) as (λ o. nat_cmp k k ≡ o → is_eq o ≡ true) [
-  | Less ↦ λ e. let l = ranked k k Less (sym e) in absurd (omega arith)
-  | Equal ↦ λ _. refl
-  | Greater ↦ λ e. let l = ranked k k Greater (sym e) in absurd (omega arith)
-] refl
-
 module _ {X : Type 0} (p : X → Bool) where
   abbrev chosen : List (ℕ × X) → List ℕ
   chosen es = map (λ e. e.0) (filter (λ e. p e.1) es)
@@ -96,7 +83,7 @@ module _ {X : Type 0} (p : X → Bool) where
   put_first : (k : ℕ) (es : List (ℕ × X)) → is_sorted nat_cmp es ≡ true → (e : ℕ × X) → k < e.0 → below_all nat_cmp e.0 es ≡ true → put_number k (chosen (e ∷ es)) ≡ k ∷ chosen (e ∷ es)
   put_first k [] s e l b = ap (put_number k) (chosen-cons p e []) ∙ first_holds k e.0 (p e.1) [] [] l (put_number-nil k) ∙ ap (λ ns. k ∷ ns) (sym (chosen-cons p e []))
   put_first k (f ∷ es) s e l b =
-      let rest : put_number k (chosen (f ∷ es)) ≡ k ∷ chosen (f ∷ es) = put_first k es (and_parts _ _ s).1 f (omega (arith, less_by_cmp e.0 f.0 (and_parts _ _ b).0)) (and_parts _ _ s).0 in
+      let rest : put_number k (chosen (f ∷ es)) ≡ k ∷ chosen (f ∷ es) = put_first k es (and_parts _ _ s).1 f (omega (arith, less_by_comparison e.0 f.0 (and_parts _ _ b).0)) (and_parts _ _ s).0 in
       ap (put_number k) (chosen-cons p e (f ∷ es)) ∙ first_holds k e.0 (p e.1) [] (chosen (f ∷ es)) l rest ∙ ap (λ ns. k ∷ ns) (sym (chosen-cons p e (f ∷ es)))
 
   chosen-put_new : (k : ℕ) (v : X) → p v ≡ true → (es : List (ℕ × X)) → is_sorted nat_cmp es ≡ true → find nat_cmp k es ≡ None → chosen (put nat_cmp k v es) ≡ put_number k (chosen es)
@@ -113,7 +100,7 @@ module _ {X : Type 0} (p : X → Bool) where
       ap chosen (entries-insert nat_cmp_total m k v) ∙ chosen-put_new k v h (entries m) (is_true _ (entries_sorted m)) (sym (get-entries m k) ∙ fresh)
 
   removed : (m : FinMap nat_cmp X) (k : ℕ) → get (keyed.remove m k) k ≡ None
-  removed m k = get-remove nat_cmp_total m k k ∙ ap (λ b. cond b None (get m k)) (ties k)
+  removed m k = get-remove nat_cmp_total m k k ∙ ap (λ b. cond b None (get m k)) (key_itself k)
 
   pub numbers_where-lost : (m : FinMap nat_cmp X) (k : ℕ) (u v : X) → get m k ≡ Some u → p u ≡ true → p v ≡ false → numbers_where p (insert m k v) ≡ take_number k (numbers_where p m)
   numbers_where-lost m k u v is passed fails =

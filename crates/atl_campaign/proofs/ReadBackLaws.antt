@@ -21,10 +21,11 @@ use Rattle.atl_campaign.specs.RowRules.{Key, one_key, HaveDistinctKeys}
 use Rattle.atl_campaign.specs.Rows.{rows_by}
 use Rattle.atl_campaign.proofs.AssemblyLaws.{min_small}
 use Rattle.atl_records.proofs.EveryLaws.{none_some, every-empty, every-insert, every-from_each, each-from_every, sorted}
+use Rattle.atl_records.proofs.AmountListLaws.{all_append}
 use Rattle.atl_campaign.proofs.HasLaws.{FitsU32, is_same_key}
 use Rattle.atl_campaign.proofs.KeyLaws.{IsDistinct-map}
 use Rattle.atl_campaign.proofs.MapOfRowsLaws.{HaveDistinctNumbers, rows_found}
-use Rattle.atl_campaign.proofs.OrderedLaws.{less_by_cmp}
+use Rattle.atl_world.proofs.EntryOrderLaws.{less_by_comparison}
 
 -- ---- facts of each row, in another order
 
@@ -152,10 +153,6 @@ apart_numbers m n l = apart_keys (one_key (pos m)) (one_key (pos n)) (λ k. let 
 
 -- ---- rows that are listed one after another
 
-pub append_each : {A : Type 0} (P : A → Type 0) (xs ys : List A) → AllByRecursion P xs → AllByRecursion P ys → AllByRecursion P (xs ++ ys)
-append_each P [] ys h k = k
-append_each P (x ∷ xs) ys h k = (h.0, append_each P xs ys h.1 k)
-
 pub each_appended : {A : Type 0} (P : A → Type 0) (xs ys : List A) → AllByRecursion P (xs ++ ys) → AllByRecursion P xs × AllByRecursion P ys
 each_appended P [] ys h = (tt, h)
 each_appended P (x ∷ xs) ys h = let rest = each_appended P xs ys h.1 in ((h.0, rest.0), rest.1)
@@ -169,7 +166,7 @@ module _ {A : Type 0} (e : A → A → Bool) where
   pub append_apart : (xs ys : List A) → IsDistinct e xs → IsDistinct e ys → AllByRecursion (λ x. AllByRecursion (λ y. e x y ≡ false) ys) xs → IsDistinct e (xs ++ ys)
   unfolding IsDistinct
   append_apart [] ys d f h = f
-  append_apart (x ∷ xs) ys d f h = (append_each (λ y. e x y ≡ false) xs ys d.0 h.0, append_apart xs ys d.1 f h.1)
+  append_apart (x ∷ xs) ys d f h = (all_append (λ y. e x y ≡ false) xs ys d.0 h.0, append_apart xs ys d.1 f h.1)
 
   -- lists f x joined, where rows of elements in order differ
   module _ {X : Type 0} (f : X → List A) (Before : X → X → Type 0) (Own : X → A → Type 0) (apart : (x y : X) (a b : A) → Before x y → Own x a → Own y b → e a b ≡ false) (own : (x : X) → AllByRecursion (Own x) (f x)) (one : (x : X) → IsDistinct e (f x)) where
@@ -177,7 +174,7 @@ module _ {A : Type 0} (e : A → A → Bool) where
     -- which come after x (Before)
     against : (x : X) (a : A) (xs : List X) → Own x a → AllByRecursion (Before x) xs → AllByRecursion (λ b. e a b ≡ false) (flat_map f xs)
     against x a [] mine h = tt
-    against x a (y ∷ xs) mine h = append_each (λ b. e a b ≡ false) (f y) (flat_map f xs) (these (f y) (own y)) (against x a xs mine h.1)
+    against x a (y ∷ xs) mine h = all_append (λ b. e a b ≡ false) (f y) (flat_map f xs) (these (f y) (own y)) (against x a xs mine h.1)
       where
         these : (bs : List A) → AllByRecursion (Own y) bs → AllByRecursion (λ b. e a b ≡ false) bs
         these [] all = tt
@@ -202,7 +199,7 @@ Rise {V} es = InOrder (λ (e f : ℕ × V). e.0 < f.0) es
 
 below_each : {V : Type 0} (k : ℕ) (es : List (ℕ × V)) → below_all nat_cmp k es ≡ true → AllByRecursion (λ f. k < f.0) es
 below_each k [] h = tt
-below_each k (e ∷ es) h = (less_by_cmp k e.0 (and_parts _ _ h).0, below_each k es (and_parts _ _ h).1)
+below_each k (e ∷ es) h = (less_by_comparison k e.0 (and_parts _ _ h).0, below_each k es (and_parts _ _ h).1)
 
 rise_sorted : {V : Type 0} (es : List (ℕ × V)) → is_sorted nat_cmp es ≡ true → Rise es
 rise_sorted [] h = tt

@@ -1,21 +1,15 @@
 -- Laws of a map built entry by entry in sorted order: each entry that comes next has a new number.
 use Rattle.std.proofs.Common.{◌≡◌, ℕ, true, false, T, List, [], ◌∷◌, ◌++◌, Some, None, refl, sym, ap, subst, ◌∙◌}
 use Rattle.std.specs.Prelude.{cond}
-use Rattle.std.specs.declared.cmp.Ordering.TheVariants.{Less, Equal, Greater}
 use Rattle.std.specs.Ordering.{nat_cmp, is_eq, is_lt, ordering_reverse}
-use Rattle.std.specs.declared.cmp.Ordering.{Ordering}
 use Rattle.std.specs.Cmp.{nat_cmp_total}
 use Rattle.std.specs.FinMap.{FinMap, get, entries, find, is_sorted, entries_sorted, get-entries}
 use Rattle.std.specs.FinMap.Entries.{below_all}
-use Rattle.std.proofs.lemmas.Bool.{and_parts, false≢true}
-use Rattle.atl_records.proofs.EveryLaws.{is_true}
+use Rattle.std.proofs.lemmas.Bool.{and_parts}
+use Rattle.atl_world.proofs.MappedLaws.{is_less}
+use Rattle.atl_world.proofs.GeneralLaws.{is_true}
 
-is_less : (o : Ordering) → is_lt o ≡ true → o ≡ Less
-is_less Less h = refl
-is_less Equal h = absurd (false≢true h)
-is_less Greater h = absurd (false≢true h)
-
-above_compares_unequal : (k q : ℕ) → is_lt (nat_cmp q k) ≡ true → is_eq (nat_cmp k q) ≡ false
+pub above_compares_unequal : (k q : ℕ) → is_lt (nat_cmp q k) ≡ true → is_eq (nat_cmp k q) ≡ false
 above_compares_unequal k q h = ap is_eq (nat_cmp_total.antisymm k q) ∙ ap (λ o. is_eq (ordering_reverse o)) (is_less (nat_cmp q k) h)
 
 module _ {W : Type 0} where

@@ -5,7 +5,7 @@ use Rattle.std.specs.Ordering.{nat_cmp, eq_by_cmp}
 use Rattle.std.specs.Cmp.{nat_cmp_total}
 use Rattle.std.specs.FinMap.{FinMap, get, get-empty, get-insert, insert, remove, len, empty}
 use Rattle.std.specs.FinSet as set
-use Rattle.std.proofs.lemmas.Bool.{false≢true}
+use Rattle.std.proofs.lemmas.Bool.{false≢true, or_right}
 use Rattle.atl_world.specs.RoomySets.{RoomySet, HasRoomForMarks}
 use Rattle.atl_world.specs.Sums.{with_changed_option}
 use Rattle.atl_world.specs.Tracking.{marked_with}
@@ -31,16 +31,12 @@ either_there : {V : Type 0} (b : Bool) (v : V) (o : Option V) (d : Bool) → (is
 either_there true v o d h e = refl
 either_there false v o d h e = h e
 
-or_of_true : (b d : Bool) → d ≡ true → (b || d) ≡ true
-or_of_true true d e = refl
-or_of_true false d e = e
-
 pub within_both : (g r : set.FinSet nat_cmp) (n : ℕ) → ((q : ℕ) → set.contains g q ≡ true → set.contains r q ≡ true) → (q : ℕ) → set.contains (set.insert g n) q ≡ true → set.contains (set.insert r n) q ≡ true
 within_both g r n h q e =
     set.contains-insert nat_cmp_total r n q ∙ or_keeps_implication (eq_by_cmp nat_cmp q n) (set.contains g q) (set.contains r q) (h q) (sym (set.contains-insert nat_cmp_total g n q) ∙ e)
 
 pub within_more : (marked : ℕ → Bool) (r : set.FinSet nat_cmp) (n : ℕ) → ((q : ℕ) → marked q ≡ true → set.contains r q ≡ true) → (q : ℕ) → marked q ≡ true → set.contains (set.insert r n) q ≡ true
-within_more marked r n h q e = set.contains-insert nat_cmp_total r n q ∙ or_of_true (eq_by_cmp nat_cmp q n) (set.contains r q) (h q e)
+within_more marked r n h q e = set.contains-insert nat_cmp_total r n q ∙ or_right (eq_by_cmp nat_cmp q n) (set.contains r q) (h q e)
 
 pub within_things : {V : Type 0} (g : FinMap nat_cmp V) (r : set.FinSet nat_cmp) (n : ℕ) (v : V) → ((q : ℕ) → is_some (get g q) ≡ true → set.contains r q ≡ true) → (q : ℕ) → is_some (get (insert g n v) q) ≡ true → set.contains (set.insert r n) q ≡ true
 within_things g r n v h q e =

@@ -15,8 +15,9 @@ use Rattle.atl_records.specs.declared.records.Region.{Region}
 use Rattle.atl_records.specs.declared.records.Unit.{Unit}
 use Rattle.atl_campaign.proofs.GroupLaws.{filter_each}
 use Rattle.atl_campaign.proofs.NumberListLaws.{IsListed, listed_passing, passing_listed}
-use Rattle.atl_campaign.proofs.ReadBackLaws.{InOrder, Rise, append_each, entries_rise}
+use Rattle.atl_campaign.proofs.ReadBackLaws.{InOrder, Rise, entries_rise}
 use Rattle.atl_records.proofs.EveryLaws.{each-from_every, every-from_each, first, found_of, get-insert_other, none_some, other_number, same_number}
+use Rattle.atl_records.proofs.AmountListLaws.{all_append}
 use Rattle.atl_campaign.proofs.RegionLaws.{get-insert_same}
 use Rattle.atl_market.specs.RegionsWithWants.{region_at, regions_with_wants}
 use Rattle.atl_shares.specs.Share.{shares}
@@ -182,7 +183,7 @@ found_among f n (y ∷ xs) x among some = by_first (λ h. found_among f n xs x h
 
 pub each_flat : {A : Type 0} (P : ℕ × ℕ → Type 0) (f : A → Entries) (xs : List A) → AllByRecursion (λ x. AllByRecursion P (f x)) xs → AllByRecursion P (flat_map f xs)
 each_flat P f [] h = tt
-each_flat P f (x ∷ xs) h = append_each P (f x) (flat_map f xs) h.0 (each_flat P f xs h.1)
+each_flat P f (x ∷ xs) h = all_append P (f x) (flat_map f xs) h.0 (each_flat P f xs h.1)
 
 module _ (f : ℕ → Entries) where
   abbrev from_all : List ℕ → Entries

@@ -16,7 +16,8 @@ use Rattle.atl_world.proofs.GeneralLaws.{equality_is_symmetric}
 use Rattle.atl_records.specs.Every.{EachEntry}
 use Rattle.atl_campaign.specs.Campaign.{CampaignValue}
 use Rattle.atl_records.specs.declared.records.Unit.{Unit}
-use Rattle.atl_campaign.proofs.ReadBackLaws.{append_apart, append_each, entries_rise, flat_apart}
+use Rattle.atl_campaign.proofs.ReadBackLaws.{append_apart, entries_rise, flat_apart}
+use Rattle.atl_records.proofs.AmountListLaws.{all_append}
 use Rattle.atl_campaign.proofs.GroupLaws.{filter_apart, filter_each}
 use Rattle.atl_records.proofs.EveryLaws.{each-from_every, get-insert_other, other_number, same_number}
 use Rattle.atl_campaign.proofs.MapOfRowsLaws.{each_follows}
@@ -132,7 +133,7 @@ module _ (c : CampaignValue) where
 
     idle_each : (es : List (ℕ × Unit)) → EachEntry (λ n u. get c.units n ≡ Some u) es → AllByRecursion IsIdle (flat_map (idle_order writers) es)
     idle_each [] h = tt
-    idle_each ((n, u) ∷ es) h = append_each IsIdle (idle_order writers (n, u)) (flat_map (idle_order writers) es) (idle_if n u _ refl h.0) (idle_each es h.1)
+    idle_each ((n, u) ∷ es) h = all_append IsIdle (idle_order writers (n, u)) (flat_map (idle_order writers) es) (idle_if n u _ refl h.0) (idle_each es h.1)
 
     each_idle : AllByRecursion IsIdle (all_idle_orders c os)
     each_idle = idle_each (entries c.units) (each-from_every (λ n u. get c.units n ≡ Some u) c.units (λ n u is. is))

@@ -18,7 +18,6 @@ use Rattle.atl_campaign.specs.Good.{IsSteady}
 use Rattle.atl_campaign.specs.Owners.{first_or_zero}
 use Rattle.atl_campaign.specs.Campaign.{CampaignValue}
 use Rattle.atl_records.proofs.EveryLaws.{sorted}
-use Rattle.atl_campaign.proofs.OrderedLaws.{less_by_cmp}
 use Rattle.atl_campaign.proofs.NumberListLaws.{IsListed, listed_passing, passing_listed}
 use Rattle.atl_month.specs.Receivers.{AreReceivers, ReceiverMap, or_if_zero, receiver_in, with_receiver, with_receiver_of}
 use Rattle.atl_month.specs.Sweep.{IsKept, after_sweeping_unit, receiver, receives}
@@ -26,6 +25,7 @@ use Rattle.atl_month.proofs.SweepLaws.{first_listed}
 use Rattle.atl_month.proofs.SweepAllLaws.{swept_at_keeps, swept_at_leaves_well, units_left_were_there}
 use Rattle.atl_month.proofs.GroupedLaws.{get-grouped}
 use Rattle.atl_world.proofs.GeneralLaws.{is_equal}
+use Rattle.atl_world.proofs.EntryOrderLaws.{less_by_comparison}
 
 -- ---- the first number whose value passes a test
 
@@ -40,7 +40,7 @@ module _ {V : Type 0} (p : V → Bool) where
   below_listed : (x k : ℕ) (es : List (ℕ × V)) → below_all nat_cmp x es ≡ true → IsListed k (numbers_among p es) → x < k
   below_listed x k [] low h = absurd h
   below_listed x k (e ∷ es) low h =
-      either_listed (p e.1) e.0 k (numbers_among p es) (λ same. let l = less_by_cmp x e.0 (and_parts _ _ low).0 in omega (arith, same, l)) (below_listed x k es (and_parts _ _ low).1)
+      either_listed (p e.1) e.0 k (numbers_among p es) (λ same. let l = less_by_comparison x e.0 (and_parts _ _ low).0 in omega (arith, same, l)) (below_listed x k es (and_parts _ _ low).1)
       (subst (IsListed k) (chosen-cons p e es) h)
 
   first_least : (k : ℕ) (es : List (ℕ × V)) → is_sorted nat_cmp es ≡ true → IsListed k (numbers_among p es) → first_or_zero (numbers_among p es) ≤ k

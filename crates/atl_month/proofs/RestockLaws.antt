@@ -14,6 +14,7 @@ use Rattle.atl_world.specs.declared.world.Market.{Market}
 use Rattle.atl_world.specs.declared.world.RegionPlan.{RegionPlan}
 use Rattle.atl_world.specs.ByNumber.{market_of}
 use Rattle.atl_world.proofs.Maps.{entries-empty}
+use Rattle.atl_world.proofs.EntryOrderLaws.{less_by_comparison}
 use Rattle.atl_records.specs.declared.books.BooksEntry.{BooksEntry}
 use Rattle.atl_records.specs.declared.books.BooksEntry.TheVariants.{Stocked}
 use Rattle.atl_records.specs.declared.books.Thing.{Thing}
@@ -42,7 +43,6 @@ use Rattle.atl_phase.proofs.BookingLaws.{booked-near, within-pos}
 use Rattle.atl_phase.proofs.MarkLaws.{marks_by, booked_marks}
 use Rattle.atl_phase.proofs.MeaningLaws.{both_leave_well, room_for_second, room_less, same_month_by, well_unchanged, well_within}
 use Rattle.atl_month.specs.Restock.{after_market_restock, after_restock, markets_of, restock, stocks_by}
-use Rattle.atl_campaign.proofs.OrderedLaws.{less_by_cmp}
 
 -- ---- how far new goods move the books
 
@@ -63,7 +63,7 @@ none_above : (k : ℕ) (xs : List (ℕ × Market)) (e : BooksEntry) (t : Thing) 
 none_above k [] e t at above = refl
 none_above k (x ∷ xs) e t at above =
     let both = and_parts (is_lt (nat_cmp k x.0)) (below_all nat_cmp k xs) above in
-    let less = less_by_cmp k x.0 both.0 in
+    let less = less_by_comparison k x.0 both.0 in
     omega (arith, other_item x.0 e t (λ same. omega (arith, at, same, less)), none_above k xs e t at both.1)
 
 pub stocks_little : (xs : List (ℕ × Market)) → is_sorted nat_cmp xs ≡ true → (e : BooksEntry) (t : Thing) → stocking_bound xs e t ≤ stocks_by most_amount e t

@@ -14,9 +14,9 @@ use Rattle.atl_orders.specs.declared.verb.Verb.{Verb}
 use Rattle.atl_orders.specs.Mailing.{EntryValue, Reading}
 use Rattle.atl_records.specs.Every.{EachEntry}
 use Rattle.atl_records.proofs.EveryLaws.{each-from_every}
+use Rattle.atl_records.proofs.AmountListLaws.{all_append}
 use Rattle.atl_campaign.proofs.GroupLaws.{kept}
 use Rattle.atl_campaign.proofs.MapOfRowsLaws.{each_follows}
-use Rattle.atl_campaign.proofs.ReadBackLaws.{append_each}
 use Rattle.atl_phase.specs.declared.phase_order.Arrangement.{Arrangement}
 use Rattle.atl_phase.specs.Month.{Aliases}
 use Rattle.atl_phase.specs.PhaseOrders.{IsInMailing, OrdersAreInMailings, Task, key_of, order_counts, orders_of, tasks_for, tasks_from, tasks_of, tasks_of_phase, under_keys}
@@ -67,7 +67,7 @@ module _ (is_of : Verb → Bool) (aliases : Aliases) (readings : FinMap nat_cmp 
   all_count [] h = tt
   all_count (e ∷ es) h =
       let ts = tasks_of aliases e.0 e.1 in
-      append_each IsPhaseOrder (tasks_for is_of ts) (tasks_of_phase is_of aliases es)
+      all_append IsPhaseOrder (tasks_for is_of ts) (tasks_of_phase is_of aliases es)
       (kept _ IsPhaseOrder ts (counted e.0 e.1 h.0 0 e.1.entries (λ j x is. let at : j ≡ 0 + j = omega arith in subst (λ n. slice_get e.1.entries n ≡ Some x) at is))) (all_count es h.1)
 
   -- each order of a phase is under its key, is in its faction's mailing, counts there, and has a verb of the phase

@@ -1,7 +1,7 @@
 -- Laws of what holds of each value of a map (`Every`) or entry of a list (`EachEntry`), and of which numbers have a
 -- value (`HasValue`). They say so after an insertion, by the list of a map's entries, and with a function applied to
 -- each value.
-use Rattle.std.proofs.Common.{◌≡◌, ◌≢◌, ◌==◌, ◌↔◌, ℕ, zero, suc, ◌<◌, T, Bool, true, false, cond, List, [], ◌∷◌, length, get_or, map, filter, Option, Some, None, option_map, refl, sym, ap, ◌∙◌, subst, arith}
+use Rattle.std.proofs.Common.{◌≡◌, ◌≢◌, ◌==◌, ◌↔◌, ℕ, zero, suc, ◌<◌, Bool, true, false, cond, List, [], ◌∷◌, length, get_or, map, filter, Option, Some, None, option_map, refl, sym, ap, ◌∙◌, subst, arith}
 use Rattle.std.specs.declared.cmp.Ordering.TheVariants.{Less, Equal, Greater}
 use Rattle.std.specs.List.{list_any}
 use Rattle.std.specs.Ordering.{nat_cmp, is_eq, is_lt}
@@ -12,12 +12,9 @@ use Rattle.std.proofs.lemmas.Bool.{and_parts, false≢true, or_parts}
 use Rattle.atl_world.specs.Sums.{numbers_where, map_values}
 use Rattle.atl_world.proofs.MappedLaws.{get-mapped}
 use Rattle.atl_world.proofs.SumLaws.{chosen-cons}
+use Rattle.atl_world.proofs.GeneralLaws.{is_true}
 use Rattle.atl_records.specs.Every.{EachEntry, Every, HasValue}
 use Rattle.std.proofs.lemmas.Bool.Decides.{nat_tests}
-
-pub is_true : (b : Bool) → T b → b ≡ true
-is_true true h = refl
-is_true false h = absurd h
 
 pub none_some : {A P : Type 0} (x : A) → None ≡ Some x → P
 none_some x e = cc

@@ -8,8 +8,9 @@ use Rattle.std.proofs.lemmas.Bool.{not-true, not_from_false}
 use Rattle.atl_records.specs.Every.{EachEntry, Every}
 use Rattle.atl_campaign.specs.FromRows.{by_number}
 use Rattle.atl_campaign.specs.Rows.{rows_by}
-use Rattle.atl_campaign.proofs.ReadBackLaws.{each_permuted, each_back, by_number_is, append_each, each_appended, every_row, rows_every, rows_apart, entries_rise}
+use Rattle.atl_campaign.proofs.ReadBackLaws.{each_permuted, each_back, by_number_is, each_appended, every_row, rows_every, rows_apart, entries_rise}
 use Rattle.atl_records.proofs.EveryLaws.{every-from_each, each-from_every}
+use Rattle.atl_records.proofs.AmountListLaws.{all_append}
 use Rattle.atl_campaign.proofs.GroupLaws.{filter_apart, kept, unkept}
 use Rattle.atl_campaign.proofs.MapOfRowsLaws.{HaveDistinctNumbers, rows_found}
 
@@ -18,7 +19,7 @@ use Rattle.atl_campaign.proofs.MapOfRowsLaws.{HaveDistinctNumbers, rows_found}
 module _ {X R : Type 0} (P : R → Type 0) (f : X → List R) where
   pub flat_each : (xs : List X) → AllByRecursion (λ x. AllByRecursion P (f x)) xs → AllByRecursion P (flat_map f xs)
   flat_each [] h = tt
-  flat_each (x ∷ xs) h = append_each P (f x) (flat_map f xs) h.0 (flat_each xs h.1)
+  flat_each (x ∷ xs) h = all_append P (f x) (flat_map f xs) h.0 (flat_each xs h.1)
 
   pub each_flat : (xs : List X) → AllByRecursion P (flat_map f xs) → AllByRecursion (λ x. AllByRecursion P (f x)) xs
   each_flat [] h = tt

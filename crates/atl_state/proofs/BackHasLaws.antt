@@ -15,10 +15,11 @@ use Rattle.atl_campaign.specs.FromRows.{as_u32, is_of_unit_and_sort, things_had}
 use Rattle.atl_records.specs.Every.{Every}
 use Rattle.atl_campaign.specs.RowRules.{has_key, HaveDistinctKeys}
 use Rattle.atl_campaign.specs.Rows.{is_zero, has_row, rows_of_sort, held_rows, has_rows}
-use Rattle.atl_campaign.proofs.ReadBackLaws.{each_permuted, written_is_read, written_fits_u32, apart_keys, append_each, each_appended, append_apart, flat_apart, entries_rise, keys_permuted, pos_is_injective}
-use Rattle.atl_campaign.proofs.AssemblyLaws.{is_same}
+use Rattle.atl_campaign.proofs.ReadBackLaws.{each_permuted, written_is_read, written_fits_u32, apart_keys, each_appended, append_apart, flat_apart, entries_rise, keys_permuted, pos_is_injective}
 use Rattle.atl_state.proofs.BackGroupLaws.{groups_each, each_group, lines_each, each_line, lines_apart, amounts_back}
 use Rattle.atl_campaign.proofs.HasLaws.{KeyFitsU32, is_same_key, things_apart}
+use Rattle.atl_world.proofs.GeneralLaws.{is_equal}
+use Rattle.atl_records.proofs.AmountListLaws.{all_append}
 
 -- a unit's items for sort 0, and its days of study for any other
 abbrev pub goods_of : ℕ → Unit → FinMap nat_cmp ℕ
@@ -39,7 +40,7 @@ module _ (units : FinMap nat_cmp Unit) where
   -- if P holds for the row of each amount, not 0, that a unit of the map has, it holds for each row of `has` of the map
   pub has_each : (P : StoredHas → Type 0) → Every (λ n u. (s : ℕ) → s < 2 → Every (λ i a. is_zero (pos a) ≡ false → P (has_row n s i a)) (goods_of s u)) units → AllByRecursion P (has_rows (entries units))
   has_each P h = groups_each goods_rows P units (λ n u is.
-      append_each P (rows_of_sort n 0 (entries u.holding.items)) (rows_of_sort n 1 (entries u.holding.days)) (lines_each has_zero_amount (has_row n 0) u.holding.items P (h n u is 0 (omega arith))) (lines_each has_zero_amount (has_row n 1) u.holding.days P (h n u is 1 (omega arith))))
+      all_append P (rows_of_sort n 0 (entries u.holding.items)) (rows_of_sort n 1 (entries u.holding.days)) (lines_each has_zero_amount (has_row n 0) u.holding.items P (h n u is 0 (omega arith))) (lines_each has_zero_amount (has_row n 1) u.holding.days P (h n u is 1 (omega arith))))
 
   pub each_had : (P : StoredHas → Type 0) → AllByRecursion P (has_rows (entries units)) → Every (λ n u. (s : ℕ) → s < 2 → Every (λ i a. is_zero (pos a) ≡ false → P (has_row n s i a)) (goods_of s u)) units
   each_had P h n u is = of_sort (each_appended P (rows_of_sort n 0 (entries u.holding.items)) (rows_of_sort n 1 (entries u.holding.days)) (each_group goods_rows P units h n u is))
@@ -66,7 +67,7 @@ module _ (units : FinMap nat_cmp Unit) where
   has_apart =
       flat_apart (λ a b. is_same_key (has_key a) (has_key b)) (λ (e : ℕ × Unit). held_rows e.0 e.1.holding) (λ e f. e.0 < f.0) (λ e r. r.unit ≡ pos e.0)
       (λ x y a b l mine yours. apart_keys (has_key a) (has_key b) (λ k. let one = pos_is_injective x.0 y.0 (sym mine ∙ k.first ∙ yours) in omega arith))
-      (λ e. append_each (λ r. r.unit ≡ pos e.0) (rows_of_sort e.0 0 (entries e.1.holding.items)) (rows_of_sort e.0 1 (entries e.1.holding.days)) (lines_each has_zero_amount (has_row e.0 0) e.1.holding.items (λ r. r.unit ≡ pos e.0) (λ i a is some. refl)) (lines_each has_zero_amount (has_row e.0 1) e.1.holding.days (λ r. r.unit ≡ pos e.0) (λ i a is some. refl)))
+      (λ e. all_append (λ r. r.unit ≡ pos e.0) (rows_of_sort e.0 0 (entries e.1.holding.items)) (rows_of_sort e.0 1 (entries e.1.holding.days)) (lines_each has_zero_amount (has_row e.0 0) e.1.holding.items (λ r. r.unit ≡ pos e.0) (λ i a is some. refl)) (lines_each has_zero_amount (has_row e.0 1) e.1.holding.days (λ r. r.unit ≡ pos e.0) (λ i a is some. refl)))
       (λ e. held_apart e.0 e.1) (entries units) (entries_rise units)
 
   -- the numbers of units, items and skills fit 32 bits, and each amount of an item or of days is from 1 to most_u32
@@ -100,7 +101,7 @@ module _ (units : FinMap nat_cmp Unit) where
     of_row : (n sort k s i a : ℕ) → k ≤ most_u32 → s < 2 → is_of_unit_and_sort n sort (has_row k s i a) ≡ true → IsSameUnitAndSort n sort k s
     of_row n sort k s i a few l e =
         let both = and_parts (as_u32 (pos k) == n) (as_u32 (pos s) == sort) e in
-        record { unit = sym (written_is_read k few) ∙ is_same (as_u32 (pos k)) n both.0; kind = sym (written_is_read s (omega arith)) ∙ is_same (as_u32 (pos s)) sort both.1 }
+        record { unit = sym (written_is_read k few) ∙ is_equal (as_u32 (pos k)) n both.0; kind = sym (written_is_read s (omega arith)) ∙ is_equal (as_u32 (pos s)) sort both.1 }
 
     of_itself : (n s i a : ℕ) → n ≤ most_u32 → s < 2 → is_of_unit_and_sort n s (has_row n s i a) ≡ true
     of_itself n s i a few l =

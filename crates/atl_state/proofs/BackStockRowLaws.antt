@@ -14,11 +14,11 @@ use Rattle.atl_campaign.specs.FromRows.{as_u32, stocks_of}
 use Rattle.atl_records.specs.Every.{Every}
 use Rattle.atl_campaign.specs.RowRules.{market_key, HaveDistinctKeys}
 use Rattle.atl_campaign.specs.Rows.{is_zero, market_row, stock_rows, market_rows}
-use Rattle.atl_campaign.proofs.AssemblyLaws.{is_same}
 use Rattle.atl_state.proofs.BackGroupLaws.{groups_each, each_group, lines_each, each_line, lines_apart, amounts_back}
 use Rattle.atl_campaign.proofs.ReadBackLaws.{each_permuted, written_is_read, written_fits_u32, apart_keys, flat_apart, entries_rise, keys_permuted, pos_is_injective}
 use Rattle.atl_campaign.proofs.HasLaws.{is_same_key}
 use Rattle.atl_state.proofs.StockRowLaws.{HasWholeKey, is_row_of_region, items_apart}
+use Rattle.atl_world.proofs.GeneralLaws.{is_equal}
 
 abbrev has_zero_stock : StoredMarket → Bool
 has_zero_stock m = is_zero m.stock
@@ -70,7 +70,7 @@ module _ (regions : FinMap nat_cmp Region) where
     stocks_back n r there =
         amounts_back (λ m. as_u32 m.item) (λ m. as_u32 m.stock) (is_row_of_region n) r.stocks (market_rows Second (entries regions)) rows h (items_apart n rows all_keyed market_keys)
         (stocks_each (λ m. is_row_of_region n m ≡ true → get r.stocks (as_u32 m.item) ≡ Some (as_u32 m.stock)) (λ k v at i a is some of.
-        let here : k ≡ n = sym (written_is_read k (few.numbers k v at)) ∙ is_same (as_u32 (pos k)) n of in
+        let here : k ≡ n = sym (written_is_read k (few.numbers k v at)) ∙ is_equal (as_u32 (pos k)) n of in
         let small = few.stocks k v at i a is in
         let one = some_same v r (sym at ∙ ap (get regions) here ∙ there) in
         ap (get r.stocks) (written_is_read i small.0) ∙ ap (λ (x : Region). get x.stocks i) (sym one) ∙ is ∙ ap (λ x. Some x) (sym (written_is_read a small.2))))

@@ -7,7 +7,7 @@ use Rattle.std.specs.Ordering.{nat_cmp, eq_by_cmp}
 use Rattle.std.specs.Cmp.{eq_by_cmp_equiv}
 use Rattle.std.specs.Cmp.Lexicographic.{slice_cmp, nat_list_cmp_total}
 use Rattle.std.specs.FinMap.{get, entries, len}
-use Rattle.std.proofs.lemmas.Bool.{cases_lt, not_from_false}
+use Rattle.std.proofs.lemmas.Bool.{cases_lt, not_from_false, lt-ltb}
 use Rattle.std.proofs.lemmas.Bool.Decides.{nat_tests}
 use Rattle.std.proofs.lemmas.Int.{ints}
 use Rattle.std.proofs.lemmas.Map.Keys.{IsDistinct-IsPermutation}
@@ -62,9 +62,6 @@ and_true a b h k = ap (λ x. x && b) h ∙ k
 
 le_true : (m n : ℕ) → m ≤ n → nat_le m n ≡ true
 le_true m n h = grind (arith, nat_tests)
-
-lt_true : (m n : ℕ) → m < n → nat_lt m n ≡ true
-lt_true m n h = grind (arith, nat_tests)
 
 flag_in_range : (b : Bool) → is_from 0 1 (flag b) ≡ true
 flag_in_range true = refl
@@ -261,7 +258,7 @@ module _ (f : Format) (w : WorldValue) (world : IsWorld w) (c : CampaignValue) (
   thing_true t inside =
       let few = row.few_things w world c good f fits p rows in
       let read = written_is_read t (omega (arith, few)) in
-      lt_true (as_u32 (pos t)) (thing_count w) (omega (arith, read))
+      lt-ltb (as_u32 (pos t)) (thing_count w) (omega (arith, read))
 
   of_books : list_all (is_booked f w) p.books ≡ true
   of_books =

@@ -4,6 +4,7 @@
 use Rattle.std.proofs.Common.{◌≡◌, ◌==◌, ◌⊎◌, inl, inr, ℕ, suc, ◌<◌, Bool, true, false, cond, List, [], ◌∷◌, length, get_or, map, filter, Option, Some, None, option_and_then, refl, sym, ap, ◌∙◌, subst, arith}
 use Rattle.std.proofs.lemmas.Bool.{and_parts}
 use Rattle.std.proofs.lemmas.Bool.Decides.{Decides-eqb}
+use Rattle.std.proofs.lemmas.Option.{same_Some}
 use Rattle.std.specs.Cmp.Derive.{both_true}
 use Rattle.std.specs.declared.cmp.Ordering.TheVariants.{Less, Equal, Greater}
 use Rattle.std.specs.Option.{option_or}
@@ -54,9 +55,6 @@ module _ {V : Type 0} (p : V → Bool) where
 
 -- ---- the faction that guards a region, its holder
 
-same_value : (x y : ℕ) → Some x ≡ Some y → x ≡ y
-same_value x y e = cc
-
 agree_true : (a b : Option ℕ) → ((x y : ℕ) → a ≡ Some x → b ≡ Some y → x ≡ y) → agree a b ≡ true
 agree_true None b h = refl
 agree_true (Some x) None h = refl
@@ -75,7 +73,7 @@ module _ (faction : ℕ → Option ℕ) where
   -- if a list passes one_holder with its first number's faction, this is the faction of each number of the list that
   -- has one
   first_holds : (m z : ℕ) (ms : List ℕ) → faction m ≡ Some z → one_holder faction (Some z) ms ≡ true → (n x : ℕ) → IsListed n (m ∷ ms) → faction n ≡ Some x → x ≡ z
-  first_holds m z ms first h n x (inl same) is = same_value x z (sym is ∙ ap faction same ∙ first)
+  first_holds m z ms first h n x (inl same) is = same_Some x z (sym is ∙ ap faction same ∙ first)
   first_holds m z ms first h n x (inr mine) is = like_holder z ms h n x mine is
 
   not_first : (m : ℕ) (ms : List ℕ) → faction m ≡ None → (n x : ℕ) → IsListed n (m ∷ ms) → faction n ≡ Some x → IsListed n ms
@@ -114,7 +112,7 @@ guard_of_guarding_unit : (c : CampaignValue) (n : ℕ) (u : Unit) → get c.unit
 guard_of_guarding_unit c n u is on = ap (option_and_then (λ (v : Unit). cond (guards v) (Some v.faction) None)) is ∙ ap (λ b. cond b (Some u.faction) None) on
 
 cond_some_means_true : (b : Bool) (f x : ℕ) → cond b (Some f) None ≡ Some x → (b ≡ true) × (f ≡ x)
-cond_some_means_true true f x e = (refl, same_value f x e)
+cond_some_means_true true f x e = (refl, same_Some f x e)
 cond_some_means_true false f x e = none_some x e
 
 guard_means_unit_guards : (c : CampaignValue) (n x : ℕ) (u : Unit) → get c.units n ≡ Some u → guard_of c n ≡ Some x → (guards u ≡ true) × (u.faction ≡ x)

@@ -12,11 +12,11 @@ use Rattle.atl_records.specs.declared.records.Region.{Region}
 use Rattle.atl_campaign.specs.FromRows.{as_u32, stocks_of, region_of, by_number}
 use Rattle.atl_campaign.specs.RowRules.{Key, market_key}
 use Rattle.atl_campaign.specs.Rows.{is_zero, market_row, stock_rows, market_rows}
-use Rattle.atl_campaign.proofs.AssemblyLaws.{is_same}
 use Rattle.atl_campaign.proofs.GroupLaws as group
 use Rattle.atl_campaign.proofs.GroupLaws.{gathered, lines_order}
 use Rattle.atl_campaign.proofs.HasLaws.{FitsU32, is_same_key, ties_itself}
 use Rattle.atl_campaign.proofs.MapOfRowsLaws.{HaveDistinctNumbers, HasNumber, each_follows, flat_order}
+use Rattle.atl_world.proofs.GeneralLaws.{is_equal}
 
 -- the region and the item of a row of `market` fit 32 bits, so both are read as they are
 pub record HasWholeKey (m : StoredMarket) : Type 0 where
@@ -42,7 +42,7 @@ abbrev IsStockIn : ℕ → StoredMarket → Type 0
 IsStockIn n m = HasWholeKey m × (is_row_of_region n m ≡ true)
 
 its_region : (n : ℕ) (m : StoredMarket) → IsStockIn n m → m.region ≡ pos n
-its_region n m (keys, of) = keys.region ∙ ap pos (is_same (as_u32 m.region) n of)
+its_region n m (keys, of) = keys.region ∙ ap pos (is_equal (as_u32 m.region) n of)
 
 same_row : (n : ℕ) (m : StoredMarket) → IsStockIn n m → FitsU32 m.stock → market_row n (item_of m) (stock_of m) ≡ m
 same_row n m here stock = λ i. record { region = sym (its_region n m here) i; item = sym here.0.item i; stock = sym stock i }
