@@ -20,7 +20,7 @@ use Rattle.atl_sql.specs.Causes.{IsGiven, IsBroken, IsRefused, Gives, Leads, IsR
 more_later : (a b c : ℕ) → b ≤ c → MoreFaults a b → MoreFaults a c
 more_later a b c later more = omega (arith, later, more)
 
-more_before : (a b c : ℕ) → a ≤ b → MoreFaults b c → MoreFaults a c
+pub more_before : (a b c : ℕ) → a ≤ b → MoreFaults b c → MoreFaults a c
 more_before a b c before more = omega (arith, before, more)
 
 -- ---- one call

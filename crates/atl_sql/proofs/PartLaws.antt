@@ -1,8 +1,9 @@
 -- Laws on the tables of a campaign's parts: different parts have different tables.
-use Rattle.std.proofs.Common.{◌≡◌, ◌||◌, ◌⊎◌, ℕ, Bool, true, false, not, nat_eq, cond, List, [], ◌∷◌, Option, Some, refl, sym, ap, ◌∙◌, inl, inr, true≢false, arith}
+use Rattle.std.proofs.Common.{◌≡◌, ◌⊎◌, ℕ, Bool, true, false, not, nat_eq, cond, List, [], ◌∷◌, Option, Some, refl, sym, ap, ◌∙◌, inl, inr, true≢false, arith}
 use Rattle.std.specs.List.{find, list_any, list_all}
 use Rattle.std.proofs.lemmas.Bool.Decides.{nat_tests}
 use Rattle.std.proofs.lemmas.Option.{same_Some}
+use Rattle.std.proofs.lemmas.Bool.{or_cases}
 use Rattle.sqlite_rules.specs.Lists.{Has}
 use Rattle.sqlite_rules.proofs.ListLemmas.{some_from, test_has}
 use Rattle.atl_sql.specs.Tables.{Part, Own, table_of, all_parts, all_tables}
@@ -54,13 +55,9 @@ member_is_among parts part there = some_from (λ p. nat_eq (tree_of part) (tree_
 pub not_among : (parts : List Part) (part : Part) → is_among parts part ≡ false → ¬ Has parts part
 not_among parts part free there = true≢false (sym (member_is_among parts part there) ∙ free)
 
-one_or_more : (b c : Bool) → (b || c) ≡ true → (b ≡ true) ⊎ (c ≡ true)
-one_or_more true c is = inl refl
-one_or_more false c is = inr is
-
 among_has : (parts : List Part) (part : Part) → is_among parts part ≡ true → Has parts part
 among_has [] part is = absurd cc
-among_has (p ∷ parts) part is = elim (one_or_more (nat_eq (tree_of part) (tree_of p)) (is_among parts part) is) [
+among_has (p ∷ parts) part is = elim (or_cases (nat_eq (tree_of part) (tree_of p)) (is_among parts part) is) [
   | inl same ↦ inl (same_part part p (equal (tree_of part) (tree_of p) same))
   | inr later ↦ inr (among_has parts part later)
 ]

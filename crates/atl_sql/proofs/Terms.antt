@@ -14,6 +14,7 @@ use Rattle.sqlite_trees.specs.View.{is_int}
 use Rattle.sqlite_value.proofs.OrderLemmas.{value_cmp_total}
 use Rattle.atl_sql.specs.Shown.{int}
 use Rattle.atl_sql.proofs.UpsertLaws.{equal_is, is_equal}
+use mathlib.Core.Bool.{and-true}
 
 choice_of_equals : (b : Bool) (x : Value) → cond b x x ≡ x
 choice_of_equals true x = refl
@@ -42,13 +43,9 @@ upsert_finds_number a n rest none integer = (
 
 pub delete_finds_number : (a : Value) (n : ℕ) → is_int a ≡ true → ((equal Binary a (int n) && true) ≡ true → ◌≡◌ {A = Row} (a ∷ []) (int n ∷ [])) × (◌≡◌ {A = Row} (a ∷ []) (int n ∷ []) → (equal Binary a (int n) && true) ≡ true)
 delete_finds_number a n integer = (
-  λ hit. ap (λ v. v ∷ []) (equal_is a (int n) integer refl (sym (whole _) ∙ hit)),
-  λ same. whole _ ∙ ap (λ v. equal Binary v (int n)) (head_is _ _ _ _ same) ∙ is_equal (int n) refl,
+  λ hit. ap (λ v. v ∷ []) (equal_is a (int n) integer refl (sym (and-true _) ∙ hit)),
+  λ same. and-true _ ∙ ap (λ v. equal Binary v (int n)) (head_is _ _ _ _ same) ∙ is_equal (int n) refl,
 )
-  where
-    whole : (b : Bool) → (b && true) ≡ b
-    whole true = refl
-    whole false = refl
 
 pub one_number : (a b : Value) → ◌≡◌ {A = Row} (a ∷ []) (b ∷ []) → is_eq (value_cmp a b) ≡ true
 one_number a b same = ap (λ v. is_eq (value_cmp v b)) (head_is _ _ _ _ same) ∙ ap is_eq (tied_itself value_cmp_total b)

@@ -1,5 +1,5 @@
 -- Laws on INSERT .. ON CONFLICT (key) DO UPDATE of one row: which rows the table has afterwards.
-use Rattle.std.proofs.Common.{◌≡◌, ◌⊎◌, ◌&&◌, ℕ, ℤ, Bool, true, false, List, [], ◌∷◌, ◌++◌, map, flat_map, Option, Some, None, Ok, Ordering, Less, Equal, Greater, refl, sym, ap, ◌∙◌, subst, inl, inr, true≢false, arith}
+use Rattle.std.proofs.Common.{◌≡◌, ◌⊎◌, ℕ, ℤ, Bool, true, false, List, [], ◌∷◌, ◌++◌, map, flat_map, Option, Some, None, Ok, Ordering, Less, Equal, Greater, refl, sym, ap, ◌∙◌, subst, inl, inr, true≢false, arith}
 use Rattle.std.specs.Prelude.{cond}
 use Rattle.std.specs.List.{list_all}
 use Rattle.std.specs.Ordering.{is_eq, is_ne}
@@ -43,6 +43,7 @@ use Rattle.sqlite.specs.Rows.{Written, Task, Updates, Tries, Judged, Upserts, Me
 use Rattle.atl_sql.specs.Sets.{AreKeyedByRowid}
 use Rattle.atl_sql.proofs.ListLaws.{eq_sym, AreFound, stays, was_there, keyed_put, keyed_without}
 use Rattle.atl_sql.proofs.EditLaws.{delete_query, Swaps, puts, ok_step_did, same_value}
+use mathlib.Core.Bool.{and-true}
 
 -- ---- SQL's = on integers
 
@@ -137,15 +138,11 @@ update_finds_its_row tree position project db db' given rows r keyed there aimed
     let p = λ (x : Row). list_all (holds (given ∷ x ∷ [])) q.filter in
     let f = λ (x : Row). given ∷ x ∷ [] in
     let tests : (x : Row) → Has (db tree) x → p x ≡ is_eq (value_cmp (rowid x) (rowid r)) = λ x h.
-    both_true (equal Binary (rowid x) (column given position)) ∙ ap (equal Binary (rowid x)) aimed ∙ equal_ints (rowid x) (rowid r) (all_has _ (db tree) x keyed.ints h) (all_has _ (db tree) r keyed.ints there) in
+    and-true (equal Binary (rowid x) (column given position)) ∙ ap (equal Binary (rowid x)) aimed ∙ equal_ints (rowid x) (rowid r) (all_has _ (db tree) x keyed.ints h) (all_has _ (db tree) r keyed.ints there) in
     let staged : a.staged ≡ f r ∷ [] = a.grouped ∙ ap (chosen p f) same ∙ one_chosen p f (db tree) keyed.apart r there tests in
     let kept : a.kept ≡ output q (f r) ∷ [] = a.distinct ∙ ap (map (output q)) staged in
     let ordered = one_permutation (output q (f r)) a.ordered (subst (λ k. IsPermutation k a.ordered) kept a.same) in
     a.shown ∙ ap (map (λ (o : Output). o.1)) ordered
-  where
-    both_true : (b : Bool) → (b && true) ≡ b
-    both_true true = refl
-    both_true false = refl
 
 -- ---- the statement
 

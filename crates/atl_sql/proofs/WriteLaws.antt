@@ -30,7 +30,7 @@ HandsOn e r = IsErr r × IsErrAnd r (λ f. f ≡ e)
 abbrev pub HasDone : {S : Type 0} → Ghosts S → Statements → (State → State → Type 0) → MutBor (Held S) → MutBor (Held S) → Type 0
 HasDone g own Does old new = Writes g own Does {A = Unit {0}} (Ok (tt {0})) old new
 
-survives_start : (s : State) → Survives s s (λ _. ⊥)
+pub survives_start : (s : State) → Survives s s (λ _. ⊥)
 survives_start s = record { clean = omega arith; shield = λ h. h; counts = omega arith; limit = refl; closes = λ clean up. inl up; crash = λ clean db may. inl may }
 
 abbrev Any : State → State → Type 0
