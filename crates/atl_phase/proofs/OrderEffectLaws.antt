@@ -2,11 +2,11 @@
 -- remaining bound of an amount of the books is how far the amount may still move. In an orderly phase (`IsOrderly`)
 -- each order keeps `holds` true, the month and the books' balance, and moves no amount further than its remaining bound
 -- falls. Each order leaves the units that it doesn't affect as `unaffected` says.
-use Rattle.std.proofs.Common.{suc, zero, ◌≡◌, ◌==◌, ◌+◌, ℕ, ◌≤◌, Bool, true, false, List, [], ◌∷◌, Option, Some, None, refl, sym, ap, subst, arith}
+use Rattle.std.proofs.Common.{suc, zero, ◌≡◌, ◌==◌, ◌+◌, ℕ, ◌≤◌, ◌<◌, Bool, true, false, List, [], ◌∷◌, length, map, get_or, Option, Some, None, refl, sym, ap, subst, arith}
 use Rattle.std.proofs.lemmas.Option.{same_Some}
 use Rattle.std.specs.Prelude.{ℤ, fold, IfSome, if◌then◌else◌}
 use Rattle.std.specs.List.{All, AllByRecursion, slice_get}
-use Rattle.std.proofs.lemmas.List.Elements.{recursion_from_All}
+use Rattle.std.proofs.lemmas.List.Elements.{All-from_recursion, recursion_from_All}
 use Rattle.std.specs.FinMap.{FinMap, get}
 use Rattle.std.specs.Ordering.{nat_cmp}
 use Rattle.std.proofs.lemmas.Int.{ints}
@@ -26,13 +26,16 @@ use Rattle.atl_phase.specs.Month.{Aliases, MonthValue}
 use Rattle.atl_phase.specs.Fit.{AreFit}
 use Rattle.atl_phase.specs.Meaning.{BookBound, Condition, IsNear, LeavesWell}
 use Rattle.atl_phase.specs.Bounds.{HasRoom, HaveRoom, IsOrderly, IsUnaffectedRelation, IsUnitOf, RemainingBound, StepsWell, UsesBound}
-use Rattle.atl_phase.specs.PhaseOrders.{IsInMailing, Task, orders_of}
+use Rattle.atl_phase.specs.PhaseOrders.{IsInMailing, Task, orders_of, task_of}
 use Rattle.atl_phase.specs.NoWorse.{IsNoWorse}
 use Rattle.atl_phase.specs.OrderEffects.{AreUnaffected, Affects, IsStillThere, OrderEffect, Unaffected, OrderMeaning, faction_effect, effect_on, of_faction, one_order, order_result, with_event_of}
+use Rattle.atl_phase.specs.declared.phase_order.Arrangement.{Arrangement}
 use Rattle.atl_phase.specs.declared.phase_order.Arrangement.TheVariants.{ByUnit}
+use Rattle.atl_phase.specs.declared.phase_order.PhaseOrder.{PhaseOrder}
+use Rattle.atl_phase.proofs.FoldLaws.{each_mapped}
 use Rattle.atl_phase.proofs.MeaningLaws.{same_month, same_month_twice}
 use Rattle.atl_phase.proofs.NoWorseLaws.{no_worse, no_worse_twice}
-use Rattle.atl_phase.proofs.PhaseOrderLaws.{orders_are_in_mailings}
+use Rattle.atl_phase.proofs.PhaseOrderLaws.{orders_are_in_mailings, orders_have_verbs}
 
 -- ---- amounts
 
@@ -157,6 +160,17 @@ module _ (w : WorldValue) where
 
     pub orders_fit : (is_of : Verb → Bool) → All (λ t. IsOrderOf w t.order_value) (orders_of is_of ByUnit aliases readings)
     orders_fit is_of k d l = in_mailing_in_bounds _ (orders_are_in_mailings is_of ByUnit aliases readings k d l)
+
+    module _ (is_of : Verb → Bool) (a : Arrangement) (P : Task → Type 0) (so : (t : Task) → is_of t.order_value.verb ≡ true → IsOrderOf w t.order_value → P t) where
+      -- what is so of orders that have a verb of the phase and say what they are (`IsOrderOf`) is so of each of its orders
+      pub each_order : All P (orders_of is_of a aliases readings)
+      each_order k d l =
+          so _ (All-from_recursion (λ t. is_of t.order_value.verb ≡ true) (orders_of is_of a aliases readings) (orders_have_verbs is_of a aliases readings) k d l)
+          (in_mailing_in_bounds _ (orders_are_in_mailings is_of a aliases readings k d l))
+
+      -- and of each in the code's list of them
+      pub listed_order : (os : List PhaseOrder) → map task_of os ≡ orders_of is_of a aliases readings → (i : ℕ) (o : PhaseOrder) → o ≡ get_or os i o → i < length os → P (task_of o)
+      listed_order os are i o is inside = subst (λ x. P (task_of x)) (sym is) (each_mapped P task_of os (orders_of is_of a aliases readings) are each_order i o inside)
 
 -- ---- the mailings stay
 

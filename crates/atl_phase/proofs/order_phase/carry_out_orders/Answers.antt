@@ -1,5 +1,4 @@
 use Rattle.std.proofs.Common.{◌≡◌, [], ap, subst, sym, ◌∙◌, map, true, arith}
-use Rattle.std.proofs.lemmas.List.Elements.{All-from_recursion}
 use Rattle.std.proofs.lemmas.List.{append-nil}
 use Rattle.std.specs.Prelude.{fold}
 use Rattle.atl_orders.specs.Bounds.{IsOrderOf}
@@ -10,11 +9,10 @@ use Rattle.atl_phase.specs.PhaseOrders.{orders_by_unit, task_of}
 use Rattle.atl_phase.specs.declared.phase_order.PhaseOrder.{PhaseOrder}
 use Rattle.atl_phase.specs.OrderEffects.{AreUnaffected, meaning_by_orders, one_order}
 use Rattle.atl_phase.specs.Bounds.{StepsWell}
-use Rattle.atl_phase.proofs.FoldLaws.{each_mapped, fold_after_step, fold_ended, fold_mapped}
+use Rattle.atl_phase.proofs.FoldLaws.{fold_after_step, fold_ended, fold_mapped}
 use Rattle.atl_phase.proofs.MeaningLaws.{room_less}
 use Rattle.atl_phase.specs.declared.phase_order.Arrangement.TheVariants.{ByUnit}
-use Rattle.atl_phase.proofs.PhaseOrderLaws.{orders_have_verbs}
-use Rattle.atl_phase.proofs.OrderEffectLaws.{leaves_well, order_well, orders_fit, orders_leave_others, room_left, well_same, well_twice}
+use Rattle.atl_phase.proofs.OrderEffectLaws.{leaves_well, listed_order, order_well, orders_fit, orders_leave_others, room_left, well_same, well_twice}
 use Rattle.atl_phase.proofs.order_phase.carry_out_orders.Goals as goal
 
 pub loop-order-init : goal.loop-order-init
@@ -38,22 +36,15 @@ pub carry_one-requires-clause-verb : goal.carry_one-requires-clause-verb
 carry_one-requires-clause-verb g c =
     let m = c.args.month.now in
     let is_of = g.P.PhaseVerbs.is_of in
-    let o = c.order-item.result in
-    subst (λ x. is_of (task_of x).order_value.verb ≡ true) (sym c.order-item.is)
-    (each_mapped (λ t. is_of t.order_value.verb ≡ true) task_of c.deref-order-items.result.now (orders_by_unit is_of m)
-    (ap (map task_of) c.deref-order-items.ensures.value ∙ c.in_ok-orders.ensures)
-    (All-from_recursion (λ t. is_of t.order_value.verb ≡ true) (orders_by_unit is_of m) (orders_have_verbs is_of ByUnit m.aliases m.readings))
-    c.loop-order.order-index o c.loop-order-test.true)
+    listed_order c.args.world.now m.aliases m.readings c.requires.read is_of ByUnit (λ t. is_of t.order_value.verb ≡ true) (λ t of_phase fit. of_phase) c.deref-order-items.result.now
+    (ap (map task_of) c.deref-order-items.ensures.value ∙ c.in_ok-orders.ensures) c.loop-order.order-index c.order-item.result c.order-item.is c.loop-order-test.true
 
 pub carry_one-requires-clause-fit : goal.carry_one-requires-clause-fit
 carry_one-requires-clause-fit g c =
     let w = c.args.world.now in
     let m = c.args.month.now in
-    let o = c.order-item.result in
-    subst (λ x. IsOrderOf w (task_of x).order_value) (sym c.order-item.is)
-    (each_mapped (λ t. IsOrderOf w t.order_value) task_of c.deref-order-items.result.now (orders_by_unit g.P.PhaseVerbs.is_of m)
-    (ap (map task_of) c.deref-order-items.ensures.value ∙ c.in_ok-orders.ensures) (orders_fit w m.aliases m.readings c.requires.read g.P.PhaseVerbs.is_of)
-    c.loop-order.order-index o c.loop-order-test.true)
+    listed_order w m.aliases m.readings c.requires.read g.P.PhaseVerbs.is_of ByUnit (λ t. IsOrderOf w t.order_value) (λ t of_phase fit. fit) c.deref-order-items.result.now
+    (ap (map task_of) c.deref-order-items.ensures.value ∙ c.in_ok-orders.ensures) c.loop-order.order-index c.order-item.result c.order-item.is c.loop-order-test.true
 
 pub loop-order-preserved : goal.loop-order-preserved
 loop-order-preserved g c =
@@ -66,10 +57,8 @@ loop-order-preserved g c =
     let xs = c.deref-order-items.result.now in
     let one = λ (p : CampaignValue × MonthValue) (x : PhaseOrder). one_order (P.step c.args.phase.now) w p (task_of x) in
     let fit =
-    subst (λ x. IsOrderOf w (task_of x).order_value) (sym c.order-item.is)
-    (each_mapped (λ t. IsOrderOf w t.order_value) task_of xs (orders_by_unit g.P.PhaseVerbs.is_of m)
-    (ap (map task_of) c.deref-order-items.ensures.value ∙ c.in_ok-orders.ensures) (orders_fit w m.aliases m.readings c.requires.read g.P.PhaseVerbs.is_of)
-    c.loop-order.order-index o c.loop-order-test.true) in
+    listed_order w m.aliases m.readings c.requires.read g.P.PhaseVerbs.is_of ByUnit (λ t. IsOrderOf w t.order_value) (λ t of_phase fit. fit) xs
+    (ap (map task_of) c.deref-order-items.ensures.value ∙ c.in_ok-orders.ensures) c.loop-order.order-index o c.order-item.is c.loop-order-test.true in
     let well = order_well (P.step c.args.phase.now) c.is_orderly.ensures w m.aliases c.loop-order.campaign.value (task_of o) c.loop-order.invariant.well.holds_still fit in
     record {
       orders = fold_after_step one xs c.loop-order.order-index o before c.loop-order-test.true (step ∙ ap (one before) c.order-item.is) c.loop-order.invariant.orders;
