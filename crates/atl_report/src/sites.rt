@@ -93,8 +93,7 @@ pub(crate) fn listed_under(lists: &Numbered<Sequence<u32>>, key: u32) -> &[u32]
 }
 
 /// The lists of the structures and the units of all regions, from one pass over the campaign. They
-/// stay right until a structure is begun, or a unit or a structure is changed or moved. AllocError
-/// without memory.
+/// stay right until a structure or a unit is made, changed or moved. AllocError without memory.
 pub fn lists_of(
     alloc: Global,
     world: &World,
