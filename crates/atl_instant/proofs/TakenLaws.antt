@@ -146,6 +146,11 @@ guard_shape v o of_phase fits = cc
 
 -- ---- FORM
 
+-- an order with a verb of the phase of FORM has the shape of FORM
+pub form_shape : (v : Verb) (o : OperandsValue) → is_forming v ≡ true → Fits v o → Fits verbs.Form o
+form_shape verbs.Form o of_phase fits = fits
+form_shape v o of_phase fits = cc
+
 -- the phase of FORM gives an event to each order of FORM, read with the aliases as the phase begins
 pub form_gives : (w : WorldValue) (c : CampaignValue) (m : MonthValue) (readings : FinMap nat_cmp Reading) → m.readings ≡ readings → AreFit w readings → (t : Task) (there : IsInMailing m.aliases readings t)
     → reports_at t.faction t.line (form_meaning w c m).1 ≡ reports_at t.faction t.line m ++ report_if (is_forming t.order_value.verb && order_counts (tasks_of m.aliases t.faction there.reading) t) t

@@ -1,10 +1,13 @@
 //! FORM: units form new units. See docs/RULES.md, "Form".
-ghost use Rattle.std.specs.Prelude.{◌≡◌, ◌≤◌, IfOk, List, None, OnOk, map as each, ℕ};
+ghost use Rattle.std.specs.Prelude.{◌≡◌, ◌≤◌, IfOk, None, OnOk, map as each};
 ghost use Rattle.std.specs.FinMap as map;
-ghost use Rattle.atl_orders.specs.Orders.{named};
+ghost use Rattle.atl_world.specs.Worlds.{WorldValue};
+ghost use Rattle.atl_orders.specs.Bounds.{shape_of};
+ghost use Rattle.atl_orders.specs.Verbs.{row_of};
 ghost use Rattle.atl_campaign.specs.Covers.{MarksChanges};
 ghost use Rattle.atl_campaign.specs.Good.{IsEarly};
 ghost use Rattle.atl_records.specs.Limits.{last_unit};
+ghost use Rattle.atl_phase.specs.Fit.{AreFit};
 ghost use Rattle.atl_phase.specs.PhaseOrders.{orders_of, task_of};
 ghost use Rattle.atl_phase.specs.declared.phase_order.Arrangement.TheVariants.{ByFaction};
 ghost use Rattle.atl_instant.specs.Form.{alias_of, aliases_after, form_by, form_fault, form_keeps, form_meaning, is_forming, is_unit_limit, new_unit, with_formed_unit};
@@ -81,12 +84,13 @@ fn add_formed_unit(
     campaign.begin_unit(unit)
 }
 
-fn alias_of(what: &Operands) -> u32
-    ensures { (text : List ℕ) → result ≡ alias_of (named text what.now) }
+fn alias_of(order: PhaseOrder<'_>) -> u32
+    requires { shape_of (task_of order).order_value.operands ≡ (row_of Verb.Form).shape }
+    ensures { result ≡ alias_of (task_of order.entry).order_value.operands }
 {
-    match what {
+    match &order.order.operands {
         Operands::Alias(alias) => *alias,
-        _ => 0,
+        _ => unreachable!(),
     }
 }
 
@@ -102,6 +106,7 @@ pub(crate) struct Forming {
 }
 
 fn forming_of(order: PhaseOrder<'_>) -> Forming
+    requires { shape_of (task_of order).order_value.operands ≡ (row_of Verb.Form).shape }
     ensures { result ≡ forming_of (task_of order.entry) }
 {
     Forming {
@@ -109,12 +114,14 @@ fn forming_of(order: PhaseOrder<'_>) -> Forming
         line: order.line,
         faction: order.faction,
         verb: order.order.verb,
-        alias: alias_of(&order.order.operands),
+        alias: alias_of(order),
     }
 }
 
-/// Copies of all orders of FORM of a month, by faction and then by line.
+/// Copies of all orders of FORM of a month, by faction and then by line. The orders are such as can
+/// be read with some world.
 fn formings(alloc: Global, month: &Month) -> Result<Vec<Forming>, AllocError>
+    requires { (w : WorldValue) × AreFit w month.now.readings }
     ensures { IfOk result (λ list. list.items
         ≡ each forming_of (orders_of is_forming ByFaction month.now.aliases month.now.readings)) }
 {

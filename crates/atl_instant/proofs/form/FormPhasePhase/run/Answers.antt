@@ -23,6 +23,9 @@ loop-order-init c = record {
   marks = marks-refl c.args.campaign;
 }
 
+pub formings-requires : goal.formings-requires
+formings-requires c = (c.args._world.now, c.requires.read)
+
 pub form_one-requires : goal.form_one-requires
 form_one-requires c = record { free = free_number c.args._world.now c.loop-order.campaign.value c.loop-order.invariant.well.holds_still }
 

@@ -1,8 +1,6 @@
 use Rattle.std.proofs.Common.{◌≡◌, [], ap, subst, sym, ◌∙◌, map, true, arith}
-use Rattle.std.proofs.lemmas.List.Elements.{All-from_recursion}
 use Rattle.atl_orders.specs.declared.verb.Verb.TheVariants as verbs
 use Rattle.atl_phase.specs.declared.phase_order.Arrangement.TheVariants.{ByUnit}
-use Rattle.atl_phase.proofs.PhaseOrderLaws.{orders_have_verbs}
 use Rattle.atl_phase.proofs.EventLaws.{Fits}
 use Rattle.atl_instant.proofs.TakenLaws.{guard_shape}
 use Rattle.std.proofs.lemmas.List.{append-nil}
@@ -17,8 +15,8 @@ use Rattle.atl_phase.specs.NoWorse.{IsNoWorse}
 use Rattle.atl_phase.specs.declared.phase_order.PhaseOrder.{PhaseOrder}
 use Rattle.atl_phase.specs.OrderEffects.{AreUnaffected, meaning_by_orders, one_order}
 use Rattle.atl_phase.specs.Bounds.{StepsWell, nothing_remaining}
-use Rattle.atl_phase.proofs.FoldLaws.{each_mapped, fold_after_step, fold_ended, fold_mapped}
-use Rattle.atl_phase.proofs.OrderEffectLaws.{leaves_well, order_well, orders_fit, orders_leave_others, well_same, well_twice}
+use Rattle.atl_phase.proofs.FoldLaws.{fold_after_step, fold_ended, fold_mapped}
+use Rattle.atl_phase.proofs.OrderEffectLaws.{leaves_well, listed_order, order_well, orders_fit, orders_leave_others, well_same, well_twice}
 use Rattle.atl_instant.specs.Guard.{guard_affects, guard_step, is_guarding}
 use Rattle.atl_instant.specs.RegionGuards.{AreRegionGuards}
 use Rattle.atl_instant.proofs.GuardingLaws.{guard_orderly}
@@ -37,13 +35,8 @@ loop-order-init c = record {
 pub guard_one-requires-clause-flag : goal.guard_one-requires-clause-flag
 guard_one-requires-clause-flag c =
     let m = c.args.month in
-    let ts = orders_by_unit is_guarding m in
-    let verbs_fit = All-from_recursion (λ t. is_guarding t.order_value.verb ≡ true) ts (orders_have_verbs is_guarding ByUnit m.aliases m.readings) in
-    let fit = orders_fit c.args._world.now m.aliases m.readings c.requires.read is_guarding in
-    subst (λ x. Fits verbs.Guard (task_of x).order_value.operands) (sym c.order-item.is)
-    (each_mapped (λ t. Fits verbs.Guard t.order_value.operands) task_of c.deref-order-items.result.now ts
-    (ap (map task_of) c.deref-order-items.ensures.value ∙ c.in_ok-orders.ensures) (λ k d l. guard_shape _ _ (verbs_fit k d l) (fit k d l).shape)
-    c.loop-order.order-index c.order-item.result c.loop-order-test.true)
+    listed_order c.args._world.now m.aliases m.readings c.requires.read is_guarding ByUnit (λ t. Fits verbs.Guard t.order_value.operands) (λ t of_phase fit. guard_shape t.order_value.verb t.order_value.operands of_phase fit.shape)
+    c.deref-order-items.result.now (ap (map task_of) c.deref-order-items.ensures.value ∙ c.in_ok-orders.ensures) c.loop-order.order-index c.order-item.result c.order-item.is c.loop-order-test.true
 
 pub loop-order-preserved : goal.loop-order-preserved
 loop-order-preserved c =
@@ -56,10 +49,8 @@ loop-order-preserved c =
     let o = c.order-item.result in
     let one = λ (p : CampaignValue × MonthValue) (x : PhaseOrder). one_order guard_step w p (task_of x) in
     let fit =
-    subst (λ x. IsOrderOf w (task_of x).order_value) (sym c.order-item.is)
-    (each_mapped (λ t. IsOrderOf w t.order_value) task_of xs (orders_by_unit is_guarding m)
-    (ap (map task_of) c.deref-order-items.ensures.value ∙ c.in_ok-orders.ensures) (orders_fit w m.aliases m.readings c.requires.read is_guarding)
-    c.loop-order.order-index o c.loop-order-test.true) in
+    listed_order w m.aliases m.readings c.requires.read is_guarding ByUnit (λ t. IsOrderOf w t.order_value) (λ t of_phase fit. fit) xs
+    (ap (map task_of) c.deref-order-items.ensures.value ∙ c.in_ok-orders.ensures) c.loop-order.order-index o c.order-item.is c.loop-order-test.true in
     let well = order_well guard_step guard_orderly w m.aliases now (task_of o) c.loop-order.invariant.well.holds_still fit in
     record {
       orders = fold_after_step one xs c.loop-order.order-index o before c.loop-order-test.true (step ∙ ap (one before) c.order-item.is) c.loop-order.invariant.orders;
