@@ -86,8 +86,8 @@ item_marked_at r n item amount =
 abbrev pub with_item_at : (Unit → Unit) → Roster → (unit item : ℕ) → ℕ → Roster
 with_item_at f r n item amount = record (item_marked_at r n item amount) { values = with_changed_value f r.values n }
 
--- the roster with unit n, if there is one, changed by the function f, and the unit and one of its skills marked, but
--- not its row
+-- The roster after f changed unit n in one of its skills: the unit and that skill are marked, the unit's own row isn't.
+-- Without a unit n nothing changes.
 abbrev pub with_skill_at : (Unit → Unit) → Roster → ℕ → ℕ → Roster
 with_skill_at f r n skill = record r {
   values = with_changed_value f r.values n;

@@ -47,8 +47,8 @@ abbrev pub GivesAsDefined : {X Y : Type 0} → (X → Y) → Result X CheckError
 GivesAsDefined view (Ok x) read = read ≡ Ok (view x)
 GivesAsDefined view (Err e) read = FailsAsDefined e read
 
--- The progress is right by a head's checks and the bytes `rest` after it: the verdict, or a count of missing bytes.
--- With fewer further bytes than this count the verdict stays More.
+-- The progress is what a head's checks and the bytes `rest` after the head say: the verdict, or a count above 0 of
+-- missing bytes. As long as fewer bytes than this follow, the verdict stays More.
 abbrev pub EndsAs : Result (Route × ℕ × List ℕ) Problem → (rest : List ℕ) → Progress → Type 0
 EndsAs checks rest (Missing count) =
     (0 < count) × ((more : List ℕ) → length more < count → verdict_with_body checks (rest ++ more) ≡ More)

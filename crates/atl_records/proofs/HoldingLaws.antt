@@ -82,8 +82,8 @@ module _ (items : FinMap nat_cmp ℕ) (i amount : ℕ) where
 
 -- ---- a unit's amounts stay within the limits, whether there was memory or not
 
--- each listed amount of an item is still from 1 to holding_limit after one of at most holding_limit is set, or after
--- memory ran out, so that nothing is set
+-- Each amount stays from 1 to holding_limit: after one of at most holding_limit is set, and also where memory ran out
+-- and nothing was set.
 pub AreAmounts-set : {E : Type 0} (r : Result (Unit {0}) E) (old new : FinMap nat_cmp ℕ) (item amount : ℕ) → amount ≤ holding_limit → OnOk r (new ≡ with_amount_of old item amount) → OnErr r (new ≡ old) → AreAmounts old → AreAmounts new
 AreAmounts-set (Ok u) old new item amount h put same is = subst AreAmounts (sym put) (every_amount (λ i n. (1 ≤ n) × (n ≤ holding_limit)) old item amount (λ some. (some, h)) is)
 AreAmounts-set (Err e) old new item amount h put same is = subst AreAmounts (sym same) is

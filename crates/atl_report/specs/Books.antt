@@ -74,6 +74,6 @@ item_parts w c (suc n) = item_parts w c n ▸ thing_part w c (Item n)
 unfoldable pub books_of : WorldValue → CampaignValue → List ℕ
 books_of w c = thing_part w c Money ▸ thing_part w c People ▸ item_parts w c (length w.items)
 
--- the condition that a thing is one of those that the campaign's books count, by its number
+-- the campaign's books have an amount of this thing: its number is below their count of things
 abbrev pub IsThing : CampaignValue → Thing → Type 0
 IsThing c t = thing_index t < c.books.things

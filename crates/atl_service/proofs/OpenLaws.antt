@@ -19,13 +19,14 @@ use Rattle.atl_service.specs.Service.{IsService}
 use Rattle.atl_service.specs.Opened.{ComesBack, Opens, RefusesOpening, cause_of_loading_fault}
 use Rattle.sqlite.specs.State.{HasCleanDisk}
 
-pub is_idle : (says busy : Bool) → says ≡ not busy → says ≡ true → busy ≡ false
-is_idle says false is so = refl
-is_idle says true is so = cc
+-- a connection that says that it is idle isn't busy, and one that says that it isn't is busy
+pub is_idle : (idle busy : Bool) → idle ≡ not busy → idle ≡ true → busy ≡ false
+is_idle idle false is so = refl
+is_idle idle true is so = cc
 
-pub is_busy : (says busy : Bool) → says ≡ not busy → says ≡ false → busy ≡ true
-is_busy says false is so = cc
-is_busy says true is so = refl
+pub is_busy : (idle busy : Bool) → idle ≡ not busy → idle ≡ false → busy ≡ true
+is_busy idle false is so = cc
+is_busy idle true is so = refl
 
 module _ {S : Type 0} (g : Ghosts S) where
   -- a connection that isn't touched is left alone (`LeavesAlone`): its tables and what a crash may leave stay as they

@@ -61,6 +61,7 @@ module _ (f : Format) {S : Type 0} (g : Ghosts S) where
 not_own : (part : Part) → shows_rowids part ≡ true → Has (other_parts Second) part
 not_own part is = elim (every_part part) [ inl own ↦ absurd (true≢false (sym is ∙ ap shows_rowids own)) | inr other ↦ other ]
 
+-- each format has the campaign's own row among its parts
 has_own : (f : Format) → Has (parts_in f) Own
 has_own First = inl refl
 has_own Second = inl refl
