@@ -46,7 +46,8 @@ abbrev IsStep : WorldValue → LineStep → Type 0
 IsStep world s = IsEffect world s.effect × IsStateInBounds s.state
 
 module _ (world : WorldValue) (given : ℕ → Bool) where
-  unit_sound : (r : Result NumberRead LineFault) → Holds (λ (x : NumberRead). IsNumber x.0) r → IsStep world (unit_step given r)
+  unit_sound : (r : Result NumberRead LineFault) → Holds (λ (x : NumberRead). IsNumber x.0) r
+      → IsStep world (unit_step given r)
   unit_sound (Ok n) h = (tt, h)
   unit_sound (Err fault) h = (tt, tt)
 
@@ -57,40 +58,51 @@ module _ (world : WorldValue) (given : ℕ → Bool) where
   end_sound (Skipping None) h = (tt, tt)
   end_sound (Skipping (Some n)) h = (tt, h)
 
-  block_sound : (n : ℕ) (r : Result NumberRead LineFault) → IsNumber n → Holds (λ (x : NumberRead). IsAlias x.0) r → IsStep world (block_step n given r)
-  block_sound n (Ok a) h k = cond_both (given a.0) _ _ (IsStep world) (λ _. (tt, h)) (λ _. ((h, record { shape = refl; operands = k }), (h, k)))
+  block_sound : (n : ℕ) (r : Result NumberRead LineFault) → IsNumber n → Holds (λ (x : NumberRead). IsAlias x.0) r
+      → IsStep world (block_step n given r)
+  block_sound n (Ok a) h k =
+      cond_both (given a.0) _ _ (IsStep world) (λ _. (tt, h))
+      (λ _. ((h, record { shape = refl; operands = k }), (h, k)))
   block_sound n (Err fault) h k = (tt, h)
 
-  forming_sound : (state : ReaderState) (ws : List WordText) → IsStateInBounds state → IsStep world (form_step state given ws)
+  forming_sound : (state : ReaderState) (ws : List WordText) → IsStateInBounds state
+      → IsStep world (form_step state given ws)
   forming_sound Nowhere ws h = (tt, tt)
   forming_sound (At n) ws h = block_sound n (alias_at ws) h (count_holds last_alias BadAlias ws)
   forming_sound (Forming parent alias) ws h = (tt, h)
   forming_sound (Skipping parent) ws h = (tt, h)
 
-  for_unit : (unit : UnitRef) (r : Result OrderValue LineFault) → IsUnitRef unit → IsOrderInBounds world r → IsEffect world (effect_for unit r)
+  for_unit : (unit : UnitRef) (r : Result OrderValue LineFault) → IsUnitRef unit → IsOrderInBounds world r
+      → IsEffect world (effect_for unit r)
   for_unit unit (Ok order_value) h k = (h, k)
   for_unit unit (Err fault) h k = tt
 
-  order_sound : (state : ReaderState) (r : Result OrderValue LineFault) → IsStateInBounds state → IsOrderInBounds world r → IsEffect world (order_effect (target state) r)
+  order_sound : (state : ReaderState) (r : Result OrderValue LineFault) → IsStateInBounds state
+      → IsOrderInBounds world r → IsEffect world (order_effect (target state) r)
   order_sound Nowhere r h k = tt
   order_sound (At n) r h k = for_unit (Number n) r h k
   order_sound (Forming parent alias) r h k = for_unit (Alias alias) r h.1 k
   order_sound (Skipping parent) r h k = tt
 
-  keyword_sound : (state : ReaderState) (k : Option Keyword) (ws : List WordText) → IsStateInBounds state → IsStep world (keyword_step world state given k ws)
+  keyword_sound : (state : ReaderState) (k : Option Keyword) (ws : List WordText) → IsStateInBounds state
+      → IsStep world (keyword_step world state given k ws)
   keyword_sound state None ws h = (tt, h)
   keyword_sound state (Some keywords.Unit) ws h = unit_sound (number_at ws) (count_holds most_number BadNumber ws)
   keyword_sound state (Some keywords.End) ws h = end_sound state h
   keyword_sound state (Some keywords.Form) ws h = forming_sound state ws h
-  keyword_sound state (Some (keywords.Order verb)) ws h = (order_sound state (read_order world verb ws) h (said_sound world verb ws), h)
+  keyword_sound state (Some (keywords.Order verb)) ws h =
+      (order_sound state (read_order world verb ws) h (said_sound world verb ws), h)
 
-  words_sound : (state : ReaderState) (ws : List WordText) → IsStateInBounds state → IsStep world (words_step world state given ws)
+  words_sound : (state : ReaderState) (ws : List WordText) → IsStateInBounds state
+      → IsStep world (words_step world state given ws)
   words_sound state [] h = (tt, h)
   words_sound state (w ∷ ws) h = keyword_sound state (keyword_of w) ws h
 
-  line_sound : (state : ReaderState) (line : List ℕ) → IsStateInBounds state → IsStep world (line_step world state given line)
+  line_sound : (state : ReaderState) (line : List ℕ) → IsStateInBounds state
+      → IsStep world (line_step world state given line)
   unfolding line_step
-  line_sound state line h = cond_both (list_all is_plain line) _ _ (IsStep world) (λ _. words_sound state (words line) h) (λ _. (tt, h))
+  line_sound state line h =
+      cond_both (list_all is_plain line) _ _ (IsStep world) (λ _. words_sound state (words line) h) (λ _. (tt, h))
 
 -- ---- all lines, the header, and the whole text
 
@@ -98,9 +110,11 @@ module _ (world : WorldValue) where
   entry_sound : (n : ℕ) (effect : Effect) → IsEffect world effect → All (IsEntry world) (entry_of (n, effect))
   entry_sound n nothing h = All-nil (IsEntry world)
   entry_sound n (faulty fault) h = All-nil (IsEntry world)
-  entry_sound n (says unit order_value) h = All-cons (IsEntry world) _ [] (record { target = h.0; order = h.1 }) (All-nil (IsEntry world))
+  entry_sound n (says unit order_value) h =
+      All-cons (IsEntry world) _ [] (record { target = h.0; order = h.1 }) (All-nil (IsEntry world))
 
-  body_sound : (lines : List (List ℕ)) (n : ℕ) (state : ReaderState) (given : ℕ → Bool) → IsStateInBounds state → All (IsEntry world) (flat_map entry_of (effects world n state given lines))
+  body_sound : (lines : List (List ℕ)) (n : ℕ) (state : ReaderState) (given : ℕ → Bool) → IsStateInBounds state
+      → All (IsEntry world) (flat_map entry_of (effects world n state given lines))
   unfolding effects
   body_sound [] n state given h = All-nil (IsEntry world)
   body_sound (line ∷ rest) n state given h =
@@ -109,12 +123,14 @@ module _ (world : WorldValue) where
       cond_both (begins (codes "#END") (words line)) _ _ (λ (es : List (ℕ × Effect)). All (IsEntry world) (flat_map entry_of es)) (λ _. All-nil (IsEntry world))
       (λ _. All-append (IsEntry world) (entry_of (n, s.effect)) _ (entry_sound n s.effect sound.0) (body_sound rest (n + 1) s.state s.given sound.1))
 
-rise_step : (world : WorldValue) (n m : ℕ) (effect : Effect) (rest : List EntryValue) → m < n → ((k : ℕ) → k < n + 1 → LinesRise k rest) → LinesRise m (entry_of (n, effect) ++ rest)
+rise_step : (world : WorldValue) (n m : ℕ) (effect : Effect) (rest : List EntryValue) → m < n
+    → ((k : ℕ) → k < n + 1 → LinesRise k rest) → LinesRise m (entry_of (n, effect) ++ rest)
 rise_step world n m nothing rest h k = k m (omega arith)
 rise_step world n m (faulty fault) rest h k = k m (omega arith)
 rise_step world n m (says unit order_value) rest h k = (h, k n (omega arith))
 
-body_rises : (world : WorldValue) (lines : List (List ℕ)) (n m : ℕ) (state : ReaderState) (given : ℕ → Bool) → m < n → LinesRise m (flat_map entry_of (effects world n state given lines))
+body_rises : (world : WorldValue) (lines : List (List ℕ)) (n m : ℕ) (state : ReaderState) (given : ℕ → Bool) → m < n
+    → LinesRise m (flat_map entry_of (effects world n state given lines))
 unfolding effects
 body_rises world [] n m state given h = tt
 body_rises world (line ∷ rest) n m state given h =
@@ -129,11 +145,13 @@ IsHeaded h = IsWithin last_faction h.faction × (0 < h.next)
 faction_within : (ws : List WordText) (n : ℕ) → faction_of ws ≡ Some n → IsWithin last_faction n
 faction_within [] n h = cc
 faction_within (w ∷ []) n h = cc
-faction_within (w ∷ v ∷ ws) n h = nonzero_is_from_one last_faction (number_of last_faction v.bytes) n (number_within last_faction v.bytes) h
+faction_within (w ∷ v ∷ ws) n h =
+    nonzero_is_from_one last_faction (number_of last_faction v.bytes) n (number_within last_faction v.bytes) h
 
 -- A header line gives a fault, or a faction from 1 to 9,999 and a next line above 0 (`IsHeaded`). This supposes that
 -- the number f that the line names, if any, is in this range.
-line_headed : (n : ℕ) (rest : List (List ℕ)) (f : Option ℕ) → ((k : ℕ) → f ≡ Some k → IsWithin last_faction k) → Holds IsHeaded (header_line n rest f)
+line_headed : (n : ℕ) (rest : List (List ℕ)) (f : Option ℕ) → ((k : ℕ) → f ≡ Some k → IsWithin last_faction k)
+    → Holds IsHeaded (header_line n rest f)
 line_headed n rest None h = tt
 line_headed n rest (Some k) h = (h k refl, omega arith)
 
@@ -144,13 +162,17 @@ header_sound (line ∷ rest) n =
     cond_both (begins (codes "#ATLANTIS") (words line)) _ _ (Holds IsHeaded)
     (λ _. line_headed n rest (faction_of (words line)) (faction_within (words line))) (λ _. header_sound rest (n + 1))
 
-after_header_sound : (world : WorldValue) (r : Result HeaderValue MailFault) → Holds IsHeaded r → Holds (IsReading world) (after_header world r)
+after_header_sound : (world : WorldValue) (r : Result HeaderValue MailFault) → Holds IsHeaded r
+    → Holds (IsReading world) (after_header world r)
 after_header_sound world (Err fault) h = tt
-after_header_sound world (Ok head) h = record { faction = h.0; entries = body_sound world head.rest head.next Nowhere no_alias tt; lines = body_rises world head.rest head.next 0 Nowhere no_alias h.1 }
+after_header_sound world (Ok head) h =
+    record { faction = h.0; entries = body_sound world head.rest head.next Nowhere no_alias tt; lines = body_rises world head.rest head.next 0 Nowhere no_alias h.1 }
 
 reading_sound : (world : WorldValue) (text : List ℕ) → Holds (IsReading world) (reading world text)
 unfolding reading
-reading_sound world text = cond_both (nat_lt most_bytes (length text)) _ _ (Holds (IsReading world)) (λ _. tt) (λ _. after_header_sound world (header_from 1 (lines text)) (header_sound (lines text) 1))
+reading_sound world text =
+    cond_both (nat_lt most_bytes (length text)) _ _ (Holds (IsReading world)) (λ _. tt)
+    (λ _. after_header_sound world (header_from 1 (lines text)) (header_sound (lines text) 1))
 
 -- whatever mailing a text gives is in bounds: its faction, its orders and its line numbers
 pub readings_keep_bounds : ReadingsKeepBounds

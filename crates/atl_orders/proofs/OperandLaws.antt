@@ -1,5 +1,5 @@
--- Every order that is read says what it is: its operands have the shape of its verb, numbers in range, names by the rule,
--- and things of the world.
+-- Every order that is read says what it is: its operands have the shape of its verb, numbers in range, names by the
+-- rule, and things of the world.
 use Rattle.std.proofs.Common.{◌≡◌, ℕ, ◌<◌, ◌≤◌, Bool, List, [], ◌∷◌, length, codes, Option, Some, None, Result, Ok, Err, refl, arith}
 use Rattle.std.specs.List.{All}
 use Rattle.std.specs.Str.{str_eq_ignore_ascii_case}
@@ -31,11 +31,13 @@ Holds P (Err e) = Unit {0}
 
 -- A condition Q holds of what two steps of reading give: the result r, and then f of its value. This supposes that P
 -- holds of r's value, and Q of what f gives for each value with P.
-two_steps_hold : {A B : Type 0} (P : A → Type 0) (Q : B → Type 0) (r : Result A LineFault) (f : A → Result B LineFault) → Holds P r → ((x : A) → P x → Holds Q (f x)) → Holds Q (r >>= f)
+two_steps_hold : {A B : Type 0} (P : A → Type 0) (Q : B → Type 0) (r : Result A LineFault) (f : A → Result B LineFault)
+    → Holds P r → ((x : A) → P x → Holds Q (f x)) → Holds Q (r >>= f)
 two_steps_hold P Q (Ok x) f h g = g x h
 two_steps_hold P Q (Err e) f h g = tt
 
-value_or_fault : {X : Type 0} (P : X → Type 0) (fault : LineFault) (o : Option X) → ((x : X) → o ≡ Some x → P x) → Holds P (or_fault fault o)
+value_or_fault : {X : Type 0} (P : X → Type 0) (fault : LineFault) (o : Option X) → ((x : X) → o ≡ Some x → P x)
+    → Holds P (or_fault fault o)
 value_or_fault P fault None g = tt
 value_or_fault P fault (Some x) g = g x refl
 
@@ -49,21 +51,28 @@ always_true_holds (Err e) = tt
 pub number_within : (most : ℕ) (bytes : List ℕ) (n : ℕ) → number_of most bytes ≡ Some n → n ≤ most
 number_within most bytes n h = grind (arith, nat_tests)
 
-pub nonzero_is_from_one : (most : ℕ) (o : Option ℕ) (n : ℕ) → ((k : ℕ) → o ≡ Some k → k ≤ most) → not_zero o ≡ Some n → IsWithin most n
+pub nonzero_is_from_one : (most : ℕ) (o : Option ℕ) (n : ℕ) → ((k : ℕ) → o ≡ Some k → k ≤ most) → not_zero o ≡ Some n
+    → IsWithin most n
 nonzero_is_from_one most None n f h = cc
 nonzero_is_from_one most (Some k) n f h = let m : k ≤ most = f k refl in (grind (arith, nat_tests), grind (arith, nat_tests))
 
-word_number : (most : ℕ) (fault : LineFault) (w : WordText) → Holds (IsWithin most) (or_fault fault (not_zero (number_of most w.bytes)))
-word_number most fault w = value_or_fault (IsWithin most) fault (not_zero (number_of most w.bytes)) (λ n h. nonzero_is_from_one most (number_of most w.bytes) n (number_within most w.bytes) h)
+word_number : (most : ℕ) (fault : LineFault) (w : WordText)
+    → Holds (IsWithin most) (or_fault fault (not_zero (number_of most w.bytes)))
+word_number most fault w =
+    value_or_fault (IsWithin most) fault (not_zero (number_of most w.bytes))
+    (λ n h. nonzero_is_from_one most (number_of most w.bytes) n (number_within most w.bytes) h)
 
 -- a number that was read, and the words after it
 abbrev pub NumberRead : Type 0
 NumberRead = ℕ × List WordText
 
-pub count_holds : (most : ℕ) (fault : LineFault) (ws : List WordText) → Holds (λ (x : NumberRead). IsWithin most x.0) (count_at most fault ws)
+pub count_holds : (most : ℕ) (fault : LineFault) (ws : List WordText)
+    → Holds (λ (x : NumberRead). IsWithin most x.0) (count_at most fault ws)
 unfolding count_at
 count_holds most fault [] = tt
-count_holds most fault (w ∷ ws) = two_steps_hold (IsWithin most) _ (or_fault fault (not_zero (number_of most w.bytes))) _ (word_number most fault w) (λ n h. h)
+count_holds most fault (w ∷ ws) =
+    two_steps_hold (IsWithin most) _ (or_fault fault (not_zero (number_of most w.bytes))) _ (word_number most fault w)
+    (λ n h. h)
 
 -- ---- units
 
@@ -78,19 +87,28 @@ unit_holds (w ∷ ws) =
     (λ _. two_steps_hold (λ (x : NumberRead). IsAlias x.0) _ (alias_at ws) _ (count_holds last_alias BadAlias ws) (λ n h. h))
     (λ _. two_steps_hold (λ (x : NumberRead). IsNumber x.0) _ (number_at (w ∷ ws)) _ (count_holds most_number BadNumber (w ∷ ws)) (λ n h. h))
 
-and_then_units_hold : (unit : Result UnitRef LineFault) (units : Result (List UnitRef) LineFault) → Holds IsUnitRef unit → Holds (All IsUnitRef) units → Holds (All IsUnitRef) (and_then_units unit units)
-and_then_units_hold unit units h k = two_steps_hold IsUnitRef _ unit _ h (λ u p. two_steps_hold (All IsUnitRef) _ units _ k (λ us q. All-cons IsUnitRef u us p q))
+and_then_units_hold : (unit : Result UnitRef LineFault) (units : Result (List UnitRef) LineFault) → Holds IsUnitRef unit
+    → Holds (All IsUnitRef) units → Holds (All IsUnitRef) (and_then_units unit units)
+and_then_units_hold unit units h k =
+    two_steps_hold IsUnitRef _ unit _ h
+    (λ u p. two_steps_hold (All IsUnitRef) _ units _ k (λ us q. All-cons IsUnitRef u us p q))
 
 numbered_holds : (w : WordText) → Holds IsUnitRef (unit_by_number w)
-numbered_holds w = two_steps_hold IsNumber _ (or_fault BadNumber (not_zero (number_of most_number w.bytes))) _ (word_number most_number BadNumber w) (λ n h. h)
+numbered_holds w =
+    two_steps_hold IsNumber _ (or_fault BadNumber (not_zero (number_of most_number w.bytes))) _
+    (word_number most_number BadNumber w) (λ n h. h)
 
 named_holds : (w : WordText) → Holds IsUnitRef (new_unit_ref w)
-named_holds w = two_steps_hold IsAlias _ (or_fault BadAlias (not_zero (number_of last_alias w.bytes))) _ (word_number last_alias BadAlias w) (λ n h. h)
+named_holds w =
+    two_steps_hold IsAlias _ (or_fault BadAlias (not_zero (number_of last_alias w.bytes))) _
+    (word_number last_alias BadAlias w) (λ n h. h)
 
 units_hold : (ws : List WordText) → Holds (All IsUnitRef) (units_of ws)
 unfolding units_of
 units_hold [] = All-nil IsUnitRef
-units_hold (w ∷ []) = cond_both (is_word (codes "NEW") w) _ _ (Holds (All IsUnitRef)) (λ _. tt) (λ _. and_then_units_hold (unit_by_number w) (Ok []) (numbered_holds w) (All-nil IsUnitRef))
+units_hold (w ∷ []) =
+    cond_both (is_word (codes "NEW") w) _ _ (Holds (All IsUnitRef)) (λ _. tt)
+    (λ _. and_then_units_hold (unit_by_number w) (Ok []) (numbered_holds w) (All-nil IsUnitRef))
 units_hold (w ∷ v ∷ ws) =
     cond_both (is_word (codes "NEW") w) _ _ (Holds (All IsUnitRef))
     (λ _. and_then_units_hold (new_unit_ref v) (units_of ws) (named_holds v) (units_hold ws))
@@ -98,9 +116,11 @@ units_hold (w ∷ v ∷ ws) =
 
 -- ---- things of the world
 
-index_within : {A : Type 0} (title : A → List ℕ) (things : List A) (word : List ℕ) (quoted : Bool) (i : ℕ) → index_named title things word quoted ≡ Some i → i < length things
+index_within : {A : Type 0} (title : A → List ℕ) (things : List A) (word : List ℕ) (quoted : Bool) (i : ℕ)
+    → index_named title things word quoted ≡ Some i → i < length things
 index_within title [] word quoted i h = cc
-index_within title (x ∷ xs) word quoted i h = (position-Some (λ thing. str_eq_ignore_ascii_case (title thing) (name_of word quoted)) (x ∷ xs) i x h).0
+index_within title (x ∷ xs) word quoted i h =
+    (position-Some (λ thing. str_eq_ignore_ascii_case (title thing) (name_of word quoted)) (x ∷ xs) i x h).0
 
 item_holds : (world : WorldValue) (ws : List WordText) → Holds (λ i. i < length world.items) (item_at world ws)
 item_holds world [] = tt
@@ -109,7 +129,8 @@ item_holds world (w ∷ ws) = value_or_fault _ UnknownThing _ (λ i h. index_wit
 abbrev Goods : Type 0
 Goods = ℕ × ℕ
 
-goods_hold : (world : WorldValue) (ws : List WordText) → Holds (λ (x : Goods). IsNumber x.0 × (x.1 < length world.items)) (amount_of_item_at world ws)
+goods_hold : (world : WorldValue) (ws : List WordText)
+    → Holds (λ (x : Goods). IsNumber x.0 × (x.1 < length world.items)) (amount_of_item_at world ws)
 goods_hold world ws =
     two_steps_hold (λ (x : NumberRead). IsNumber x.0) _ (number_at ws) _ (count_holds most_number BadNumber ws) (λ amount h.
     two_steps_hold (λ i. i < length world.items) _ (item_at world amount.1) _ (item_holds world amount.1) (λ item k. (h, k)))
@@ -141,13 +162,18 @@ module _ (world : WorldValue) where
   abbrev AreSomeUnits : List UnitRef → Type 0
   AreSomeUnits units = (0 < length units) × All IsUnitRef units
 
-  more_units : (unit : Result UnitRef LineFault) (units : Result (List UnitRef) LineFault) → Holds IsUnitRef unit → Holds (All IsUnitRef) units → Holds AreSomeUnits (and_then_units unit units)
-  more_units unit units h k = two_steps_hold IsUnitRef AreSomeUnits unit _ h (λ u p. two_steps_hold (All IsUnitRef) AreSomeUnits units _ k (λ us q. (omega arith, All-cons IsUnitRef u us p q)))
+  more_units : (unit : Result UnitRef LineFault) (units : Result (List UnitRef) LineFault) → Holds IsUnitRef unit
+      → Holds (All IsUnitRef) units → Holds AreSomeUnits (and_then_units unit units)
+  more_units unit units h k =
+      two_steps_hold IsUnitRef AreSomeUnits unit _ h
+      (λ u p. two_steps_hold (All IsUnitRef) AreSomeUnits units _ k (λ us q. (omega arith, All-cons IsUnitRef u us p q)))
 
   some_hold : (ws : List WordText) → Holds AreSomeUnits (some_units_at ws)
   unfolding units_of
   some_hold [] = tt
-  some_hold (w ∷ []) = cond_both (is_word (codes "NEW") w) _ _ (Holds AreSomeUnits) (λ _. tt) (λ _. more_units (unit_by_number w) (Ok []) (numbered_holds w) (All-nil IsUnitRef))
+  some_hold (w ∷ []) =
+      cond_both (is_word (codes "NEW") w) _ _ (Holds AreSomeUnits) (λ _. tt)
+      (λ _. more_units (unit_by_number w) (Ok []) (numbered_holds w) (All-nil IsUnitRef))
   some_hold (w ∷ v ∷ ws) =
       cond_both (is_word (codes "NEW") w) _ _ (Holds AreSomeUnits)
       (λ _. more_units (new_unit_ref v) (units_of ws) (named_holds v) (units_hold ws))
@@ -175,30 +201,38 @@ module _ (world : WorldValue) where
 
   kind_sound : (ws : List WordText) → AreOperandsInBounds world (read_kind world ws)
   kind_sound [] = tt
-  kind_sound (w ∷ ws) = two_steps_hold _ (AreOperandsOf world) (kind_at world (w ∷ ws)) _ (kind_holds world (w ∷ ws)) (λ kind h. h)
+  kind_sound (w ∷ ws) =
+      two_steps_hold _ (AreOperandsOf world) (kind_at world (w ∷ ws)) _ (kind_holds world (w ∷ ws)) (λ kind h. h)
 
   operands_sound : (shape : Shape) (ws : List WordText) → AreOperandsInBounds world (read_operands world shape ws)
   operands_sound shapes.Nothing ws = tt
-  operands_sound shapes.Alias ws = two_steps_hold _ (AreOperandsOf world) (alias_at ws) _ (count_holds last_alias BadAlias ws) (λ n h. h)
+  operands_sound shapes.Alias ws =
+      two_steps_hold _ (AreOperandsOf world) (alias_at ws) _ (count_holds last_alias BadAlias ws) (λ n h. h)
   operands_sound shapes.Flag ws = flag_sound ws
-  operands_sound shapes.Number ws = two_steps_hold _ (AreOperandsOf world) (number_at ws) _ (count_holds most_number BadNumber ws) (λ n h. h)
+  operands_sound shapes.Number ws =
+      two_steps_hold _ (AreOperandsOf world) (number_at ws) _ (count_holds most_number BadNumber ws) (λ n h. h)
   operands_sound shapes.Unit ws = two_steps_hold _ (AreOperandsOf world) (unit_at ws) _ (unit_holds ws) (λ u h. h)
   operands_sound shapes.Units ws = units_sound ws
   operands_sound shapes.UnitAndNumber ws = unit_and_number_sound ws
   operands_sound shapes.UnitAndGoods ws = unit_and_goods_sound ws
-  operands_sound shapes.Goods ws = two_steps_hold _ (AreOperandsOf world) (amount_of_item_at world ws) _ (goods_hold world ws) (λ goods h. h)
+  operands_sound shapes.Goods ws =
+      two_steps_hold _ (AreOperandsOf world) (amount_of_item_at world ws) _ (goods_hold world ws) (λ goods h. h)
   operands_sound shapes.Name ws = name_sound ws
-  operands_sound shapes.Direction ws = two_steps_hold _ (AreOperandsOf world) (direction_at ws) _ (always_true_holds (direction_at ws)) (λ d _. tt)
+  operands_sound shapes.Direction ws =
+      two_steps_hold _ (AreOperandsOf world) (direction_at ws) _ (always_true_holds (direction_at ws)) (λ d _. tt)
   operands_sound shapes.Kind ws = kind_sound ws
-  operands_sound shapes.Skill ws = two_steps_hold _ (AreOperandsOf world) (skill_at world ws) _ (skill_holds world ws) (λ skill h. h)
-  operands_sound shapes.Item ws = two_steps_hold _ (AreOperandsOf world) (item_at world ws) _ (item_holds world ws) (λ item h. h)
+  operands_sound shapes.Skill ws =
+      two_steps_hold _ (AreOperandsOf world) (skill_at world ws) _ (skill_holds world ws) (λ skill h. h)
+  operands_sound shapes.Item ws =
+      two_steps_hold _ (AreOperandsOf world) (item_at world ws) _ (item_holds world ws) (λ item h. h)
 
   -- the operands of a result, if it is no fault, have this shape
   abbrev HaveShape : Shape → Result OperandsValue LineFault → Type 0
   HaveShape shape r = Holds (λ os. shape_of os ≡ shape) r
 
   -- a step of reading gives operands of a shape, if what comes after it does, whatever its value
-  shaped_by : {X : Type 0} (shape : Shape) (r : Result X LineFault) (f : X → Result OperandsValue LineFault) → ((x : X) → HaveShape shape (f x)) → HaveShape shape (r >>= f)
+  shaped_by : {X : Type 0} (shape : Shape) (r : Result X LineFault) (f : X → Result OperandsValue LineFault)
+      → ((x : X) → HaveShape shape (f x)) → HaveShape shape (r >>= f)
   shaped_by shape r f h = two_steps_hold _ (λ os. shape_of os ≡ shape) r f (always_true_holds r) (λ x _. h x)
 
   -- if words are read as a kind of structure or none, the operands have this shape
@@ -210,12 +244,18 @@ module _ (world : WorldValue) where
   operands_shaped : (shape : Shape) (ws : List WordText) → HaveShape shape (read_operands world shape ws)
   operands_shaped shapes.Nothing ws = refl
   operands_shaped shapes.Alias ws = shaped_by shapes.Alias (alias_at ws) _ (λ n. refl)
-  operands_shaped shapes.Flag ws = shaped_by shapes.Flag (word_at ws) _ (λ w. shaped_by shapes.Flag (or_fault BadNumber (number_of 1 w.0.bytes)) _ (λ n. refl))
+  operands_shaped shapes.Flag ws =
+      shaped_by shapes.Flag (word_at ws) _
+      (λ w. shaped_by shapes.Flag (or_fault BadNumber (number_of 1 w.0.bytes)) _ (λ n. refl))
   operands_shaped shapes.Number ws = shaped_by shapes.Number (number_at ws) _ (λ n. refl)
   operands_shaped shapes.Unit ws = shaped_by shapes.Unit (unit_at ws) _ (λ u. refl)
   operands_shaped shapes.Units ws = shaped_by shapes.Units (some_units_at ws) _ (λ us. refl)
-  operands_shaped shapes.UnitAndNumber ws = shaped_by shapes.UnitAndNumber (unit_at ws) _ (λ to. shaped_by shapes.UnitAndNumber (number_at to.1) _ (λ n. refl))
-  operands_shaped shapes.UnitAndGoods ws = shaped_by shapes.UnitAndGoods (unit_at ws) _ (λ to. shaped_by shapes.UnitAndGoods (amount_of_item_at world to.1) _ (λ goods. refl))
+  operands_shaped shapes.UnitAndNumber ws =
+      shaped_by shapes.UnitAndNumber (unit_at ws) _
+      (λ to. shaped_by shapes.UnitAndNumber (number_at to.1) _ (λ n. refl))
+  operands_shaped shapes.UnitAndGoods ws =
+      shaped_by shapes.UnitAndGoods (unit_at ws) _
+      (λ to. shaped_by shapes.UnitAndGoods (amount_of_item_at world to.1) _ (λ goods. refl))
   operands_shaped shapes.Goods ws = shaped_by shapes.Goods (amount_of_item_at world ws) _ (λ goods. refl)
   operands_shaped shapes.Name ws =
       shaped_by shapes.Name (word_at ws) _ (λ w.
@@ -228,11 +268,14 @@ module _ (world : WorldValue) where
   operands_shaped shapes.Item ws = shaped_by shapes.Item (item_at world ws) _ (λ item. refl)
 
   -- the order of a verb and its operands says what it is, if the operands have the verb's shape, and are in bounds
-  order_sound : (verb : Verb) (r : Result OperandsValue LineFault) → HaveShape (row_of verb).shape r → AreOperandsInBounds world r → IsOrderInBounds world (r >>= λ os. Ok (order_of verb os))
+  order_sound : (verb : Verb) (r : Result OperandsValue LineFault) → HaveShape (row_of verb).shape r
+      → AreOperandsInBounds world r → IsOrderInBounds world (r >>= λ os. Ok (order_of verb os))
   order_sound verb (Ok os) h k = record { shape = h; operands = k }
   order_sound verb (Err fault) h k = tt
 
   -- the order that a verb and the words after it give says what it is (`IsOrderInBounds`)
   pub said_sound : (verb : Verb) (ws : List WordText) → IsOrderInBounds world (read_order world verb ws)
   unfolding read_order
-  said_sound verb ws = order_sound verb (read_operands world (row_of verb).shape ws) (operands_shaped (row_of verb).shape ws) (operands_sound (row_of verb).shape ws)
+  said_sound verb ws =
+      order_sound verb (read_operands world (row_of verb).shape ws) (operands_shaped (row_of verb).shape ws)
+      (operands_sound (row_of verb).shape ws)

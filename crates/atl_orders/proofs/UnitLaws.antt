@@ -27,34 +27,47 @@ then_units x = units_of x.1 >>= λ us. Ok (x.0 ∷ us)
 
 -- For `units_step`: a unit that is read, put in front of the units of the words ws, is what `then_units` makes of this
 -- unit and ws. The unit is c of the number `o`, or the fault f if there is none.
-ref_step : (o : Option ℕ) (f : LineFault) (c : ℕ → UnitRef) (ws : List WordText) → and_then_units (or_fault f o >>= λ n. Ok (c n)) (units_of ws) ≡ (or_fault f o >>= number_read ws >>= as_unit c) >>= then_units
+ref_step : (o : Option ℕ) (f : LineFault) (c : ℕ → UnitRef) (ws : List WordText)
+    → and_then_units (or_fault f o >>= λ n. Ok (c n)) (units_of ws)
+    ≡ (or_fault f o >>= number_read ws >>= as_unit c) >>= then_units
 ref_step None f c ws = refl
 ref_step (Some n) f c ws = refl
 
 -- For `units_step`: `then_units` makes of a choice between c and d the same choice between a and b, if it makes a of c,
 -- and b of d. The choice is by whether t is true.
-then_units_of_choice : (t : Bool) (a b : Result (List UnitRef) LineFault) (c d : Result (UnitRef × List WordText) LineFault) → a ≡ c >>= then_units → b ≡ d >>= then_units → cond t a b ≡ cond t c d >>= then_units
+then_units_of_choice : (t : Bool) (a b : Result (List UnitRef) LineFault) (c d : Result (UnitRef × List WordText) LineFault)
+    → a ≡ c >>= then_units → b ≡ d >>= then_units → cond t a b ≡ cond t c d >>= then_units
 then_units_of_choice true a b c d p q = p
 then_units_of_choice false a b c d p q = q
 
 -- the units that one or more words name are the unit that the words begin with, and then those of the words after it
 pub units_step : (w : WordText) (ws : List WordText) → units_of (w ∷ ws) ≡ unit_at (w ∷ ws) >>= then_units
 unfolding units_of unit_at count_at
-units_step w [] = then_units_of_choice (is_word (codes "NEW") w) _ _ _ _ refl (ref_step (not_zero (number_of most_number w.bytes)) BadNumber Number [])
-units_step w (v ∷ ws) = then_units_of_choice (is_word (codes "NEW") w) _ _ _ _ (ref_step (not_zero (number_of last_alias v.bytes)) BadAlias Alias ws) (ref_step (not_zero (number_of most_number w.bytes)) BadNumber Number (v ∷ ws))
+units_step w [] =
+    then_units_of_choice (is_word (codes "NEW") w) _ _ _ _ refl
+    (ref_step (not_zero (number_of most_number w.bytes)) BadNumber Number [])
+units_step w (v ∷ ws) =
+    then_units_of_choice (is_word (codes "NEW") w) _ _ _ _
+    (ref_step (not_zero (number_of last_alias v.bytes)) BadAlias Alias ws)
+    (ref_step (not_zero (number_of most_number w.bytes)) BadNumber Number (v ∷ ws))
 
-unit_at_end_or_front : (units : Result (List UnitRef) LineFault) (front : List UnitRef) (u : UnitRef) → with_units (front ++ u ∷ []) units ≡ with_units front (units >>= λ us. Ok (u ∷ us))
+unit_at_end_or_front : (units : Result (List UnitRef) LineFault) (front : List UnitRef) (u : UnitRef)
+    → with_units (front ++ u ∷ []) units ≡ with_units front (units >>= λ us. Ok (u ∷ us))
 unit_at_end_or_front (Ok us) front u = ap (λ l. Ok l) (append_assoc front (u ∷ []) us)
 unit_at_end_or_front (Err f) front u = refl
 
 -- the units read so far, then u and the units of `rest`, are the units read so far and those of the words ws, if ws are
 -- read as u and then `rest`
-pub one_more : (front : List UnitRef) (ws : List WordText) (u : UnitRef) (rest : List WordText) → unit_at ws ≡ unit_read u rest → with_units (front ++ u ∷ []) (units_of rest) ≡ with_units front (units_of ws)
+pub one_more : (front : List UnitRef) (ws : List WordText) (u : UnitRef) (rest : List WordText)
+    → unit_at ws ≡ unit_read u rest → with_units (front ++ u ∷ []) (units_of rest) ≡ with_units front (units_of ws)
 unfolding unit_at
 one_more front [] u rest h = cc
-one_more front (w ∷ ws) u rest h = unit_at_end_or_front (units_of rest) front u ∙ ap (with_units front) (sym (units_step w ws ∙ ap (λ r. r >>= then_units) h))
+one_more front (w ∷ ws) u rest h =
+    unit_at_end_or_front (units_of rest) front u
+    ∙ ap (with_units front) (sym (units_step w ws ∙ ap (λ r. r >>= then_units) h))
 
-pub fault_stays : (front : List UnitRef) (ws : List WordText) (f : LineFault) → 0 < length ws → unit_at ws ≡ Err f → with_units front (units_of ws) ≡ Err f
+pub fault_stays : (front : List UnitRef) (ws : List WordText) (f : LineFault) → 0 < length ws → unit_at ws ≡ Err f
+    → with_units front (units_of ws) ≡ Err f
 fault_stays front [] f p h = absurd (omega arith)
 fault_stays front (w ∷ ws) f p h = ap (with_units front) (units_step w ws ∙ ap (λ r. r >>= then_units) h)
 
@@ -63,11 +76,13 @@ unfolding units_of
 no_more front [] h = ap (λ l. Ok l) (append-nil front)
 no_more front (w ∷ ws) h = cc
 
-read_rest : (o : Option ℕ) (f : LineFault) (c : ℕ → UnitRef) (left : List WordText) (u : UnitRef) (rest : List WordText) → (or_fault f o >>= number_read left >>= as_unit c) ≡ unit_read u rest → length rest ≤ length left
+read_rest : (o : Option ℕ) (f : LineFault) (c : ℕ → UnitRef) (left : List WordText) (u : UnitRef) (rest : List WordText)
+    → (or_fault f o >>= number_read left >>= as_unit c) ≡ unit_read u rest → length rest ≤ length left
 read_rest None f c left u rest h = cc
 read_rest (Some k) f c left u rest h = let here : UnitRef × List WordText = (c k, left) in let there : UnitRef × List WordText = (u, rest) in let e : here ≡ there = cc in omega (arith, ap (λ (p : UnitRef × List WordText). length p.1) e)
 
-pub rest_shorter : (ws : List WordText) (u : UnitRef) (rest : List WordText) → unit_at ws ≡ unit_read u rest → length rest < length ws
+pub rest_shorter : (ws : List WordText) (u : UnitRef) (rest : List WordText) → unit_at ws ≡ unit_read u rest
+    → length rest < length ws
 unfolding unit_at count_at
 rest_shorter [] u rest h = cc
 rest_shorter (w ∷ []) u rest h =

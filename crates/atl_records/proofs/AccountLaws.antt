@@ -36,13 +36,16 @@ same_some_entry d e h = cc
 pub same_entry : (d e : BooksEntry) → entry_index d ≡ entry_index e → d ≡ e
 same_entry d e h = same_some_entry d e (sym (entry_there d) ∙ ap (slice_get all_entries) h ∙ entry_there e)
 
-pub same_account : (e f : BooksEntry) (t u : Thing) → entry_index e ≡ entry_index f → thing_index t ≡ thing_index u → ◌≡◌ {A = Account} (e, t) (f, u)
+pub same_account : (e f : BooksEntry) (t u : Thing) → entry_index e ≡ entry_index f → thing_index t ≡ thing_index u
+    → ◌≡◌ {A = Account} (e, t) (f, u)
 same_account e f t u entries things i = (same_entry e f entries i, same_thing t u things i)
 
 -- ---- the order of accounts
 
 pub account_total : IsTotalOrder account_cmp
-account_total = then_total (on_total (λ (a : Account). entry_index a.0) nat_cmp_total) (on_total (λ (a : Account). thing_index a.1) nat_cmp_total)
+account_total =
+    then_total (on_total (λ (a : Account). entry_index a.0) nat_cmp_total)
+    (on_total (λ (a : Account). thing_index a.1) nat_cmp_total)
 
 less_is_not_equal : {P : Type 0} → Less ≡ Equal → P
 less_is_not_equal e = cc
@@ -70,7 +73,9 @@ pub account_itself : (a : Account) → eq_by_cmp account_cmp a a ≡ true
 account_itself a = ap is_eq (tied_itself account_total a)
 
 pub apart_entries : (a b : Account) → entry_index a.0 ≢ entry_index b.0 → eq_by_cmp account_cmp a b ≡ false
-apart_entries a b h = elim (cases_account a b) [ inl same ↦ absurd (h (ap (λ (c : Account). entry_index c.0) same)) | inr apart ↦ apart ]
+apart_entries a b h =
+    elim (cases_account a b) [ inl same ↦ absurd (h (ap (λ (c : Account). entry_index c.0) same)) | inr apart ↦ apart ]
 
 pub apart_things : (a b : Account) → thing_index a.1 ≢ thing_index b.1 → eq_by_cmp account_cmp a b ≡ false
-apart_things a b h = elim (cases_account a b) [ inl same ↦ absurd (h (ap (λ (c : Account). thing_index c.1) same)) | inr apart ↦ apart ]
+apart_things a b h =
+    elim (cases_account a b) [ inl same ↦ absurd (h (ap (λ (c : Account). thing_index c.1) same)) | inr apart ↦ apart ]

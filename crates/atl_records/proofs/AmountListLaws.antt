@@ -30,38 +30,50 @@ AreSortedAccounts [] = ⊤
 AreSortedAccounts (a ∷ others) = IsLessThanAll a others × AreSortedAccounts others
 
 less_entry : (a b : Account) → entry_index a.0 < entry_index b.0 → account_cmp a b ≡ Less
-less_entry a b h = ap (λ o. ordering_then o (nat_cmp (thing_index a.1) (thing_index b.1))) (sym (nat_cmp_is (entry_index a.0) (entry_index b.0) Less h))
+less_entry a b h =
+    ap (λ o. ordering_then o (nat_cmp (thing_index a.1) (thing_index b.1)))
+    (sym (nat_cmp_is (entry_index a.0) (entry_index b.0) Less h))
 
 less_thing : (e : BooksEntry) (i k : ℕ) → i < k → account_cmp (e, thing_at i) (e, thing_at k) ≡ Less
 less_thing e i k h =
-    ap (λ o. ordering_then o (nat_cmp (thing_index (thing_at i)) (thing_index (thing_at k)))) (tied_itself nat_cmp_total (entry_index e)) ∙ (λ j. nat_cmp (index_of_thing_at i j) (index_of_thing_at k j)) ∙ sym (nat_cmp_is i k Less h)
+    ap (λ o. ordering_then o (nat_cmp (thing_index (thing_at i)) (thing_index (thing_at k)))) (tied_itself nat_cmp_total (entry_index e))
+    ∙ (λ j. nat_cmp (index_of_thing_at i j) (index_of_thing_at k j)) ∙ sym (nat_cmp_is i k Less h)
 
-pub all_append : {A : Type 0} (P : A → Type 0) (xs ys : List A) → AllByRecursion P xs → AllByRecursion P ys → AllByRecursion P (xs ++ ys)
+pub all_append : {A : Type 0} (P : A → Type 0) (xs ys : List A) → AllByRecursion P xs → AllByRecursion P ys
+    → AllByRecursion P (xs ++ ys)
 all_append P [] ys h k = k
 all_append P (x ∷ xs) ys h k = (h.0, all_append P xs ys h.1 k)
 
-sorted_append : (xs ys : List Account) → AreSortedAccounts xs → AreSortedAccounts ys → AllByRecursion (λ x. IsLessThanAll x ys) xs → AreSortedAccounts (xs ++ ys)
+sorted_append : (xs ys : List Account) → AreSortedAccounts xs → AreSortedAccounts ys
+    → AllByRecursion (λ x. IsLessThanAll x ys) xs → AreSortedAccounts (xs ++ ys)
 sorted_append [] ys h k all = k
-sorted_append (x ∷ xs) ys h k all = (all_append (λ c. account_cmp x c ≡ Less) xs ys h.0 all.0, sorted_append xs ys h.1 k all.1)
+sorted_append (x ∷ xs) ys h k all =
+    (all_append (λ c. account_cmp x c ≡ Less) xs ys h.0 all.0, sorted_append xs ys h.1 k all.1)
 
-all_under : (P : Account → Type 0) (e : BooksEntry) (numbers : List ℕ) → ((i : ℕ) → P (e, thing_at i)) → AllByRecursion P (map (λ i. (e, thing_at i)) numbers)
+all_under : (P : Account → Type 0) (e : BooksEntry) (numbers : List ℕ) → ((i : ℕ) → P (e, thing_at i))
+    → AllByRecursion P (map (λ i. (e, thing_at i)) numbers)
 all_under P e [] h = tt
 all_under P e (i ∷ numbers) h = (h i, all_under P e numbers h)
 
-account_is_less_than_later : (e : BooksEntry) (i a n : ℕ) → i < a → IsLessThanAll (e, thing_at i) (map (λ k. (e, thing_at k)) (range_with_len a n))
+account_is_less_than_later : (e : BooksEntry) (i a n : ℕ) → i < a
+    → IsLessThanAll (e, thing_at i) (map (λ k. (e, thing_at k)) (range_with_len a n))
 account_is_less_than_later e i a zero h = tt
-account_is_less_than_later e i a (suc n) h = (less_thing e i a h, account_is_less_than_later e i (a + 1) n (omega arith))
+account_is_less_than_later e i a (suc n) h =
+    (less_thing e i a h, account_is_less_than_later e i (a + 1) n (omega arith))
 
-accounts_of_entry_are_sorted : (e : BooksEntry) (a n : ℕ) → AreSortedAccounts (map (λ i. (e, thing_at i)) (range_with_len a n))
+accounts_of_entry_are_sorted : (e : BooksEntry) (a n : ℕ)
+    → AreSortedAccounts (map (λ i. (e, thing_at i)) (range_with_len a n))
 accounts_of_entry_are_sorted e a zero = tt
-accounts_of_entry_are_sorted e a (suc n) = (account_is_less_than_later e a (a + 1) n (omega arith), accounts_of_entry_are_sorted e (a + 1) n)
+accounts_of_entry_are_sorted e a (suc n) =
+    (account_is_less_than_later e a (a + 1) n (omega arith), accounts_of_entry_are_sorted e (a + 1) n)
 
 are_ascending : List BooksEntry → Bool
 are_ascending [] = true
 are_ascending (e ∷ es) = list_all (λ d. nat_lt (entry_index e) (entry_index d)) es && are_ascending es
 
 module _ (things : ℕ) where
-  after_flat : (a : Account) (es : List BooksEntry) → list_all (λ d. nat_lt (entry_index a.0) (entry_index d)) es ≡ true → IsLessThanAll a (flat_map (accounts_under things) es)
+  after_flat : (a : Account) (es : List BooksEntry) → list_all (λ d. nat_lt (entry_index a.0) (entry_index d)) es ≡ true
+      → IsLessThanAll a (flat_map (accounts_under things) es)
   after_flat a [] h = tt
   after_flat a (d ∷ es) h =
       let parts = and_parts (nat_lt (entry_index a.0) (entry_index d)) (list_all (λ d. nat_lt (entry_index a.0) (entry_index d)) es) h in
@@ -93,7 +105,8 @@ none_either true o h = h
 none_either false o h = refl
 
 module _ (amount : Account → ℤ) where
-  after_listed : (a : Account) (chosen : List Account) → IsLessThanAll a chosen → below_all account_cmp a (listed_of amount chosen) ≡ true
+  after_listed : (a : Account) (chosen : List Account) → IsLessThanAll a chosen
+      → below_all account_cmp a (listed_of amount chosen) ≡ true
   after_listed a [] h = refl
   after_listed a (c ∷ others) h =
       let rest = listed_of amount others in
@@ -102,7 +115,8 @@ module _ (amount : Account → ℤ) where
         | false ↦ ap (λ o. is_lt o && below_all account_cmp a rest) h.0 ∙ after_listed a others h.1
       ]
 
-  sorted_listed : (chosen : List Account) → AreSortedAccounts chosen → is_sorted account_cmp (listed_of amount chosen) ≡ true
+  sorted_listed : (chosen : List Account) → AreSortedAccounts chosen
+      → is_sorted account_cmp (listed_of amount chosen) ≡ true
   sorted_listed [] h = refl
   sorted_listed (c ∷ others) h =
       let rest = listed_of amount others in
@@ -113,7 +127,9 @@ module _ (amount : Account → ℤ) where
 
   -- in what `listed_of` keeps, each account of the list is found with its amount if this isn't 0, and no other account
   -- is
-  find-listed : (a : Account) (chosen : List Account) → find account_cmp a (listed_of amount chosen) ≡ cond (list_any (eq_by_cmp account_cmp a) chosen) (listing_of (amount a)) None
+  find-listed : (a : Account) (chosen : List Account)
+      → find account_cmp a (listed_of amount chosen)
+      ≡ cond (list_any (eq_by_cmp account_cmp a) chosen) (listing_of (amount a)) None
   find-listed a [] = refl
   find-listed a (c ∷ others) =
       let rest = listed_of amount others in
@@ -135,7 +151,8 @@ module _ (amount : Account → ℤ) where
       ]
 
 -- the list of the books' amounts (`entries`) has those of all accounts in order, without the amounts that are 0
-pub entries-amounts : (things : ℕ) (books : BooksValue) → AreBooks things books → entries books.amounts ≡ listed_of (λ a. amount_in books a.0 a.1) (accounts things)
+pub entries-amounts : (things : ℕ) (books : BooksValue) → AreBooks things books
+    → entries books.amounts ≡ listed_of (λ a. amount_in books a.0 a.1) (accounts things)
 entries-amounts things books are =
     let amount = λ (a : Account). amount_in books a.0 a.1 in
     let sorted = subst T (sym (sorted_listed amount (accounts things) (accounts_rise things))) tt in
@@ -150,7 +167,9 @@ entries-amounts things books are =
 -- ---- what is so of each amount
 
 less_apart : (a b : Account) → is_lt (account_cmp a b) ≡ true → eq_by_cmp account_cmp a b ≡ false
-less_apart a b h = elim (account_cmp a b) as (λ o. is_lt o ≡ true → is_eq o ≡ false) [ Less ↦ λ _. refl | Equal ↦ λ not. absurd (false≢true not) | Greater ↦ λ _. refl ] h
+less_apart a b h =
+    elim (account_cmp a b) as (λ o. is_lt o ≡ true → is_eq o ≡ false)
+    [ Less ↦ λ _. refl | Equal ↦ λ not. absurd (false≢true not) | Greater ↦ λ _. refl ] h
 
 none_before : (a : Account) (es : List (Account × ℤ)) → below_all account_cmp a es ≡ true → find account_cmp a es ≡ None
 none_before a [] h = refl
@@ -158,7 +177,8 @@ none_before a (e ∷ es) h =
     let parts = and_parts (is_lt (account_cmp a e.0)) (below_all account_cmp a es) h in
     ap (λ b. cond b (Some e.1) (find account_cmp a es)) (less_apart a e.0 parts.0) ∙ none_before a es parts.1
 
-later_found : (e : Account × ℤ) (es : List (Account × ℤ)) (a : Account) (z : ℤ) → below_all account_cmp e.0 es ≡ true → find account_cmp a es ≡ Some z → find account_cmp a (e ∷ es) ≡ Some z
+later_found : (e : Account × ℤ) (es : List (Account × ℤ)) (a : Account) (z : ℤ) → below_all account_cmp e.0 es ≡ true
+    → find account_cmp a es ≡ Some z → find account_cmp a (e ∷ es) ≡ Some z
 later_found e es a z h is =
     elim (cases_account a e.0) [
       | inl same ↦ none_some z (sym (none_before e.0 es h) ∙ ap (λ b. find account_cmp b es) (sym same) ∙ is)
@@ -166,13 +186,15 @@ later_found e es a z h is =
     ]
 
 module _ (P : Account → ℤ → Type 0) where
-  each_of : (es : List (Account × ℤ)) → is_sorted account_cmp es ≡ true → ((a : Account) (z : ℤ) → find account_cmp a es ≡ Some z → P a z) → AllByRecursion (λ x. P x.0 x.1) es
+  each_of : (es : List (Account × ℤ)) → is_sorted account_cmp es ≡ true
+      → ((a : Account) (z : ℤ) → find account_cmp a es ≡ Some z → P a z) → AllByRecursion (λ x. P x.0 x.1) es
   each_of [] s h = tt
   each_of (e ∷ es) s h =
       let parts = and_parts (below_all account_cmp e.0 es) (is_sorted account_cmp es) s in
       (h e.0 e.1 (ap (λ b. cond b (Some e.1) (find account_cmp e.0 es)) (account_itself e.0)), each_of es parts.1 (λ a z is. h a z (later_found e es a z parts.0 is)))
 
-  found_of : (es : List (Account × ℤ)) (a : Account) (z : ℤ) → AllByRecursion (λ x. P x.0 x.1) es → find account_cmp a es ≡ Some z → P a z
+  found_of : (es : List (Account × ℤ)) (a : Account) (z : ℤ) → AllByRecursion (λ x. P x.0 x.1) es
+      → find account_cmp a es ≡ Some z → P a z
   found_of [] a z h is = none_some z is
   found_of (e ∷ es) a z h is =
       elim (cases_account a e.0) [
@@ -186,11 +208,15 @@ module _ (P : Account → ℤ → Type 0) where
       inside : (x y : ℤ) → Some x ≡ Some y → x ≡ y
       inside x y e = cc
 
-  pub each_amount : (m : FinMap account_cmp ℤ) → ((a : Account) (z : ℤ) → get m a ≡ Some z → P a z) → AllByRecursion (λ x. P x.0 x.1) (entries m)
+  pub each_amount : (m : FinMap account_cmp ℤ) → ((a : Account) (z : ℤ) → get m a ≡ Some z → P a z)
+      → AllByRecursion (λ x. P x.0 x.1) (entries m)
   each_amount m h = each_of (entries m) (amounts_sorted m) (λ a z is. h a z (get-entries m a ∙ is))
 
-  pub amount_of_each : (m : FinMap account_cmp ℤ) → AllByRecursion (λ x. P x.0 x.1) (entries m) → (a : Account) (z : ℤ) → get m a ≡ Some z → P a z
+  pub amount_of_each : (m : FinMap account_cmp ℤ) → AllByRecursion (λ x. P x.0 x.1) (entries m) → (a : Account) (z : ℤ)
+      → get m a ≡ Some z → P a z
   amount_of_each m h a z is = found_of (entries m) a z h (sym (get-entries m a) ∙ is)
 
 pub entries-none : entries (empty {X = ℤ} {R = account_cmp}) ≡ []
-entries-none = nil_from_length (entries (empty {X = ℤ} {R = account_cmp})) (sym (len-entries (empty {X = ℤ} {R = account_cmp})) ∙ len-empty account_cmp ℤ)
+entries-none =
+    nil_from_length (entries (empty {X = ℤ} {R = account_cmp}))
+    (sym (len-entries (empty {X = ℤ} {R = account_cmp})) ∙ len-empty account_cmp ℤ)

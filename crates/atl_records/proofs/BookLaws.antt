@@ -21,7 +21,9 @@ zero_is (pos (suc n)) h = let none : (suc n == 0) ≡ false = grind (arith, nat_
 zero_is (negsuc n) h = absurd (false≢true h)
 
 pub nonzero_fails_is_zero : (z : ℤ) → z ≢ pos 0 → is_zero z ≡ false
-nonzero_fails_is_zero z h = elim (is_zero z) as (λ b. is_zero z ≡ b → b ≡ false) [ true ↦ λ is. absurd (h (zero_is z is)) | false ↦ λ _. refl ] refl
+nonzero_fails_is_zero z h =
+    elim (is_zero z) as (λ b. is_zero z ≡ b → b ≡ false) [ true ↦ λ is. absurd (h (zero_is z is)) | false ↦ λ _. refl ]
+    refl
 
 pub failing_is_nonzero : (z : ℤ) → is_zero z ≡ false → z ≢ pos 0
 failing_is_nonzero z h is = false≢true (sym h ∙ ap is_zero is)
@@ -31,7 +33,9 @@ abbrev pub listing_of : ℤ → Option ℤ
 listing_of z = cond (is_zero z) None (Some z)
 
 pub amount_listed : (z : ℤ) → unwrap_or (listing_of z) (pos 0) ≡ z
-amount_listed z = elim (is_zero z) as (λ b. is_zero z ≡ b → unwrap_or (cond b None (Some z)) (pos 0) ≡ z) [ true ↦ λ is. sym (zero_is z is) | false ↦ λ _. refl ] refl
+amount_listed z =
+    elim (is_zero z) as (λ b. is_zero z ≡ b → unwrap_or (cond b None (Some z)) (pos 0) ≡ z)
+    [ true ↦ λ is. sym (zero_is z is) | false ↦ λ _. refl ] refl
 
 pub listed_some : (z x : ℤ) → listing_of z ≡ Some x → (z ≡ x) × (x ≢ pos 0)
 listed_some z x is =
@@ -43,16 +47,20 @@ listed_some z x is =
 -- ---- an amount set
 
 module _ (books : BooksValue) (e : BooksEntry) (t : Thing) (z : ℤ) where
-  pub get-with_amount : (a : Account) → get (with_amount books e t z).amounts a ≡ cond (eq_by_cmp account_cmp a (e, t)) (listing_of z) (get books.amounts a)
+  pub get-with_amount : (a : Account)
+      → get (with_amount books e t z).amounts a
+      ≡ cond (eq_by_cmp account_cmp a (e, t)) (listing_of z) (get books.amounts a)
   get-with_amount a =
       elim (is_zero z) as (λ b. get (cond b (remove books.amounts (e, t)) (insert books.amounts (e, t) z)) a ≡ cond (eq_by_cmp account_cmp a (e, t)) (cond b None (Some z)) (get books.amounts a)) [
         | true ↦ get-remove account_total books.amounts (e, t) a
         | false ↦ get-insert account_total books.amounts (e, t) z a
       ]
 
-  pub amount-with_amount : (f : BooksEntry) (u : Thing) → amount_in (with_amount books e t z) f u ≡ cond (eq_by_cmp account_cmp (f, u) (e, t)) z (amount_in books f u)
+  pub amount-with_amount : (f : BooksEntry) (u : Thing)
+      → amount_in (with_amount books e t z) f u ≡ cond (eq_by_cmp account_cmp (f, u) (e, t)) z (amount_in books f u)
   amount-with_amount f u =
-      ap (λ o. unwrap_or o (pos 0)) (get-with_amount (f, u)) ∙ elim (eq_by_cmp account_cmp (f, u) (e, t)) as (λ b. unwrap_or (cond b (listing_of z) (get books.amounts (f, u))) (pos 0) ≡ cond b z (amount_in books f u)) [
+      ap (λ o. unwrap_or o (pos 0)) (get-with_amount (f, u))
+      ∙ elim (eq_by_cmp account_cmp (f, u) (e, t)) as (λ b. unwrap_or (cond b (listing_of z) (get books.amounts (f, u))) (pos 0) ≡ cond b z (amount_in books f u)) [
         | true ↦ amount_listed z
         | false ↦ refl
       ]
@@ -60,10 +68,12 @@ module _ (books : BooksValue) (e : BooksEntry) (t : Thing) (z : ℤ) where
   pub its_amount : amount_in (with_amount books e t z) e t ≡ z
   its_amount = amount-with_amount e t ∙ ap (λ b. cond b z (amount_in books e t)) (account_itself (e, t))
 
-  pub other_amount : (f : BooksEntry) (u : Thing) → eq_by_cmp account_cmp (f, u) (e, t) ≡ false → amount_in (with_amount books e t z) f u ≡ amount_in books f u
+  pub other_amount : (f : BooksEntry) (u : Thing) → eq_by_cmp account_cmp (f, u) (e, t) ≡ false
+      → amount_in (with_amount books e t z) f u ≡ amount_in books f u
   other_amount f u apart = amount-with_amount f u ∙ ap (λ b. cond b z (amount_in books f u)) apart
 
-  pub AreBooks-with_amount : (things : ℕ) → AreBooks things books → thing_index t < things → AreBooks things (with_amount books e t z)
+  pub AreBooks-with_amount : (things : ℕ) → AreBooks things books → thing_index t < things
+      → AreBooks things (with_amount books e t z)
   AreBooks-with_amount things old there =
       record {
         count = old.count;
@@ -76,8 +86,10 @@ module _ (books : BooksValue) (e : BooksEntry) (t : Thing) (z : ℤ) where
         ];
       }
 
-pub AreBooks-after_booking : (things : ℕ) (books : BooksValue) (e : BooksEntry) (t : Thing) (n : ℤ) → AreBooks things books → thing_index t < things → AreBooks things (after_booking books e t n)
-AreBooks-after_booking things books e t n old there = AreBooks-with_amount books e t (amount_in books e t +ℤ n) things old there
+pub AreBooks-after_booking : (things : ℕ) (books : BooksValue) (e : BooksEntry) (t : Thing) (n : ℤ)
+    → AreBooks things books → thing_index t < things → AreBooks things (after_booking books e t n)
+AreBooks-after_booking things books e t n old there =
+    AreBooks-with_amount books e t (amount_in books e t +ℤ n) things old there
 
 -- ---- what is booked of a thing
 
@@ -95,9 +107,11 @@ plus_zero z = omega (arith, ints)
 regroup : (x y z w : ℤ) → (x +ℤ y) +ℤ (z +ℤ w) ≡ (x +ℤ z) +ℤ (y +ℤ w)
 regroup x y z w = omega (arith, ints)
 
-sum_of-raised : (a b : BooksEntry → ℤ) (es : List BooksEntry) → sum_of (map (λ e. a e +ℤ b e) es) ≡ sum_of (map a es) +ℤ sum_of (map b es)
+sum_of-raised : (a b : BooksEntry → ℤ) (es : List BooksEntry)
+    → sum_of (map (λ e. a e +ℤ b e) es) ≡ sum_of (map a es) +ℤ sum_of (map b es)
 sum_of-raised a b [] = plus_zero (pos 0)
-sum_of-raised a b (e ∷ es) = ap (λ z. (a e +ℤ b e) +ℤ z) (sum_of-raised a b es) ∙ regroup (a e) (b e) (sum_of (map a es)) (sum_of (map b es))
+sum_of-raised a b (e ∷ es) =
+    ap (λ z. (a e +ℤ b e) +ℤ z) (sum_of-raised a b es) ∙ regroup (a e) (b e) (sum_of (map a es)) (sum_of (map b es))
 
 sum_of_one_booking : (e : BooksEntry) (n : ℤ) → sum_of (map (added_under e n) all_entries) ≡ n
 sum_of_one_booking Founding n = omega (arith, ints)
@@ -110,11 +124,14 @@ module _ (books : BooksValue) (e : BooksEntry) (u : Thing) (n : ℤ) where
         | inl same ↦
             let tested : (entry_index f == entry_index e) ≡ true = grind (arith, nat_tests) in
             let at = same_account f e u u same refl in
-            ap (λ (a : Account). amount_in (after_booking books e u n) a.0 a.1) at ∙ its_amount books e u (amount_in books e u +ℤ n)
-            ∙ ap (λ (a : Account). amount_in books a.0 a.1 +ℤ n) (sym at) ∙ ap (λ b. amount_in books f u +ℤ cond b n (pos 0)) (sym tested)
+            ap (λ (a : Account). amount_in (after_booking books e u n) a.0 a.1) at
+            ∙ its_amount books e u (amount_in books e u +ℤ n)
+            ∙ ap (λ (a : Account). amount_in books a.0 a.1 +ℤ n) (sym at)
+            ∙ ap (λ b. amount_in books f u +ℤ cond b n (pos 0)) (sym tested)
         | inr apart ↦
             let tested : (entry_index f == entry_index e) ≡ false = grind (arith, nat_tests) in
-            other_amount books e u (amount_in books e u +ℤ n) f u (apart_entries (f, u) (e, u) apart) ∙ plus_zero (amount_in books f u)
+            other_amount books e u (amount_in books e u +ℤ n) f u (apart_entries (f, u) (e, u) apart)
+            ∙ plus_zero (amount_in books f u)
             ∙ ap (λ b. amount_in books f u +ℤ cond b n (pos 0)) (sym tested)
       ]
 
@@ -122,7 +139,9 @@ module _ (books : BooksValue) (e : BooksEntry) (u : Thing) (n : ℤ) where
   unfolding booked
   raised_sum =
       let each : (f : BooksEntry) → amount_in (after_booking books e u n) f u ≡ amount_in books f u +ℤ added_under e n f = raised in
-      (λ i. sum_of (map (λ f. each f i) all_entries)) ∙ sum_of-raised (λ f. amount_in books f u) (added_under e n) all_entries ∙ ap (λ z. booked books u +ℤ z) (sum_of_one_booking e n)
+      (λ i. sum_of (map (λ f. each f i) all_entries))
+      ∙ sum_of-raised (λ f. amount_in books f u) (added_under e n) all_entries
+      ∙ ap (λ z. booked books u +ℤ z) (sum_of_one_booking e n)
 
   -- a booking of n for thing u raises the sum of thing t's amounts by n if t is u, and else by 0 (`booked_for`)
   pub booked-after_booking : (t : Thing) → booked (after_booking books e u n) t ≡ booked books t +ℤ booked_for t u n
@@ -132,14 +151,19 @@ module _ (books : BooksValue) (e : BooksEntry) (u : Thing) (n : ℤ) where
         | inl same ↦
             let tested : (thing_index t == thing_index u) ≡ true = grind (arith, nat_tests) in
             let at = same_account e e t u refl same in
-            ap (λ (a : Account). booked (after_booking books e u n) a.1) at ∙ raised_sum ∙ ap (λ (a : Account). booked books a.1 +ℤ n) (sym at) ∙ ap (λ b. booked books t +ℤ cond b n (pos 0)) (sym tested)
+            ap (λ (a : Account). booked (after_booking books e u n) a.1) at ∙ raised_sum
+            ∙ ap (λ (a : Account). booked books a.1 +ℤ n) (sym at)
+            ∙ ap (λ b. booked books t +ℤ cond b n (pos 0)) (sym tested)
         | inr apart ↦
             let tested : (thing_index t == thing_index u) ≡ false = grind (arith, nat_tests) in
             let each : (f : BooksEntry) → amount_in (after_booking books e u n) f t ≡ amount_in books f t = λ f. other_amount books e u (amount_in books e u +ℤ n) f t (apart_things (f, t) (e, u) apart) in
-            (λ i. sum_of (map (λ f. each f i) all_entries)) ∙ plus_zero (booked books t) ∙ ap (λ b. booked books t +ℤ cond b n (pos 0)) (sym tested)
+            (λ i. sum_of (map (λ f. each f i) all_entries)) ∙ plus_zero (booked books t)
+            ∙ ap (λ b. booked books t +ℤ cond b n (pos 0)) (sym tested)
       ]
 
-  pub amount-after_booking : (f : BooksEntry) (t : Thing) → (amount_in (after_booking books e u n) f t ≡ amount_in books f t +ℤ n) ⊎ (amount_in (after_booking books e u n) f t ≡ amount_in books f t)
+  pub amount-after_booking : (f : BooksEntry) (t : Thing)
+      → (amount_in (after_booking books e u n) f t ≡ amount_in books f t +ℤ n)
+      ⊎ (amount_in (after_booking books e u n) f t ≡ amount_in books f t)
   amount-after_booking f t =
       elim (cases_account (f, t) (e, u)) [
         | inl same ↦
@@ -152,7 +176,8 @@ module _ (books : BooksValue) (e : BooksEntry) (u : Thing) (n : ℤ) where
 pub amount-no_amounts : (things : ℕ) (e : BooksEntry) (t : Thing) → amount_in (no_amounts things) e t ≡ pos 0
 amount-no_amounts things e t = ap (λ o. unwrap_or o (pos 0)) (get-empty {X = ℤ} account_cmp (e, t))
 
-none_booked : (books : BooksValue) (t : Thing) → ((e : BooksEntry) → amount_in books e t ≡ pos 0) → booked books t ≡ pos 0
+none_booked : (books : BooksValue) (t : Thing) → ((e : BooksEntry) → amount_in books e t ≡ pos 0)
+    → booked books t ≡ pos 0
 unfolding booked
 none_booked books t none i = sum_of (map (λ e. none e i) all_entries)
 
@@ -160,7 +185,8 @@ pub booked-no_amounts : (things : ℕ) (t : Thing) → booked (no_amounts things
 booked-no_amounts things t = none_booked (no_amounts things) t (λ e. amount-no_amounts things e t)
 
 pub AreBooks-no_amounts : (things : ℕ) → AreBooks things (no_amounts things)
-AreBooks-no_amounts things = record { count = refl; listed = λ e t amount is. none_some amount (sym (get-empty {X = ℤ} account_cmp (e, t)) ∙ is) }
+AreBooks-no_amounts things =
+    record { count = refl; listed = λ e t amount is. none_some amount (sym (get-empty {X = ℤ} account_cmp (e, t)) ∙ is) }
 
 -- ---- what books list
 
@@ -185,7 +211,8 @@ module _ (things : ℕ) (books : BooksValue) (are : AreBooks things books) where
 pub same_value : (a b : BooksValue) → a.things ≡ b.things → a.amounts ≡ b.amounts → a ≡ b
 same_value a b things amounts i = record { things = things i; amounts = amounts i }
 
-pub same_books : (things : ℕ) (a b : BooksValue) → AreBooks things a → AreBooks things b → ((e : BooksEntry) (t : Thing) → amount_in a e t ≡ amount_in b e t) → a ≡ b
+pub same_books : (things : ℕ) (a b : BooksValue) → AreBooks things a → AreBooks things b
+    → ((e : BooksEntry) (t : Thing) → amount_in a e t ≡ amount_in b e t) → a ≡ b
 same_books things a b are also same =
     same_value a b (are.count ∙ sym also.count) (same_map account_total account_same a.amounts b.amounts (λ c.
     get-listed things a are c.0 c.1 ∙ ap listing_of (same c.0 c.1) ∙ sym (get-listed things b also c.0 c.1)))
@@ -194,16 +221,22 @@ same_books things a b are also same =
 
 -- An amount y that is z + n is from -more to more (`IsWithin`), if z is from -bound to bound, and bound + n is at most
 -- `more`. `IsWithin-after_booking` uses it for an amount that a booking raises.
-raised_amount_is_within : (z y : ℤ) (bound n more : ℕ) → y ≡ z +ℤ pos n → IsWithin bound z → bound + n ≤ more → IsWithin more y
-raised_amount_is_within z y bound n more e h l = record { most = omega (arith, ints, h.most); least = omega (arith, ints, h.least) }
+raised_amount_is_within : (z y : ℤ) (bound n more : ℕ) → y ≡ z +ℤ pos n → IsWithin bound z → bound + n ≤ more
+    → IsWithin more y
+raised_amount_is_within z y bound n more e h l =
+    record { most = omega (arith, ints, h.most); least = omega (arith, ints, h.least) }
 
 -- An amount y that is equal to z is from -more to more (`IsWithin`), if z is from -bound to bound, and bound + n is at
 -- most `more`. `IsWithin-after_booking` uses it for an amount that a booking leaves as it is.
-unchanged_amount_is_within : (z y : ℤ) (bound n more : ℕ) → y ≡ z → IsWithin bound z → bound + n ≤ more → IsWithin more y
-unchanged_amount_is_within z y bound n more e h l = record { most = omega (arith, ints, h.most); least = omega (arith, ints, h.least) }
+unchanged_amount_is_within : (z y : ℤ) (bound n more : ℕ) → y ≡ z → IsWithin bound z → bound + n ≤ more
+    → IsWithin more y
+unchanged_amount_is_within z y bound n more e h l =
+    record { most = omega (arith, ints, h.most); least = omega (arith, ints, h.least) }
 
 -- if all amounts are from -bound to bound (`IsWithin`), all are within each bound from bound + n on once n is booked
-pub IsWithin-after_booking : (books : BooksValue) (e : BooksEntry) (u : Thing) (n bound more : ℕ) → ((f : BooksEntry) (t : Thing) → IsWithin bound (amount_in books f t)) → bound + n ≤ more → (f : BooksEntry) (t : Thing)
+pub IsWithin-after_booking : (books : BooksValue) (e : BooksEntry) (u : Thing) (n bound more : ℕ)
+    → ((f : BooksEntry) (t : Thing) → IsWithin bound (amount_in books f t)) → bound + n ≤ more
+    → (f : BooksEntry) (t : Thing)
     → IsWithin more (amount_in (after_booking books e u (pos n)) f t)
 IsWithin-after_booking books e u n bound more old l f t =
     elim (amount-after_booking books e u (pos n) f t) [
@@ -212,5 +245,6 @@ IsWithin-after_booking books e u n bound more old l f t =
     ]
 
 -- an amount from -bound to bound, with a bound of at most 4 * 10^18, is from -2^62 - 1 to 2^62 (`LeavesRoomForJoining`)
-pub LeavesRoomForJoining-within : (z : ℤ) (bound : ℕ) → IsWithin bound z → bound ≤ 4000000000000000000 → LeavesRoomForJoining z
+pub LeavesRoomForJoining-within : (z : ℤ) (bound : ℕ) → IsWithin bound z → bound ≤ 4000000000000000000
+    → LeavesRoomForJoining z
 LeavesRoomForJoining-within z bound h l = (omega (arith, ints, h.most), omega (arith, ints, h.least))

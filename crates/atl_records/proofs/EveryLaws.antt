@@ -25,7 +25,8 @@ module _ {V : Type 0} where
   pub every-empty : (P : ℕ → V → Type 0) → Every P (empty {X = V} {R = nat_cmp})
   every-empty P n v is = none_some v (sym (get-empty nat_cmp n) ∙ is)
 
-  pub every-insert : (P : ℕ → V → Type 0) (m : FinMap nat_cmp V) (k : ℕ) (v : V) → P k v → Every P m → Every P (insert m k v)
+  pub every-insert : (P : ℕ → V → Type 0) (m : FinMap nat_cmp V) (k : ℕ) (v : V) → P k v → Every P m
+      → Every P (insert m k v)
   every-insert P m k v here old n x is =
       elim (nat_cmp n k) as (λ o. nat_cmp n k ≡ o → cond (is_eq o) (Some v) (get m n) ≡ Some x → P n x) [
         | Less ↦ λ _. old n x
@@ -54,7 +55,8 @@ module _ {V : Type 0} where
 
   pub get-insert_other : (m : FinMap nat_cmp V) (k n : ℕ) (v : V) → n ≢ k → get (insert m k v) n ≡ get m n
   get-insert_other m k n v apart =
-      get-insert nat_cmp_total m k v n ∙ elim (nat_cmp n k) as (λ o. nat_cmp n k ≡ o → cond (is_eq o) (Some v) (get m n) ≡ get m n) [
+      get-insert nat_cmp_total m k v n
+      ∙ elim (nat_cmp n k) as (λ o. nat_cmp n k ≡ o → cond (is_eq o) (Some v) (get m n) ≡ get m n) [
         | Less ↦ λ _. refl
         | Equal ↦ λ o. absurd (apart (nat_cmp-IsAntisymmetric n k o))
         | Greater ↦ λ _. refl
@@ -71,7 +73,8 @@ module _ {V : Type 0} where
         | Greater ↦ λ g. absurd (false≢true g)
       ] (and_parts _ _ h).0
 
-  pub later : (e : ℕ × V) (es : List (ℕ × V)) (n : ℕ) (v : V) → is_sorted nat_cmp (e ∷ es) ≡ true → find nat_cmp n es ≡ Some v → find nat_cmp n (e ∷ es) ≡ Some v
+  pub later : (e : ℕ × V) (es : List (ℕ × V)) (n : ℕ) (v : V) → is_sorted nat_cmp (e ∷ es) ≡ true
+      → find nat_cmp n es ≡ Some v → find nat_cmp n (e ∷ es) ≡ Some v
   later e es n v s is =
       elim (nat_cmp n e.0) as (λ o. nat_cmp n e.0 ≡ o → cond (is_eq o) (Some e.1) (find nat_cmp n es) ≡ Some v) [
         | Less ↦ λ _. is
@@ -87,7 +90,8 @@ module _ {V : Type 0} where
         | Greater ↦ λ o. let l = ranked e.0 e.0 Greater (sym o) in absurd (omega arith)
       ] refl
 
-  pub found_of : (P : ℕ → V → Type 0) (es : List (ℕ × V)) (n : ℕ) (v : V) → EachEntry P es → find nat_cmp n es ≡ Some v → P n v
+  pub found_of : (P : ℕ → V → Type 0) (es : List (ℕ × V)) (n : ℕ) (v : V) → EachEntry P es → find nat_cmp n es ≡ Some v
+      → P n v
   found_of P [] n v h is = none_some v is
   found_of P (e ∷ es) n v h is =
       elim (nat_cmp n e.0) as (λ o. nat_cmp n e.0 ≡ o → cond (is_eq o) (Some e.1) (find nat_cmp n es) ≡ Some v → P n v) [
@@ -96,9 +100,11 @@ module _ {V : Type 0} where
         | Greater ↦ λ _. found_of P es n v h.1
       ] refl is
 
-  pub each_of : (P : ℕ → V → Type 0) (es : List (ℕ × V)) → is_sorted nat_cmp es ≡ true → ((n : ℕ) (v : V) → find nat_cmp n es ≡ Some v → P n v) → EachEntry P es
+  pub each_of : (P : ℕ → V → Type 0) (es : List (ℕ × V)) → is_sorted nat_cmp es ≡ true
+      → ((n : ℕ) (v : V) → find nat_cmp n es ≡ Some v → P n v) → EachEntry P es
   each_of P [] s h = tt
-  each_of P (e ∷ es) s h = (h e.0 e.1 (first e es), each_of P es (and_parts _ _ s).1 (λ n v is. h n v (later e es n v s is)))
+  each_of P (e ∷ es) s h =
+      (h e.0 e.1 (first e es), each_of P es (and_parts _ _ s).1 (λ n v is. h n v (later e es n v s is)))
 
   pub sorted : (m : FinMap nat_cmp V) → is_sorted nat_cmp (entries m) ≡ true
   sorted m = is_true _ (entries_sorted m)
@@ -109,7 +115,8 @@ module _ {V : Type 0} where
   pub each-from_every : (P : ℕ → V → Type 0) (m : FinMap nat_cmp V) → Every P m → EachEntry P (entries m)
   each-from_every P m h = each_of P (entries m) (sorted m) (λ n v is. h n v (get-entries m n ∙ is))
 
-  fails : (p : V → Bool) (es : List (ℕ × V)) (n : ℕ) (v : V) → list_any (λ e. p e.1) es ≡ false → find nat_cmp n es ≡ Some v → p v ≡ false
+  fails : (p : V → Bool) (es : List (ℕ × V)) (n : ℕ) (v : V) → list_any (λ e. p e.1) es ≡ false
+      → find nat_cmp n es ≡ Some v → p v ≡ false
   fails p [] n v h is = none_some v is
   fails p (e ∷ es) n v h is =
       let apart = or_parts (p e.1) (list_any (λ e. p e.1) es) h in
@@ -119,7 +126,8 @@ module _ {V : Type 0} where
         | Greater ↦ fails p es n v apart.1
       ] is
 
-  pub every-from_none : (p : V → Bool) (m : FinMap nat_cmp V) → list_any (λ e. p e.1) (entries m) ≡ false → Every (λ n v. p v ≡ false) m
+  pub every-from_none : (p : V → Bool) (m : FinMap nat_cmp V) → list_any (λ e. p e.1) (entries m) ≡ false
+      → Every (λ n v. p v ≡ false) m
   every-from_none p m h n v is = fails p (entries m) n v h (sym (get-entries m n) ∙ is)
 
   -- ---- the numbers whose values pass a test
@@ -132,22 +140,29 @@ module _ {V : Type 0} where
     abbrev Passing : List (ℕ × V) → ℕ → Type 0
     Passing es n = (v : V) × (find nat_cmp n es ≡ Some v) × (p v ≡ true)
 
-    after : (e : ℕ × V) (es : List (ℕ × V)) (n : ℕ) → is_sorted nat_cmp (e ∷ es) ≡ true → Passing es n → Passing (e ∷ es) n
+    after : (e : ℕ × V) (es : List (ℕ × V)) (n : ℕ) → is_sorted nat_cmp (e ∷ es) ≡ true → Passing es n
+        → Passing (e ∷ es) n
     after e es n s (v, is, h) = (v, later e es n v s is, h)
 
     -- if each number chosen from the list without its first entry e has a value that passes the test p, so has each
     -- number chosen from the whole sorted list (b says whether e passes)
-    listed_in : (b : Bool) (e : ℕ × V) (es : List (ℕ × V)) → p e.1 ≡ b → is_sorted nat_cmp (e ∷ es) ≡ true → (d : ℕ) → ((i : ℕ) → i < length (chosen es) → Passing es (get_or (chosen es) i d))
-        → (i : ℕ) → i < length (cond b (e.0 ∷ chosen es) (chosen es)) → Passing (e ∷ es) (get_or (cond b (e.0 ∷ chosen es) (chosen es)) i d)
+    listed_in : (b : Bool) (e : ℕ × V) (es : List (ℕ × V)) → p e.1 ≡ b → is_sorted nat_cmp (e ∷ es) ≡ true → (d : ℕ)
+        → ((i : ℕ) → i < length (chosen es) → Passing es (get_or (chosen es) i d))
+        → (i : ℕ) → i < length (cond b (e.0 ∷ chosen es) (chosen es))
+        → Passing (e ∷ es) (get_or (cond b (e.0 ∷ chosen es) (chosen es)) i d)
     listed_in true e es t s d rest zero h = (e.1, first e es, t)
     listed_in true e es t s d rest (suc i) h = after e es (get_or (chosen es) i d) s (rest i (omega arith))
     listed_in false e es t s d rest i h = after e es (get_or (chosen es) i d) s (rest i h)
 
-    listed : (es : List (ℕ × V)) → is_sorted nat_cmp es ≡ true → (d i : ℕ) → i < length (chosen es) → Passing es (get_or (chosen es) i d)
+    listed : (es : List (ℕ × V)) → is_sorted nat_cmp es ≡ true → (d i : ℕ) → i < length (chosen es)
+        → Passing es (get_or (chosen es) i d)
     listed [] s d i h = absurd (omega arith)
-    listed (e ∷ es) s d i h = subst (λ (ns : List ℕ). i < length ns → Passing (e ∷ es) (get_or ns i d)) (sym (chosen-cons p e es)) (listed_in (p e.1) e es refl s d (listed es (and_parts _ _ s).1 d) i) h
+    listed (e ∷ es) s d i h =
+        subst (λ (ns : List ℕ). i < length ns → Passing (e ∷ es) (get_or ns i d)) (sym (chosen-cons p e es))
+        (listed_in (p e.1) e es refl s d (listed es (and_parts _ _ s).1 d) i) h
 
-    pub passes-listed : (m : FinMap nat_cmp V) (i d : ℕ) → i < length (numbers_where p m) → (v : V) × (get m (get_or (numbers_where p m) i d) ≡ Some v) × (p v ≡ true)
+    pub passes-listed : (m : FinMap nat_cmp V) (i d : ℕ) → i < length (numbers_where p m)
+        → (v : V) × (get m (get_or (numbers_where p m) i d) ≡ Some v) × (p v ≡ true)
     passes-listed m i d h = let (v, is, t) = listed (entries m) (sorted m) d i h in (v, get-entries m (get_or (numbers_where p m) i d) ∙ is, t)
 
 -- ---- a map with f at each value

@@ -29,7 +29,9 @@ module _ {A : Type 0} (p : A → Bool) where
   any_later [] ys h = h
   any_later (x ∷ xs) ys h = or_right (p x) (list_any p (xs ++ ys)) (any_later xs ys h)
 
-  any_flat : (f : BooksEntry → List A) (e : BooksEntry) (es : List BooksEntry) → list_any (λ d. entry_index d == entry_index e) es ≡ true → list_any p (f e) ≡ true → list_any p (flat_map f es) ≡ true
+  any_flat : (f : BooksEntry → List A) (e : BooksEntry) (es : List BooksEntry)
+      → list_any (λ d. entry_index d == entry_index e) es ≡ true → list_any p (f e) ≡ true
+      → list_any p (flat_map f es) ≡ true
   any_flat f e [] h its = absurd (false≢true h)
   any_flat f e (d ∷ es) h its =
       elim (cases_eq (entry_index d) (entry_index e)) [
@@ -43,7 +45,8 @@ each_listed : (e : BooksEntry) → list_any (λ d. entry_index d == entry_index 
 each_listed Founding = refl
 each_listed _ = refl
 
-any_under : (e : BooksEntry) (t : Thing) (a n : ℕ) → a ≤ thing_index t → thing_index t < a + n → list_any (eq_by_cmp account_cmp (e, t)) (map (λ i. (e, thing_at i)) (range_with_len a n)) ≡ true
+any_under : (e : BooksEntry) (t : Thing) (a n : ℕ) → a ≤ thing_index t → thing_index t < a + n
+    → list_any (eq_by_cmp account_cmp (e, t)) (map (λ i. (e, thing_at i)) (range_with_len a n)) ≡ true
 any_under e t a zero l h = absurd (omega arith)
 any_under e t a (suc n) l h =
     let others = list_any (eq_by_cmp account_cmp (e, t)) (map (λ i. (e, thing_at i)) (range_with_len (a + 1) n)) in
@@ -52,14 +55,19 @@ any_under e t a (suc n) l h =
       | inr apart ↦ or_right (eq_by_cmp account_cmp (e, t) (e, thing_at a)) others (any_under e t (a + 1) n (omega arith) (omega arith))
     ]
 
-pub any_accounts : (things : ℕ) (e : BooksEntry) (t : Thing) → thing_index t < things → list_any (eq_by_cmp account_cmp (e, t)) (accounts things) ≡ true
-any_accounts things e t h = any_flat (eq_by_cmp account_cmp (e, t)) (accounts_under things) e all_entries (each_listed e) (any_under e t 0 things (omega arith) (omega arith))
+pub any_accounts : (things : ℕ) (e : BooksEntry) (t : Thing) → thing_index t < things
+    → list_any (eq_by_cmp account_cmp (e, t)) (accounts things) ≡ true
+any_accounts things e t h =
+    any_flat (eq_by_cmp account_cmp (e, t)) (accounts_under things) e all_entries (each_listed e)
+    (any_under e t 0 things (omega arith) (omega arith))
 
 -- ---- the books that rows stand for
 
 -- `with_amounts` books list each account (entry and thing) of a list with the amount that is given, if it isn't 0, and
 -- all other accounts as `books` do
-get-filled : (amount : Account → ℤ) (chosen : List Account) (books : BooksValue) (a : Account) → get (with_amounts amount chosen books).amounts a ≡ cond (list_any (eq_by_cmp account_cmp a) chosen) (listing_of (amount a)) (get books.amounts a)
+get-filled : (amount : Account → ℤ) (chosen : List Account) (books : BooksValue) (a : Account)
+    → get (with_amounts amount chosen books).amounts a
+    ≡ cond (list_any (eq_by_cmp account_cmp a) chosen) (listing_of (amount a)) (get books.amounts a)
 get-filled amount [] books a = refl
 get-filled amount (c ∷ others) books a =
     let old = get (with_amounts amount others books).amounts a in
@@ -67,9 +75,11 @@ get-filled amount (c ∷ others) books a =
     get-with_amount (with_amounts amount others books) c.0 c.1 (amount c) a ∙ elim (cases_account a c) [
       | inl same ↦
           let yes : eq_by_cmp account_cmp a c ≡ true = ap (eq_by_cmp account_cmp a) (sym same) ∙ account_itself a in
-          ap (λ b. cond b (listing_of (amount c)) old) yes ∙ ap (λ d. listing_of (amount d)) (sym same) ∙ sym (ap (λ b. cond (b || later) (listing_of (amount a)) (get books.amounts a)) yes)
+          ap (λ b. cond b (listing_of (amount c)) old) yes ∙ ap (λ d. listing_of (amount d)) (sym same)
+          ∙ sym (ap (λ b. cond (b || later) (listing_of (amount a)) (get books.amounts a)) yes)
       | inr apart ↦
-          ap (λ b. cond b (listing_of (amount c)) old) apart ∙ get-filled amount others books a ∙ sym (ap (λ b. cond (b || later) (listing_of (amount a)) (get books.amounts a)) apart)
+          ap (λ b. cond b (listing_of (amount c)) old) apart ∙ get-filled amount others books a
+          ∙ sym (ap (λ b. cond (b || later) (listing_of (amount a)) (get books.amounts a)) apart)
     ]
 
 cell_past : (rows : List (List ℤ)) (a : Account) → length rows ≤ thing_index a.1 → cell rows a ≡ pos 0
@@ -92,7 +102,8 @@ get-as_books rows a =
           ]
     ]
 
-pub amount-as_books : (rows : List (List ℤ)) (e : BooksEntry) (t : Thing) → amount_in (as_books rows) e t ≡ cell rows (e, t)
+pub amount-as_books : (rows : List (List ℤ)) (e : BooksEntry) (t : Thing)
+    → amount_in (as_books rows) e t ≡ cell rows (e, t)
 amount-as_books rows e t = ap (λ o. unwrap_or o (pos 0)) (get-as_books rows (e, t)) ∙ amount_listed (cell rows (e, t))
 
 pub AreBooks-as_books : (rows : List (List ℤ)) → AreBooks (length rows) (as_books rows)
@@ -110,7 +121,9 @@ AreBooks-as_books rows =
 -- ---- rows with nothing in them
 
 get_or-replicate_same : {A : Type 0} (n i : ℕ) (a : A) → get_or (replicate n a) i a ≡ a
-get_or-replicate_same n i a = elim (cases_lt i n) [ inl h ↦ get_or-replicate n i a a h | inr h ↦ get_or_past (replicate n a) i a (rw length-replicate h) ]
+get_or-replicate_same n i a =
+    elim (cases_lt i n)
+    [ inl h ↦ get_or-replicate n i a a h | inr h ↦ get_or_past (replicate n a) i a (rw length-replicate h) ]
 
 abbrev zero_row : List ℤ
 zero_row = replicate entry_count (pos 0)
@@ -159,12 +172,17 @@ module _ (rows : List (List ℤ)) (grid : IsGrid rows) (e : BooksEntry) (t : Thi
             elim (cases_eq (entry_index a.0) (entry_index e)) [
               | inl at ↦
                   let is = ap (λ b. eq_by_cmp account_cmp b (e, t)) (same_account a.0 e a.1 t at same) ∙ account_itself (e, t) in
-                  at_row ∙ ap (λ k. get_or row_with_amount k (pos 0)) at ∙ get_or-set_same (row_of rows t) (entry_index e) z (pos 0) (omega (arith, wide, entry_small e)) ∙ sym (ap choice is)
+                  at_row ∙ ap (λ k. get_or row_with_amount k (pos 0)) at
+                  ∙ get_or-set_same (row_of rows t) (entry_index e) z (pos 0) (omega (arith, wide, entry_small e))
+                  ∙ sym (ap choice is)
               | inr apart ↦
-                  at_row ∙ get_or-set_other (row_of rows t) (entry_index e) (entry_index a.0) z (pos 0) apart ∙ ap (λ k. get_or (get_or rows k []) (entry_index a.0) (pos 0)) (sym same) ∙ sym (ap choice (apart_entries a (e, t) apart))
+                  at_row ∙ get_or-set_other (row_of rows t) (entry_index e) (entry_index a.0) z (pos 0) apart
+                  ∙ ap (λ k. get_or (get_or rows k []) (entry_index a.0) (pos 0)) (sym same)
+                  ∙ sym (ap choice (apart_entries a (e, t) apart))
             ]
         | inr apart ↦
-            ap (λ r. get_or r (entry_index a.0) (pos 0)) (get_or-set_other rows (thing_index t) (thing_index a.1) row_with_amount [] apart) ∙ sym (ap choice (apart_things a (e, t) apart))
+            ap (λ r. get_or r (entry_index a.0) (pos 0)) (get_or-set_other rows (thing_index t) (thing_index a.1) row_with_amount [] apart)
+            ∙ sym (ap choice (apart_things a (e, t) apart))
       ]
 
   -- rows with z written into a cell stand for the books with z set under the cell's entry and thing
@@ -172,7 +190,8 @@ module _ (rows : List (List ℤ)) (grid : IsGrid rows) (e : BooksEntry) (t : Thi
   as_books-with_cell =
       same_value (as_books (with_cell rows e t z)) (with_amount (as_books rows) e t z) (things-as_books (with_cell rows e t z) ∙ length-set rows (thing_index t) row_with_amount ∙ sym (things-as_books rows))
       (same_map account_total account_same (as_books (with_cell rows e t z)).amounts (with_amount (as_books rows) e t z).amounts (λ a.
-      get-as_books (with_cell rows e t z) a ∙ ap listing_of (cell-with_cell a) ∙ elim (eq_by_cmp account_cmp a (e, t)) as (λ b. listing_of (cond b z (cell rows a)) ≡ cond b (listing_of z) (listing_of (cell rows a))) [ true ↦ refl | false ↦ refl ]
+      get-as_books (with_cell rows e t z) a ∙ ap listing_of (cell-with_cell a)
+      ∙ elim (eq_by_cmp account_cmp a (e, t)) as (λ b. listing_of (cond b z (cell rows a)) ≡ cond b (listing_of z) (listing_of (cell rows a))) [ true ↦ refl | false ↦ refl ]
       ∙ sym (get-with_amount (as_books rows) e t z a ∙ ap (cond (eq_by_cmp account_cmp a (e, t)) (listing_of z)) (get-as_books rows a))))
 
 -- ---- the sum of a row
@@ -183,25 +202,36 @@ row_listed row size =
     let small : i < entry_count = omega (arith, h, length-map all_entries (λ e. get_or row (entry_index e) (pos 0))) in
     get_or-map (λ e. get_or row (entry_index e) (pos 0)) all_entries i Founding (pos 0) small ∙ ap (λ k. get_or row k (pos 0)) (entry_in_place i small))
 
-booked-as_books : (rows : List (List ℤ)) (t : Thing) → IsGrid rows → thing_index t < length rows → booked (as_books rows) t ≡ sum_of (row_of rows t)
+booked-as_books : (rows : List (List ℤ)) (t : Thing) → IsGrid rows → thing_index t < length rows
+    → booked (as_books rows) t ≡ sum_of (row_of rows t)
 unfolding booked
 booked-as_books rows t grid there =
     let each : (e : BooksEntry) → amount_in (as_books rows) e t ≡ cell rows (e, t) = λ e. amount-as_books rows e t in
-    (λ i. sum_of (map (λ e. each e i) all_entries)) ∙ ap sum_of (row_listed (row_of rows t) (grid.wide (thing_index t) [] there))
+    (λ i. sum_of (map (λ e. each e i) all_entries))
+    ∙ ap sum_of (row_listed (row_of rows t) (grid.wide (thing_index t) [] there))
 
 -- ---- for the code of Books
 
-pub grid_there : (rows : List (List ℤ)) (books : BooksValue) (t : Thing) → as_books rows ≡ books → thing_index t < books.things → thing_index t < length rows
+pub grid_there : (rows : List (List ℤ)) (books : BooksValue) (t : Thing) → as_books rows ≡ books
+    → thing_index t < books.things → thing_index t < length rows
 grid_there rows books t is there = let size = ap (λ (b : BooksValue). b.things) (sym is) ∙ things-as_books rows in omega (arith, size, there)
 
-row_read : (rows : List (List ℤ)) (t : Thing) (index : ℕ) (row : List ℤ) → row ≡ get_or rows index row → index ≡ thing_index t → thing_index t < length rows → row ≡ row_of rows t
-row_read rows t index row is at there = is ∙ ap (λ k. get_or rows k row) at ∙ get_or_default rows (thing_index t) row [] there
+row_read : (rows : List (List ℤ)) (t : Thing) (index : ℕ) (row : List ℤ) → row ≡ get_or rows index row
+    → index ≡ thing_index t → thing_index t < length rows → row ≡ row_of rows t
+row_read rows t index row is at there =
+    is ∙ ap (λ k. get_or rows k row) at ∙ get_or_default rows (thing_index t) row [] there
 
-pub cell_read : (rows : List (List ℤ)) (e : BooksEntry) (t : Thing) (index k : ℕ) (row : List ℤ) → row ≡ get_or rows index row → index ≡ thing_index t → k ≡ entry_index e → thing_index t < length rows → get_or row k (pos 0) ≡ cell rows (e, t)
+pub cell_read : (rows : List (List ℤ)) (e : BooksEntry) (t : Thing) (index k : ℕ) (row : List ℤ)
+    → row ≡ get_or rows index row → index ≡ thing_index t → k ≡ entry_index e → thing_index t < length rows
+    → get_or row k (pos 0) ≡ cell rows (e, t)
 cell_read rows e t index k row is at entry there = let its = row_read rows t index row is at there in λ i. get_or (its i) (entry i) (pos 0)
 
-pub cell_written : (rows : List (List ℤ)) (e : BooksEntry) (t : Thing) (index k : ℕ) (row : List ℤ) (x z : ℤ) → row ≡ get_or rows index row → index ≡ thing_index t → k ≡ entry_index e → x ≡ z → thing_index t < length rows → set rows index (set row k x) ≡ with_cell rows e t z
+pub cell_written : (rows : List (List ℤ)) (e : BooksEntry) (t : Thing) (index k : ℕ) (row : List ℤ) (x z : ℤ)
+    → row ≡ get_or rows index row → index ≡ thing_index t → k ≡ entry_index e → x ≡ z → thing_index t < length rows
+    → set rows index (set row k x) ≡ with_cell rows e t z
 cell_written rows e t index k row x z is at entry value there = let its = row_read rows t index row is at there in λ i. set rows (at i) (set (its i) (entry i) (value i))
 
-pub row_summed : (rows : List (List ℤ)) (t : Thing) (index : ℕ) (row : List ℤ) → row ≡ get_or rows index row → index ≡ thing_index t → IsGrid rows → thing_index t < length rows → sum_of row ≡ booked (as_books rows) t
-row_summed rows t index row is at grid there = ap sum_of (row_read rows t index row is at there) ∙ sym (booked-as_books rows t grid there)
+pub row_summed : (rows : List (List ℤ)) (t : Thing) (index : ℕ) (row : List ℤ) → row ≡ get_or rows index row
+    → index ≡ thing_index t → IsGrid rows → thing_index t < length rows → sum_of row ≡ booked (as_books rows) t
+row_summed rows t index row is at grid there =
+    ap sum_of (row_read rows t index row is at there) ∙ sym (booked-as_books rows t grid there)

@@ -14,7 +14,8 @@ use Rattle.atl_records.specs.Limits.{holding_limit}
 use Rattle.atl_records.proofs.EveryLaws.{every-insert, get-insert_other}
 use Rattle.atl_records.proofs.RemovedLaws.{every-remove, get-remove_other}
 
-pub every_amount : (P : ℕ → ℕ → Type 0) (items : FinMap nat_cmp ℕ) (i amount : ℕ) → (1 ≤ amount → P i amount) → Every P items → Every P (with_amount_of items i amount)
+pub every_amount : (P : ℕ → ℕ → Type 0) (items : FinMap nat_cmp ℕ) (i amount : ℕ) → (1 ≤ amount → P i amount)
+    → Every P items → Every P (with_amount_of items i amount)
 every_amount P items i amount here old = by_zero (amount == 0) refl
   where
     -- P holds of every amount once the amount under i is set: if it is 0 (b), i is removed, else the amount is put in
@@ -22,7 +23,8 @@ every_amount P items i amount here old = by_zero (amount == 0) refl
     by_zero true is = every-remove items i P old
     by_zero false is = let some : 1 ≤ amount = grind (arith, nat_tests) in every-insert P items i amount (here some) old
 
-pub amount_after_setting : (items : FinMap nat_cmp ℕ) (i amount j : ℕ) → amount_of (with_amount_of items i amount) j ≡ cond (eq_by_cmp nat_cmp j i) amount (amount_of items j)
+pub amount_after_setting : (items : FinMap nat_cmp ℕ) (i amount j : ℕ)
+    → amount_of (with_amount_of items i amount) j ≡ cond (eq_by_cmp nat_cmp j i) amount (amount_of items j)
 amount_after_setting items i amount j = by_zero (amount == 0) refl
   where
     -- with the amount put in under i, the amount read under j is this one if b (j is i), else what it was before
@@ -35,11 +37,14 @@ amount_after_setting items i amount j = by_zero (amount == 0) refl
     taken true e = e
     taken false e = refl
 
-    by_zero : (b : Bool) → (amount == 0) ≡ b → amount_of (if b then remove items i else insert items i amount) j ≡ cond (eq_by_cmp nat_cmp j i) amount (amount_of items j)
+    by_zero : (b : Bool) → (amount == 0) ≡ b
+        → amount_of (if b then remove items i else insert items i amount) j
+        ≡ cond (eq_by_cmp nat_cmp j i) amount (amount_of items j)
     by_zero true is =
         let none : 0 ≡ amount = grind (arith, nat_tests) in
         ap (λ (o : Option ℕ). unwrap_or o 0) (get-remove nat_cmp_total items i j) ∙ taken (eq_by_cmp nat_cmp j i) none
-    by_zero false is = ap (λ (o : Option ℕ). unwrap_or o 0) (get-insert nat_cmp_total items i amount j) ∙ put (eq_by_cmp nat_cmp j i)
+    by_zero false is =
+        ap (λ (o : Option ℕ). unwrap_or o 0) (get-insert nat_cmp_total items i amount j) ∙ put (eq_by_cmp nat_cmp j i)
 
 pub amount_within : (h : HoldingValue) (i : ℕ) → IsHolding h → amount_of h.items i ≤ holding_limit
 amount_within h i is = by_option (get h.items i) refl
@@ -73,21 +78,31 @@ module _ (items : FinMap nat_cmp ℕ) (i amount : ℕ) where
   pub set_again : has_amount items i amount ≡ true → with_amount_of items i amount ≡ items
   set_again has = by_entry (get items i) refl has
     where
-      by_entry : (listed : Option ℕ) → get items i ≡ listed → is_listed listed amount ≡ true → with_amount_of items i amount ≡ items
-      by_entry None is none = ap (λ b. if b then remove items i else insert items i amount) none ∙ remove_none items i is
+      by_entry : (listed : Option ℕ) → get items i ≡ listed → is_listed listed amount ≡ true
+          → with_amount_of items i amount ≡ items
+      by_entry None is none =
+          ap (λ b. if b then remove items i else insert items i amount) none ∙ remove_none items i is
       by_entry (Some listed) is same =
           let parts = and_parts _ _ same in
           let equal : amount ≡ listed = let test = parts.1 in grind (arith, nat_tests) in
-          ap (λ b. if b then remove items i else insert items i amount) (not-true _ parts.0) ∙ put_same items i listed amount is equal
+          ap (λ b. if b then remove items i else insert items i amount) (not-true _ parts.0)
+          ∙ put_same items i listed amount is equal
 
 -- ---- a unit's amounts stay within the limits, whether there was memory or not
 
 -- Each amount stays from 1 to holding_limit: after one of at most holding_limit is set, and also where memory ran out
 -- and nothing was set.
-pub AreAmounts-set : {E : Type 0} (r : Result (Unit {0}) E) (old new : FinMap nat_cmp ℕ) (item amount : ℕ) → amount ≤ holding_limit → OnOk r (new ≡ with_amount_of old item amount) → OnErr r (new ≡ old) → AreAmounts old → AreAmounts new
-AreAmounts-set (Ok u) old new item amount h put same is = subst AreAmounts (sym put) (every_amount (λ i n. (1 ≤ n) × (n ≤ holding_limit)) old item amount (λ some. (some, h)) is)
+pub AreAmounts-set : {E : Type 0} (r : Result (Unit {0}) E) (old new : FinMap nat_cmp ℕ) (item amount : ℕ)
+    → amount ≤ holding_limit → OnOk r (new ≡ with_amount_of old item amount) → OnErr r (new ≡ old) → AreAmounts old
+    → AreAmounts new
+AreAmounts-set (Ok u) old new item amount h put same is =
+    subst AreAmounts (sym put)
+    (every_amount (λ i n. (1 ≤ n) × (n ≤ holding_limit)) old item amount (λ some. (some, h)) is)
 AreAmounts-set (Err e) old new item amount h put same is = subst AreAmounts (sym same) is
 
-pub AreAmounts-put : {E : Type 0} (r : Result (Unit {0}) E) (old new : FinMap nat_cmp ℕ) (item amount : ℕ) → (1 ≤ amount) × (amount ≤ holding_limit) → OnOk r (new ≡ insert old item amount) → OnErr r (new ≡ old) → AreAmounts old → AreAmounts new
-AreAmounts-put (Ok u) old new item amount h put same is = subst AreAmounts (sym put) (every-insert (λ i n. (1 ≤ n) × (n ≤ holding_limit)) old item amount h is)
+pub AreAmounts-put : {E : Type 0} (r : Result (Unit {0}) E) (old new : FinMap nat_cmp ℕ) (item amount : ℕ)
+    → (1 ≤ amount) × (amount ≤ holding_limit) → OnOk r (new ≡ insert old item amount) → OnErr r (new ≡ old)
+    → AreAmounts old → AreAmounts new
+AreAmounts-put (Ok u) old new item amount h put same is =
+    subst AreAmounts (sym put) (every-insert (λ i n. (1 ≤ n) × (n ≤ holding_limit)) old item amount h is)
 AreAmounts-put (Err e) old new item amount h put same is = subst AreAmounts (sym same) is

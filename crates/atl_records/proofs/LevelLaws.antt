@@ -14,7 +14,8 @@ pub greatest_here : (passes : ℕ → Bool) (n : ℕ) → passes n ≡ true → 
 greatest_here passes zero h = refl
 greatest_here passes (suc n) h = sym (ap (λ b. if b then suc n else greatest passes n) h)
 
-pub greatest_below : (passes : ℕ → Bool) (n m : ℕ) → n ≡ m + 1 → passes n ≡ false → greatest passes n ≡ greatest passes m
+pub greatest_below : (passes : ℕ → Bool) (n m : ℕ) → n ≡ m + 1 → passes n ≡ false
+    → greatest passes n ≡ greatest passes m
 greatest_below passes zero m e h = absurd (omega arith)
 greatest_below passes (suc n) m e h = let same : n ≡ m = omega arith in ap (λ b. if b then suc n else greatest passes n) h ∙ ap (greatest passes) same
 
@@ -31,7 +32,8 @@ total_stays sum x rest whole all h e = omega (arith, h, e)
 -- for each item number passed. Before, the items left are sorted and have numbers from `low` on, and `sum` is at most B
 -- * low. The first of them, e, adds x, which is at most B, and 0 if its number is most_items or more. Then the items
 -- after e have numbers from `next` on, which is at most most_items, and sum + x is at most B * next.
-pub fits_next : (low sum x : ℕ) (e : ℕ × ℕ) (es : List (ℕ × ℕ)) → is_sorted nat_cmp (e ∷ es) ≡ true → low ≤ most_items → sum ≤ (most_u32 * most_weight) * low → low ≤ e.0 → x ≤ (most_u32 * most_weight) → (most_items ≤ e.0 → x ≡ 0)
+pub fits_next : (low sum x : ℕ) (e : ℕ × ℕ) (es : List (ℕ × ℕ)) → is_sorted nat_cmp (e ∷ es) ≡ true → low ≤ most_items
+    → sum ≤ (most_u32 * most_weight) * low → low ≤ e.0 → x ≤ (most_u32 * most_weight) → (most_items ≤ e.0 → x ≡ 0)
     → (next : ℕ) × (next ≤ most_items) × (sum + x ≤ (most_u32 * most_weight) * next) × BeginsFrom next es
 fits_next low sum x e es sorted few fits from small far =
     elim (cases_lt e.0 most_items) [

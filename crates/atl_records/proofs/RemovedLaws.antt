@@ -14,7 +14,8 @@ use Rattle.atl_records.proofs.EveryLaws.{none_some}
 module _ {V : Type 0} (m : FinMap nat_cmp V) (k : ℕ) where
   pub get-remove_other : (n : ℕ) → n ≢ k → get (remove m k) n ≡ get m n
   get-remove_other n apart =
-      get-remove nat_cmp_total m k n ∙ elim (nat_cmp n k) as (λ o. nat_cmp n k ≡ o → cond (is_eq o) None (get m n) ≡ get m n) [
+      get-remove nat_cmp_total m k n
+      ∙ elim (nat_cmp n k) as (λ o. nat_cmp n k ≡ o → cond (is_eq o) None (get m n) ≡ get m n) [
         | Less ↦ λ _. refl
         | Equal ↦ λ o. absurd (apart (nat_cmp-IsAntisymmetric n k o))
         | Greater ↦ λ _. refl
@@ -22,7 +23,8 @@ module _ {V : Type 0} (m : FinMap nat_cmp V) (k : ℕ) where
 
   pub get-remove_same : get (remove m k) k ≡ None
   get-remove_same =
-      get-remove nat_cmp_total m k k ∙ elim (nat_cmp k k) as (λ o. nat_cmp k k ≡ o → cond (is_eq o) None (get m k) ≡ None) [
+      get-remove nat_cmp_total m k k
+      ∙ elim (nat_cmp k k) as (λ o. nat_cmp k k ≡ o → cond (is_eq o) None (get m k) ≡ None) [
         | Less ↦ λ o. let l = ranked k k Less (sym o) in absurd (omega arith)
         | Equal ↦ λ _. refl
         | Greater ↦ λ o. let l = ranked k k Greater (sym o) in absurd (omega arith)
@@ -49,9 +51,11 @@ module _ {V : Type 0} (m : FinMap nat_cmp V) (k : ℕ) where
       less false x y h = omega arith
 
   pub sum_over-remove : (f : V → ℕ) (v : V) → get m k ≡ Some v → sum_over f (remove m k) + f v ≡ sum_over f m
-  sum_over-remove f v is = sym (sum_over-insert_new f (remove m k) k v get-remove_same) ∙ ap (sum_over f) (sym (put_back_keeps_map m k v is))
+  sum_over-remove f v is =
+      sym (sum_over-insert_new f (remove m k) k v get-remove_same) ∙ ap (sum_over f) (sym (put_back_keeps_map m k v is))
 
-pub every-insert_other : {V : Type 0} (P : ℕ → V → Type 0) (m : FinMap nat_cmp V) (k : ℕ) (v : V) → P k v → ((n : ℕ) (x : V) → n ≢ k → get m n ≡ Some x → P n x) → Every P (insert m k v)
+pub every-insert_other : {V : Type 0} (P : ℕ → V → Type 0) (m : FinMap nat_cmp V) (k : ℕ) (v : V) → P k v
+    → ((n : ℕ) (x : V) → n ≢ k → get m n ≡ Some x → P n x) → Every P (insert m k v)
 every-insert_other P m k v here others n x is =
     elim (nat_cmp n k) as (λ o. nat_cmp n k ≡ o → cond (is_eq o) (Some v) (get m n) ≡ Some x → P n x) [
       | Less ↦ λ o e. others n x (λ same. let l = ranked n k Less (sym o) in absurd (omega arith)) e

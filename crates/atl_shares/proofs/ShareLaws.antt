@@ -9,7 +9,8 @@ use Rattle.atl_shares.specs.Share.{IsNearPart, SplittingKeepsOthers, share_upto,
 
 -- What the first wants get together (`share_upto`), times `total`, is at most `pot * x`, and above `pot * x` less
 -- `total`. The first wants add up to `x`, and all wants to `total`, which isn't 0.
-upto_is_rounded_quotient : (pot total x : ℕ) → 0 < total → (total * share_upto pot total x ≤ pot * x) × (pot * x < total * share_upto pot total x + total)
+upto_is_rounded_quotient : (pot total x : ℕ) → 0 < total
+    → (total * share_upto pot total x ≤ pot * x) × (pot * x < total * share_upto pot total x + total)
 upto_is_rounded_quotient pot total x p = (mul-div-le (pot * x) total, omega (arith, lt-mul-div-succ (pot * x) p))
 
 -- The first wants that add up to `y` together get no less than those that add up to `x`, if `x` is at most `y`. All
@@ -18,7 +19,8 @@ pub upto_mono : (pot total x y : ℕ) → 0 < total → x ≤ y → share_upto p
 upto_mono pot total x y p h =
     (le-div_iff_mul-le p).1 (omega (arith, mul_comm (share_upto pot total x) total, (upto_is_rounded_quotient pot total x p).0, mul-le-mul_left pot h))
 
-pub part_le : (pot total before want : ℕ) → 0 < total → pot ≤ total → share_upto pot total (before + want) - share_upto pot total before ≤ want
+pub part_le : (pot total before want : ℕ) → 0 < total → pot ≤ total
+    → share_upto pot total (before + want) - share_upto pot total before ≤ want
 part_le pot total before want p h =
     let spread : pot * (before + want) ≡ pot * before + pot * want = mul-add pot before want in
     let less : pot * want ≤ total * want = omega (arith, mul-le-mul_left want h, mul_comm pot want, mul_comm total want) in
@@ -30,8 +32,11 @@ part_le pot total before want p h =
 -- The shares of wants that come after others, and what those others got, add up to what all of these get together, if
 -- `total` isn't 0.
 -- The sum of the others' wants is `before`.
-pub sum-shares_after : (pot total before : ℕ) → 0 < total → (wants : List ℕ) → sum (shares_after pot total before wants) + share_upto pot total before ≡ share_upto pot total (before + sum wants)
-sum-shares_after pot total before p [] = zero-add (share_upto pot total before) ∙ ap (share_upto pot total) (sym (add-zero before))
+pub sum-shares_after : (pot total before : ℕ) → 0 < total → (wants : List ℕ)
+    → sum (shares_after pot total before wants) + share_upto pot total before
+    ≡ share_upto pot total (before + sum wants)
+sum-shares_after pot total before p [] =
+    zero-add (share_upto pot total before) ∙ ap (share_upto pot total) (sym (add-zero before))
 sum-shares_after pot total before p (w ∷ ws) =
     let here = share_upto pot total (before + w) - share_upto pot total before in
     let first : sum (here ∷ shares_after pot total (before + w) ws) ≡ here + sum (shares_after pot total (before + w) ws) = sum_by-cons (λ x. x) here (shares_after pot total (before + w) ws) in
@@ -41,7 +46,9 @@ sum-shares_after pot total before p (w ∷ ws) =
     let same : share_upto pot total ((before + w) + sum ws) ≡ share_upto pot total (before + sum (w ∷ ws)) = ap (share_upto pot total) (omega arith) in
     omega arith
 
-pub shares_after-append : (pot total before : ℕ) (xs ys : List ℕ) → shares_after pot total before (xs ++ ys) ≡ shares_after pot total before xs ++ shares_after pot total (before + sum xs) ys
+pub shares_after-append : (pot total before : ℕ) (xs ys : List ℕ)
+    → shares_after pot total before (xs ++ ys)
+    ≡ shares_after pot total before xs ++ shares_after pot total (before + sum xs) ys
 shares_after-append pot total before [] ys = ap (λ n. shares_after pot total n ys) (omega arith)
 shares_after-append pot total before (x ∷ xs) ys =
     ap (λ l. (share_upto pot total (before + x) - share_upto pot total before) ∷ l)
@@ -66,15 +73,19 @@ share_near pot total before want p =
 pub shares-enough : (pot : ℕ) (wants : List ℕ) → sum wants ≤ pot → shares pot wants ≡ wants
 shares-enough pot wants h = grind (arith, nat_tests)
 
-pub shares-short : (pot : ℕ) (wants : List ℕ) → pot < sum wants → shares pot wants ≡ shares_after pot (sum wants) 0 wants
+pub shares-short : (pot : ℕ) (wants : List ℕ) → pot < sum wants
+    → shares pot wants ≡ shares_after pot (sum wants) 0 wants
 shares-short pot wants h = grind (arith, nat_tests)
 
 -- a condition on a want and its share holds at each index `i` of the lists, if it holds of any want and its share, and
 -- of 0 and 0
-holds_at_each_index : (P : ℕ → ℕ → Type 0) (pot total : ℕ) → ((before want : ℕ) → P want (share_upto pot total (before + want) - share_upto pot total before)) → P 0 0 → (before : ℕ) (wants : List ℕ) (i : ℕ) → P (get_or wants i 0) (get_or (shares_after pot total before wants) i 0)
+holds_at_each_index : (P : ℕ → ℕ → Type 0) (pot total : ℕ)
+    → ((before want : ℕ) → P want (share_upto pot total (before + want) - share_upto pot total before)) → P 0 0
+    → (before : ℕ) (wants : List ℕ) (i : ℕ) → P (get_or wants i 0) (get_or (shares_after pot total before wants) i 0)
 holds_at_each_index P pot total here none before [] i = none
 holds_at_each_index P pot total here none before (w ∷ ws) zero = here before w
-holds_at_each_index P pot total here none before (w ∷ ws) (suc i) = holds_at_each_index P pot total here none (before + w) ws i
+holds_at_each_index P pot total here none before (w ∷ ws) (suc i) =
+    holds_at_each_index P pot total here none (before + w) ws i
 
 -- no share is above its want
 pub share_at_most : (pot : ℕ) (wants : List ℕ) (i : ℕ) → get_or (shares pot wants) i 0 ≤ get_or wants i 0
@@ -99,13 +110,15 @@ all_is_given pot wants =
 
 -- each share differs by less than one from the pot times its want divided by the sum of all wants, if the pot isn't
 -- enough
-pub share_is_near : (pot : ℕ) (wants : List ℕ) (i : ℕ) → pot < sum wants → IsNearPart pot (sum wants) (get_or wants i 0) (get_or (shares pot wants) i 0)
+pub share_is_near : (pot : ℕ) (wants : List ℕ) (i : ℕ) → pot < sum wants
+    → IsNearPart pot (sum wants) (get_or wants i 0) (get_or (shares pot wants) i 0)
 share_is_near pot wants i h =
     rw (shares-short pot wants h) (holds_at_each_index (IsNearPart pot (sum wants)) pot (sum wants)
     (λ b w. let n = share_near pot (sum wants) b w (omega arith) in record { above = n.0; below = n.1 })
     (record { above = omega arith; below = omega arith }) 0 wants i)
 
-pub length-shares_after : (pot total before : ℕ) (wants : List ℕ) → length (shares_after pot total before wants) ≡ length wants
+pub length-shares_after : (pot total before : ℕ) (wants : List ℕ)
+    → length (shares_after pot total before wants) ≡ length wants
 length-shares_after pot total before [] = refl
 length-shares_after pot total before (w ∷ ws) = ap suc (length-shares_after pot total (before + w) ws)
 

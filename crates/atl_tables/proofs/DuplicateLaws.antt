@@ -28,7 +28,9 @@ second_part_has_no_fault [] gs h = h
 second_part_has_no_fault (None ∷ fs) gs h = second_part_has_no_fault fs gs h
 second_part_has_no_fault (Some f ∷ fs) gs h = absurd (cc)
 
-element_has_no_fault : {A : Type 0} (conditions : ℕ → A → Conditions) (i : ℕ) (xs : List A) → first_fault (conditions_on_each conditions i xs) ≡ None → (k : ℕ) (x : A) → slice_get xs k ≡ Some x → first_fault (conditions (i + k) x) ≡ None
+element_has_no_fault : {A : Type 0} (conditions : ℕ → A → Conditions) (i : ℕ) (xs : List A)
+    → first_fault (conditions_on_each conditions i xs) ≡ None → (k : ℕ) (x : A) → slice_get xs k ≡ Some x
+    → first_fault (conditions (i + k) x) ≡ None
 element_has_no_fault conditions i [] h k x e = absurd (cc)
 element_has_no_fault conditions i (y ∷ ys) h zero x e =
     let same : y ≡ x = cc in
@@ -48,31 +50,42 @@ module _ {A : Type 0} (title : A → List ℕ) where
   test_is_false true f h = absurd (cc)
   test_is_false false f h = refl
 
-  no_duplicate : (array key : List ℕ) (all : List A) (i : ℕ) (x : A) → first_fault (no_duplicate_before title array key all i x) ≡ None → name_occurs_in x (take i all) ≡ false
+  no_duplicate : (array key : List ℕ) (all : List A) (i : ℕ) (x : A)
+      → first_fault (no_duplicate_before title array key all i x) ≡ None → name_occurs_in x (take i all) ≡ false
   unfolding no_duplicate_before
-  no_duplicate array key all i x h = test_is_false (name_occurs_in x (take i all)) (TwoNames (path (element_path array i) key)) h
+  no_duplicate array key all i x h =
+      test_is_false (name_occurs_in x (take i all)) (TwoNames (path (element_path array i) key)) h
 
-  head_differs : (x : A) (xs : List A) → ((k : ℕ) (y : A) → slice_get xs k ≡ Some y → same_name (title x) (title y) ≡ false) → AllByRecursion (λ n. same_name (title x) n ≡ false) (map title xs)
+  head_differs : (x : A) (xs : List A)
+      → ((k : ℕ) (y : A) → slice_get xs k ≡ Some y → same_name (title x) (title y) ≡ false)
+      → AllByRecursion (λ n. same_name (title x) n ≡ false) (map title xs)
   head_differs x [] h = tt
   head_differs x (y ∷ ys) h = (h 0 y refl, head_differs x ys (λ k. h (suc k)))
 
-  in_middle : (front rest : List A) (x y : A) → name_occurs_in y (front ++ x ∷ rest) ≡ false → same_name (title x) (title y) ≡ false
+  in_middle : (front rest : List A) (x y : A) → name_occurs_in y (front ++ x ∷ rest) ≡ false
+      → same_name (title x) (title y) ≡ false
   in_middle front rest x y h =
       let both = or_parts _ _ (sym (list_any-append (λ z. same_name (title z) (title y)) front (x ∷ rest)) ∙ h) in
       (or_parts _ _ both.1).0
 
   -- the names of `xs` differ, if no element of `xs` has the name of one before it, in `front` or in `xs`
-  later_names_differ : (front xs : List A) → ((k : ℕ) (x : A) → slice_get xs k ≡ Some x → name_occurs_in x (front ++ take k xs) ≡ false) → NamesDiffer (map title xs)
+  later_names_differ : (front xs : List A)
+      → ((k : ℕ) (x : A) → slice_get xs k ≡ Some x → name_occurs_in x (front ++ take k xs) ≡ false)
+      → NamesDiffer (map title xs)
   later_names_differ front [] h = IsDistinct-from_apart same_name [] (λ i j d a b. absurd (omega (arith, b)))
   later_names_differ front (x ∷ xs) h =
       IsDistinct-cons same_name (title x) (map title xs) (head_differs x xs (λ k y e. in_middle front (take k xs) x y (h (suc k) y e)))
       (later_names_differ (front ++ x ∷ []) xs (λ k y e. ap (name_occurs_in y) (append_assoc front (x ∷ []) (take k xs)) ∙ h (suc k) y e))
 
   -- the names of an array's elements differ, if the conditions on duplicate names (`no_duplicates`) hold
-  pub array_names_differ : (array key : List ℕ) (all : List A) → first_fault (no_duplicates title array key all) ≡ None → NamesDiffer (map title all)
-  array_names_differ array key all h = later_names_differ [] all (λ k x e. let same : 0 + k ≡ k = omega arith in no_duplicate array key all k x (rw same at (element_has_no_fault (no_duplicate_before title array key all) 0 all h k x e)))
+  pub array_names_differ : (array key : List ℕ) (all : List A) → first_fault (no_duplicates title array key all) ≡ None
+      → NamesDiffer (map title all)
+  array_names_differ array key all h =
+      later_names_differ [] all
+      (λ k x e. let same : 0 + k ≡ k = omega arith in no_duplicate array key all k x (rw same at (element_has_no_fault (no_duplicate_before title array key all) 0 all h k x e)))
 
-pub names_kept : {A B : Type 0} (f : A → B) (n : A → List ℕ) (m : B → List ℕ) → ((x : A) → m (f x) ≡ n x) → (xs : List A) → map m (map f xs) ≡ map n xs
+pub names_kept : {A B : Type 0} (f : A → B) (n : A → List ℕ) (m : B → List ℕ) → ((x : A) → m (f x) ≡ n x)
+    → (xs : List A) → map m (map f xs) ≡ map n xs
 names_kept f n m h [] = refl
 names_kept f n m h (x ∷ xs) = rw (h x, names_kept f n m h xs) refl
 
@@ -96,4 +109,6 @@ thing_names_differ_by_titles all h =
 -- conditions on names and numbers hold (`names_differ`)
 pub thing_names_differ : (all : WorldDraft) → first_fault (names_differ all) ≡ None → ThingNamesDiffer all
 unfolding names_differ
-thing_names_differ all h = thing_names_differ_by_titles all (first_part_has_no_fault (titles_differ all) (duplicate_numbers all.regions ++ (conditions_on_each duplicate_output_keys 0 all.terrains ++ conditions_on_each duplicate_market_items 0 all.regions)) h)
+thing_names_differ all h =
+    thing_names_differ_by_titles all
+    (first_part_has_no_fault (titles_differ all) (duplicate_numbers all.regions ++ (conditions_on_each duplicate_output_keys 0 all.terrains ++ conditions_on_each duplicate_market_items 0 all.regions)) h)

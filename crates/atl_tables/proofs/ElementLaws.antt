@@ -11,19 +11,33 @@ use Rattle.atl_tables.specs.Keys.{element_path}
 use Rattle.atl_tables.specs.Arrays.{element_table, element_conditions, elements_conditions, elements_of}
 use Rattle.atl_tables.proofs.FaultLaws.{fault_is_of_second_list, error_of_first_list_is_of_joined}
 
-pub elements_from_index : (vs : List Value) (i : ℕ) (v : Value) → i < length vs → v ≡ get_or vs i v → items_view (drop i vs) ≡ item (view v) (items_view (drop (i + 1) vs))
-elements_from_index vs i v h e = items_view-drop vs i v h ∙ ap (λ (x : Value). item (view x) (items_view (drop (i + 1) vs))) (sym e)
+pub elements_from_index : (vs : List Value) (i : ℕ) (v : Value) → i < length vs → v ≡ get_or vs i v
+    → items_view (drop i vs) ≡ item (view v) (items_view (drop (i + 1) vs))
+elements_from_index vs i v h e =
+    items_view-drop vs i v h ∙ ap (λ (x : Value). item (view x) (items_view (drop (i + 1) vs))) (sym e)
 
 module _ (conditions : List ℕ → Members → Conditions) (key : List ℕ) (i : ℕ) (d : Data) (ds : Items) (total : Option WorldFault) where
-  pub later_elements_have_same_fault : first_fault (elements_conditions conditions key i (item d ds)) ≡ total → first_fault (element_conditions conditions (element_path key i) d) ≡ None → first_fault (elements_conditions conditions key (i + 1) ds) ≡ total
-  later_elements_have_same_fault so_far one = sym (fault_is_of_second_list (element_conditions conditions (element_path key i) d) (elements_conditions conditions key (i + 1) ds) one) ∙ so_far
+  pub later_elements_have_same_fault : first_fault (elements_conditions conditions key i (item d ds)) ≡ total
+      → first_fault (element_conditions conditions (element_path key i) d) ≡ None
+      → first_fault (elements_conditions conditions key (i + 1) ds) ≡ total
+  later_elements_have_same_fault so_far one =
+      sym
+      (fault_is_of_second_list (element_conditions conditions (element_path key i) d) (elements_conditions conditions key (i + 1) ds) one)
+      ∙ so_far
 
-  pub error_of_element_is_error_of_all : (e : WorldFault) → first_fault (elements_conditions conditions key i (item d ds)) ≡ total → IsFaultOrMemory e (first_fault (element_conditions conditions (element_path key i) d)) → IsFaultOrMemory e total
-  error_of_element_is_error_of_all e so_far one = subst (IsFaultOrMemory e) so_far (error_of_first_list_is_of_joined e (element_conditions conditions (element_path key i) d) (elements_conditions conditions key (i + 1) ds) one)
+  pub error_of_element_is_error_of_all : (e : WorldFault)
+      → first_fault (elements_conditions conditions key i (item d ds)) ≡ total
+      → IsFaultOrMemory e (first_fault (element_conditions conditions (element_path key i) d)) → IsFaultOrMemory e total
+  error_of_element_is_error_of_all e so_far one =
+      subst (IsFaultOrMemory e) so_far
+      (error_of_first_list_is_of_joined e (element_conditions conditions (element_path key i) d) (elements_conditions conditions key (i + 1) ds) one)
 
 -- in a loop over an array: after one more value x, of d, the values so far (`front`) and those of the elements left
 -- (ds) are still all values (`total`)
-pub values_with_one_more_are_all : {A : Type 0} (record_of : List ℕ → Members → A) (key : List ℕ) (i : ℕ) (d : Data) (ds : Items) (front : List A) (x : A) (total : List A) → front ++ elements_of record_of key i (item d ds) ≡ total
-    → record_of (element_path key i) (element_table (element_path key i) d) ≡ x → (front ++ x ∷ []) ++ elements_of record_of key (i + 1) ds ≡ total
+pub values_with_one_more_are_all : {A : Type 0} (record_of : List ℕ → Members → A) (key : List ℕ) (i : ℕ) (d : Data) (ds : Items) (front : List A) (x : A) (total : List A)
+    → front ++ elements_of record_of key i (item d ds) ≡ total
+    → record_of (element_path key i) (element_table (element_path key i) d) ≡ x
+    → (front ++ x ∷ []) ++ elements_of record_of key (i + 1) ds ≡ total
 values_with_one_more_are_all record_of key i d ds front x total so_far one =
-    append_assoc front (x ∷ []) (elements_of record_of key (i + 1) ds) ∙ ap (λ y. front ++ y ∷ elements_of record_of key (i + 1) ds) (sym one) ∙ so_far
+    append_assoc front (x ∷ []) (elements_of record_of key (i + 1) ds)
+    ∙ ap (λ y. front ++ y ∷ elements_of record_of key (i + 1) ds) (sym one) ∙ so_far

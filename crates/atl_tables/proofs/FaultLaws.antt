@@ -9,7 +9,8 @@ use Rattle.atl_tables.specs.Results.{IsFaultOrMemory, Gives}
 
 -- if a call returned the error e where the definition gives r (`Reads`), e is Memory, or the first fault of any
 -- conditions that begin with r's fault (`IsFaultOrMemory`)
-pub stops_first : {X Y : Type 0} (view : X → Y) (e : WorldFault) (r : Result Y WorldFault) (fs : Conditions) → Reads view (Err e) r → IsFaultOrMemory e (first_fault (fault_of r ∷ fs))
+pub stops_first : {X Y : Type 0} (view : X → Y) (e : WorldFault) (r : Result Y WorldFault) (fs : Conditions)
+    → Reads view (Err e) r → IsFaultOrMemory e (first_fault (fault_of r ∷ fs))
 stops_first view Memory r fs h = tt
 stops_first view e r fs h = rw h refl
 
@@ -18,43 +19,52 @@ fault_is_of_second_list [] gs h = refl
 fault_is_of_second_list (None ∷ fs) gs h = fault_is_of_second_list fs gs h
 fault_is_of_second_list (Some f ∷ fs) gs h = absurd (cc)
 
-fault_is_of_first_list : (f : WorldFault) (fs gs : Conditions) → first_fault fs ≡ Some f → first_fault (fs ++ gs) ≡ Some f
+fault_is_of_first_list : (f : WorldFault) (fs gs : Conditions) → first_fault fs ≡ Some f
+    → first_fault (fs ++ gs) ≡ Some f
 fault_is_of_first_list f [] gs h = absurd (cc)
 fault_is_of_first_list f (None ∷ fs) gs h = fault_is_of_first_list f fs gs h
 fault_is_of_first_list f (Some x ∷ fs) gs h = h
 
-pub error_of_first_list_is_of_joined : (e : WorldFault) (fs gs : Conditions) → IsFaultOrMemory e (first_fault fs) → IsFaultOrMemory e (first_fault (fs ++ gs))
+pub error_of_first_list_is_of_joined : (e : WorldFault) (fs gs : Conditions) → IsFaultOrMemory e (first_fault fs)
+    → IsFaultOrMemory e (first_fault (fs ++ gs))
 error_of_first_list_is_of_joined Memory fs gs h = tt
 error_of_first_list_is_of_joined e fs gs h = fault_is_of_first_list e fs gs h
 
-pub error_of_second_list_is_of_joined : (e : WorldFault) (fs gs : Conditions) → first_fault fs ≡ None → IsFaultOrMemory e (first_fault gs) → IsFaultOrMemory e (first_fault (fs ++ gs))
+pub error_of_second_list_is_of_joined : (e : WorldFault) (fs gs : Conditions) → first_fault fs ≡ None
+    → IsFaultOrMemory e (first_fault gs) → IsFaultOrMemory e (first_fault (fs ++ gs))
 error_of_second_list_is_of_joined e fs gs h s = subst (IsFaultOrMemory e) (sym (fault_is_of_second_list fs gs h)) s
 
-pub joined_list_has_no_fault : (fs gs : Conditions) → first_fault fs ≡ None → first_fault gs ≡ None → first_fault (fs ++ gs) ≡ None
+pub joined_list_has_no_fault : (fs gs : Conditions) → first_fault fs ≡ None → first_fault gs ≡ None
+    → first_fault (fs ++ gs) ≡ None
 joined_list_has_no_fault fs gs h s = fault_is_of_second_list fs gs h ∙ s
 
 -- What a call gives by the second of two lists of conditions, it gives by the joined list, if the first list has no
 -- fault. It gives the value v, the first fault, or Memory (`Gives`).
-pub result_by_second_list_is_by_joined : {X Y : Type 0} (view : X → Y) (r : Result X WorldFault) (fs gs : Conditions) (v : Y) → first_fault fs ≡ None → Gives view r (first_fault gs) v → Gives view r (first_fault (fs ++ gs)) v
+pub result_by_second_list_is_by_joined : {X Y : Type 0} (view : X → Y) (r : Result X WorldFault) (fs gs : Conditions) (v : Y)
+    → first_fault fs ≡ None → Gives view r (first_fault gs) v → Gives view r (first_fault (fs ++ gs)) v
 result_by_second_list_is_by_joined view (Ok x) fs gs v h g = (fault_is_of_second_list fs gs h ∙ g.0, g.1)
 result_by_second_list_is_by_joined view (Err e) fs gs v h g = error_of_second_list_is_of_joined e fs gs h g
 
 -- if a call gives the value v or the fault (`Gives`), it returns what the definition `fault_or_value fault v` gives
 -- (`Reads`)
-pub gives_implies_reads : {X Y : Type 0} (view : X → Y) (r : Result X WorldFault) (fault : Option WorldFault) (v : Y) → Gives view r fault v → Reads view r (fault_or_value fault v)
+pub gives_implies_reads : {X Y : Type 0} (view : X → Y) (r : Result X WorldFault) (fault : Option WorldFault) (v : Y)
+    → Gives view r fault v → Reads view r (fault_or_value fault v)
 gives_implies_reads view (Ok x) fault v h = rw (h.0, h.1) refl
 gives_implies_reads view (Err Memory) fault v h = tt
 gives_implies_reads view (Err e) fault v h = rw h refl
 
-pub error_of_condition_is_of_list : (e : WorldFault) (fault : Option WorldFault) (fs : Conditions) → IsFaultOrMemory e fault → IsFaultOrMemory e (first_fault (fault ∷ fs))
+pub error_of_condition_is_of_list : (e : WorldFault) (fault : Option WorldFault) (fs : Conditions)
+    → IsFaultOrMemory e fault → IsFaultOrMemory e (first_fault (fault ∷ fs))
 error_of_condition_is_of_list Memory fault fs h = tt
 error_of_condition_is_of_list e fault fs h = rw h refl
 
-pub result_by_condition_is_by_list : {X Y : Type 0} (view : X → Y) (r : Result X WorldFault) (fault : Option WorldFault) (v : Y) → Gives view r fault v → Gives view r (first_fault (fault ∷ [])) v
+pub result_by_condition_is_by_list : {X Y : Type 0} (view : X → Y) (r : Result X WorldFault) (fault : Option WorldFault) (v : Y)
+    → Gives view r fault v → Gives view r (first_fault (fault ∷ [])) v
 result_by_condition_is_by_list view r None v h = h
 result_by_condition_is_by_list view r (Some f) v h = h
 
 -- if `?` returns the error of a call, and that error is the first fault of the conditions, or Memory
 -- (`IsFaultOrMemory`), the function returns this fault, or Memory, as it should (`Gives`)
-pub gives_error : {X Y : Type 0} (view : X → Y) (r : Result X WorldFault) (e : WorldFault) (fault : Option WorldFault) (v : Y) → IsErrAnd r (λ f. f ≡ e) → IsFaultOrMemory e fault → Gives view r fault v
+pub gives_error : {X Y : Type 0} (view : X → Y) (r : Result X WorldFault) (e : WorldFault) (fault : Option WorldFault) (v : Y)
+    → IsErrAnd r (λ f. f ≡ e) → IsFaultOrMemory e fault → Gives view r fault v
 gives_error view r e fault v h s = let p = err_from_is_err_and r h in rw (p.1, p.2) s

@@ -13,18 +13,21 @@ len_none {V} m e = ap len e ∙ len-empty nat_cmp V
 module _ {V : Type 0} (number : V → ℕ) where
   pub map_is_no_longer_than_list : (vs : List V) → len (by_number number vs) ≤ length vs
   map_is_no_longer_than_list [] = omega (arith, len-empty nat_cmp V)
-  map_is_no_longer_than_list (v ∷ vs) = omega (arith, insert_adds_at_most_one (by_number number vs) (number v) v, map_is_no_longer_than_list vs)
+  map_is_no_longer_than_list (v ∷ vs) =
+      omega (arith, insert_adds_at_most_one (by_number number vs) (number v) v, map_is_no_longer_than_list vs)
 
   module _ (P : ℕ → V → Type 0) where
     -- P holds of v, what a map has under n after u is put in, if P holds of u at its own number, and held of what was
     -- under n before (o). For `property_holds_in_map`, where b says whether n is the number of u.
-    property_holds_after_put : (b : Bool) (n : ℕ) (u v : V) (o : Option V) → (n == number u) ≡ b → P (number u) u → (o ≡ Some v → P n v) → cond b (Some u) o ≡ Some v → P n v
+    property_holds_after_put : (b : Bool) (n : ℕ) (u v : V) (o : Option V) → (n == number u) ≡ b → P (number u) u
+        → (o ≡ Some v → P n v) → cond b (Some u) o ≡ Some v → P n v
     property_holds_after_put true n u v o e here rest h =
         let same : u ≡ v = cc in
         subst (P n) same (subst (λ k. P k u) (sym (is_equal n (number u) e)) here)
     property_holds_after_put false n u v o e here rest h = rest h
 
-    pub property_holds_in_map : (vs : List V) → EachIndex (λ i v. P (number v) v) vs → (n : ℕ) (v : V) → get (by_number number vs) n ≡ Some v → P n v
+    pub property_holds_in_map : (vs : List V) → EachIndex (λ i v. P (number v) v) vs → (n : ℕ) (v : V)
+        → get (by_number number vs) n ≡ Some v → P n v
     property_holds_in_map [] all n v h = let e = get-empty {X = V} nat_cmp n in absurd (cc)
     property_holds_in_map (u ∷ vs) all n v h =
         property_holds_after_put (n == number u) n u v (get (by_number number vs) n) refl (all zero u refl) (property_holds_in_map vs (λ i x e. all (suc i) x e) n v)

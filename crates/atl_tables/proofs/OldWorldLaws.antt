@@ -25,17 +25,22 @@ option_is_unchanged : {V : Type 0} (f : V → V) (o : Option V) → ((v : V) →
 option_is_unchanged f None same = refl
 option_is_unchanged f (Some v) same = ap Some (same v refl)
 
-mapped_same : {V : Type 0} (f : V → V) (m : FinMap nat_cmp V) → ((n : ℕ) (v : V) → get m n ≡ Some v → f v ≡ v) → map_values f m ≡ m
-mapped_same f m same = same_map nat_cmp_total nat_cmp-IsAntisymmetric _ _ (λ n. get-mapped f m n ∙ option_is_unchanged f (get m n) (same n))
+mapped_same : {V : Type 0} (f : V → V) (m : FinMap nat_cmp V) → ((n : ℕ) (v : V) → get m n ≡ Some v → f v ≡ v)
+    → map_values f m ≡ m
+mapped_same f m same =
+    same_map nat_cmp_total nat_cmp-IsAntisymmetric _ _
+    (λ n. get-mapped f m n ∙ option_is_unchanged f (get m n) (same n))
 
 module _ (all : WorldDraft) where
-  old_regions_have_no_markets : (rs : List OldRegion) → EachIndex (λ i p. without_market p ≡ p) (map (region_of all) (map as_draft rs))
+  old_regions_have_no_markets : (rs : List OldRegion)
+      → EachIndex (λ i p. without_market p ≡ p) (map (region_of all) (map as_draft rs))
   unfolding region_of
   old_regions_have_no_markets [] i p h = absurd (cc)
   old_regions_have_no_markets (r ∷ rs) zero p h = let same : region_of all (as_draft r) ≡ p = cc in subst (λ (q : RegionPlan). without_market q ≡ q) same refl
   old_regions_have_no_markets (r ∷ rs) (suc i) p h = old_regions_have_no_markets rs i p h
 
-  tables_of_old_regions_have_no_markets : (rs : List OldRegion) → all.regions ≡ map as_draft rs → without_markets (world_of_tables all) ≡ world_of_tables all
+  tables_of_old_regions_have_no_markets : (rs : List OldRegion) → all.regions ≡ map as_draft rs
+      → without_markets (world_of_tables all) ≡ world_of_tables all
   unfolding world_of_tables regions_of
   tables_of_old_regions_have_no_markets rs read =
       let plans = subst (λ ds. EachIndex (λ i p. without_market p ≡ p) (map (region_of all) ds)) (sym read) (old_regions_have_no_markets rs) in
@@ -47,7 +52,8 @@ ok_value_is_world : (fault : Option WorldFault) (x w : WorldValue) → fault_or_
 ok_value_is_world None x w h = cc
 ok_value_is_world (Some f) x w h = absurd (cc)
 
-old_document_has_no_markets : (o : Option Members) (w : WorldValue) → world_of_document First o ≡ Ok w → without_markets w ≡ w
+old_document_has_no_markets : (o : Option Members) (w : WorldValue) → world_of_document First o ≡ Ok w
+    → without_markets w ≡ w
 unfolding tables_of regions_in
 old_document_has_no_markets None w h = absurd (cc)
 old_document_has_no_markets (Some doc) w h =

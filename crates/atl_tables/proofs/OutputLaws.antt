@@ -16,21 +16,28 @@ use Rattle.atl_tables.specs.declared.output_table.Output.{Output}
 abbrev pub entries_view : List (String Global × Value) → List (List ℕ × Data)
 entries_view es = map (λ e. (string_bytes e.0, view e.1)) es
 
-put_first : (k : String Global) (d : Data) (es : List (String Global × Value)) → is_before (string_bytes k) (members_view es) ≡ true → put_key (string_bytes k) d (entries_view es) ≡ (string_bytes k, d) ∷ entries_view es
+put_first : (k : String Global) (d : Data) (es : List (String Global × Value))
+    → is_before (string_bytes k) (members_view es) ≡ true
+    → put_key (string_bytes k) d (entries_view es) ≡ (string_bytes k, d) ∷ entries_view es
 put_first k d [] h = refl
 put_first k d (e ∷ es) h = rw h refl
 
 -- `in_byte_order`, which puts a table's entries into byte order of their keys, leaves entries in this order as they are
-pub entries_in_order : (es : List (String Global × Value)) → IsStrictlySortedBy string_cmp (keys_of es) → in_byte_order (members_view es) ≡ entries_view es
+pub entries_in_order : (es : List (String Global × Value)) → IsStrictlySortedBy string_cmp (keys_of es)
+    → in_byte_order (members_view es) ≡ entries_view es
 unfolding in_byte_order IsStrictlySortedBy
 entries_in_order [] h = refl
 entries_in_order (e ∷ es) h = rw (entries_in_order es h.1) (put_first e.0 (view e.1) es (is_before-sorted e.0 es h.0))
 
 module _ (at : List ℕ) (e : List ℕ × Data) (es : List (List ℕ × Data)) (n : ℕ) (one : amount_at at e ≡ Ok n) where
-  pub later_amounts_have_same_fault : (total : Option WorldFault) → first_fault (amounts_keys at (e ∷ es)) ≡ total → first_fault (amounts_keys at es) ≡ total
-  later_amounts_have_same_fault total so_far = ap (λ (r : Result ℕ WorldFault). first_fault (fault_of r ∷ amounts_keys at es)) (sym one) ∙ so_far
+  pub later_amounts_have_same_fault : (total : Option WorldFault) → first_fault (amounts_keys at (e ∷ es)) ≡ total
+      → first_fault (amounts_keys at es) ≡ total
+  later_amounts_have_same_fault total so_far =
+      ap (λ (r : Result ℕ WorldFault). first_fault (fault_of r ∷ amounts_keys at es)) (sym one) ∙ so_far
 
-  pub amounts_with_one_more_are_all : (front : List Output) (total : List Output) → front ++ amounts_from at (e ∷ es) ≡ total → (front ++ record { item = e.0; amount = n } ∷ []) ++ amounts_from at es ≡ total
+  pub amounts_with_one_more_are_all : (front : List Output) (total : List Output)
+      → front ++ amounts_from at (e ∷ es) ≡ total
+      → (front ++ record { item = e.0; amount = n } ∷ []) ++ amounts_from at es ≡ total
   amounts_with_one_more_are_all front total so_far =
       append_assoc front (record { item = e.0; amount = n } ∷ []) (amounts_from at es)
       ∙ ap (λ (r : Result ℕ WorldFault). front ++ record { item = e.0; amount = value_or 0 r } ∷ amounts_from at es) (sym one) ∙ so_far

@@ -21,7 +21,8 @@ is_some-put v false (Some w) = refl
 
 -- a map with exactly the numbers of the first i regions has exactly those of the first i + 1, after the number of the
 -- i-th one, counted from 0, is put in
-pub seen_more : {V : Type 0} (m : FinMap nat_cmp V) (v : V) (ds : List RegionDraft) (i : ℕ) (d : RegionDraft) → i < length ds → d ≡ get_or ds i d → ((n : ℕ) → is_some (get m n) ≡ some_region_has_number n (take i ds))
+pub seen_more : {V : Type 0} (m : FinMap nat_cmp V) (v : V) (ds : List RegionDraft) (i : ℕ) (d : RegionDraft)
+    → i < length ds → d ≡ get_or ds i d → ((n : ℕ) → is_some (get m n) ≡ some_region_has_number n (take i ds))
     → (n : ℕ) → is_some (get (insert m d.basics.number v) n) ≡ some_region_has_number n (take (i + 1) ds)
 seen_more m v ds i d below here seen n =
     ap is_some (get-insert nat_cmp_total m d.basics.number v n)
@@ -31,7 +32,10 @@ seen_more m v ds i d below here seen n =
     ∙ sym (list_any_more (λ e. n == e.basics.number) ds i d below)
 
 -- the fault of a region's number: TwoNames if a region before it has the number, else none
-pub duplicate_number_fault : (all : List RegionDraft) (i : ℕ) (d : RegionDraft) (b : Bool) → some_region_has_number d.basics.number (take i all) ≡ b → first_fault (duplicate_number_at all i d) ≡ cond b (Some (TwoNames (path (element_path (codes "region") i) (codes "number")))) None
+pub duplicate_number_fault : (all : List RegionDraft) (i : ℕ) (d : RegionDraft) (b : Bool)
+    → some_region_has_number d.basics.number (take i all) ≡ b
+    → first_fault (duplicate_number_at all i d)
+    ≡ cond b (Some (TwoNames (path (element_path (codes "region") i) (codes "number")))) None
 unfolding duplicate_number_at
 duplicate_number_fault all i d true h = rw h
 duplicate_number_fault all i d false h = rw h

@@ -21,20 +21,25 @@ choice_is_or false false = refl
 
 -- after a name is put, in lower case, into a set of names, the set has exactly this name and those that it had before,
 -- ignoring ASCII case
-pub has_more : {Z : Type 0} (seen grown : BTreeSet (String Z)) (lowered : String Z) (name : List ℕ) → Updates string_cmp seen grown lowered true → string_bytes lowered ≡ map to_ascii_lowercase name
+pub has_more : {Z : Type 0} (seen grown : BTreeSet (String Z)) (lowered : String Z) (name : List ℕ)
+    → Updates string_cmp seen grown lowered true → string_bytes lowered ≡ map to_ascii_lowercase name
     → (other : List ℕ) → has_name grown other ≡ (has_name seen other || same_name name other)
 unfolding same_name
 has_more seen grown lowered name put same other =
     rw same at (btree_set_updates_text (string_bytes lowered) seen grown true put (map to_ascii_lowercase other)) ∙ choice_is_or (same_name name other) (has_name seen other)
 
 module _ {A Z : Type 0} (title : A → List ℕ) (all : List A) (i : ℕ) (x : A) (seen : BTreeSet (String Z)) (so_far : HasNames title (take i all) seen) where
-  pub came_before : (new : Bool) → new ≡ not (has_name seen (title x)) → new ≡ false → list_any (λ y. same_name (title y) (title x)) (take i all) ≡ true
+  pub came_before : (new : Bool) → new ≡ not (has_name seen (title x)) → new ≡ false
+      → list_any (λ y. same_name (title y) (title x)) (take i all) ≡ true
   came_before new said h = sym (so_far (title x)) ∙ not-false _ (sym said ∙ h)
 
-  pub comes_first : (new : Bool) → new ≡ not (has_name seen (title x)) → new ≡ true → list_any (λ y. same_name (title y) (title x)) (take i all) ≡ false
+  pub comes_first : (new : Bool) → new ≡ not (has_name seen (title x)) → new ≡ true
+      → list_any (λ y. same_name (title y) (title x)) (take i all) ≡ false
   comes_first new said h = sym (so_far (title x)) ∙ not-true _ (sym said ∙ h)
 
-  pub has_one_more : (grown : BTreeSet (String Z)) → i < length all → x ≡ get_or all i x → ((other : List ℕ) → has_name grown other ≡ (has_name seen other || same_name (title x) other)) → HasNames title (take (i + 1) all) grown
+  pub has_one_more : (grown : BTreeSet (String Z)) → i < length all → x ≡ get_or all i x
+      → ((other : List ℕ) → has_name grown other ≡ (has_name seen other || same_name (title x) other))
+      → HasNames title (take (i + 1) all) grown
   has_one_more grown below here put name =
       let more = list_any_more (λ y. same_name (title y) name) all i x below in
       put name ∙ ap (λ b. b || same_name (title x) name) (so_far name) ∙ sym (rw (← here) at more)

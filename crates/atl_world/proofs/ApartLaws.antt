@@ -20,7 +20,8 @@ NumberSet = set.FinSet nat_cmp
 
 put_back_keeps_set : (s : NumberSet) (n : ℕ) → set.contains s n ≡ true → set.insert (set.remove s n) n ≡ s
 put_back_keeps_set s n h = sets_are_equal _ _ (λ q.
-    set.contains-insert nat_cmp_total (set.remove s n) n q ∙ ap (λ b. eq_by_cmp nat_cmp q n || b) (set.contains-remove nat_cmp_total s n q)
+    set.contains-insert nat_cmp_total (set.remove s n) n q
+    ∙ ap (λ b. eq_by_cmp nat_cmp q n || b) (set.contains-remove nat_cmp_total s n q)
     ∙ elim (eq_by_cmp nat_cmp q n) as (λ b. eq_by_cmp nat_cmp q n ≡ b → (b || (not b && set.contains s q)) ≡ set.contains s q) [
       | true ↦ λ e. sym (ap (set.contains s) (same_key q n e) ∙ h)
       | false ↦ λ _. refl
@@ -36,7 +37,8 @@ len-put_back : (s : NumberSet) (n : ℕ) → set.contains s n ≡ true → set.l
 len-put_back s n h = ap set.len (sym (put_back_keeps_set s n h)) ∙ len-new (set.remove s n) n (contains-removed s n)
 
 is_in_whole_set : (s : NumberSet) (n q : ℕ) → set.contains (set.remove s n) q ≡ true → set.contains s q ≡ true
-is_in_whole_set s n q e = (and_parts (not (eq_by_cmp nat_cmp q n)) (set.contains s q) (sym (set.contains-remove nat_cmp_total s n q) ∙ e)).1
+is_in_whole_set s n q e =
+    (and_parts (not (eq_by_cmp nat_cmp q n)) (set.contains s q) (sym (set.contains-remove nat_cmp_total s n q) ∙ e)).1
 
 len-less : (s : NumberSet) (n : ℕ) → set.len (set.remove s n) ≤ set.len s
 len-less s n = len-within (set.remove s n) s (is_in_whole_set s n)
@@ -47,7 +49,8 @@ and_distributes_over_or : (e a b : Bool) → ((not e && a) || (not e && b)) ≡ 
 and_distributes_over_or true a b = refl
 and_distributes_over_or false a b = refl
 
-pub union-remove : (s t : NumberSet) (n : ℕ) → set.union (set.remove s n) (set.remove t n) ≡ set.remove (set.union s t) n
+pub union-remove : (s t : NumberSet) (n : ℕ)
+    → set.union (set.remove s n) (set.remove t n) ≡ set.remove (set.union s t) n
 union-remove s t n = sets_are_equal _ _ (λ q.
     set.contains-union nat_cmp_total (set.remove s n) (set.remove t n) q
     ∙ (λ i. set.contains-remove nat_cmp_total s n q i || set.contains-remove nat_cmp_total t n q i)
@@ -59,7 +62,9 @@ union-remove s t n = sets_are_equal _ _ (λ q.
 
 -- `len-apart` by recursion over a list `ks` that has all numbers of t: the union of s and t, which share no number, has
 -- as many numbers as both together
-len-apart_by : (ks : List ℕ) (s t : NumberSet) → ((q : ℕ) → set.contains t q ≡ true → list_any (eq_by_cmp nat_cmp q) ks ≡ true) → ((q : ℕ) → set.contains t q ≡ true → set.contains s q ≡ false) → set.len (set.union s t) ≡ set.len s + set.len t
+len-apart_by : (ks : List ℕ) (s t : NumberSet)
+    → ((q : ℕ) → set.contains t q ≡ true → list_any (eq_by_cmp nat_cmp q) ks ≡ true)
+    → ((q : ℕ) → set.contains t q ≡ true → set.contains s q ≡ false) → set.len (set.union s t) ≡ set.len s + set.len t
 len-apart_by [] s t all apart =
     let none : t ≡ set.empty = sets_are_equal t set.empty (λ q. false_from_ne_true _ (λ e. false≢true (all q e)) ∙ sym (set.contains-empty nat_cmp q)) in
     let joined : set.len (set.union s t) ≡ set.len s = ap (λ u. set.len (set.union s u)) none ∙ ap set.len (union-empty s) in
@@ -85,7 +90,8 @@ excluded_is_false false b h e = refl
 
 -- the union of sets with no number in common has as many numbers as both together
 pub len-apart : (s t : NumberSet) → AreApart s t → set.len (set.union s t) ≡ set.len s + set.len t
-len-apart s t h = len-apart_by (set.items t) s t (λ q e. sym (set.contains-items t q) ∙ e) (λ q. excluded_is_false _ _ (h.apart q))
+len-apart s t h =
+    len-apart_by (set.items t) s t (λ q e. sym (set.contains-items t q) ∙ e) (λ q. excluded_is_false _ _ (h.apart q))
 
 -- what follows from a and from b follows from "a or b": for `len-both_below`, where a and b say whether s and t have a
 -- number
@@ -94,16 +100,21 @@ or_cases true b P f g h = f refl
 or_cases false b P f g h = g h
 
 -- the union of two sets of numbers below `most` has at most `most` numbers
-pub len-both_below : (most : ℕ) (s t : NumberSet) → ((k : ℕ) → set.contains s k ≡ true → k < most) → ((k : ℕ) → set.contains t k ≡ true → k < most) → set.len (set.union s t) ≤ most
-len-both_below most s t f g = len-below most (set.union s t) (λ k e. or_cases _ _ _ (f k) (g k) (sym (set.contains-union nat_cmp_total s t k) ∙ e))
+pub len-both_below : (most : ℕ) (s t : NumberSet) → ((k : ℕ) → set.contains s k ≡ true → k < most)
+    → ((k : ℕ) → set.contains t k ≡ true → k < most) → set.len (set.union s t) ≤ most
+len-both_below most s t f g =
+    len-below most (set.union s t)
+    (λ k e. or_cases _ _ _ (f k) (g k) (sym (set.contains-union nat_cmp_total s t k) ∙ e))
 
 -- ---- no number is in both sets
 
 apart_empty : (s : NumberSet) → AreApart s set.empty
 apart_empty s = record { apart = λ n _. set.contains-empty nat_cmp n }
 
-other_key : (s : NumberSet) (n q : ℕ) → set.contains s n ≡ false → set.contains s q ≡ true → eq_by_cmp nat_cmp q n ≡ false
-other_key s n q h e = false_from_ne_true _ (λ alike. false≢true (sym (ap (set.contains s) (same_key q n alike) ∙ h) ∙ e))
+other_key : (s : NumberSet) (n q : ℕ) → set.contains s n ≡ false → set.contains s q ≡ true
+    → eq_by_cmp nat_cmp q n ≡ false
+other_key s n q h e =
+    false_from_ne_true _ (λ alike. false≢true (sym (ap (set.contains s) (same_key q n alike) ∙ h) ∙ e))
 
 apart_insert : (s t : NumberSet) (n : ℕ) → AreApart s t → set.contains s n ≡ false → AreApart s (set.insert t n)
 apart_insert s t n h missing = record {
@@ -117,21 +128,31 @@ apart_remove s t n h = record {
 
 -- ---- marks in two sets
 
-pub none_recent : (s : NumberSet) (room recent : ℕ) → set.len s ≤ room → AreMarks (record { numbers = s; room = room }) (record { numbers = set.empty; room = recent })
-none_recent s room recent h = record { apart = apart_empty s; fits = let none : set.len {R = nat_cmp} set.empty ≡ 0 = set.len-empty nat_cmp in omega (arith, none, h) }
+pub none_recent : (s : NumberSet) (room recent : ℕ) → set.len s ≤ room
+    → AreMarks (record { numbers = s; room = room }) (record { numbers = set.empty; room = recent })
+none_recent s room recent h =
+    record { apart = apart_empty s; fits = let none : set.len {R = nat_cmp} set.empty ≡ 0 = set.len-empty nat_cmp in omega (arith, none, h) }
 
-pub no_marks : (room recent : ℕ) → AreMarks (record { numbers = set.empty; room = room }) (record { numbers = set.empty; room = recent })
-no_marks room recent = none_recent set.empty room recent (let none : set.len {R = nat_cmp} set.empty ≡ 0 = set.len-empty nat_cmp in omega (arith, none))
+pub no_marks : (room recent : ℕ)
+    → AreMarks (record { numbers = set.empty; room = room }) (record { numbers = set.empty; room = recent })
+no_marks room recent =
+    none_recent set.empty room recent
+    (let none : set.len {R = nat_cmp} set.empty ≡ 0 = set.len-empty nat_cmp in omega (arith, none))
 
 -- a number n is to be marked, where v is the set of all marks: those of m and the recent ones of l
 module _ (m l v : RoomySet) (n : ℕ) (seen : ◌≡◌ {A = RoomySet} (record { numbers = set.union m.numbers l.numbers; room = m.room }) v) (marks : AreMarks m l) where
-  in_neither : set.contains v.numbers n ≡ false → (set.contains m.numbers n ≡ false) × (set.contains l.numbers n ≡ false)
-  in_neither h = or_parts _ _ (sym (set.contains-union nat_cmp_total m.numbers l.numbers n) ∙ ap (λ (w : RoomySet). set.contains w.numbers n) seen ∙ h)
+  in_neither : set.contains v.numbers n ≡ false
+      → (set.contains m.numbers n ≡ false) × (set.contains l.numbers n ≡ false)
+  in_neither h =
+      or_parts _ _
+      (sym (set.contains-union nat_cmp_total m.numbers l.numbers n) ∙ ap (λ (w : RoomySet). set.contains w.numbers n) seen ∙ h)
 
-  pub fits_recent : set.contains v.numbers n ≡ false → set.len l.numbers < l.room → set.len (set.insert l.numbers n) ≤ l.room
+  pub fits_recent : set.contains v.numbers n ≡ false → set.len l.numbers < l.room
+      → set.len (set.insert l.numbers n) ≤ l.room
   fits_recent missing room = let more = len-new l.numbers n (in_neither missing).1 in omega (arith, more, room)
 
-  pub one_recent : set.contains v.numbers n ≡ false → set.len (set.insert v.numbers n) ≤ v.room → AreMarks m (record l { numbers = set.insert l.numbers n })
+  pub one_recent : set.contains v.numbers n ≡ false → set.len (set.insert v.numbers n) ≤ v.room
+      → AreMarks m (record l { numbers = set.insert l.numbers n })
   one_recent missing h =
       let more = len-new v.numbers n missing in
       let all = len-apart m.numbers l.numbers marks.apart in
@@ -142,15 +163,18 @@ module _ (m l v : RoomySet) (n : ℕ) (seen : ◌≡◌ {A = RoomySet} (record {
 
   -- once m has all marks and n, and l has none, no number is in both, and m has room for all (`AreMarks`), if its room
   -- is enough for all marks and n
-  pub mark_is_added_to_all : set.len (set.insert v.numbers n) ≤ v.room → AreMarks (record { numbers = set.insert (set.union m.numbers l.numbers) n; room = m.room }) (record { numbers = set.empty; room = l.room })
+  pub mark_is_added_to_all : set.len (set.insert v.numbers n) ≤ v.room
+      → AreMarks (record { numbers = set.insert (set.union m.numbers l.numbers) n; room = m.room }) (record { numbers = set.empty; room = l.room })
   mark_is_added_to_all h = none_recent (set.insert (set.union m.numbers l.numbers) n) m.room l.room
       (let size = ap (λ (w : RoomySet). set.len (set.insert w.numbers n)) seen in let room = ap (λ (w : RoomySet). w.room) seen in omega (arith, size, room, h))
 
-pub mark_taken : (m l : RoomySet) (n : ℕ) → AreMarks m l → AreMarks (record m { numbers = set.remove m.numbers n }) (record l { numbers = set.remove l.numbers n })
+pub mark_taken : (m l : RoomySet) (n : ℕ) → AreMarks m l
+    → AreMarks (record m { numbers = set.remove m.numbers n }) (record l { numbers = set.remove l.numbers n })
 mark_taken m l n h =
     record { apart = apart_remove m.numbers l.numbers n h.apart; fits = omega (arith, len-less m.numbers n, len-less l.numbers n, h.fits) }
 
-pub less_apart : (xs ys : List ℕ) (i j : ℕ) → AreApart (set.from_list xs) (set.from_list ys) → i < length xs → j < length ys → get_or xs i 0 ≤ get_or ys j 0 → get_or xs i 0 < get_or ys j 0
+pub less_apart : (xs ys : List ℕ) (i j : ℕ) → AreApart (set.from_list xs) (set.from_list ys) → i < length xs
+    → j < length ys → get_or xs i 0 ≤ get_or ys j 0 → get_or xs i 0 < get_or ys j 0
 less_apart xs ys i j h l m le =
     elim (cases_order (get_or xs i 0) (get_or ys j 0)) [
       | inl e ↦

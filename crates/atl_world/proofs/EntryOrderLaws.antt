@@ -23,11 +23,13 @@ module _ {V : Type 0} where
   pub sorted_rest : (e : ℕ × V) (es : List (ℕ × V)) → is_sorted nat_cmp (e ∷ es) ≡ true → is_sorted nat_cmp es ≡ true
   sorted_rest e es h = (and_parts _ _ h).1
 
-  pub begins_later : (n : ℕ) (e : ℕ × V) (es : List (ℕ × V)) → is_sorted nat_cmp (e ∷ es) ≡ true → n ≤ e.0 → BeginsFrom (n + 1) es
+  pub begins_later : (n : ℕ) (e : ℕ × V) (es : List (ℕ × V)) → is_sorted nat_cmp (e ∷ es) ≡ true → n ≤ e.0
+      → BeginsFrom (n + 1) es
   begins_later n e [] h l = tt
   begins_later n e (f ∷ es) h l = omega (arith, l, less_by_comparison e.0 f.0 (and_parts _ _ (and_parts _ _ h).0).0)
 
-  pub begins_same : (n : ℕ) (e : ℕ × V) (es : List (ℕ × V)) → is_sorted nat_cmp (e ∷ es) ≡ true → n ≤ e.0 → BeginsFrom n es
+  pub begins_same : (n : ℕ) (e : ℕ × V) (es : List (ℕ × V)) → is_sorted nat_cmp (e ∷ es) ≡ true → n ≤ e.0
+      → BeginsFrom n es
   begins_same n e [] h l = tt
   begins_same n e (f ∷ es) h l = omega (arith, l, less_by_comparison e.0 f.0 (and_parts _ _ (and_parts _ _ h).0).0)
 

@@ -11,7 +11,8 @@ use Rattle.atl_world.specs.Lookup.{letter_of}
 abbrev pub same_from : List ℕ → Bool → List ℕ → ℕ → Bool
 same_from name quoted word i = str_eq_ignore_ascii_case (drop i name) (map (letter_of quoted) (drop i word))
 
-pub other_length : (name : List ℕ) (quoted : Bool) (word : List ℕ) → length name ≢ length word → str_eq_ignore_ascii_case name (map (letter_of quoted) word) ≡ false
+pub other_length : (name : List ℕ) (quoted : Bool) (word : List ℕ) → length name ≢ length word
+    → str_eq_ignore_ascii_case name (map (letter_of quoted) word) ≡ false
 other_length [] quoted [] h = absurd (h refl)
 other_length [] quoted (b ∷ ys) h = refl
 other_length (a ∷ xs) quoted [] h = refl
@@ -19,16 +20,25 @@ other_length (a ∷ xs) quoted (b ∷ ys) h =
     ap (λ t. eqb (to_ascii_lowercase a) (to_ascii_lowercase (letter_of quoted b)) && t) (other_length xs quoted ys (λ e. h (ap suc e)))
     ∙ and_right (eqb (to_ascii_lowercase a) (to_ascii_lowercase (letter_of quoted b))) false refl
 
-same_from_next : (name : List ℕ) (quoted : Bool) (word : List ℕ) (i : ℕ) → i < length name → i < length word → same_from name quoted word i ≡ (eq_ignore_ascii_case (get_or name i 0) (letter_of quoted (get_or word i 0)) && same_from name quoted word (i + 1))
+same_from_next : (name : List ℕ) (quoted : Bool) (word : List ℕ) (i : ℕ) → i < length name → i < length word
+    → same_from name quoted word i
+    ≡ (eq_ignore_ascii_case (get_or name i 0) (letter_of quoted (get_or word i 0)) && same_from name quoted word (i + 1))
 same_from_next name quoted word i h k = rw (drop_more name i 0 h, drop_more word i 0 k) refl
 
-pub same_letter : (name : List ℕ) (quoted : Bool) (word : List ℕ) (i : ℕ) → i < length name → i < length word → eq_ignore_ascii_case (get_or name i 0) (letter_of quoted (get_or word i 0)) ≡ true → same_from name quoted word (i + 1) ≡ same_from name quoted word i
-same_letter name quoted word i h k e = sym (same_from_next name quoted word i h k ∙ ap (λ t. t && same_from name quoted word (i + 1)) e)
+pub same_letter : (name : List ℕ) (quoted : Bool) (word : List ℕ) (i : ℕ) → i < length name → i < length word
+    → eq_ignore_ascii_case (get_or name i 0) (letter_of quoted (get_or word i 0)) ≡ true
+    → same_from name quoted word (i + 1) ≡ same_from name quoted word i
+same_letter name quoted word i h k e =
+    sym (same_from_next name quoted word i h k ∙ ap (λ t. t && same_from name quoted word (i + 1)) e)
 
-pub other_letter : (name : List ℕ) (quoted : Bool) (word : List ℕ) (i : ℕ) → i < length name → i < length word → eq_ignore_ascii_case (get_or name i 0) (letter_of quoted (get_or word i 0)) ≡ false → same_from name quoted word i ≡ false
-other_letter name quoted word i h k e = same_from_next name quoted word i h k ∙ ap (λ t. t && same_from name quoted word (i + 1)) e
+pub other_letter : (name : List ℕ) (quoted : Bool) (word : List ℕ) (i : ℕ) → i < length name → i < length word
+    → eq_ignore_ascii_case (get_or name i 0) (letter_of quoted (get_or word i 0)) ≡ false
+    → same_from name quoted word i ≡ false
+other_letter name quoted word i h k e =
+    same_from_next name quoted word i h k ∙ ap (λ t. t && same_from name quoted word (i + 1)) e
 
 -- a word means a name from an index on (`same_from`) if that is past the last byte of the word and of the name, since
 -- no byte is left to differ
-pub end_of_both : (name : List ℕ) (quoted : Bool) (word : List ℕ) (i : ℕ) → length name ≤ i → length word ≤ i → same_from name quoted word i ≡ true
+pub end_of_both : (name : List ℕ) (quoted : Bool) (word : List ℕ) (i : ℕ) → length name ≤ i → length word ≤ i
+    → same_from name quoted word i ≡ true
 end_of_both name quoted word i h k = rw (drop_all i name h, drop_all i word k) refl

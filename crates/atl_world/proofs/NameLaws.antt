@@ -14,7 +14,8 @@ name_byte_is_ascii b h = grind (arith, nat_tests)
 pass_byte_is_ascii : (b : ℕ) → is_pass_byte b ≡ true → b < 128
 pass_byte_is_ascii b h = grind (arith, nat_tests)
 
-all_bytes_are_ascii : (p : ℕ → Bool) → ((b : ℕ) → p b ≡ true → b < 128) → (bs : List ℕ) → list_all p bs ≡ true → (i : ℕ) → get_or bs i 0 < 128
+all_bytes_are_ascii : (p : ℕ → Bool) → ((b : ℕ) → p b ≡ true → b < 128) → (bs : List ℕ) → list_all p bs ≡ true → (i : ℕ)
+    → get_or bs i 0 < 128
 all_bytes_are_ascii p small [] h i = omega arith
 all_bytes_are_ascii p small (b ∷ bs) h zero = small b (and_parts _ _ h).0
 all_bytes_are_ascii p small (b ∷ bs) h (suc i) = all_bytes_are_ascii p small bs (and_parts _ _ h).1 i

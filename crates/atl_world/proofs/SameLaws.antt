@@ -11,15 +11,20 @@ abbrev pub entries_without_markets : List (ℕ × RegionPlan) → List (ℕ × R
 entries_without_markets es = map (λ e. (e.0, without_market e.1)) es
 
 module _ (m n : FinMap nat_cmp RegionPlan) where
-  pub same_maps : entries_without_markets (entries m) ≡ entries_without_markets (entries n) → map_values without_market m ≡ map_values without_market n
+  pub same_maps : entries_without_markets (entries m) ≡ entries_without_markets (entries n)
+      → map_values without_market m ≡ map_values without_market n
   same_maps same = same_entries_map _ _ (entries-mapped without_market m ∙ same ∙ sym (entries-mapped without_market n))
 
-  pub same_entries : map_values without_market m ≡ map_values without_market n → entries_without_markets (entries m) ≡ entries_without_markets (entries n)
+  pub same_entries : map_values without_market m ≡ map_values without_market n
+      → entries_without_markets (entries m) ≡ entries_without_markets (entries n)
   same_entries same = sym (entries-mapped without_market m) ∙ ap entries same ∙ entries-mapped without_market n
 
 module _ (k n : ℕ) (p q : RegionPlan) (es fs : List (ℕ × RegionPlan)) where
-  pub same_rest : entries_without_markets ((k, p) ∷ es) ≡ entries_without_markets ((n, q) ∷ fs) → entries_without_markets es ≡ entries_without_markets fs
+  pub same_rest : entries_without_markets ((k, p) ∷ es) ≡ entries_without_markets ((n, q) ∷ fs)
+      → entries_without_markets es ≡ entries_without_markets fs
   same_rest same = cc
 
-  pub same_with_first_entry : k ≡ n → without_market p ≡ without_market q → entries_without_markets es ≡ entries_without_markets fs → entries_without_markets ((k, p) ∷ es) ≡ entries_without_markets ((n, q) ∷ fs)
+  pub same_with_first_entry : k ≡ n → without_market p ≡ without_market q
+      → entries_without_markets es ≡ entries_without_markets fs
+      → entries_without_markets ((k, p) ∷ es) ≡ entries_without_markets ((n, q) ∷ fs)
   same_with_first_entry number plan rest = cc

@@ -22,7 +22,8 @@ insert_twice s n h = sets_are_equal _ _ (λ q. set.contains-insert nat_cmp_total
 
 pub insert_undone : (s : set.FinSet nat_cmp) (n : ℕ) → set.contains s n ≡ false → set.remove (set.insert s n) n ≡ s
 insert_undone s n h = sets_are_equal _ _ (λ q.
-    set.contains-remove nat_cmp_total (set.insert s n) n q ∙ ap (λ b. not (eq_by_cmp nat_cmp q n) && b) (set.contains-insert nat_cmp_total s n q)
+    set.contains-remove nat_cmp_total (set.insert s n) n q
+    ∙ ap (λ b. not (eq_by_cmp nat_cmp q n) && b) (set.contains-insert nat_cmp_total s n q)
     ∙ elim (nat_cmp q n) as (λ r. nat_cmp q n ≡ r → (not (is_eq r) && (is_eq r || set.contains s q)) ≡ set.contains s q) [
       | Less ↦ λ _. refl
       | Equal ↦ λ e. sym (ap (set.contains s) (nat_cmp-IsAntisymmetric q n e) ∙ h)
@@ -42,7 +43,9 @@ contains_inserted s n = set.contains-insert nat_cmp_total s n n ∙ ap (λ b. b 
 -- ---- how many
 
 len-some : (n : ℕ) (t : set.FinSet nat_cmp) (k : ℕ) → set.len t ≡ n → set.contains t k ≡ true → 1 ≤ n
-len-some zero t k e h = absurd (false≢true (sym (set.contains-empty nat_cmp k) ∙ ap (λ u. set.contains u k) (sym (set.empty_of_len t e)) ∙ h))
+len-some zero t k e h =
+    absurd
+    (false≢true (sym (set.contains-empty nat_cmp k) ∙ ap (λ u. set.contains u k) (sym (set.empty_of_len t e)) ∙ h))
 len-some (suc n) t k e h = omega arith
 
 -- if "not a, and b" holds, a is false: a number of a set from which k was taken out (b) is not k (a)
@@ -63,7 +66,8 @@ not_and_holds false b e h = h
 
 -- m ≤ n, if a implies b, b implies 1 ≤ n, and m (less 1 if a is true) is at most n (less 1 if b is true). For
 -- `len-within_by`, where a and b say whether sets of m and n numbers have k.
-less_step : (a b : Bool) (m n : ℕ) → (a ≡ true → b ≡ true) → (b ≡ true → 1 ≤ n) → cond a (m - 1) m ≤ cond b (n - 1) n → m ≤ n
+less_step : (a b : Bool) (m n : ℕ) → (a ≡ true → b ≡ true) → (b ≡ true → 1 ≤ n) → cond a (m - 1) m ≤ cond b (n - 1) n
+    → m ≤ n
 less_step true true m n f g h = let l : 1 ≤ n = g refl in omega arith
 less_step true false m n f g h = absurd (false≢true (f refl))
 less_step false true m n f g h = omega arith
@@ -71,7 +75,9 @@ less_step false false m n f g h = h
 
 -- `len-within` by recursion over a list `ks` that has all numbers of s: if t has all numbers of s, then s has no more
 -- numbers than t
-len-within_by : (ks : List ℕ) (s t : set.FinSet nat_cmp) → ((q : ℕ) → set.contains s q ≡ true → list_any (eq_by_cmp nat_cmp q) ks ≡ true) → ((q : ℕ) → set.contains s q ≡ true → set.contains t q ≡ true) → set.len s ≤ set.len t
+len-within_by : (ks : List ℕ) (s t : set.FinSet nat_cmp)
+    → ((q : ℕ) → set.contains s q ≡ true → list_any (eq_by_cmp nat_cmp q) ks ≡ true)
+    → ((q : ℕ) → set.contains s q ≡ true → set.contains t q ≡ true) → set.len s ≤ set.len t
 len-within_by [] s t all h =
     let none : s ≡ set.empty = sets_are_equal s set.empty (λ q. false_from_ne_true _ (λ e. false≢true (all q e)) ∙ sym (set.contains-empty nat_cmp q)) in
     let nothing : set.len s ≡ 0 = ap set.len none ∙ set.len-empty nat_cmp in
@@ -85,7 +91,8 @@ len-within_by (k ∷ ks) s t all h =
     (λ q e. set.contains-remove nat_cmp_total t k q ∙ not_and_holds _ _ (other q e) (h q (was q e))) in
     less_step (set.contains s k) (set.contains t k) (set.len s) (set.len t) (h k) (len-some (set.len t) t k refl) (rw (set.len-remove nat_cmp_total s k, set.len-remove nat_cmp_total t k) at rest)
 
-pub len-within : (s t : set.FinSet nat_cmp) → ((q : ℕ) → set.contains s q ≡ true → set.contains t q ≡ true) → set.len s ≤ set.len t
+pub len-within : (s t : set.FinSet nat_cmp) → ((q : ℕ) → set.contains s q ≡ true → set.contains t q ≡ true)
+    → set.len s ≤ set.len t
 len-within s t h = len-within_by (set.items s) s t (λ q e. sym (set.contains-items s q) ∙ e) h
 
 -- the first two of three may be swapped in "or": whether a number is in a set (a), is the one put in (b), or is in
@@ -96,11 +103,15 @@ or_swaps_first_two true false c = refl
 or_swaps_first_two false b c = refl
 
 pub union-empty : (s : set.FinSet nat_cmp) → set.union s set.empty ≡ s
-union-empty s = sets_are_equal _ _ (λ q. set.contains-union nat_cmp_total s set.empty q ∙ ap (λ b. set.contains s q || b) (set.contains-empty nat_cmp q) ∙ or-false _)
+union-empty s =
+    sets_are_equal _ _
+    (λ q. set.contains-union nat_cmp_total s set.empty q ∙ ap (λ b. set.contains s q || b) (set.contains-empty nat_cmp q) ∙ or-false _)
 
 pub union-insert : (s t : set.FinSet nat_cmp) (k : ℕ) → set.union s (set.insert t k) ≡ set.insert (set.union s t) k
 union-insert s t k = sets_are_equal _ _ (λ q.
-    set.contains-union nat_cmp_total s (set.insert t k) q ∙ ap (λ b. set.contains s q || b) (set.contains-insert nat_cmp_total t k q) ∙ or_swaps_first_two (set.contains s q) (eq_by_cmp nat_cmp q k) (set.contains t q)
+    set.contains-union nat_cmp_total s (set.insert t k) q
+    ∙ ap (λ b. set.contains s q || b) (set.contains-insert nat_cmp_total t k q)
+    ∙ or_swaps_first_two (set.contains s q) (eq_by_cmp nat_cmp q k) (set.contains t q)
     ∙ sym (set.contains-insert nat_cmp_total (set.union s t) k q ∙ ap (λ b. eq_by_cmp nat_cmp q k || b) (set.contains-union nat_cmp_total s t q)))
 
 pub or_is_associative : (a b c : Bool) → ((a || b) || c) ≡ (a || (b || c))
@@ -109,10 +120,13 @@ or_is_associative false b c = refl
 
 pub insert-union : (s t : set.FinSet nat_cmp) (k : ℕ) → set.union (set.insert s k) t ≡ set.insert (set.union s t) k
 insert-union s t k = sets_are_equal _ _ (λ q.
-    set.contains-union nat_cmp_total (set.insert s k) t q ∙ ap (λ b. b || set.contains t q) (set.contains-insert nat_cmp_total s k q) ∙ or_is_associative (eq_by_cmp nat_cmp q k) (set.contains s q) (set.contains t q)
+    set.contains-union nat_cmp_total (set.insert s k) t q
+    ∙ ap (λ b. b || set.contains t q) (set.contains-insert nat_cmp_total s k q)
+    ∙ or_is_associative (eq_by_cmp nat_cmp q k) (set.contains s q) (set.contains t q)
     ∙ sym (set.contains-insert nat_cmp_total (set.union s t) k q ∙ ap (λ b. eq_by_cmp nat_cmp q k || b) (set.contains-union nat_cmp_total s t q)))
 
-pub len-union : (s : set.FinSet nat_cmp) (ks : List ℕ) → set.len (set.union s (set.from_list ks)) ≤ set.len s + length ks
+pub len-union : (s : set.FinSet nat_cmp) (ks : List ℕ)
+    → set.len (set.union s (set.from_list ks)) ≤ set.len s + length ks
 len-union s [] = let e : set.len (set.union s set.empty) ≡ set.len s = ap set.len (union-empty s) in omega (arith, e)
 len-union s (k ∷ ks) =
     let rest = len-union s ks in
@@ -123,10 +137,12 @@ len-union s (k ∷ ks) =
 
 -- ---- the numbers of a list, which come one after another
 
-pub union-next : (s : set.FinSet nat_cmp) (k : ℕ) (ks : List ℕ) → set.union (set.insert s k) (set.from_list ks) ≡ set.union s (set.from_list (k ∷ ks))
+pub union-next : (s : set.FinSet nat_cmp) (k : ℕ) (ks : List ℕ)
+    → set.union (set.insert s k) (set.from_list ks) ≡ set.union s (set.from_list (k ∷ ks))
 union-next s k ks = insert-union s (set.from_list ks) k ∙ sym (union-insert s (set.from_list ks) k)
 
-pub len-next : (s t : set.FinSet nat_cmp) (k : ℕ) (ks : List ℕ) → set.union s (set.from_list (k ∷ ks)) ≡ t → set.len (set.insert s k) ≤ set.len t
+pub len-next : (s t : set.FinSet nat_cmp) (k : ℕ) (ks : List ℕ) → set.union s (set.from_list (k ∷ ks)) ≡ t
+    → set.len (set.insert s k) ≤ set.len t
 len-next s t k ks h =
     len-within (set.insert s k) t (λ q e. ap (λ u. set.contains u q) (sym (union-next s k ks ∙ h)) ∙ set.contains-union nat_cmp_total (set.insert s k) (set.from_list ks) q ∙ or_left _ _ e)
 
@@ -138,7 +154,8 @@ one_less false l r e = omega (arith, e)
 
 -- a number k of a set that isn't m is below m, if the set's numbers are below m + 1 (`there` says whether k is in the
 -- set): for `len-below`
-rest_below : (m k : ℕ) (there : Bool) → (not (eq_by_cmp nat_cmp k m) && there) ≡ true → (there ≡ true → k < m + 1) → k < m
+rest_below : (m k : ℕ) (there : Bool) → (not (eq_by_cmp nat_cmp k m) && there) ≡ true → (there ≡ true → k < m + 1)
+    → k < m
 rest_below m k there h below = elim (nat_cmp k m) as (λ r. nat_cmp k m ≡ r → (not (is_eq r) && there) ≡ true → k < m) [
   | Less ↦ λ e yes. let l = ranked k m Less (sym e) in omega (arith, l)
   | Equal ↦ λ e no. absurd (false≢true no)

@@ -20,7 +20,8 @@ abbrev IsRising : List ℕ → Type 0
 IsRising xs = IsStrictlySortedBy nat_cmp xs
 
 by_cases : {P : Type 0} (a b : ℕ) → (a ≡ b → P) → (a < b → P) → (b < a → P) → P
-by_cases a b alike less more = elim (cases_order a b) [ inl e ↦ alike e | inr r ↦ elim r [ inl l ↦ less l | inr m ↦ more m ] ]
+by_cases a b alike less more =
+    elim (cases_order a b) [ inl e ↦ alike e | inr r ↦ elim r [ inl l ↦ less l | inr m ↦ more m ] ]
 
 -- ---- a list stays sorted
 
@@ -78,7 +79,8 @@ sorted-remove xs i s within = sorted_from_strictly_increasing (remove xs i) (λ 
 
 -- ---- how many numbers the set of a list has
 
-lesser_not_listed : (x : ℕ) (xs : List ℕ) → AllByRecursion (λ y. nat_cmp x y ≡ Less) xs → list_any (eq_by_cmp nat_cmp x) xs ≡ false
+lesser_not_listed : (x : ℕ) (xs : List ℕ) → AllByRecursion (λ y. nat_cmp x y ≡ Less) xs
+    → list_any (eq_by_cmp nat_cmp x) xs ≡ false
 lesser_not_listed x [] h = refl
 lesser_not_listed x (y ∷ xs) h = ap (λ r. is_eq r || list_any (eq_by_cmp nat_cmp x) xs) h.0 ∙ lesser_not_listed x xs h.1
 
@@ -97,28 +99,40 @@ len-sorted (x ∷ xs) s =
 -- ---- which numbers the set of a list has
 
 from_list-permutation : (xs ys : List ℕ) → IsPermutation xs ys → set.from_list {R = nat_cmp} xs ≡ set.from_list ys
-from_list-permutation xs ys p = sets_are_equal _ _ (λ q. set.contains-from_list nat_cmp_total xs q ∙ list_any-IsPermutation (eq_by_cmp nat_cmp q) xs ys p ∙ sym (set.contains-from_list nat_cmp_total ys q))
+from_list-permutation xs ys p =
+    sets_are_equal _ _
+    (λ q. set.contains-from_list nat_cmp_total xs q ∙ list_any-IsPermutation (eq_by_cmp nat_cmp q) xs ys p ∙ sym (set.contains-from_list nat_cmp_total ys q))
 
-pub from_list-insert : (xs : List ℕ) (n i : ℕ) → set.from_list {R = nat_cmp} (insert xs i n) ≡ set.insert (set.from_list xs) n
+pub from_list-insert : (xs : List ℕ) (n i : ℕ)
+    → set.from_list {R = nat_cmp} (insert xs i n) ≡ set.insert (set.from_list xs) n
 from_list-insert xs n i = sym (from_list-permutation (n ∷ xs) (insert xs i n) (IsPermutation-insert xs i n))
 
-from_list-put_back : (xs : List ℕ) (n i : ℕ) → IsAt xs n i → set.from_list {R = nat_cmp} xs ≡ set.insert (set.from_list (remove xs i)) n
-from_list-put_back xs n i h = from_list-permutation xs (n ∷ remove xs i) (IsPermutation-remove xs i n h.within (sym (get_or_default xs i n 0 h.within ∙ h.number_there)))
+from_list-put_back : (xs : List ℕ) (n i : ℕ) → IsAt xs n i
+    → set.from_list {R = nat_cmp} xs ≡ set.insert (set.from_list (remove xs i)) n
+from_list-put_back xs n i h =
+    from_list-permutation xs (n ∷ remove xs i)
+    (IsPermutation-remove xs i n h.within (sym (get_or_default xs i n 0 h.within ∙ h.number_there)))
 
 pub contains-is_at : (xs : List ℕ) (n i : ℕ) → IsAt xs n i → set.contains {R = nat_cmp} (set.from_list xs) n ≡ true
-contains-is_at xs n i h = ap (λ s. set.contains s n) (from_list-put_back xs n i h) ∙ contains_inserted (set.from_list (remove xs i)) n
+contains-is_at xs n i h =
+    ap (λ s. set.contains s n) (from_list-put_back xs n i h) ∙ contains_inserted (set.from_list (remove xs i)) n
 
 -- if n belongs at an index of a sorted list, the list's set with n put in has one number more than the list
-pub len-belongs : (xs : List ℕ) (n i : ℕ) → IsRising xs → BelongsAt xs n i → set.len {R = nat_cmp} (set.insert (set.from_list xs) n) ≡ length xs + 1
-len-belongs xs n i s b = ap set.len (sym (from_list-insert xs n i)) ∙ len-sorted (insert xs i n) (sorted-insert xs n i s b) ∙ length-insert xs i n b.within
+pub len-belongs : (xs : List ℕ) (n i : ℕ) → IsRising xs → BelongsAt xs n i
+    → set.len {R = nat_cmp} (set.insert (set.from_list xs) n) ≡ length xs + 1
+len-belongs xs n i s b =
+    ap set.len (sym (from_list-insert xs n i)) ∙ len-sorted (insert xs i n) (sorted-insert xs n i s b)
+    ∙ length-insert xs i n b.within
 
-pub contains-belongs : (xs : List ℕ) (n i : ℕ) → IsRising xs → BelongsAt xs n i → set.contains {R = nat_cmp} (set.from_list xs) n ≡ false
+pub contains-belongs : (xs : List ℕ) (n i : ℕ) → IsRising xs → BelongsAt xs n i
+    → set.contains {R = nat_cmp} (set.from_list xs) n ≡ false
 contains-belongs xs n i s b = false_from_ne_true _ (λ e.
     let more = len-belongs xs n i s b in
     let as_many : set.len {R = nat_cmp} (set.insert (set.from_list xs) n) ≡ length xs = ap set.len (insert_twice (set.from_list xs) n e) ∙ len-sorted xs s in
     omega (arith, more, as_many))
 
-pub from_list-remove : (xs : List ℕ) (n i : ℕ) → IsRising xs → IsAt xs n i → set.from_list {R = nat_cmp} (remove xs i) ≡ set.remove (set.from_list xs) n
+pub from_list-remove : (xs : List ℕ) (n i : ℕ) → IsRising xs → IsAt xs n i
+    → set.from_list {R = nat_cmp} (remove xs i) ≡ set.remove (set.from_list xs) n
 from_list-remove xs n i s h =
     let back = from_list-put_back xs n i h in
     let gone : set.contains {R = nat_cmp} (set.from_list (remove xs i)) n ≡ false = false_from_ne_true _ (λ e.
@@ -139,10 +153,12 @@ not_falling : (xs : List ℕ) → IsRising xs → (i j : ℕ) → i ≤ j → j 
 not_falling xs s i j l m = non_decreasing_from_sorted xs s i j 0 l m
 
 -- if a binary search in a sorted list finds n, then n is at the index that the search returns
-pub searched-found : (xs : List ℕ) (n : ℕ) (r : Result ℕ ℕ) → IsRising xs → IsBinarySearchResult (λ y. nat_cmp y n) xs r → IfOk r (λ i. IsAt xs n i)
+pub searched-found : (xs : List ℕ) (n : ℕ) (r : Result ℕ ℕ) → IsRising xs → IsBinarySearchResult (λ y. nat_cmp y n) xs r
+    → IfOk r (λ i. IsAt xs n i)
 searched-found xs n (Ok i) s h = let found = searched xs n (Ok i) h (not_falling xs s) in record { within = found.0; number_there = found.1 }
 searched-found xs n (Err i) s h = tt
 
-pub searched-missing : (xs : List ℕ) (n : ℕ) (r : Result ℕ ℕ) → IsRising xs → IsBinarySearchResult (λ y. nat_cmp y n) xs r → IfErr r (λ i. BelongsAt xs n i)
+pub searched-missing : (xs : List ℕ) (n : ℕ) (r : Result ℕ ℕ) → IsRising xs
+    → IsBinarySearchResult (λ y. nat_cmp y n) xs r → IfErr r (λ i. BelongsAt xs n i)
 searched-missing xs n (Ok i) s h = tt
 searched-missing xs n (Err i) s h = let missing = searched xs n (Err i) h (not_falling xs s) in record { within = missing.0; before = missing.1; after = missing.2 }

@@ -49,7 +49,8 @@ module _ {X : Type 0} where
 
   pub remove_undoes_insert : (m : FinMap nat_cmp X) (k : ℕ) (v : X) → get m k ≡ None → remove (insert m k v) k ≡ m
   remove_undoes_insert m k v h = same_map nat_cmp_total nat_cmp-IsAntisymmetric _ _ (λ q.
-      get-remove nat_cmp_total (insert m k v) k q ∙ ap (cond (eq_by_cmp nat_cmp q k) None) (get-insert nat_cmp_total m k v q)
+      get-remove nat_cmp_total (insert m k v) k q
+      ∙ ap (cond (eq_by_cmp nat_cmp q k) None) (get-insert nat_cmp_total m k v q)
       ∙ elim (nat_cmp q k) as (λ r. nat_cmp q k ≡ r → cond (is_eq r) None (cond (is_eq r) (Some v) (get m q)) ≡ get m q) [
         | Less ↦ λ _. refl
         | Equal ↦ λ e. sym (ap (get m) (nat_cmp-IsAntisymmetric q k e) ∙ h)
@@ -61,7 +62,8 @@ module _ {X : Type 0} where
   abbrev sum_of_entries : (f : X → ℕ) → List (ℕ × X) → ℕ
   sum_of_entries f es = sum_by (λ e. f e.1) es
 
-  put_new : (f : X → ℕ) (k : ℕ) (v : X) (es : List (ℕ × X)) → find nat_cmp k es ≡ None → sum_of_entries f (put nat_cmp k v es) ≡ sum_of_entries f es + f v
+  put_new : (f : X → ℕ) (k : ℕ) (v : X) (es : List (ℕ × X)) → find nat_cmp k es ≡ None
+      → sum_of_entries f (put nat_cmp k v es) ≡ sum_of_entries f es + f v
   put_new f k v [] h = omega arith
   put_new f k v (e ∷ es) h =
       let more = sum_by-cons (λ (e : ℕ × X). f e.1) in
@@ -71,7 +73,8 @@ module _ {X : Type 0} where
         | Greater ↦ λ g. more e (put nat_cmp k v es) ∙ sum_after_first (f e.1) _ (sum_of_entries f es) (f v) (put_new f k v es g) ∙ ap (λ n. n + f v) (sym (more e es))
       ] h
 
-  put_either : (f : X → ℕ) (k : ℕ) (u v : X) (es : List (ℕ × X)) → sum_of_entries f (put nat_cmp k v es) + f u ≡ sum_of_entries f (put nat_cmp k u es) + f v
+  put_either : (f : X → ℕ) (k : ℕ) (u v : X) (es : List (ℕ × X))
+      → sum_of_entries f (put nat_cmp k v es) + f u ≡ sum_of_entries f (put nat_cmp k u es) + f v
   put_either f k u v [] = omega arith
   put_either f k u v (e ∷ es) =
       let more = sum_by-cons (λ (e : ℕ × X). f e.1) in
@@ -82,11 +85,15 @@ module _ {X : Type 0} where
       ]
 
   -- a value v put in under a new number adds f v to the sum of f over a map
-  pub sum_over-insert_new : (f : X → ℕ) (m : FinMap nat_cmp X) (k : ℕ) (v : X) → get m k ≡ None → sum_over f (insert m k v) ≡ sum_over f m + f v
-  sum_over-insert_new f m k v h = ap (sum_by (λ e. f e.1)) (entries-insert nat_cmp_total m k v) ∙ put_new f k v (entries m) (sym (get-entries m k) ∙ h)
+  pub sum_over-insert_new : (f : X → ℕ) (m : FinMap nat_cmp X) (k : ℕ) (v : X) → get m k ≡ None
+      → sum_over f (insert m k v) ≡ sum_over f m + f v
+  sum_over-insert_new f m k v h =
+      ap (sum_by (λ e. f e.1)) (entries-insert nat_cmp_total m k v)
+      ∙ put_new f k v (entries m) (sym (get-entries m k) ∙ h)
 
   -- if v replaces u in a map, the new sum of f over the map, plus f u, is the old sum plus f v
-  pub sum_over-insert_known : (f : X → ℕ) (m : FinMap nat_cmp X) (k : ℕ) (u v : X) → get m k ≡ Some u → sum_over f (insert m k v) + f u ≡ sum_over f m + f v
+  pub sum_over-insert_known : (f : X → ℕ) (m : FinMap nat_cmp X) (k : ℕ) (u v : X) → get m k ≡ Some u
+      → sum_over f (insert m k v) + f u ≡ sum_over f m + f v
   sum_over-insert_known f m k u v h =
       ap (λ n. sum_over f n + f u) (put_over m k v)
       ∙ ap (λ es. sum_by (λ e. f e.1) es + f u) (entries-insert nat_cmp_total (remove m k) k v)
@@ -101,15 +108,20 @@ module _ {X : Type 0} where
 
   -- If b is true, to put e in front of the entries of es that pass the test p puts the number of e in front of their
   -- numbers. For `chosen-cons`.
-  chosen-cond : (p : X → Bool) (b : Bool) (e : ℕ × X) (es : List (ℕ × X)) → map (λ e. e.0) (cond b (e ∷ filter (λ e. p e.1) es) (filter (λ e. p e.1) es)) ≡ cond b (e.0 ∷ numbers_passing p es) (numbers_passing p es)
+  chosen-cond : (p : X → Bool) (b : Bool) (e : ℕ × X) (es : List (ℕ × X))
+      → map (λ e. e.0) (cond b (e ∷ filter (λ e. p e.1) es) (filter (λ e. p e.1) es))
+      ≡ cond b (e.0 ∷ numbers_passing p es) (numbers_passing p es)
   chosen-cond p true e es = refl
   chosen-cond p false e es = refl
 
-  pub chosen-cons : (p : X → Bool) (e : ℕ × X) (es : List (ℕ × X)) → numbers_passing p (e ∷ es) ≡ cond (p e.1) (e.0 ∷ numbers_passing p es) (numbers_passing p es)
+  pub chosen-cons : (p : X → Bool) (e : ℕ × X) (es : List (ℕ × X))
+      → numbers_passing p (e ∷ es) ≡ cond (p e.1) (e.0 ∷ numbers_passing p es) (numbers_passing p es)
   chosen-cons p e es = chosen-cond p (p e.1) e es
 
-  chosen-put : (p : X → Bool) (k : ℕ) (u v : X) → p u ≡ p v → (es : List (ℕ × X)) → numbers_passing p (put nat_cmp k v es) ≡ numbers_passing p (put nat_cmp k u es)
-  chosen-put p k u v h [] = chosen-cons p (k, v) [] ∙ ap (λ b. cond b (k ∷ []) []) (sym h) ∙ sym (chosen-cons p (k, u) [])
+  chosen-put : (p : X → Bool) (k : ℕ) (u v : X) → p u ≡ p v → (es : List (ℕ × X))
+      → numbers_passing p (put nat_cmp k v es) ≡ numbers_passing p (put nat_cmp k u es)
+  chosen-put p k u v h [] =
+      chosen-cons p (k, v) [] ∙ ap (λ b. cond b (k ∷ []) []) (sym h) ∙ sym (chosen-cons p (k, u) [])
   chosen-put p k u v h (e ∷ es) =
       elim (nat_cmp k e.0) as (λ r. numbers_passing p (by_order r ((k, v) ∷ e ∷ es) ((e.0, v) ∷ es) (e ∷ put nat_cmp k v es)) ≡ numbers_passing p (by_order r ((k, u) ∷ e ∷ es) ((e.0, u) ∷ es) (e ∷ put nat_cmp k u es))) [
         | Less ↦ chosen-cons p (k, v) (e ∷ es) ∙ ap (λ b. cond b (k ∷ numbers_passing p (e ∷ es)) (numbers_passing p (e ∷ es))) (sym h) ∙ sym (chosen-cons p (k, u) (e ∷ es))
@@ -117,7 +129,8 @@ module _ {X : Type 0} where
         | Greater ↦ chosen-cons p e (put nat_cmp k v es) ∙ ap (λ ns. cond (p e.1) (e.0 ∷ ns) ns) (chosen-put p k u v h es) ∙ sym (chosen-cons p e (put nat_cmp k u es))
       ]
 
-  chosen-put_other : (p : X → Bool) (k : ℕ) (v : X) → p v ≡ false → (es : List (ℕ × X)) → find nat_cmp k es ≡ None → numbers_passing p (put nat_cmp k v es) ≡ numbers_passing p es
+  chosen-put_other : (p : X → Bool) (k : ℕ) (v : X) → p v ≡ false → (es : List (ℕ × X)) → find nat_cmp k es ≡ None
+      → numbers_passing p (put nat_cmp k v es) ≡ numbers_passing p es
   chosen-put_other p k v h [] g = chosen-cons p (k, v) [] ∙ ap (λ b. cond b (k ∷ []) []) h
   chosen-put_other p k v h (e ∷ es) g =
       elim (nat_cmp k e.0) as (λ r. cond (is_eq r) (Some e.1) (find nat_cmp k es) ≡ None → numbers_passing p (by_order r ((k, v) ∷ e ∷ es) ((e.0, v) ∷ es) (e ∷ put nat_cmp k v es)) ≡ numbers_passing p (e ∷ es)) [
@@ -126,18 +139,24 @@ module _ {X : Type 0} where
         | Greater ↦ λ g. chosen-cons p e (put nat_cmp k v es) ∙ ap (λ ns. cond (p e.1) (e.0 ∷ ns) ns) (chosen-put_other p k v h es g) ∙ sym (chosen-cons p e es)
       ] g
 
-  pub numbers_where-insert_known : (p : X → Bool) (m : FinMap nat_cmp X) (k : ℕ) (u v : X) → get m k ≡ Some u → p u ≡ p v → numbers_where p (insert m k v) ≡ numbers_where p m
+  pub numbers_where-insert_known : (p : X → Bool) (m : FinMap nat_cmp X) (k : ℕ) (u v : X) → get m k ≡ Some u
+      → p u ≡ p v → numbers_where p (insert m k v) ≡ numbers_where p m
   numbers_where-insert_known p m k u v h same =
-      ap (numbers_where p) (put_over m k v) ∙ ap (numbers_passing p) (entries-insert nat_cmp_total (remove m k) k v) ∙ chosen-put p k u v same (entries (remove m k))
-      ∙ ap (numbers_passing p) (sym (entries-insert nat_cmp_total (remove m k) k u)) ∙ ap (numbers_where p) (sym (put_back_keeps_map m k u h))
+      ap (numbers_where p) (put_over m k v) ∙ ap (numbers_passing p) (entries-insert nat_cmp_total (remove m k) k v)
+      ∙ chosen-put p k u v same (entries (remove m k))
+      ∙ ap (numbers_passing p) (sym (entries-insert nat_cmp_total (remove m k) k u))
+      ∙ ap (numbers_where p) (sym (put_back_keeps_map m k u h))
 
-  pub numbers_where-insert_other : (p : X → Bool) (m : FinMap nat_cmp X) (k : ℕ) (v : X) → get m k ≡ None → p v ≡ false → numbers_where p (insert m k v) ≡ numbers_where p m
+  pub numbers_where-insert_other : (p : X → Bool) (m : FinMap nat_cmp X) (k : ℕ) (v : X) → get m k ≡ None → p v ≡ false
+      → numbers_where p (insert m k v) ≡ numbers_where p m
   numbers_where-insert_other p m k v h fails =
-      ap (numbers_passing p) (entries-insert nat_cmp_total m k v) ∙ chosen-put_other p k v fails (entries m) (sym (get-entries m k) ∙ h)
+      ap (numbers_passing p) (entries-insert nat_cmp_total m k v)
+      ∙ chosen-put_other p k v fails (entries m) (sym (get-entries m k) ∙ h)
 
   pub put_same : (m : FinMap nat_cmp X) (k : ℕ) (u v : X) → get m k ≡ Some u → v ≡ u → insert m k v ≡ m
   put_same m k u v h e = ap (insert m k) e ∙ put_over m k u ∙ sym (put_back_keeps_map m k u h)
 
-  pub put_same_err : {A E : Type 0} (r : Result A E) (m : FinMap nat_cmp X) (k : ℕ) (u v : X) → get m k ≡ Some u → OnErr r (v ≡ u) → OnErr r (insert m k v ≡ m)
+  pub put_same_err : {A E : Type 0} (r : Result A E) (m : FinMap nat_cmp X) (k : ℕ) (u v : X) → get m k ≡ Some u
+      → OnErr r (v ≡ u) → OnErr r (insert m k v ≡ m)
   put_same_err (Ok a) m k u v h e = tt
   put_same_err (Err x) m k u v h e = put_same m k u v h e

@@ -4,4 +4,7 @@ use Rattle.atl_orders.proofs.UnitLaws.{fault_stays}
 use Rattle.atl_orders.proofs.operands.units_of.Goals as goal
 
 pub returns-in-Err : goal.returns-in-Err
-returns-in-Err c = sym c.words.invariant ∙ fault_stays c.words.units (words c.words.rest.now) c.in-Err.fault (omega (arith, ap length c.in-Some.ensures.words)) c.in-Err.ensures
+returns-in-Err c =
+    sym c.words.invariant
+    ∙ fault_stays c.words.units (words c.words.rest.now) c.in-Err.fault
+    (omega (arith, ap length c.in-Some.ensures.words)) c.in-Err.ensures

@@ -21,4 +21,5 @@ unfolding level_of
 returns-clause-value c =
     let passes : ℕ → Bool = λ n. nat_le (days_for n c.args.men) c.args.days in
     let passed : passes c.loop-level.level ≡ true = sym c.is_reached.ensures ∙ c.loop-level-test.false in
-    greatest_here passes c.loop-level.level passed ∙ c.loop-level.invariant.rest ∙ sym (ap (λ b. if b then 0 else greatest passes last_level) (other_number c.args.men 0 c.if-men-eq0.false))
+    greatest_here passes c.loop-level.level passed ∙ c.loop-level.invariant.rest
+    ∙ sym (ap (λ b. if b then 0 else greatest passes last_level) (other_number c.args.men 0 c.if-men-eq0.false))

@@ -8,5 +8,6 @@ use Rattle.atl_shares.proofs.shares.proportional_shares.Given as goal
 abbrev pub invariant-loop-want : goal.invariant-loop-want
 invariant-loop-want l = record {
   left : IsRemainder l.pot l.total (sum (take l.want-index l.wants)) l.left;
-  rest : l.given.items ++ shares_after l.pot l.total (sum (take l.want-index l.wants)) (drop l.want-index l.wants) ≡ shares_after l.pot l.total 0 l.wants;
+  rest : l.given.items ++ shares_after l.pot l.total (sum (take l.want-index l.wants)) (drop l.want-index l.wants)
+      ≡ shares_after l.pot l.total 0 l.wants;
 }

@@ -7,7 +7,8 @@ use Rattle.atl_tables.proofs.has_number.by_number.Given as goal
 -- these
 abbrev pub invariant-loop-value : goal.invariant-loop-value
 invariant-loop-value g l = record {
-  whole : (rest : List _) × (l.values.items ++ rest ≡ l.fn.values.items) × (l.numbered ≡ by_number g.T.HasNumber.own_number_of rest);
+  whole : (rest : List _) × (l.values.items ++ rest ≡ l.fn.values.items)
+      × (l.numbered ≡ by_number g.T.HasNumber.own_number_of rest);
   few : len l.numbered + length l.values.items ≤ length l.fn.values.items;
 }
 

@@ -10,6 +10,7 @@ use Rattle.atl_tables.proofs.neighbours.mutual_neighbours.Given as goal
 -- opposite side of each of its neighbours
 abbrev pub invariant-loop-i : goal.invariant-loop-i
 invariant-loop-i l = record {
-  faults : first_fault (conditions_on_each (neighbours_at l.regions) l.i (drop l.i l.drafts)) ≡ first_fault (conditions_on_each (neighbours_at l.regions) 0 l.drafts);
+  faults : first_fault (conditions_on_each (neighbours_at l.regions) l.i (drop l.i l.drafts))
+      ≡ first_fault (conditions_on_each (neighbours_at l.regions) 0 l.drafts);
   back : All (λ d. HasMutualNeighbours l.regions d.basics.number d.sides.north d.sides.south d.sides.east d.sides.west) (take l.i l.drafts);
 }

@@ -11,11 +11,15 @@ use Rattle.atl_tables.proofs.FaultLaws.{gives_error, error_of_condition_is_of_li
 use Rattle.atl_tables.proofs.EachLaws.{rest_has_same_fault_at_index, error_at_index_is_error_of_all}
 use Rattle.atl_tables.proofs.output_table.keys_name_items.Goals as goal
 
-unknown_key_is_fault : (e : WorldFault) (all : WorldDraft) (at : List ℕ) (i : ℕ) (o : Output) → IsFaultOrMemory e (name_is_known (path at o.item) (item_number all o.item)) → IsFaultOrMemory e (first_fault (known_key_at all at i o))
+unknown_key_is_fault : (e : WorldFault) (all : WorldDraft) (at : List ℕ) (i : ℕ) (o : Output)
+    → IsFaultOrMemory e (name_is_known (path at o.item) (item_number all o.item))
+    → IsFaultOrMemory e (first_fault (known_key_at all at i o))
 unfolding known_key_at
-unknown_key_is_fault e all at i o h = error_of_condition_is_of_list e (name_is_known (path at o.item) (item_number all o.item)) [] h
+unknown_key_is_fault e all at i o h =
+    error_of_condition_is_of_list e (name_is_known (path at o.item) (item_number all o.item)) [] h
 
-known_key_has_no_fault : (all : WorldDraft) (at : List ℕ) (i : ℕ) (o : Output) → name_is_known (path at o.item) (item_number all o.item) ≡ None → first_fault (known_key_at all at i o) ≡ None
+known_key_has_no_fault : (all : WorldDraft) (at : List ℕ) (i : ℕ) (o : Output)
+    → name_is_known (path at o.item) (item_number all o.item) ≡ None → first_fault (known_key_at all at i o) ≡ None
 unfolding known_key_at
 known_key_has_no_fault all at i o h = rw h refl
 

@@ -11,7 +11,9 @@ use Rattle.atl_tables.proofs.EachLaws.{rest_has_same_fault_at_index, error_at_in
 use Rattle.atl_tables.proofs.SeenLaws.{came_before, comes_first, has_one_more}
 use Rattle.atl_tables.proofs.output_table.no_duplicate_keys.Goals as goal
 
-duplicate_key_fault : (at : List ℕ) (all : List Output) (i : ℕ) (o : Output) (b : Bool) → list_any (λ p. same_name p.item o.item) (take i all) ≡ b → first_fault (duplicate_key_at at all i o) ≡ cond b (Some (TwoNames (path at o.item))) None
+duplicate_key_fault : (at : List ℕ) (all : List Output) (i : ℕ) (o : Output) (b : Bool)
+    → list_any (λ p. same_name p.item o.item) (take i all) ≡ b
+    → first_fault (duplicate_key_at at all i o) ≡ cond b (Some (TwoNames (path at o.item))) None
 unfolding duplicate_key_at
 duplicate_key_fault at all i o true h = rw h
 duplicate_key_fault at all i o false h = rw h

@@ -9,5 +9,6 @@ use Rattle.atl_tables.proofs.output_table.no_duplicate_keys.Given as goal
 abbrev pub invariant-loop-output : goal.invariant-loop-output
 invariant-loop-output l = record {
   seen : HasNames (λ o. o.item) (take l.output-index l.outputs) l.seen;
-  faults : first_fault (conditions_on_each (duplicate_key_at l.at l.outputs) l.output-index (drop l.output-index l.outputs)) ≡ first_fault (conditions_on_each (duplicate_key_at l.at l.outputs) 0 l.outputs);
+  faults : first_fault (conditions_on_each (duplicate_key_at l.at l.outputs) l.output-index (drop l.output-index l.outputs))
+      ≡ first_fault (conditions_on_each (duplicate_key_at l.at l.outputs) 0 l.outputs);
 }

@@ -11,7 +11,9 @@ use Rattle.atl_tables.proofs.output_table.output_entries.Given as goal
 -- followed by those of the entries not read yet, are all amounts.
 abbrev pub invariant-loop-key : goal.invariant-loop-key
 invariant-loop-key l = record {
-  faults : first_fault (amounts_keys l.at (entries_view l.key-iterator)) ≡ first_fault (amounts_keys l.at (in_byte_order (table_view l.table)));
-  read : l.outputs ++ amounts_from l.at (entries_view l.key-iterator) ≡ amounts_from l.at (in_byte_order (table_view l.table));
+  faults : first_fault (amounts_keys l.at (entries_view l.key-iterator))
+      ≡ first_fault (amounts_keys l.at (in_byte_order (table_view l.table)));
+  read : l.outputs ++ amounts_from l.at (entries_view l.key-iterator)
+      ≡ amounts_from l.at (in_byte_order (table_view l.table));
   sound : All IsOutput l.outputs;
 }

@@ -17,7 +17,8 @@ use Rattle.atl_tables.proofs.reading.make_world.Goals as goal
 abbrev land_condition : WorldDraft → Conditions
 land_condition all = is_some_land (land_of (world_of_tables all))
 
-region_maps_are_same : (all : WorldDraft) (p : WorldParts) (plans : List RegionPlan) → p ≡ world_parts_of all → plans ≡ p.regions → by_number (λ r. r.number) plans ≡ regions_of all
+region_maps_are_same : (all : WorldDraft) (p : WorldParts) (plans : List RegionPlan) → p ≡ world_parts_of all
+    → plans ≡ p.regions → by_number (λ r. r.number) plans ≡ regions_of all
 unfolding regions_of
 region_maps_are_same all p plans e q = ap (by_number (λ r. r.number)) (q ∙ ap (λ (x : WorldParts). x.regions) e)
 
@@ -25,7 +26,8 @@ region_maps_are_same all p plans e q = ap (by_number (λ r. r.number)) (q ∙ ap
 abbrev made_of : WorldDraft → WorldParts → FinMap nat_cmp RegionPlan → WorldValue
 made_of all p regions = world_of_parts p.rules p.terrains p.items all.skills p.kinds regions
 
-made_is_world : (all : WorldDraft) (p : WorldParts) (regions : FinMap nat_cmp RegionPlan) → p ≡ world_parts_of all → regions ≡ regions_of all → made_of all p regions ≡ world_of_tables all
+made_is_world : (all : WorldDraft) (p : WorldParts) (regions : FinMap nat_cmp RegionPlan) → p ≡ world_parts_of all
+    → regions ≡ regions_of all → made_of all p regions ≡ world_of_tables all
 unfolding world_of_tables
 made_is_world all p regions e q = ap (made_of all p) q ∙ ap (λ (x : WorldParts). made_of all x (regions_of all)) e
 

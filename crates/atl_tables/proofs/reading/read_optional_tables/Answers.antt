@@ -13,13 +13,16 @@ use Rattle.atl_tables.proofs.FaultLaws.{gives_error, error_of_first_list_is_of_j
 use Rattle.atl_tables.proofs.reading.read_optional_tables.Goals as goal
 
 abbrev item_key_conditions : Members → Conditions
-item_key_conditions doc = list_conditions item_keys (codes "item") (optional_array_at most_items (codes "item") (codes "item") doc)
+item_key_conditions doc =
+    list_conditions item_keys (codes "item") (optional_array_at most_items (codes "item") (codes "item") doc)
 
 abbrev skill_key_conditions : Members → Conditions
-skill_key_conditions doc = list_conditions skill_keys (codes "skill") (optional_array_at most_skills (codes "skill") (codes "skill") doc)
+skill_key_conditions doc =
+    list_conditions skill_keys (codes "skill") (optional_array_at most_skills (codes "skill") (codes "skill") doc)
 
 abbrev kind_key_conditions : Members → Conditions
-kind_key_conditions doc = list_conditions kind_keys (codes "kind") (optional_array_at most_kinds (codes "kind") (codes "kind") doc)
+kind_key_conditions doc =
+    list_conditions kind_keys (codes "kind") (optional_array_at most_kinds (codes "kind") (codes "kind") doc)
 
 pub returns-in_err-items-clause-value : goal.returns-in_err-items-clause-value
 unfolding optional_conditions

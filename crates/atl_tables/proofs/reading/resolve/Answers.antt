@@ -11,8 +11,8 @@ use Rattle.atl_tables.specs.declared.world_draft.WorldDraft.{WorldDraft}
 use Rattle.atl_tables.proofs.FaultLaws.{gives_error, error_of_first_list_is_of_joined, error_of_second_list_is_of_joined, joined_list_has_no_fault}
 use Rattle.atl_tables.proofs.reading.resolve.Goals as goal
 
--- The conditions are checked list by list: a fault of a list is that of all lists joined, since the lists before it have
--- none.
+-- The conditions are checked list by list: a fault of a list is that of all lists joined, since the lists before it
+-- have none.
 
 abbrev rules_lookup_conditions : WorldDraft → Conditions
 rules_lookup_conditions all = rules_known all

@@ -12,14 +12,15 @@ use Rattle.atl_world.specs.declared.format.Format.{Format}
 use Rattle.atl_tables.proofs.FaultLaws.{gives_error, error_of_first_list_is_of_joined, error_of_second_list_is_of_joined, joined_list_has_no_fault}
 use Rattle.atl_tables.proofs.reading.tables.Goals as goal
 
--- The conditions are checked list by list: a fault of a list is that of all lists joined, since the lists before it have
--- none.
+-- The conditions are checked list by list: a fault of a list is that of all lists joined, since the lists before it
+-- have none.
 
 abbrev rules_table_conditions : Members → Conditions
 rules_table_conditions doc = rules_conditions doc
 
 abbrev terrain_table_conditions : Members → Conditions
-terrain_table_conditions doc = list_conditions terrain_keys (codes "terrain") (array_at most_terrains (codes "terrain") doc)
+terrain_table_conditions doc =
+    list_conditions terrain_keys (codes "terrain") (array_at most_terrains (codes "terrain") doc)
 
 abbrev optional_table_conditions : Members → Conditions
 optional_table_conditions doc = optional_conditions doc

@@ -5,7 +5,9 @@ use Rattle.atl_tables.proofs.region_table.read_sides.Goals as goal
 
 pub returns-in_err-north : goal.returns-in_err-north
 unfolding side_keys sides_from
-returns-in_err-north c = gives_error _ _ _ _ _ c.from_residual.ensures.1 (stops_first (λ x. x) c.in_err-north.field-0.0 _ _ c.in_err-north.ensures)
+returns-in_err-north c =
+    gives_error _ _ _ _ _ c.from_residual.ensures.1
+    (stops_first (λ x. x) c.in_err-north.field-0.0 _ _ c.in_err-north.ensures)
 
 pub returns-in_err-south : goal.returns-in_err-south
 unfolding side_keys sides_from

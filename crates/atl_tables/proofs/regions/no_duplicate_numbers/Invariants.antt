@@ -10,6 +10,7 @@ use Rattle.atl_tables.proofs.regions.no_duplicate_numbers.Given as goal
 -- all regions
 abbrev pub invariant-loop-i : goal.invariant-loop-i
 invariant-loop-i l = record {
-  faults : first_fault (conditions_on_each (duplicate_number_at l.drafts) l.i (drop l.i l.drafts)) ≡ first_fault (conditions_on_each (duplicate_number_at l.drafts) 0 l.drafts);
+  faults : first_fault (conditions_on_each (duplicate_number_at l.drafts) l.i (drop l.i l.drafts))
+      ≡ first_fault (conditions_on_each (duplicate_number_at l.drafts) 0 l.drafts);
   seen : (n : ℕ) → is_some (get l.seen n) ≡ some_region_has_number n (take l.i l.drafts);
 }

@@ -9,7 +9,8 @@ use Rattle.atl_tables.proofs.EachLaws.{rest_has_same_fault_at_index, error_at_in
 use Rattle.atl_tables.proofs.SeenLaws.{came_before, comes_first, has_one_more}
 use Rattle.atl_tables.proofs.titles.first_duplicate.Goals as goal
 
-duplicate_name_fault : {A : Type 0} (title : A → List ℕ) (array key : List ℕ) (all : List A) (i : ℕ) (x : A) (b : Bool) → list_any (λ y. same_name (title y) (title x)) (take i all) ≡ b
+duplicate_name_fault : {A : Type 0} (title : A → List ℕ) (array key : List ℕ) (all : List A) (i : ℕ) (x : A) (b : Bool)
+    → list_any (λ y. same_name (title y) (title x)) (take i all) ≡ b
     → first_fault (no_duplicate_before title array key all i x) ≡ cond b (Some (TwoNames (path (element_path array i) key))) None
 unfolding no_duplicate_before
 duplicate_name_fault title array key all i x true h = rw h

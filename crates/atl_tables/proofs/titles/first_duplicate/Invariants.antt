@@ -10,5 +10,7 @@ use Rattle.atl_tables.proofs.titles.first_duplicate.Given as goal
 abbrev pub invariant-loop-i : goal.invariant-loop-i
 invariant-loop-i g l = record {
   seen : HasNames g.T.Titled.title_of (take l.i l.items) l.seen;
-  faults : (array key : List ℕ) → first_fault (conditions_on_each (no_duplicate_before g.T.Titled.title_of array key l.items) l.i (drop l.i l.items)) ≡ first_fault (conditions_on_each (no_duplicate_before g.T.Titled.title_of array key l.items) 0 l.items);
+  faults : (array key : List ℕ)
+      → first_fault (conditions_on_each (no_duplicate_before g.T.Titled.title_of array key l.items) l.i (drop l.i l.items))
+      ≡ first_fault (conditions_on_each (no_duplicate_before g.T.Titled.title_of array key l.items) 0 l.items);
 }

@@ -23,9 +23,12 @@ loop-left-preserved-then-is_last_above c =
     record {
       own = omega arith;
       left = c.loop-left.invariant.left;
-      kept = take-set-le (own - 1) now (own + left - 1) n (omega arith) ∙ sym (take-take (own - 1) own now (omega arith))
+      kept =
+          take-set-le (own - 1) now (own + left - 1) n (omega arith) ∙ sym (take-take (own - 1) own now (omega arith))
           ∙ ap (take (own - 1)) c.loop-left.invariant.kept ∙ take-take (own - 1) own was (omega arith);
-      merged = own_put was others now own (own - 1) left (own + left - 1) n (omega arith) (omega arith) (omega (arith, long)) (omega (arith, c.requires.size)) is under
+      merged =
+          own_put was others now own (own - 1) left (own + left - 1) n (omega arith) (omega arith) (omega (arith, long))
+          (omega (arith, c.requires.size)) is under
           ∙ c.loop-left.invariant.merged;
     }
 
@@ -42,7 +45,8 @@ loop-left-preserved c =
     let long : length now ≡ c.args.own + length others = c.loop-left.auto.numbers ∙ c.requires.size in
     let below : 0 < own → get_or first (own - 1) 0 < n = λ some.
     let is : get_or first (own - 1) 0 ≡ get_or now (own - 1) 0 =
-    get_or-take c.args.own was (own - 1) 0 (omega (arith, some)) ∙ sym (get_or-take own was (own - 1) 0 (omega (arith, some)))
+    get_or-take c.args.own was (own - 1) 0 (omega (arith, some))
+    ∙ sym (get_or-take own was (own - 1) 0 (omega (arith, some)))
     ∙ ap (λ xs. get_or xs (own - 1) 0) (sym c.loop-left.invariant.kept) ∙ get_or-take own now (own - 1) 0 (omega (arith, some)) in
     let most : get_or now (own - 1) 0 ≤ n = not_above (0 < own) (get_or now (own - 1) 0) n c.if-is_last_above.ensures.1 some in
     less_apart first others (own - 1) (left - 1) c.requires.apart (omega (arith, some, size)) (omega arith) (omega (arith, is, most)) in
@@ -51,9 +55,13 @@ loop-left-preserved c =
       own = c.loop-left.invariant.own;
       left = omega arith;
       kept = take-set-le own now (own + left - 1) n (omega arith) ∙ c.loop-left.invariant.kept;
-      merged = other_put was others now own left (left - 1) (own + left - 1) n (omega arith) (omega arith) (omega (arith, long)) (omega arith) refl under
+      merged =
+          other_put was others now own left (left - 1) (own + left - 1) n (omega arith) (omega arith)
+          (omega (arith, long)) (omega arith) refl under
           ∙ c.loop-left.invariant.merged;
     }
 
 pub returns : goal.returns
-returns c = all_put c.args.numbers.now c.args.others.now c.loop-left.numbers _ c.loop-left.own c.loop-left.left (omega arith) c.loop-left.invariant.kept c.loop-left.invariant.merged
+returns c =
+    all_put c.args.numbers.now c.args.others.now c.loop-left.numbers _ c.loop-left.own c.loop-left.left (omega arith)
+    c.loop-left.invariant.kept c.loop-left.invariant.merged

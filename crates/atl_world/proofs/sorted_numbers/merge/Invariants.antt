@@ -10,7 +10,8 @@ invariant-loop-left l = record {
   own : l.own ≤ l.fn.own;
   left : l.left ≤ length l.others;
   kept : take l.own l.numbers ≡ take l.own l.fn.numbers;
-  merged : sorted_merge nat_cmp true (take l.own l.fn.numbers) (take l.left l.others) ++ drop (l.own + l.left) l.numbers ≡ sorted_merge nat_cmp true (take l.fn.own l.fn.numbers) l.others;
+  merged : sorted_merge nat_cmp true (take l.own l.fn.numbers) (take l.left l.others) ++ drop (l.own + l.left) l.numbers
+      ≡ sorted_merge nat_cmp true (take l.fn.own l.fn.numbers) l.others;
 }
 
 abbrev pub decreases-loop-left : goal.decreases-loop-left

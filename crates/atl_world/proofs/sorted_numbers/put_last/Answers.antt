@@ -6,4 +6,5 @@ use Rattle.atl_world.proofs.sorted_numbers.put_last.Goals as goal
 pub returns-clause-items : goal.returns-clause-items
 returns-clause-items c =
     let numbers = c.args.numbers.now in
-    c.put_at.ensures.items ∙ ap (λ i. insert numbers.items i c.args.number) (c.len-end.ensures ∙ numbers.ok.0) ∙ insert_end numbers.items c.args.number
+    c.put_at.ensures.items ∙ ap (λ i. insert numbers.items i c.args.number) (c.len-end.ensures ∙ numbers.ok.0)
+    ∙ insert_end numbers.items c.args.number

@@ -12,5 +12,7 @@ returns c =
     let rows = c.self.inside.rows.items in
     let there : thing_index c.args.thing < length rows = grid_there rows c.args.self.now c.args.thing c.self.view_is c.requires in
     let same : to_z w64 (of_z w64 (get_or c.index.result.now c.column.result (pos 0))) ≡ get_or c.index.result.now c.column.result (pos 0) = search (arith, rules, to_z-of_z) in
-    same ∙ cell_read rows c.args.entry c.args.thing c.row_index.result c.column.result c.index.result.now c.index.ensures c.row_index.ensures.index c.column.ensures.index there
-    ∙ sym (amount-as_books rows c.args.entry c.args.thing) ∙ ap (λ (b : BooksValue). amount_in b c.args.entry c.args.thing) c.self.view_is
+    same
+    ∙ cell_read rows c.args.entry c.args.thing c.row_index.result c.column.result c.index.result.now c.index.ensures c.row_index.ensures.index c.column.ensures.index there
+    ∙ sym (amount-as_books rows c.args.entry c.args.thing)
+    ∙ ap (λ (b : BooksValue). amount_in b c.args.entry c.args.thing) c.self.view_is

@@ -8,4 +8,5 @@ use Rattle.atl_records.proofs.books.Books.new.Goals as goal
 pub returns : goal.returns
 returns c =
     let all : c.loop-made._made ≡ c.args.things = omega arith in
-    ap as_books (c.loop-made.invariant ∙ ap (λ n. replicate n (replicate entry_count (pos 0))) all) ∙ as_books-replicate c.args.things
+    ap as_books (c.loop-made.invariant ∙ ap (λ n. replicate n (replicate entry_count (pos 0))) all)
+    ∙ as_books-replicate c.args.things

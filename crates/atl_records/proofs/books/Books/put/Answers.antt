@@ -20,4 +20,5 @@ returns c =
     let rows = c.self.inside.rows.items in
     let there : thing_index c.args.thing < length rows = grid_there rows c.args.self.now c.args.thing c.self.view_is c.requires in
     let written = cell_written rows c.args.entry c.args.thing c.row_index-row.result c.column-column.result c.index_mut.result.now _ c.args.amount c.index_mut.ensures.value c.row_index-row.ensures.index c.column-column.ensures.index (to_z-of_z w64 c.args.amount c.ranges.amount) there in
-    ap as_books written ∙ as_books-with_cell rows c.self.invariant c.args.entry c.args.thing c.args.amount there ∙ ap (λ (b : BooksValue). with_amount b c.args.entry c.args.thing c.args.amount) c.self.view_is
+    ap as_books written ∙ as_books-with_cell rows c.self.invariant c.args.entry c.args.thing c.args.amount there
+    ∙ ap (λ (b : BooksValue). with_amount b c.args.entry c.args.thing c.args.amount) c.self.view_is

@@ -13,4 +13,6 @@ returns c =
     let rows = c.self.inside.rows.items in
     let there : thing_index c.args.thing < length rows = grid_there rows c.args.self.now c.args.thing c.self.view_is c.requires in
     let same : to_z w128 (of_z w128 c.row_sum.result) ≡ c.row_sum.result = search (arith, rules, to_z-of_z) in
-    same ∙ c.row_sum.ensures ∙ row_summed rows c.args.thing c.row_index.result c.index.result.now c.index.ensures c.row_index.ensures.index c.self.invariant there ∙ ap (λ (b : BooksValue). booked b c.args.thing) c.self.view_is
+    same ∙ c.row_sum.ensures
+    ∙ row_summed rows c.args.thing c.row_index.result c.index.result.now c.index.ensures c.row_index.ensures.index c.self.invariant there
+    ∙ ap (λ (b : BooksValue). booked b c.args.thing) c.self.view_is

@@ -5,7 +5,9 @@ use Rattle.atl_tables.proofs.market_table.MarketDraftFromTable.read.Goals as goa
 
 pub returns-in_err-item-clause-value : goal.returns-in_err-item-clause-value
 unfolding market_keys market_from
-returns-in_err-item-clause-value c = gives_error _ _ _ _ _ c.from_residual.ensures.1 (stops_first (λ x. x) c.in_err-item.field-0.0 _ _ c.in_err-item.ensures)
+returns-in_err-item-clause-value c =
+    gives_error _ _ _ _ _ c.from_residual.ensures.1
+    (stops_first (λ x. x) c.in_err-item.field-0.0 _ _ c.in_err-item.ensures)
 
 pub returns-in_err-price-clause-value : goal.returns-in_err-price-clause-value
 unfolding market_keys market_from
@@ -29,4 +31,7 @@ returns-in_err-restock-clause-value c =
 
 pub returns-clause-value : goal.returns-clause-value
 unfolding market_keys market_from
-returns-clause-value c = rw (c.in_ok-item.ensures, c.in_ok-price.ensures.value, c.in_ok-pays.ensures.value, c.in_ok-limit.ensures.value, c.in_ok-restock.ensures.value, c.in_ok-own_path.ensures) (refl, refl)
+returns-clause-value c =
+    rw
+    (c.in_ok-item.ensures, c.in_ok-price.ensures.value, c.in_ok-pays.ensures.value, c.in_ok-limit.ensures.value, c.in_ok-restock.ensures.value, c.in_ok-own_path.ensures)
+    (refl, refl)

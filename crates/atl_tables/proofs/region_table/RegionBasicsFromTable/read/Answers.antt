@@ -5,7 +5,9 @@ use Rattle.atl_tables.proofs.region_table.RegionBasicsFromTable.read.Goals as go
 
 pub returns-in_err-number-clause-value : goal.returns-in_err-number-clause-value
 unfolding basics_keys basics_from
-returns-in_err-number-clause-value c = gives_error _ _ _ _ _ c.from_residual.ensures.1 (stops_first (λ x. x) c.in_err-number.field-0.0 _ _ c.in_err-number.ensures.value)
+returns-in_err-number-clause-value c =
+    gives_error _ _ _ _ _ c.from_residual.ensures.1
+    (stops_first (λ x. x) c.in_err-number.field-0.0 _ _ c.in_err-number.ensures.value)
 
 pub returns-in_err-name-clause-value : goal.returns-in_err-name-clause-value
 unfolding basics_keys basics_from
@@ -29,4 +31,7 @@ returns-in_err-money-clause-value c =
 
 pub returns-clause-value : goal.returns-clause-value
 unfolding basics_keys basics_from
-returns-clause-value c = rw (c.in_ok-number.ensures.value, c.in_ok-name.ensures.value, c.in_ok-terrain.ensures, c.in_ok-peasants.ensures.value, c.in_ok-money.ensures.value) (refl, refl)
+returns-clause-value c =
+    rw
+    (c.in_ok-number.ensures.value, c.in_ok-name.ensures.value, c.in_ok-terrain.ensures, c.in_ok-peasants.ensures.value, c.in_ok-money.ensures.value)
+    (refl, refl)

@@ -6,11 +6,15 @@ use Rattle.atl_tables.proofs.region_table.RegionDraftFromTable.read.Goals as goa
 
 pub returns-in_err-basics-clause-value : goal.returns-in_err-basics-clause-value
 unfolding region_keys region_from
-returns-in_err-basics-clause-value c = gives_error _ _ _ _ _ c.from_residual.ensures.1 (error_of_condition_is_of_list c.in_err-basics.field-0.0 _ _ c.in_err-basics.ensures.value)
+returns-in_err-basics-clause-value c =
+    gives_error _ _ _ _ _ c.from_residual.ensures.1
+    (error_of_condition_is_of_list c.in_err-basics.field-0.0 _ _ c.in_err-basics.ensures.value)
 
 pub returns-in_err-markets-clause-value : goal.returns-in_err-markets-clause-value
 unfolding region_keys region_from
-returns-in_err-markets-clause-value c = rw c.in_ok-basics.ensures.value.0 (gives_error _ _ _ _ _ c.from_residual-in_err-markets.ensures.1 c.in_err-markets.ensures.value)
+returns-in_err-markets-clause-value c =
+    rw c.in_ok-basics.ensures.value.0
+    (gives_error _ _ _ _ _ c.from_residual-in_err-markets.ensures.1 c.in_err-markets.ensures.value)
 
 pub returns-clause-value : goal.returns-clause-value
 unfolding region_keys region_from old_region_from

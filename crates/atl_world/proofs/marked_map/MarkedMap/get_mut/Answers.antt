@@ -20,7 +20,8 @@ returns-in-Some g c =
     let n = c.args.number in
     let values = ap (λ (t : MarkedMapValue g.row.V.Denot). t.values) c.self.view_is in
     let marks : c.mark_present.new.self.numbers ≡ set.insert c.args.self.now.marks n =
-    ap (λ (m : RoomySet). m.numbers) c.mark_present.ensures ∙ ap (marked_with c.self.inside.marks.numbers n) (sym c.in-Some.ensures.value)
+    ap (λ (m : RoomySet). m.numbers) c.mark_present.ensures
+    ∙ ap (marked_with c.self.inside.marks.numbers n) (sym c.in-Some.ensures.value)
     ∙ ap (λ (t : MarkedMapValue g.row.V.Denot). set.insert t.marks n) c.self.view_is in (
       λ i. inl (c.in-Some.value.ghost_name, λ w. record { values = insert (values i) n w; marks = marks i }),
       record { writes_back = tt; value = c.in-Some.ensures.value ∙ ap (λ (t : MarkedMapValue g.row.V.Denot). get t.values n) c.self.view_is },

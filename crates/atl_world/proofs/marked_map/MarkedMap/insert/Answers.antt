@@ -32,7 +32,8 @@ invariant_of-self-in-Err g c =
     rw (c.remove.ensures, c.in_ok-insert.ensures.ok, remove_undoes_insert values c.args.number c.args.value fresh) (omega (arith, same, c.make_room.ensures.kept, c.self.invariant))
 
 pub returns-in-Ok-clause-ok : goal.returns-in-Ok-clause-ok
-returns-in-Ok-clause-ok g c = rw (← c.self.view_is, c.add.ensures, c.in_ok-insert.ensures.ok, c.make_room.ensures.numbers) refl
+returns-in-Ok-clause-ok g c =
+    rw (← c.self.view_is, c.add.ensures, c.in_ok-insert.ensures.ok, c.make_room.ensures.numbers) refl
 
 pub returns-in-Err-clause-err : goal.returns-in-Err-clause-err
 returns-in-Err-clause-err g c =

@@ -8,4 +8,5 @@ invariant_of-self g c =
     rw (c.remove-else-was_marked.ensures, c.take.ensures) (Room-taken c.self.inside.values marks.numbers marks.room c.args.number c.self.invariant)
 
 pub returns-else-was_marked : goal.returns-else-was_marked
-returns-else-was_marked g c = rw (← c.self.view_is, c.if-was_marked.false, c.remove-else-was_marked.ensures, c.take.ensures) refl
+returns-else-was_marked g c =
+    rw (← c.self.view_is, c.if-was_marked.false, c.remove-else-was_marked.ensures, c.take.ensures) refl

@@ -27,7 +27,8 @@ pub returns-then-has_recent_room : goal.returns-then-has_recent_room
 returns-then-has_recent_room c =
     let n = c.args.number in
     let numbers : set.union c.self.inside.numbers.numbers c.add.new.self.numbers ≡ set.insert c.args.self.now.numbers n =
-    (λ i. set.union c.self.inside.numbers.numbers (c.add.ensures i).numbers) ∙ union-insert c.self.inside.numbers.numbers c.self.inside.recent.numbers n
+    (λ i. set.union c.self.inside.numbers.numbers (c.add.ensures i).numbers)
+    ∙ union-insert c.self.inside.numbers.numbers c.self.inside.recent.numbers n
     ∙ ap (λ (m : RoomySet). set.insert m.numbers n) c.self.view_is in
     let room = ap (λ (m : RoomySet). m.room) c.self.view_is in
     λ i. record { numbers = numbers i; room = room i }
@@ -36,7 +37,8 @@ pub returns-else-has_recent_room : goal.returns-else-has_recent_room
 returns-else-has_recent_room c =
     let n = c.args.number in
     let numbers : set.union c.add-else-has_recent_room.new.self.numbers c.merge_from.new.others.numbers ≡ set.insert c.args.self.now.numbers n =
-    (λ i. set.union (c.add-else-has_recent_room.ensures i).numbers (c.merge_from.ensures.others i).numbers) ∙ union-empty (set.insert c.merge_from.new.self.numbers n)
+    (λ i. set.union (c.add-else-has_recent_room.ensures i).numbers (c.merge_from.ensures.others i).numbers)
+    ∙ union-empty (set.insert c.merge_from.new.self.numbers n)
     ∙ ap (λ (m : RoomySet). set.insert m.numbers n) (c.merge_from.ensures.numbers ∙ c.self.view_is) in
     let room = ap (λ (m : RoomySet). m.room) c.add-else-has_recent_room.ensures ∙ ap (λ (m : RoomySet). m.room) (c.merge_from.ensures.numbers ∙ c.self.view_is) in
     λ i. record { numbers = numbers i; room = room i }

@@ -6,7 +6,8 @@ use Rattle.atl_world.proofs.ApartLaws.{no_marks}
 use Rattle.atl_world.proofs.marks.Marks.clear.Goals as goal
 
 pub invariant_of-self : goal.invariant_of-self
-invariant_of-self c = rw (c.clear.ensures, c.clear-2.ensures) (no_marks c.self.inside.numbers.room c.self.inside.recent.room)
+invariant_of-self c =
+    rw (c.clear.ensures, c.clear-2.ensures) (no_marks c.self.inside.numbers.room c.self.inside.recent.room)
 
 pub returns : goal.returns
 returns c =

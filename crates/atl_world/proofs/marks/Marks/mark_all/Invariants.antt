@@ -7,6 +7,7 @@ use Rattle.atl_world.proofs.marks.Marks.mark_all.Given as goal
 -- stays the same
 abbrev pub invariant-loop-number : goal.invariant-loop-number
 invariant-loop-number g l = record {
-  all : set.union l.self.numbers (set.from_list (map (λ e. e.0) l.number-iterator)) ≡ valued_or_marked l.values l.fn.self.numbers;
+  all : set.union l.self.numbers (set.from_list (map (λ e. e.0) l.number-iterator))
+      ≡ valued_or_marked l.values l.fn.self.numbers;
   room : l.self.room ≡ l.fn.self.room;
 }

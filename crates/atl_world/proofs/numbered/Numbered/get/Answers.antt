@@ -4,4 +4,6 @@ use Rattle.atl_world.proofs.Maps.{get_is_first_value}
 use Rattle.atl_world.proofs.numbered.Numbered.get.Goals as goal
 
 pub returns : goal.returns
-returns g c = c.get.ensures.value ∙ sym (get_is_first_value c.self.inside.entries.entries c.args.number) ∙ ap (λ m. get m c.args.number) c.self.view_is
+returns g c =
+    c.get.ensures.value ∙ sym (get_is_first_value c.self.inside.entries.entries c.args.number)
+    ∙ ap (λ m. get m c.args.number) c.self.view_is

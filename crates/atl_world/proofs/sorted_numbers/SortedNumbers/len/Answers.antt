@@ -11,7 +11,9 @@ use Rattle.atl_world.proofs.sorted_numbers.SortedNumbers.len.Goals as goal
 
 pub returns-in-Some-clause-value : goal.returns-in-Some-clause-value
 returns-in-Some-clause-value c =
-    c.length_of_bounded.ensures.value ∙ ap length c.deref-in-Some.ensures.value ∙ sym (len-sorted c.self.inside.numbers.items c.self.invariant) ∙ ap (λ (m : RoomySet). set.len m.numbers) c.self.view_is
+    c.length_of_bounded.ensures.value ∙ ap length c.deref-in-Some.ensures.value
+    ∙ sym (len-sorted c.self.inside.numbers.items c.self.invariant)
+    ∙ ap (λ (m : RoomySet). set.len m.numbers) c.self.view_is
 
 pub returns-in-None-clause-value : goal.returns-in-None-clause-value
 returns-in-None-clause-value c =

@@ -16,7 +16,9 @@ merge_into-requires-clause-room c =
     omega (arith, own, others, own_seen, others_seen, room, size, c.requires.room)
 
 pub invariant_of-self : goal.invariant_of-self
-invariant_of-self c = rw (c.merge_into.ensures.items, c.deref.ensures.value) (sorted-merged c.self.inside.numbers.items c.others.inside.numbers.items c.self.invariant c.others.invariant)
+invariant_of-self c =
+    rw (c.merge_into.ensures.items, c.deref.ensures.value)
+    (sorted-merged c.self.inside.numbers.items c.others.inside.numbers.items c.self.invariant c.others.invariant)
 
 pub invariant_of-others : goal.invariant_of-others
 invariant_of-others c = rw c.clear.ensures.items sorted-empty
@@ -25,7 +27,8 @@ pub returns-clause-numbers : goal.returns-clause-numbers
 returns-clause-numbers c =
     let others = c.others.inside.numbers.items in
     let numbers : set.from_list c.merge_into.new.numbers.items ≡ set.union c.args.self.now.numbers c.args.others.now.numbers =
-    ap set.from_list (rw c.deref.ensures.value at c.merge_into.ensures.items) ∙ from_list-merged c.self.inside.numbers.items others
+    ap set.from_list (rw c.deref.ensures.value at c.merge_into.ensures.items)
+    ∙ from_list-merged c.self.inside.numbers.items others
     ∙ (λ i. set.union (c.self.view_is i).numbers (c.others.view_is i).numbers) in
     let room = c.merge_into.ensures.room ∙ ap (λ (m : RoomySet). m.room) c.self.view_is in
     λ i. record { numbers = numbers i; room = room i }

@@ -6,7 +6,8 @@ use Rattle.std.proofs.lemmas.Option.{slice_get-get_or}
 use Rattle.atl_world.specs.declared.world.Item.{Item}
 use Rattle.atl_world.proofs.world.World.item.Goals as goal
 
-found_item_raw_count : (xs : List Item) → ((i : ℕ) (x : Item) → slice_get xs i ≡ Some x → 1 ≤ x.raw_count) → (i : ℕ) (o : Option (Bor Item))
+found_item_raw_count : (xs : List Item) → ((i : ℕ) (x : Item) → slice_get xs i ≡ Some x → 1 ≤ x.raw_count)
+    → (i : ℕ) (o : Option (Bor Item))
     → is_some o ≡ nat_lt i (length xs) → IfSome o (λ x. x.now ≡ get_or xs i x.now) → IfSome o (λ x. 1 ≤ x.now.raw_count)
 found_item_raw_count xs each i None some at = tt
 found_item_raw_count xs each i (Some x) some at =

@@ -7,7 +7,9 @@ use Rattle.atl_world.specs.Worlds.{IsMarket}
 use Rattle.atl_world.specs.declared.world.Market.{Market}
 use Rattle.atl_world.proofs.world.World.market.Goals as goal
 
-some_market : (items number : ℕ) (markets : FinMap nat_cmp Market) → ((i : ℕ) (m : Market) → get markets i ≡ Some m → IsMarket items i m) → (o : Option (Bor Market)) → option_copied o ≡ get markets number → IfSome o (λ m. IsMarket items number m.now)
+some_market : (items number : ℕ) (markets : FinMap nat_cmp Market)
+    → ((i : ℕ) (m : Market) → get markets i ≡ Some m → IsMarket items i m) → (o : Option (Bor Market))
+    → option_copied o ≡ get markets number → IfSome o (λ m. IsMarket items number m.now)
 some_market items number markets each None is = tt
 some_market items number markets each (Some m) is = each number m.now (sym is)
 
