@@ -10,7 +10,7 @@ use Rattle.std.proofs.lemmas.Iterator.Adapters.{option_map_id}
 use Rattle.std.proofs.lemmas.Option.{same_Some}
 use Rattle.std.specs.Ordering.{nat_cmp}
 use Rattle.std.specs.FinMap.{FinMap, get}
-use Rattle.std.proofs.lemmas.Bool.{and_parts, cases_eq, cond_both, false_from_ne_true, not-false}
+use Rattle.std.proofs.lemmas.Bool.{and_parts, cases_eq, cond_both, false_from_ne_true, not-false, eq-eqb}
 use Rattle.std.proofs.lemmas.List.Elements.{recursion_from_All}
 use Rattle.std.proofs.lemmas.List.Sums.{sum_by-cons}
 use Rattle.atl_world.specs.Worlds.{WorldValue}
@@ -48,7 +48,7 @@ use Rattle.atl_phase.specs.Unbooked.{moves_nothing}
 use Rattle.atl_phase.proofs.MeaningLaws.{same_month_by}
 use Rattle.atl_phase.proofs.OutcomeLaws.{false_true}
 use Rattle.atl_phase.proofs.RefitLaws.{mapped_from}
-use Rattle.atl_phase.proofs.StructureLaws.{at_number, changed_else, equal_passes, get-changed, len-changed}
+use Rattle.atl_phase.proofs.StructureLaws.{at_number, changed_else, get-changed, len-changed}
 use Rattle.atl_phase.proofs.OrderEffectLaws.{carried_cases, well_same}
 use Rattle.atl_phase.specs.NoWorse.{IsUnchanged}
 use Rattle.atl_phase.proofs.UnbookedLaws.{stays_well}
@@ -69,7 +69,7 @@ number_of_unit f o = option_map_or (λ (x : Unit). f x.holding) o 0
 
 any_listed : (k : ℕ) (ns : List ℕ) → IsListed k ns → list_any (λ n. k == n) ns ≡ true
 any_listed k [] listed = absurd listed
-any_listed k (n ∷ ns) (inl same) = ap (λ b. b || list_any (λ n. k == n) ns) (equal_passes k n same)
+any_listed k (n ∷ ns) (inl same) = ap (λ b. b || list_any (λ n. k == n) ns) (eq-eqb k n same)
 any_listed k (n ∷ ns) (inr listed) = ap (λ b. (k == n) || b) (any_listed k ns listed) ∙ or-true (k == n)
 
 listed_any : (k : ℕ) (ns : List ℕ) → list_any (λ n. k == n) ns ≡ true → IsListed k ns
@@ -106,7 +106,7 @@ module _ (ship to : ℕ) where
   unfolding with_place
   one_is d n v is here =
       ap (λ o. with_guard (with_place_at d n to ship o) n false) is
-      ∙ ap (λ b. with_guard (if b then with_position d n to ship else after_handover (after_handover (with_position d n to ship) v.structure n (heir d v.structure n)) ship 0 n) n false) (equal_passes v.structure ship here)
+      ∙ ap (λ b. with_guard (if b then with_position d n to ship else after_handover (after_handover (with_position d n to ship) v.structure n (heir d v.structure n)) ship 0 n) n false) (eq-eqb v.structure ship here)
       ∙ elsewhere_is ship to d n
 
   still_inside : (m : FinMap nat_cmp Unit) (n k : ℕ) → IsInside m k → IsInside (elsewhere ship to m n) k
@@ -170,7 +170,7 @@ module _ (w : WorldValue) (c : CampaignValue) (ship to : ℕ) (steady : IsSteady
 
   member : (k : ℕ) (v : Unit) → get c.units k ≡ Some v → list_any (λ n. k == n) aboard_numbers ≡ (v.structure == ship)
   member k v there = elim (cases_eq v.structure ship) [
-    | inl here ↦ any_listed k aboard_numbers (inside_is_listed ship c.units some_ship k v there here) ∙ sym (equal_passes v.structure ship here)
+    | inl here ↦ any_listed k aboard_numbers (inside_is_listed ship c.units some_ship k v there here) ∙ sym (eq-eqb v.structure ship here)
     | inr apart ↦
         let unlisted = false_from_ne_true (list_any (λ n. k == n) aboard_numbers) (λ t.
         let (u, at, inside) = listed_is_inside ship c.units k (listed_any k aboard_numbers t) in
@@ -203,7 +203,7 @@ module _ (w : WorldValue) (c : CampaignValue) (ship to : ℕ) (steady : IsSteady
       }
 
   at_ship : get structures ship ≡ Some (shifted x)
-  at_ship = get-changed shifted c.structures ship ship ∙ ap (option_map (g ship)) is ∙ ap (λ b. Some (if b then shifted x else x)) (equal_passes ship ship refl)
+  at_ship = get-changed shifted c.structures ship ship ∙ ap (option_map (g ship)) is ∙ ap (λ b. Some (if b then shifted x else x)) (eq-eqb ship ship refl)
 
   at_other : (q : ℕ) → q ≢ ship → get structures q ≡ get c.structures q
   at_other q apart = changed_else shifted c.structures ship q apart (get c.structures ship)

@@ -8,7 +8,7 @@ use Rattle.std.specs.Option.{option_map_or}
 use Rattle.std.proofs.lemmas.Iterator.Adapters.{option_map_id}
 use Rattle.std.specs.Ordering.{nat_cmp}
 use Rattle.std.specs.FinMap.{FinMap, get, len}
-use Rattle.std.proofs.lemmas.Bool.{not-false, true≢false}
+use Rattle.std.proofs.lemmas.Bool.{not-false, true≢false, eq-eqb}
 use Rattle.std.proofs.lemmas.Option.{same_Some}
 use Rattle.atl_world.specs.Worlds.{WorldValue, is_land}
 use Rattle.atl_world.specs.declared.world.RegionPlan.{RegionPlan}
@@ -38,7 +38,7 @@ use Rattle.atl_phase.proofs.MeaningLaws.{same_month_by}
 use Rattle.atl_phase.proofs.OutcomeLaws.{false_true, none_fits}
 use Rattle.atl_phase.proofs.OwnerLaws.{heir_owns, owner_stays}
 use Rattle.atl_phase.proofs.PlacingLaws.{mapped_twice, owns_no_other, place_stays}
-use Rattle.atl_phase.proofs.StructureLaws.{changed_else, equal_passes, get-after_handover, get-changed, handed_is, handed_on, len-after_handover}
+use Rattle.atl_phase.proofs.StructureLaws.{changed_else, get-after_handover, get-changed, handed_is, handed_on, len-after_handover}
 use Rattle.atl_phase.proofs.OrderEffectLaws.{no_worse_is_relation, well_same}
 use Rattle.atl_phase.proofs.UnbookedLaws.{unchanged_is_no_worse, stays_well}
 use Rattle.atl_action.specs.Walk.{by_direction, is_land_there, walk, walk_fault, walk_step, with_unit_moved}
@@ -76,7 +76,7 @@ module _ (w : WorldValue) (c : CampaignValue) (n : ℕ) (u : Unit) (to : ℕ) (i
   units_at = get-changed (gone 0 to) c.units n
 
   here : get units n ≡ Some (gone 0 to u)
-  here = units_at n ∙ ap (option_map (f n)) is ∙ ap (λ b. Some (gone_if 0 to b u)) (equal_passes n n refl)
+  here = units_at n ∙ ap (option_map (f n)) is ∙ ap (λ b. Some (gone_if 0 to b u)) (eq-eqb n n refl)
 
   away : (k : ℕ) → k ≢ n → get units k ≡ get c.units k
   away k apart = units_at k ∙ ap (λ b. option_map (gone_if 0 to b) (get c.units k)) (other_number k n apart) ∙ option_map_id (get c.units k)

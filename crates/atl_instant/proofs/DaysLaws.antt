@@ -6,6 +6,7 @@ use Rattle.std.specs.Ordering.{nat_cmp, eq_by_cmp}
 use Rattle.std.specs.FinMap.{FinMap, contains_key-keys, empty, entries, get, get-empty, keys}
 use Rattle.std.specs.List.{list_any}
 use Rattle.std.proofs.lemmas.List.Folds.{list_any-append}
+use Rattle.std.proofs.lemmas.Bool.{or_parts}
 use Rattle.atl_records.specs.Every.{EachEntry, Every}
 use Rattle.atl_records.specs.Holdings.{HoldingValue, amount_of, with_amount_of}
 use Rattle.atl_records.proofs.EveryLaws.{each-from_every, every-empty}
@@ -76,12 +77,6 @@ none_listed days s none = by_option (get days s) (contains_key-keys days s ∙ n
     by_option None is = refl
     by_option (Some d) is = cc
 
--- for `days_go_with_men`: the tests a and b, whether a skill is in one list and in another, both fail if `a || b` is
--- false
-both_tests_fail : (a b : Bool) → (a || b) ≡ false → (a ≡ false) × (b ≡ false)
-both_tests_fail true b h = cc
-both_tests_fail false b h = (refl, h)
-
 none_stay : (d g : ℕ) → d ≡ 0 → d - g ≡ 0
 none_stay d g e = omega (arith, e)
 
@@ -98,7 +93,7 @@ days_go_with_men n other h s = record {
   stay = as_said (staying_of n other) (keys other.days) s (λ none. none_stay (amount_of other.days s) (going_of n other s) (none_listed other.days s none));
   come =
       as_said (raised_of n other h) (keys h.days ++ keys other.days) s (λ none.
-      let apart = both_tests_fail (list_any (eq_by_cmp nat_cmp s) (keys h.days)) (list_any (eq_by_cmp nat_cmp s) (keys other.days)) (sym (list_any-append (eq_by_cmp nat_cmp s) (keys h.days) (keys other.days)) ∙ none) in
+      let apart = or_parts (list_any (eq_by_cmp nat_cmp s) (keys h.days)) (list_any (eq_by_cmp nat_cmp s) (keys other.days)) (sym (list_any-append (eq_by_cmp nat_cmp s) (keys h.days) (keys other.days)) ∙ none) in
       none_come (amount_of h.days s) (going_of n other s) (none_listed h.days s apart.0) (none_go n other s (none_listed other.days s apart.1)));
 }
 

@@ -1,11 +1,10 @@
 -- Laws of FORM: the campaign stays early, its books balanced, all that changes is marked,
 -- and each unit that was there is unchanged.
-use Rattle.std.proofs.Common.{◌≡◌, ◌≢◌, ◌==◌, ◌||◌, ◌*◌, ℕ, ◌+◌, ◌≤◌, ◌<◌, Bool, true, false, cond, Some, None, length, nat_le, nat_lt, refl, sym, ap, ◌∙◌, arith, not, List, [], ◌∷◌, Option, map, subst}
+use Rattle.std.proofs.Common.{◌≡◌, ◌≢◌, ◌==◌, ◌||◌, ◌*◌, ℕ, ◌+◌, ◌≤◌, ◌<◌, Bool, true, false, Some, None, length, nat_le, nat_lt, refl, sym, ap, ◌∙◌, arith, not, List, [], ◌∷◌, Option, map, subst}
 use Rattle.std.proofs.lemmas.Bool.{true≢false}
-use Rattle.std.specs.Prelude.{IsTrue, is_some, unwrap_or, fold}
+use Rattle.std.specs.Prelude.{IsTrue, unwrap_or, fold}
 use Rattle.std.specs.Ordering.{nat_cmp}
-use Rattle.std.specs.Cmp.{nat_cmp_total}
-use Rattle.std.specs.FinMap.{FinMap, get, get-empty, insert, len, len-insert}
+use Rattle.std.specs.FinMap.{FinMap, get, get-empty, insert, len}
 use Rattle.std.proofs.lemmas.Bool.Decides.{nat_tests}
 use Rattle.atl_world.specs.Names.{name_ok}
 use Rattle.atl_world.specs.Worlds.{WorldValue}
@@ -24,7 +23,7 @@ use Rattle.atl_campaign.specs.Campaign.{MarkedCampaign, CampaignValue, with_unit
 use Rattle.atl_records.specs.Amounts.{unit_amount}
 use Rattle.atl_campaign.specs.Totals.{total}
 use Rattle.atl_campaign.proofs.CoverLaws.{Row, PartStaysMarked, KeepsUnmarked, marks-trans, marks-unit, part_by_part}
-use Rattle.atl_records.proofs.EveryLaws.{every-empty, every-insert, get-insert_other, none_some, there-insert}
+use Rattle.atl_records.proofs.EveryLaws.{every-empty, every-insert, get-insert_other, there-insert}
 use Rattle.atl_campaign.proofs.NumberListLaws.{none_passing}
 use Rattle.atl_campaign.proofs.TotalLaws.{total-with_unit}
 use Rattle.atl_phase.specs.Bounds.{StepsWell, nothing_remaining}
@@ -32,6 +31,7 @@ use Rattle.atl_phase.proofs.MeaningLaws.{same_month_by}
 use Rattle.atl_phase.proofs.UnbookedLaws.{unbooked_well}
 use Rattle.atl_instant.specs.Form.{is_unit_limit, new_unit, form_by, form_meaning, form_order, is_forming, with_formed_unit}
 use Rattle.atl_campaign.proofs.NumberedNameLaws.{unit_name_ok}
+use Rattle.atl_campaign.proofs.JoinLaws.{len_new, still_there}
 use Rattle.std.specs.Option.{option_map_or}
 use Rattle.atl_world.proofs.GeneralLaws.{is_equal}
 use Rattle.atl_records.specs.declared.event.EventFault.TheVariants.{NotYours, UnitLimit}
@@ -47,12 +47,6 @@ use Rattle.atl_instant.specs.Forming.{form_by_copy, forming_of}
 use Rattle.atl_instant.specs.declared.form.Forming.{Forming}
 
 -- ---- a campaign in which a unit has formed another
-
-len_new : {V : Type 0} (m : FinMap nat_cmp V) (k : ℕ) (v : V) → get m k ≡ None → len (insert m k v) ≡ len m + 1
-len_new m k v h = len-insert nat_cmp_total m k v ∙ ap (λ o. cond (is_some o) (len m) (len m + 1)) h
-
-still_there : {V : Type 0} (m : FinMap nat_cmp V) (k q : ℕ) (v x : V) → get m k ≡ None → get m q ≡ Some x → get (insert m k v) q ≡ Some x
-still_there m k q v x free is = get-insert_other m k q v (λ same. none_some x (sym free ∙ ap (get m) (sym same) ∙ is)) ∙ is
 
 -- for `unit_limits_not_reached`: if the test for the unit limit is false of a count u of units and a next number n, u
 -- is below 100,000, and n at most 999,999,999

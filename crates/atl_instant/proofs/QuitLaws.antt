@@ -5,7 +5,7 @@ use Rattle.std.proofs.Common.{◌≡◌, ◌≢◌, ◌==◌, ℕ, ◌+◌, ◌*
 use Rattle.std.specs.Prelude.{ℤ, pos, neg_ℤ, ◌+ℤ◌, IfSome, fold, unwrap_or, if◌then◌else◌}
 use Rattle.std.proofs.lemmas.Int.{ints}
 use Rattle.std.proofs.lemmas.Bool.Decides.{nat_tests}
-use Rattle.std.proofs.lemmas.Bool.{and_parts}
+use Rattle.std.proofs.lemmas.Bool.{and_parts, eq-eqb}
 use Rattle.std.proofs.lemmas.List.{drop_more}
 use Rattle.std.specs.declared.cmp.Ordering.TheVariants.{Less, Equal, Greater}
 use Rattle.std.specs.Ordering.{nat_cmp, is_eq}
@@ -36,7 +36,7 @@ use Rattle.atl_campaign.specs.Owners.{heir, without_unit, without_unit_at}
 use Rattle.atl_campaign.specs.Campaign.{MarkedCampaign, CampaignValue, numbers_of_faction}
 use Rattle.atl_records.specs.Amounts.{unit_amount}
 use Rattle.atl_campaign.specs.Totals.{Balances, total}
-use Rattle.atl_records.proofs.BookLaws.{booked-after_booking}
+use Rattle.atl_records.proofs.BookLaws.{booked-after_booking, plus_zero}
 use Rattle.atl_records.proofs.EveryEntryLaws.{entry_small}
 use Rattle.atl_campaign.proofs.CoverLaws.{marks-amount}
 use Rattle.atl_records.proofs.EveryLaws.{same_number, each-from_every, not_below, sorted}
@@ -56,7 +56,7 @@ use Rattle.atl_phase.proofs.MeaningLaws.{amount_room_for_less, near_more, near_s
 use Rattle.atl_phase.proofs.OutcomeLaws.{none_fits, not_apart}
 use Rattle.atl_phase.proofs.NoWorseLaws.{no_worse}
 use Rattle.atl_phase.proofs.OrderEffectLaws.{bound_used_near, no_worse_is_relation, well_same, well_twice, orders_fit, orders_leave_others}
-use Rattle.atl_phase.proofs.StructureLaws.{handed_is, equal_passes}
+use Rattle.atl_phase.proofs.StructureLaws.{handed_is}
 use Rattle.atl_instant.specs.Quit.{after_leaving, loss_entry, loss_under, quit, quit_affects, quit_effect, quit_fault, quit_moves, quit_remaining, quit_step, with_all_losses, with_item_loss, with_loss, without_leaver, QuitsByOwnUnit, is_quitting, quit_keeps, quit_meaning}
 use Rattle.atl_phase.specs.Month.{MonthValue}
 use Rattle.atl_phase.specs.Fit.{AreFit}
@@ -230,13 +230,11 @@ books_one w c t amount inside steady = record {
 books_items : (w : WorldValue) (c : CampaignValue) (es : List (ℕ × ℕ)) → EachEntry (λ i a. i < length w.items) es → IsSteady w c → BooksAsGone w (held_in_items es) (items_bound es) c (fold with_item_loss c es)
 books_items w c [] known steady = record {
   steady = steady;
-  sum_falls = λ s. plain (booked c.books s);
+  sum_falls = λ s. plus_zero (booked c.books s);
   near = λ e s. near_same 0 (amount_in c.books e s);
   same = refl;
 }
-  where
-    plain : (z : ℤ) → z ≡ z +ℤ pos 0
-    plain z = omega (arith, ints)
+
 books_items w c ((i, a) ∷ es) known steady =
     let one = books_one w c (Item i) a (omega (arith, known.0)) steady in
     books_twice w c (with_item_loss c (i, a)) (fold with_item_loss (with_item_loss c (i, a)) es) one (books_items w (with_item_loss c (i, a)) es known.1 one.steady)
@@ -478,7 +476,7 @@ quit_adds_no_unit : (w : WorldValue) (c : CampaignValue) (number : ℕ) (x : Uni
 quit_adds_no_unit w c number x steady = quit_cases (HasAllUnitsOf c) c number x (λ k u there. there) (λ own. all_leaving_add_no_unit w c (numbers_of_faction x.faction c.units) steady)
 
 is_own_unit : (c : CampaignValue) (t : Task) (x : Unit) → IsUnitOf c t x → is_own c t ≡ true
-is_own_unit c t x own = ap (is_of_faction t.faction) own.there ∙ equal_passes x.faction t.faction own.faction
+is_own_unit c t x own = ap (is_of_faction t.faction) own.there ∙ eq-eqb x.faction t.faction own.faction
 
 own_before : (c d : CampaignValue) (t : Task) → HasAllUnitsOf c d → is_own d t ≡ true → is_own c t ≡ true
 own_before c d t some own = by_unit (get d.units t.unit) refl own

@@ -5,7 +5,7 @@ use Rattle.std.proofs.Common.{◌≡◌, ◌≢◌, ◌==◌, ℕ, ◌+◌, ◌-
 use Rattle.std.specs.Prelude.{IfSome, nat_lt, unwrap_or}
 use Rattle.std.proofs.lemmas.Bool.Decides.{nat_tests}
 use Rattle.std.proofs.lemmas.Bool.{cases_lt}
-use Rattle.std.proofs.Math.Nat.{div-le_of_le-mul, le-div_iff_mul-le, mul-le-mul_right}
+use Rattle.std.proofs.Math.Nat.{div-le_of_le-mul, le-div_iff_mul-le, mul-le-mul_right, mul-add}
 use Rattle.std.specs.Ordering.{nat_cmp}
 use Rattle.std.specs.FinMap.{FinMap, get, keys}
 use Rattle.atl_world.specs.Worlds.{WorldValue}
@@ -79,7 +79,7 @@ rest_within : (k s n d : ℕ) → 0 < s + n → d ≤ k * (s + n) → d - d * n 
 rest_within k s n d some most = elim (cases_lt (k * s) d) [
   | inl more ↦
       let y = d - k * s in
-      let whole : k * (s + n) ≡ k * s + k * n = spread k s n in
+      let whole : k * (s + n) ≡ k * s + k * n = mul-add k s n in
       let is : d ≡ k * s + y = omega arith in
       let few : y ≤ k * n = omega arith in
       let times : y * (s + n) ≤ d * n = subst (λ x. y * (s + n) ≤ x * n) (sym is) (scaled y few) in
@@ -88,9 +88,6 @@ rest_within k s n d some most = elim (cases_lt (k * s) d) [
   | inr within ↦ let few : d ≤ k * s = within in omega (arith, few)
 ]
   where
-    spread : (k s n : ℕ) → k * (s + n) ≡ k * s + k * n
-    spread k s n = grind arith
-
     turned : (k s n y : ℕ) → (k * s + y) * n ≡ (k * n) * s + y * n
     turned k s n y = grind arith
 
@@ -98,7 +95,7 @@ rest_within k s n d some most = elim (cases_lt (k * s) d) [
     sum a b c l = omega arith
 
     scaled : (y : ℕ) → y ≤ k * n → y * (s + n) ≤ (k * s + y) * n
-    scaled y few = rw (turned k s n y, spread y s n) (sum (y * s) ((k * n) * s) (y * n) (mul-le-mul_right s few))
+    scaled y few = rw (turned k s n y, mul-add y s n) (sum (y * s) ((k * n) * s) (y * n) (mul-le-mul_right s few))
 
 -- if men have at most 450 days each, the days that stay when n of them go are at most 450 for each who stays
 pub staying_days_within : (n men days : ℕ) → n ≤ men → 1 ≤ days → days ≤ most_days * men → days - days_going n men days ≤ most_days * (men - n)
@@ -165,10 +162,7 @@ may_have_more w n other h room from may = record {
     known s (inr some) = known_skill w other s from (came s some (amount_of other.days s == 0) refl)
 
     sum_of_days_within : (k m n a b : ℕ) → a ≤ k * m → b ≤ k * n → a + b ≤ k * (m + n)
-    sum_of_days_within k m n a b f g = rw (spread k m n) (omega (arith, f, g))
-      where
-        spread : (k s n : ℕ) → k * (s + n) ≡ k * s + k * n
-        spread k s n = grind arith
+    sum_of_days_within k m n a b f g = rw (mul-add k m n) (omega (arith, f, g))
 
 -- sender and receiver together hold as much of each thing after n men went as before, if the sender had n men
 pub transfer_keeps_sum : (n : ℕ) (h k : HoldingValue) → n ≤ h.men → (t : Thing) → unit_amount t (after_sending n h) + unit_amount t (after_receiving n h k) ≡ unit_amount t h + unit_amount t k

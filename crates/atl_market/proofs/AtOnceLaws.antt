@@ -6,6 +6,7 @@ use Rattle.std.specs.Ordering.{nat_cmp}
 use Rattle.std.specs.FinMap.{entries, find, get, get-entries}
 use Rattle.std.proofs.lemmas.Bool.{cases_eq}
 use Rattle.std.proofs.lemmas.List.Sums.{sum_by-cons}
+use Rattle.std.proofs.Math.Nat.{zero-add}
 use Rattle.atl_world.specs.Worlds.{WorldValue}
 use Rattle.atl_records.specs.declared.records.Region.{Region}
 use Rattle.atl_records.specs.declared.records.Unit.{Unit}
@@ -18,9 +19,6 @@ use Rattle.atl_market.specs.AtOnce.{PaysAtOnce, RegionChange, UnitChange, paid_u
 use Rattle.atl_market.specs.PotPhase.{PotMeaning, after_sharing, given_by, items_by}
 use Rattle.atl_market.proofs.DrawLaws.{AreUntouched, Drawers, all_pairs, drawn, still, untouched, draws_region}
 use Rattle.atl_market.proofs.PotLaws.{found_other}
-
-zero_plus : (a : ℕ) → 0 + a ≡ a
-zero_plus a = omega arith
 
 -- the condition that a unit's region is in the campaign, where payments need the region (the first argument); else it
 -- always holds
@@ -110,7 +108,7 @@ module _ {needs : Bool} {step : CampaignValue → ℕ × ℕ → CampaignValue} 
               ∙ sym (ap (λ b. Some (gives q (cond b e.1 0 + drawn (draws_region c.units r) es))) mine)
           | inr apart ↦
               let other : draws_region c.units r e.0 ≡ false = ap (is_in_region r) there ∙ other_number v.region r (λ same. apart (sym same)) in
-              regions_drained (step d e) es rest r q (pays.regions d e v now here r apart ∙ is) ∙ ap (λ k. Some (gives q k)) (sym (zero_plus (drawn (draws_region c.units r) es)))
+              regions_drained (step d e) es rest r q (pays.regions d e v now here r apart ∙ is) ∙ ap (λ k. Some (gives q k)) (sym (zero-add (drawn (draws_region c.units r) es)))
               ∙ sym (ap (λ b. Some (gives q (cond b e.1 0 + drawn (draws_region c.units r) es))) other)
         ]
 
@@ -121,7 +119,7 @@ drawn_is_sum draws (e ∷ es) = by_test (draws e.0) (drawn_is_sum draws es)
     by_test : (b : Bool) → drawn draws es ≡ sum (map (λ f. f.1) (filter (λ f. draws f.0) es))
         → cond b e.1 0 + drawn draws es ≡ sum (map (λ f. f.1) (cond b (e ∷ filter (λ f. draws f.0) es) (filter (λ f. draws f.0) es)))
     by_test true rest = ap (λ k. e.1 + k) rest ∙ sym (sum_by-cons (λ x. x) e.1 (map (λ f. f.1) (filter (λ f. draws f.0) es)))
-    by_test false rest = zero_plus (drawn draws es) ∙ rest
+    by_test false rest = zero-add (drawn draws es) ∙ rest
 
 -- each unit that gets something in the phase is in the campaign, and so is its region where that is needed
 -- (`HasRegion`)

@@ -6,6 +6,7 @@ use Rattle.std.specs.Ordering.{nat_cmp}
 use Rattle.std.specs.FinMap.{FinMap, entries, get, insert}
 use Rattle.std.proofs.lemmas.Bool.{cases_eq, eqb-true}
 use Rattle.std.proofs.lemmas.List.Sums.{sum_by-cons}
+use Rattle.std.proofs.Math.Nat.{add-zero}
 use Rattle.atl_world.specs.Worlds.{WorldValue}
 use Rattle.atl_records.specs.declared.records.Region.{Region}
 use Rattle.atl_records.specs.declared.records.Unit.{Unit}
@@ -145,9 +146,6 @@ module _ {K : Type 0} (pots : DrawnPots K) where
         left_over share rest less all h k = omega (arith, h, k)
 
   module _ (d : CampaignValue) (e : ℕ × ℕ) (after : CampaignValue) where
-    no_less : (a : ℕ) → a + 0 ≡ a
-    no_less a = omega arith
-
     -- All pots lose just what a unit draws (`Drains`), if one region alone changes, its pots lose the share where the
     -- unit draws, and the unit draws in no other region.
     pub region_drains : (r : ℕ) (q : Region) → get d.regions r ≡ Some q → (f : Region → Region) → after.regions ≡ (region_changed f d r).regions
@@ -159,7 +157,7 @@ module _ {K : Type 0} (pots : DrawnPots K) where
           let value : f q ≡ x = cc in
           (q, ap (get d.regions) same ∙ around, subst (λ y. pots.left k y + cond (pots.draws k e.0) e.1 0 ≡ pots.left k q) value (here k same))
       | inr apart ↦
-          (x, sym (get-insert_other d.regions r (pots.pot_region k) (f q) apart) ∙ put, subst (λ b. pots.left k x + cond b e.1 0 ≡ pots.left k x) (sym (others k apart)) (no_less (pots.left k x)))
+          (x, sym (get-insert_other d.regions r (pots.pot_region k) (f q) apart) ∙ put, subst (λ b. pots.left k x + cond b e.1 0 ≡ pots.left k x) (sym (others k apart)) (add-zero (pots.left k x)))
     ]
       where
         put : get (insert d.regions r (f q)) (pots.pot_region k) ≡ Some x
@@ -169,8 +167,8 @@ module _ {K : Type 0} (pots : DrawnPots K) where
     nothing_drains same none k x found = (x, sym (ap (λ m. get m (pots.pot_region k)) same) ∙ found, ap (λ s. pots.left k x + cond (pots.draws k e.0) s 0) none ∙ neither (pots.draws k e.0) (pots.left k x))
       where
         neither : (b : Bool) (a : ℕ) → a + cond b 0 0 ≡ a
-        neither true a = no_less a
-        neither false a = no_less a
+        neither true a = add-zero a
+        neither false a = add-zero a
 
 -- ---- the pots of regions: the units of the region draw from them
 

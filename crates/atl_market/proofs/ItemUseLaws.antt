@@ -111,10 +111,10 @@ module _ (w : WorldValue) (c : CampaignValue) (n : ℕ) (u : Unit) (i amount : �
 
 -- ---- what is used
 
-taken_off : (a k : ℕ) → k ≤ a → pos (a - k) ≡ pos a +ℤ neg_ℤ (pos k)
+pub taken_off : (a k : ℕ) → k ≤ a → pos (a - k) ≡ pos a +ℤ neg_ℤ (pos k)
 taken_off a k l = omega (arith, ints, l)
 
-put_to : (a k : ℕ) → pos (a + k) ≡ pos a +ℤ pos k
+pub put_to : (a k : ℕ) → pos (a + k) ≡ pos a +ℤ pos k
 put_to a k = omega (arith, ints)
 
 module _ (w : WorldValue) (c : CampaignValue) (n i k : ℕ) where

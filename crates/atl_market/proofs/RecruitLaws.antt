@@ -6,7 +6,7 @@ use Rattle.std.specs.Option.{option_map_or}
 use Rattle.std.specs.Ordering.{nat_cmp}
 use Rattle.std.specs.FinMap.{FinMap, entries, get, insert}
 use Rattle.std.proofs.lemmas.Int.{ints}
-use Rattle.std.proofs.Math.Nat.{div-le_self, mul-div-le, mul-le-mul_right, mul_comm}
+use Rattle.std.proofs.Math.Nat.{div-le_self, mul-div-le, mul-le-mul_right, mul_comm, sub-add_cancel}
 use Rattle.atl_world.specs.Worlds.{WorldValue}
 use Rattle.atl_records.specs.declared.books.BooksEntry.{BooksEntry}
 use Rattle.atl_records.specs.declared.books.BooksEntry.TheVariants.{Recruiting}
@@ -122,10 +122,7 @@ module _ (w : WorldValue) (c : CampaignValue) (e : ℕ × ℕ) where
 
   recruited_drains : (can : CanRecruit w c e) (units : FinMap nat_cmp Unit) → get units e.0 ≡ Some can.at.unit → Drains (region_pots units peasants_of) c e (after_recruiting w c e)
   recruited_drains can units there =
-      one_drains units peasants_of c e can.at.unit can.at.region there can.at.around (after_recruiting w c e) (with_fewer_peasants can.at.region e.1) (ap (λ (d : CampaignValue). d.regions) (made_is can)) (less can.at.region.peasants can.enough)
-    where
-      less : (all : ℕ) → e.1 ≤ all → all - e.1 + e.1 ≡ all
-      less all enough = omega (arith, enough)
+      one_drains units peasants_of c e can.at.unit can.at.region there can.at.around (after_recruiting w c e) (with_fewer_peasants can.at.region e.1) (ap (λ (d : CampaignValue). d.regions) (made_is can)) (sub-add_cancel can.enough)
 
   pub recruited_others : (k : ℕ) → k ≢ e.0 → get (after_recruiting w c e).units k ≡ get c.units k
   unfolding after_recruiting

@@ -1,6 +1,7 @@
 -- Laws of TAX: it keeps a campaign early, its books balanced and all units no worse off; all shares can be paid in
 -- turn.
 use Rattle.std.proofs.Common.{◌≡◌, ◌≢◌, ℕ, ◌+◌, ◌-◌, ◌≤◌, Some, List, [], ◌∷◌, length, refl, sym, ap, subst, ◌∙◌, arith}
+use Rattle.std.proofs.Math.Nat.{sub-add_cancel}
 use Rattle.std.specs.Prelude.{fold, pos, min}
 use Rattle.std.specs.Option.{option_map_or}
 use Rattle.std.specs.Ordering.{nat_cmp}
@@ -104,10 +105,7 @@ module _ (w : WorldValue) (c : CampaignValue) (e : ℕ × ℕ) where
   taxed_drains : (can : CanTax w c e) (units : FinMap nat_cmp Unit) → get units e.0 ≡ Some can.at.unit → Drains (region_pots units money_of) c e (after_tax c e)
   taxed_drains can units there =
       one_drains units money_of c e can.at.unit can.at.region there can.at.around (after_tax c e) (with_share_taken can.at.region e.1)
-      (ap (λ (d : CampaignValue). d.regions) (taxed_is can.at.unit can.at.region can.at.there can.at.around)) (less can.at.region.money can.enough)
-    where
-      less : (all : ℕ) → e.1 ≤ all → all - e.1 + e.1 ≡ all
-      less all enough = omega (arith, enough)
+      (ap (λ (d : CampaignValue). d.regions) (taxed_is can.at.unit can.at.region can.at.there can.at.around)) (sub-add_cancel can.enough)
 
   taxed_no_worse : AreNoWorse c (after_tax c e)
   unfolding after_tax

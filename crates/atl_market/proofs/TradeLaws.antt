@@ -1,7 +1,7 @@
 -- Laws of SELL and BUY: the campaign's rules and the balance of its books are kept, and all shares can be traded in
 -- turn.
 use Rattle.std.proofs.Common.{◌≡◌, ◌≢◌, ◌==◌, ◌&&◌, ℕ, ◌+◌, ◌-◌, ◌*◌, ◌/◌, ◌≤◌, ◌<◌, Bool, true, false, cond, Option, Some, None, List, [], ◌∷◌, length, refl, sym, ap, subst, ◌∙◌, arith}
-use Rattle.std.specs.Prelude.{IsSome, fold, pos, neg_ℤ, ◌+ℤ◌, min, option_and_then, unwrap_or}
+use Rattle.std.specs.Prelude.{IsSome, fold, pos, ◌+ℤ◌, min, option_and_then, unwrap_or}
 use Rattle.std.specs.Option.{option_map_or}
 use Rattle.std.specs.Ordering.{nat_cmp, eq_by_cmp}
 use Rattle.std.specs.Cmp.{unsigned_ties}
@@ -9,7 +9,7 @@ use Rattle.std.specs.FinMap.{FinMap, entries, get, insert}
 use Rattle.std.proofs.lemmas.Int.{ints}
 use Rattle.std.proofs.lemmas.Bool.{and_parts, eqb-true}
 use Rattle.std.proofs.lemmas.Option.{same_Some}
-use Rattle.std.proofs.Math.Nat.{mul-div-le, mul-le-mul_right, mul_comm}
+use Rattle.std.proofs.Math.Nat.{mul-div-le, mul-le-mul_right, mul_comm, add-zero}
 use Rattle.atl_world.proofs.GeneralLaws.{is_unequal}
 use Rattle.atl_world.specs.ByNumber.{market_of}
 use Rattle.atl_world.specs.Limits.{most_amount}
@@ -64,6 +64,7 @@ use Rattle.atl_market.proofs.ProduceLaws.{only_room}
 use Rattle.atl_market.proofs.ThereLaws.{by_option, by_unit, unit_there}
 use Rattle.atl_market.proofs.TurnLaws.{few_holdings, first_room, later_room, turns_leave_well}
 use Rattle.atl_market.proofs.WantLaws.{GivesToWants, few_given, given_is_named}
+use Rattle.atl_market.proofs.ItemUseLaws.{put_to, taken_off}
 
 -- ---- a trade keeps the goods of unit and region together, and books the money
 
@@ -167,12 +168,6 @@ module _ (w : WorldValue) (u : Unit) (m : Market) (stock share : ℕ) (there : m
   come : (a s k : ℕ) → k ≤ s → a + k + (s - k) ≡ a + s
   come a s k enough = omega (arith, enough)
 
-  put_to : (a k : ℕ) → pos (a + k) ≡ pos a +ℤ pos k
-  put_to a k = omega (arith, ints)
-
-  taken_off : (a k : ℕ) → k ≤ a → pos (a - k) ≡ pos a +ℤ neg_ℤ (pos k)
-  taken_off a k enough = omega (arith, ints, enough)
-
   part : (a k limit : ℕ) → a + k ≤ limit → k ≤ limit
   part a k limit fits = omega (arith, fits)
 
@@ -263,9 +258,6 @@ module _ (trade : Trade) (items : FinMap nat_cmp ℕ) (w : WorldValue) (c : Camp
         (λ k same. here k same (eq_by_cmp nat_cmp k.1 m.item) refl)
         (λ k apart. ap (λ b. b && asks_for_item k.1 (get items e.0)) (ap (is_in_region k.0) there ∙ other_number can.at.unit.region k.0 (λ is. apart (sym is))))
       where
-        no_less : (a : ℕ) → a + 0 ≡ a
-        no_less a = omega arith
-
         draws_market_item : (k : ℕ × ℕ) → k.0 ≡ can.at.unit.region → draws_item units items k e.0 ≡ (m.item == k.1)
         draws_market_item k same =
             ap (λ b. b && asks_for_item k.1 (get items e.0)) (ap (is_in_region k.0) there ∙ ap (λ r. can.at.unit.region == r) same ∙ same_number can.at.unit.region)
@@ -284,7 +276,7 @@ module _ (trade : Trade) (items : FinMap nat_cmp ℕ) (w : WorldValue) (c : Camp
         here k same false is =
             let apart : m.item ≢ k.1 = λ one. is_unequal k.1 m.item (unsigned_ties k.1 m.item ∙ is) (sym one) in
             ap (λ b. market_pot trade (limit_of w k.1 k.0) (amount_of (with_amount_of can.at.region.stocks m.item deal.stock) k.1) + cond b e.1 0) (draws_market_item k same ∙ other_number m.item k.1 apart)
-            ∙ no_less (market_pot trade (limit_of w k.1 k.0) (amount_of (with_amount_of can.at.region.stocks m.item deal.stock) k.1))
+            ∙ add-zero (market_pot trade (limit_of w k.1 k.0) (amount_of (with_amount_of can.at.region.stocks m.item deal.stock) k.1))
             ∙ ap (market_pot trade (limit_of w k.1 k.0)) (amount_after_setting can.at.region.stocks m.item deal.stock k.1 ∙ ap (λ b. cond b deal.stock (amount_of can.at.region.stocks k.1)) is)
 
   -- the trade of a unit that can trade keeps the campaign early and its books balanced, within the bound of one trade

@@ -1,11 +1,12 @@
 -- What TAX, RECRUIT, WORK, SELL and BUY leave to the units of a faction that sent no mailing.
-use Rattle.std.proofs.Common.{◌≡◌, ◌≢◌, ◌==◌, ◌&&◌, ◌||◌, ◌+◌, ◌-◌, ℕ, Bool, true, false, List, [], ◌∷◌, ◌++◌, map, None, refl, ap, ◌∙◌, arith}
+use Rattle.std.proofs.Common.{◌≡◌, ◌≢◌, ◌==◌, ◌&&◌, ◌||◌, ◌+◌, ◌-◌, ℕ, Bool, true, false, List, [], ◌∷◌, ◌++◌, map, None, refl, ap, ◌∙◌}
 use Rattle.std.specs.Prelude.{if◌then◌else◌, pos}
 use Rattle.std.specs.List.{AllByRecursion, list_any}
 use Rattle.std.specs.Ordering.{nat_cmp}
 use Rattle.std.specs.FinMap.{FinMap, entries, get}
 use Rattle.std.proofs.lemmas.List.Elements.{recursion_from_All}
 use Rattle.std.proofs.lemmas.List.Sums.{sum_by-append, sum_by-cons}
+use Rattle.std.proofs.Math.Nat.{add-zero}
 use Rattle.atl_world.specs.Worlds.{WorldValue}
 use Rattle.atl_orders.specs.declared.verb.Verb.{Verb}
 use Rattle.atl_records.specs.declared.books.BooksEntry.TheVariants.{Wages}
@@ -57,10 +58,7 @@ module _ (p : PotMeaning) (w : WorldValue) (c : CampaignValue) where
   unfolding events_by
   pots_report_none_starved events os n =
       sum_by-append (λ (e : Event). if e.unit == n then men_starved_by e.verb e.outcome else 0) events (map (event_of p w c (given_by p w c os)) os)
-      ∙ ap (λ x. starved_in events n + x) (none_starve (given_by p w c os) os n) ∙ plus_none (starved_in events n)
-    where
-      plus_none : (x : ℕ) → x + 0 ≡ x
-      plus_none x = omega arith
+      ∙ ap (λ x. starved_in events n + x) (none_starve (given_by p w c os) os n) ∙ add-zero (starved_in events n)
 
 -- a phase with pots
 module _ (p : PotMeaning) (orders : CampaignValue → MonthValue → List Task) where

@@ -1,11 +1,11 @@
 -- Laws that in a phase with pots a unit for which its own faction wrote no order gets nothing, and stays as it is.
-use Rattle.std.proofs.Common.{◌≡◌, ◌≢◌, ◌==◌, ◌&&◌, ◌||◌, ℕ, Bool, true, false, List, [], ◌∷◌, Some, refl, sym, ap, subst, ◌∙◌, arith}
+use Rattle.std.proofs.Common.{◌≡◌, ◌≢◌, ◌==◌, ◌&&◌, ℕ, Bool, true, false, List, [], ◌∷◌, Some, refl, sym, ap, subst, ◌∙◌, arith}
 use Rattle.std.specs.Prelude.{Result, Ok, Err, fold, option_map}
 use Rattle.std.specs.List.{AllByRecursion, filter_map}
 use Rattle.std.specs.Result.{result_ok}
 use Rattle.std.specs.Ordering.{nat_cmp}
 use Rattle.std.specs.FinMap.{FinMap, empty, entries, get, get-empty}
-use Rattle.std.proofs.lemmas.Bool.{false≢true}
+use Rattle.std.proofs.lemmas.Bool.{false≢true, or_parts}
 use Rattle.std.proofs.lemmas.Bool.Decides.{nat_tests}
 use Rattle.atl_world.specs.Worlds.{WorldValue}
 use Rattle.atl_records.specs.declared.event.EventFault.{EventFault}
@@ -20,10 +20,6 @@ use Rattle.atl_market.specs.Unordered.{OthersAreNoWorse, has_own_order}
 use Rattle.atl_market.proofs.DrawLaws.{all_pairs}
 use Rattle.atl_market.proofs.PotLaws.{put_in_turn}
 use Rattle.atl_market.proofs.WantLaws.{GivesToWants, optional_entry_first, carries_out}
-
-neither : (a b : Bool) → (a || b) ≡ false → (a ≡ false) × (b ≡ false)
-neither true b h = absurd (false≢true (sym h))
-neither false b h = (refl, h)
 
 -- ---- units without an order want nothing
 
@@ -49,7 +45,7 @@ module _ (p : PotMeaning) (w : WorldValue) (c : CampaignValue) (n : ℕ) (u : Un
   unwanted : (m : FinMap nat_cmp ℕ) (os : List Task) → has_own_order os n u ≡ false → get (with_entries m (filter_map (want_by p w c) os)) n ≡ get m n
   unwanted m [] none = refl
   unwanted m (o ∷ os) none =
-      let (first, rest) = neither _ _ none in
+      let (first, rest) = or_parts _ _ none in
       ap (λ (k : FinMap nat_cmp ℕ). get k n) (optional_entry_first m (want_by p w c o) (filter_map (want_by p w c) os))
       ∙ unwanted (with_entry_if_some m (want_by p w c o)) os rest
       ∙ unwanted_by m o (unit_for p w c o) refl first

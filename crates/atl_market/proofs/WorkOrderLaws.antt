@@ -1,5 +1,5 @@
 -- Laws of the orders of WORK: no two have the same key, so the code's sorted list is the one that is defined.
-use Rattle.std.proofs.Common.{◌≡◌, ℕ, ◌≢◌, ◌==◌, ◌<◌, ◌&&◌, ◌||◌, ◌++◌, not, Bool, true, false, cond, List, [], ◌∷◌, map, filter, get_or, is_some, T, Some, refl, sym, ap, subst, ◌∙◌, inl, inr, arith, IsPermutation, flat_map}
+use Rattle.std.proofs.Common.{◌≡◌, ℕ, ◌≢◌, ◌==◌, ◌<◌, ◌&&◌, ◌||◌, ◌++◌, not, Bool, true, false, cond, List, [], ◌∷◌, map, filter, get_or, is_some, Some, refl, sym, ap, subst, ◌∙◌, inl, inr, arith, IsPermutation, flat_map}
 use Rattle.std.specs.Prelude.{nat_lt}
 use Rattle.std.specs.declared.cmp.Ordering.{Ordering}
 use Rattle.std.specs.declared.cmp.Ordering.TheVariants.{Less, Equal, Greater}
@@ -10,16 +10,15 @@ use Rattle.std.specs.List.{AllByRecursion, IsDistinct}
 use Rattle.std.specs.List.Sorted.{IsSortedByKey}
 use Rattle.std.specs.FinMap.{FinMap, IsAntisymmetric, empty, entries, entries-insert, entries_sorted, from_entries, get, get-empty, insert, is_sorted, put, values, slice_cmp-IsAntisymmetric, nat_cmp-IsAntisymmetric}
 use Rattle.std.specs.FinMap.Entries.{below_all, by_order}
-use Rattle.std.proofs.lemmas.Bool.{and_parts, cases_eq, false_from_ne_true, false≢true, not-true}
-use Rattle.std.proofs.lemmas.Bool.Decides.{nat_tests}
-use Rattle.atl_world.proofs.GeneralLaws.{equality_is_symmetric}
+use Rattle.std.proofs.lemmas.Bool.{and_parts, cases_eq, false_from_ne_true, false≢true, not-true, eq-eqb}
+use Rattle.atl_world.proofs.GeneralLaws.{equality_is_symmetric, is_true}
 use Rattle.atl_records.specs.Every.{EachEntry}
 use Rattle.atl_campaign.specs.Campaign.{CampaignValue}
 use Rattle.atl_records.specs.declared.records.Unit.{Unit}
 use Rattle.atl_campaign.proofs.ReadBackLaws.{append_apart, entries_rise, flat_apart}
-use Rattle.atl_records.proofs.AmountListLaws.{all_append}
 use Rattle.atl_campaign.proofs.GroupLaws.{filter_apart, filter_each}
 use Rattle.atl_records.proofs.EveryLaws.{each-from_every, get-insert_other, other_number, same_number}
+use Rattle.atl_records.proofs.AmountListLaws.{all_append}
 use Rattle.atl_campaign.proofs.MapOfRowsLaws.{each_follows}
 use Rattle.atl_phase.specs.Month.{MonthValue}
 use Rattle.atl_phase.specs.PhaseOrders.{Task, is_month_long, key_of, orders_by_unit, task_of, sorted_by}
@@ -34,10 +33,7 @@ use Rattle.atl_market.specs.Unordered.{has_own_order}
 use Rattle.atl_market.specs.Work.{idle_task, idle_work, is_idle, is_work, work_orders, written_work}
 use Rattle.atl_market.proofs.PotLaws.{inserted_is_in, still_in_after_entries}
 use Rattle.atl_market.proofs.WantLaws.{appended_entries}
-
-is_so : (b : Bool) → T b → b ≡ true
-is_so true h = refl
-is_so false h = absurd h
+use mathlib.Core.Bool.{or-false}
 
 -- ---- values that a map lists, each under its own key, differ in their keys
 
@@ -77,7 +73,7 @@ module _ {K X : Type 0} (R : K → K → Ordering) (exact : IsAntisymmetric R) (
 
   -- no two values of the map of some values, each put in under its key, have the same key
   values_apart : IsTotalOrder R → (xs : List X) → IsDistinct (λ x y. eq_by_cmp R (key x) (key y)) (values (from_entries {R = R} (map (λ x. (key x, x)) xs)))
-  values_apart o xs = let m = from_entries {R = R} (map (λ x. (key x, x)) xs) in listed_apart (entries m) (is_so _ (entries_sorted m)) (keyed-listed o xs)
+  values_apart o xs = let m = from_entries {R = R} (map (λ x. (key x, x)) xs) in listed_apart (entries m) (is_true _ (entries_sorted m)) (keyed-listed o xs)
 
 -- ---- keys that differ
 
@@ -153,14 +149,11 @@ module _ (c : CampaignValue) where
 
     -- ---- written orders, and the added ones
 
-    same_faction : (a b : ℕ) → a ≡ b → (a == b) ≡ true
-    same_faction a b e = grind (arith, nat_tests)
-
     written_idle : (o i : Task) → IsAmongWriters writers o → IsIdle i → have_same_key o i ≡ false
     written_idle o i listed idle =
         other_orders_differ_in_key o i (λ unit faction.
         let there : get c.units o.unit ≡ Some idle.unit = ap (get c.units) unit ∙ idle.there in
-        let own : is_of_faction o.faction (get c.units o.unit) ≡ true = ap (is_of_faction o.faction) there ∙ same_faction idle.unit.faction o.faction (sym idle.own ∙ sym faction) in
+        let own : is_of_faction o.faction (get c.units o.unit) ≡ true = ap (is_of_faction o.faction) there ∙ eq-eqb idle.unit.faction o.faction (sym idle.own ∙ sym faction) in
         false≢true (sym (ap (λ n. is_some (get writers n)) unit ∙ idle.unordered) ∙ listed own))
 
     pub work_apart : IsDistinct have_same_key os → IsDistinct have_same_key (all_work c os)
@@ -208,11 +201,7 @@ writes_own c (o ∷ os) n u is m =
     ]
 
 is_writer : (c : CampaignValue) (os : List Task) (n : ℕ) (u : Unit) → get c.units n ≡ Some u → is_some (get (own_writers c os) n) ≡ has_own_order os n u
-is_writer c os n u is = writes_own c os n u is empty ∙ ap (λ o. has_own_order os n u || is_some o) (get-empty nat_cmp n) ∙ or_false (has_own_order os n u)
-  where
-    or_false : (b : Bool) → (b || false) ≡ b
-    or_false true = refl
-    or_false false = refl
+is_writer c os n u is = writes_own c os n u is empty ∙ ap (λ o. has_own_order os n u || is_some o) (get-empty nat_cmp n) ∙ or-false (has_own_order os n u)
 
 module _ (c : CampaignValue) (ts : List Task) where
   abbrev of_idle : List (ℕ × Unit) → List Task

@@ -33,6 +33,7 @@ use Rattle.atl_phase.specs.Bounds.{items_bound, HaveRoom}
 use Rattle.atl_instant.proofs.QuitLaws.{no_money, no_people, list_amount_is_found, held_in_items, amount_as_thing, moves_what_leaves}
 use Rattle.atl_month.specs.Sweep.{IsKept, after_passing_all, after_passing_money, loses_by, receiver, receives, after_passing_item, with_lost}
 use Rattle.atl_records.proofs.RemovedLaws.{get-remove_other, still}
+use Rattle.atl_records.proofs.BookLaws.{plus_zero}
 use Rattle.atl_campaign.proofs.NumberListLaws.{IsListed, listed_passing}
 use Rattle.atl_campaign.proofs.LeavingLaws.{only_reduced, steady-without, total-without}
 use Rattle.atl_month.proofs.PassingLaws.{Owes, PassesOn, accepted_of, pass_items, pass_money, passes-trans, pass_item}
@@ -111,16 +112,13 @@ module _ (w : WorldValue) (c : CampaignValue) (n : ℕ) (u : Unit) (is : get c.u
 
   balanced : Balances c → Balances swept
   balanced old s =
-      let before : Owes passed s (0 + owing_all u.holding s) = passing.owes s 0 (old s ∙ plain _) in
+      let before : Owes passed s (0 + owing_all u.holding s) = passing.owes s 0 (old s ∙ plus_zero _) in
       let total_is = total-without w passed n u there_still s in
       let only = only_reduced w passed n u there_still in
       total_without_n (total swept s) (unit_amount s u.holding) (total passed s) (owing_all u.holding s) (booked passed.books s) total_is
       (all_owed u.holding none s) before
       ∙ ap (λ (books : BooksValue). booked books s) (sym only.books)
     where
-      plain : (z : ℤ) → z ≡ z +ℤ pos 0
-      plain z = omega (arith, ints)
-
       total_without_n : (a h b o : ℕ) (z : ℤ) → a + h ≡ b → o ≡ h → pos b ≡ z +ℤ pos (0 + o) → pos a ≡ z
       total_without_n a h b o z e f g = omega (arith, ints, e, f, g)
 

@@ -5,7 +5,7 @@ use Rattle.std.specs.Ordering.{nat_cmp}
 use Rattle.std.specs.FinMap.{FinMap, entries, find, get, get-entries}
 use Rattle.std.specs.List.{AllByRecursion}
 use Rattle.std.proofs.lemmas.Option.{same_Some}
-use Rattle.std.proofs.lemmas.Bool.{cases_eq}
+use Rattle.std.proofs.lemmas.Bool.{cases_eq, eq-eqb}
 use Rattle.std.proofs.lemmas.List.Sums.{sum_by-append, sum_by-cons}
 use Rattle.atl_world.specs.Worlds.{WorldValue}
 use Rattle.atl_world.proofs.GeneralLaws.{is_equal}
@@ -16,7 +16,6 @@ use Rattle.atl_records.proofs.EveryLaws.{first, none_some, other_number}
 use Rattle.atl_campaign.proofs.ReadBackLaws.{Rise, entries_rise}
 use Rattle.atl_phase.specs.Month.{MonthValue}
 use Rattle.atl_phase.specs.Unmailed.{IsLessBy, men_starved_by, starved_in}
-use Rattle.atl_phase.proofs.StructureLaws.{equal_passes}
 use Rattle.atl_phase.proofs.UnmailedLaws.{ClosesUnmailed, LeavesUnmailed, men_same, whole_leaves}
 use Rattle.atl_market.proofs.PotLaws.{found_other}
 use Rattle.atl_month.specs.declared.upkeep_sharing.UpkeepInput.{UpkeepInput}
@@ -65,7 +64,7 @@ module _ (m : ℕ) (all : List UpkeepInput) (n : ℕ) where
         (λ i. (upkeep_result_one m all (upkeep_input_of (sym own i, unit i))).starved) in
         let more = sum_by-cons (starved_of_n n) (upkeep_result_one m all (upkeep_input_of (k, v))) (upkeep_result_each m all es) in
         let rest = none_starving es (subst (λ j. AllByRecursion (λ e. j < e.0) es) (sym own) rise.0) in
-        grind (arith, more, rest, mine, equal_passes k n (sym own))
+        grind (arith, more, rest, mine, eq-eqb k n (sym own))
     | inr apart ↦ other_starving (k, v) es (λ same. apart (sym same)) ∙ own_starving es u rise.1 (sym (found_other (k, v) es n apart) ∙ found)
   ]
 

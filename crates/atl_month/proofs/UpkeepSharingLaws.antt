@@ -9,6 +9,7 @@ use Rattle.std.proofs.Math.Nat.{div-lt_iff_lt-mul, div-zero}
 use Rattle.std.proofs.lemmas.Bool.Decides.{nat_tests}
 use Rattle.std.proofs.lemmas.List.Elements.{filter-append}
 use Rattle.std.proofs.lemmas.List.Sums.{sum_by-append}
+use Rattle.std.proofs.lemmas.Bool.{lt-ltb}
 use Rattle.atl_world.specs.Limits.{most_per_head}
 use Rattle.atl_world.specs.Groups.{group_of}
 use Rattle.atl_records.specs.Limits.{holding_limit, men_limit}
@@ -118,9 +119,6 @@ module _ {A : Type 0} where
 abbrev is_lower : ℕ → UpkeepInput → Bool
 is_lower n p = nat_lt p.unit n
 
-lower : (a b : ℕ) → a < b → nat_lt a b ≡ true
-lower a b l = grind (arith, nat_tests, l)
-
 no_lower : (a b : ℕ) → b < a + 1 → nat_lt a b ≡ false
 no_lower a b l = grind (arith, nat_tests, l)
 
@@ -132,7 +130,7 @@ lower_first (p ∷ ps) zero d order l =
     rw (no_lower p.unit p.unit (omega arith))
     (none_pass (is_lower p.unit) ps (λ k e h. no_lower _ p.unit (omega (arith, order 0 (suc k) e (omega arith) (omega (arith, h))))))
 lower_first (p ∷ ps) (suc i) d order l =
-    rw (lower p.unit (get_or ps i d).unit (order 0 (suc i) d (omega arith) l))
+    rw (lt-ltb p.unit (get_or ps i d).unit (order 0 (suc i) d (omega arith) l))
     (ap (λ l. p ∷ l) (lower_first ps i d (λ j k e h m. order (suc j) (suc k) e (omega (arith, h)) (omega (arith, m))) (omega (arith, l))))
 
 -- ---- the upkeep of all units

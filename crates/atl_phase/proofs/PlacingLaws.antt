@@ -3,7 +3,7 @@
 -- structure of its region, and structures have other owners and names. The right owner of a structure (`IsOwned`) is a
 -- unit inside it, or nobody (0) where no unit is inside.
 use Rattle.std.proofs.Common.{◌≡◌, ◌≢◌, ◌==◌, ◌&&◌, ℕ, ◌≤◌, Bool, true, false, Option, Some, None, refl, sym, ap, subst, ◌∙◌, arith}
-use Rattle.std.proofs.lemmas.Bool.{true≢false}
+use Rattle.std.proofs.lemmas.Bool.{true≢false, eq-eqb}
 use Rattle.std.proofs.lemmas.Option.{same_Some}
 use Rattle.std.specs.Prelude.{option_map, if◌then◌else◌}
 use Rattle.std.specs.FinMap.{get}
@@ -26,7 +26,7 @@ use Rattle.atl_phase.specs.Bounds.{StepsWell, nothing_remaining}
 use Rattle.atl_phase.proofs.MeaningLaws.{same_month_by}
 use Rattle.atl_phase.proofs.OwnerLaws.{heir_owns, owner_stays}
 use Rattle.atl_phase.proofs.RefitLaws.{IsRefit, IsRelabelled, early-refitted, refitted, steady-refitted, total-refitted}
-use Rattle.atl_phase.proofs.StructureLaws.{changed_else, equal_passes, get-after_handover, handed_is, handed_on, len-after_handover, placed_cases}
+use Rattle.atl_phase.proofs.StructureLaws.{changed_else, get-after_handover, handed_is, handed_on, len-after_handover, placed_cases}
 use Rattle.atl_phase.proofs.UnbookedLaws.{unbooked_well}
 
 pub mapped_twice : {A : Type 0} (f g : A → A) (o : Option A) → option_map f (option_map g o) ≡ option_map (λ y. f (g y)) o
@@ -122,7 +122,7 @@ module _ (w : WorldValue) (c : CampaignValue) (n : ℕ) (u : Unit) (s : ℕ) (is
     owned = λ some. (moved, get-insert_same c.units n moved, sym here);
     ownerless = λ none. let least = numbered_from_one n u is in absurd (omega (arith, none, least));
   }
-  entered_owned q y there other here false t = still_owned q y there (owns_no_other w c n u is steady q y there other) (λ none. absurd (true≢false (sym (equal_passes y.owner 0 none) ∙ t)))
+  entered_owned q y there other here false t = still_owned q y there (owns_no_other w c n u is steady q y there other) (λ none. absurd (true≢false (sym (eq-eqb y.owner 0 none) ∙ t)))
 
   -- a structure with its owner after both handovers, by whether it is the one left (`a`), was unit n's own (`e`),
   -- and is the one entered (`b`)

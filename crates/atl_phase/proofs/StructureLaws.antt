@@ -1,10 +1,9 @@
 -- Laws of a change of one value of a map, and of the structures after one of them went to another owner (a handover).
-use Rattle.std.proofs.Common.{◌≡◌, ◌≢◌, ◌==◌, ◌&&◌, ℕ, Bool, true, false, Option, Some, None, refl, sym, ap, ◌∙◌, inl, inr, arith}
+use Rattle.std.proofs.Common.{◌≡◌, ◌≢◌, ◌==◌, ◌&&◌, ℕ, Bool, true, false, Option, Some, None, refl, sym, ap, ◌∙◌, inl, inr}
 use Rattle.std.specs.Prelude.{option_map, if◌then◌else◌}
 use Rattle.std.specs.Ordering.{nat_cmp}
 use Rattle.std.specs.FinMap.{FinMap, get, len}
-use Rattle.std.proofs.lemmas.Bool.{cases_eq}
-use Rattle.std.proofs.lemmas.Bool.Decides.{nat_tests}
+use Rattle.std.proofs.lemmas.Bool.{cases_eq, eq-eqb}
 use Rattle.atl_world.specs.Sums.{with_changed_value, with_changed_option}
 use Rattle.atl_records.specs.declared.records.Structure.{Structure}
 use Rattle.atl_records.specs.declared.records.Unit.{Unit}
@@ -13,9 +12,6 @@ use Rattle.atl_campaign.specs.Campaign.{CampaignValue, with_owner}
 use Rattle.atl_records.proofs.EveryLaws.{get-insert_other, other_number}
 use Rattle.atl_campaign.proofs.LeavingLaws.{owned_by}
 use Rattle.atl_campaign.proofs.RegionLaws.{get-insert_same, same_len}
-
-pub equal_passes : (a b : ℕ) → a ≡ b → (a == b) ≡ true
-equal_passes a b same = grind (arith, nat_tests)
 
 -- ---- a value of a map that is changed
 
@@ -44,7 +40,7 @@ module _ {V : Type 0} (f : V → V) (m : FinMap nat_cmp V) (k : ℕ) where
   get-changed q = elim (cases_eq q k) [
     | inl same ↦
         ap (get (with_changed_value f m k)) same ∙ changed_here (get m k) refl ∙ ap (λ j. option_map f (get m j)) (sym same)
-        ∙ mapped_here q (equal_passes q k same) (get m q)
+        ∙ mapped_here q (eq-eqb q k same) (get m q)
     | inr apart ↦ changed_else q apart (get m k) ∙ mapped_else q (other_number q k apart) (get m q)
   ]
 
@@ -73,7 +69,7 @@ module _ (c : CampaignValue) (k from to : ℕ) where
 
   here : (o : Option Structure) → get c.structures k ≡ o → get (after (is_owned_by o from)).structures k ≡ option_map (handed_on k from to k) o
   here None is = is
-  here (Some y) is = here_by y is (y.owner == from) ∙ ap (λ b. Some (if b && y.owner == from then owned_by to y else y)) (sym (equal_passes k k refl))
+  here (Some y) is = here_by y is (y.owner == from) ∙ ap (λ b. Some (if b && y.owner == from then owned_by to y else y)) (sym (eq-eqb k k refl))
 
   else_by : (q : ℕ) → q ≢ k → (b : Bool) → get (after b).structures q ≡ get c.structures q
   else_by q apart true = changed_else (owned_by to) c.structures k q apart (get c.structures k)

@@ -7,7 +7,7 @@ use Rattle.std.specs.Cmp.{nat_cmp_total, unsigned_tied}
 use Rattle.std.specs.List.{filter_map, cons_option, list_any}
 use Rattle.std.specs.Option.{option_map_or}
 use Rattle.std.specs.FinMap.{FinMap, get, get-entries, get-empty, get-insert, insert, find, empty, entries}
-use Rattle.std.proofs.lemmas.Bool.{false≢true}
+use Rattle.std.proofs.lemmas.Bool.{false≢true, or_right}
 use Rattle.std.proofs.lemmas.Bool.Decides.{nat_tests}
 use Rattle.atl_world.specs.Sums.{numbers_among, numbers_where}
 use Rattle.atl_world.specs.Worlds.{WorldValue}
@@ -28,6 +28,7 @@ use Rattle.atl_report.specs.Sight.{seen_unit, unit_view, unit_views}
 use Rattle.atl_report.specs.Sites.{AreLevels, hides_at}
 use Rattle.atl_report.specs.Gathering.{with_numbers, with_level, with_levels, numbers_seen}
 use Rattle.atl_report.proofs.SightLaws.{chosen_numbers, values_looked_up}
+use mathlib.Core.Bool.{and-true, and-false}
 
 -- ---- whether a number is listed
 
@@ -51,16 +52,11 @@ listed_if : (q : ℕ) (ns : List ℕ) → is_listed q ns ≡ true → IsListed q
 listed_if q [] h = absurd (false≢true h)
 listed_if q (n ∷ ns) h = listed_cons q n ns (eq_by_cmp nat_cmp q n) refl (listed_if q ns) h
 
--- `a or true` is true: for `if_listed`
-or_true : (a b : Bool) → b ≡ true → (a || b) ≡ true
-or_true true b h = refl
-or_true false b h = h
-
 -- a number on a list passes the test `is_listed`
 if_listed : (q : ℕ) (ns : List ℕ) → IsListed q ns → is_listed q ns ≡ true
 if_listed q [] h = absurd h
 if_listed q (n ∷ ns) (inl same) = ap (λ k. eq_by_cmp nat_cmp q k || is_listed q ns) (sym same) ∙ ap (λ b. b || is_listed q ns) (key_itself q)
-if_listed q (n ∷ ns) (inr rest) = or_true (eq_by_cmp nat_cmp q n) (is_listed q ns) (if_listed q ns rest)
+if_listed q (n ∷ ns) (inr rest) = or_right (eq_by_cmp nat_cmp q n) (is_listed q ns) (if_listed q ns rest)
 
 -- a number of a list passes the test `p`, if it is the number `q` for which this is known: for `listed-filter`
 filtered : (p : ℕ → Bool) (q n : ℕ) (ns : List ℕ) (b t : Bool) → eq_by_cmp nat_cmp q n ≡ b → p n ≡ t → is_listed q (filter p ns) ≡ (p q && is_listed q ns)
@@ -134,11 +130,6 @@ get-with_levels q observation (e ∷ es) seen =
 
 -- ---- who is seen
 
--- `a and false` is false
-and_false : (a : Bool) → (a && false) ≡ false
-and_false true = refl
-and_false false = refl
-
 module _ (q observation hides : ℕ) (here : Bool) where
   -- for `within_one`: the first list, or the later ones
   first_or_later : (level : ℕ) (ns : List ℕ) (b found : Bool) → eq_by_cmp nat_cmp hides level ≡ b → is_listed q ns ≡ ((hides == level) && here)
@@ -157,7 +148,7 @@ module _ (q observation hides : ℕ) (here : Bool) where
   first_or_later level ns false found is listed =
       let other : (hides == level) ≡ false = sym (unsigned_tied hides level) ∙ is in
       ap (λ b. (nat_le level observation && b) || (nat_le hides observation && (here && found))) (listed ∙ ap (λ b. b && here) other)
-      ∙ ap (λ b. b || (nat_le hides observation && (here && found))) (and_false (nat_le level observation))
+      ∙ ap (λ b. b || (nat_le hides observation && (here && found))) (and-false (nat_le level observation))
 
   -- a number that is on just the list of the level at which it hides is on one of the lists up to a level of
   -- observation exactly if there is this list, and its level is at most that
@@ -182,23 +173,19 @@ module _ (q observation hides : ℕ) (here : Bool) where
 
   -- the list of the level at which the number hides is there, if the number is on it
   has_list : (levels : FinMap nat_cmp (List ℕ)) (o : Option (List ℕ)) → get levels hides ≡ o → is_listed q (list_of levels hides) ≡ ((hides == hides) && here) → (here && is_some o) ≡ here
-  has_list levels (Some ns) is listed = and_true here
-    where
-      -- for `has_list`: `a and true` is a
-      and_true : (a : Bool) → (a && true) ≡ a
-      and_true true = refl
-      and_true false = refl
+  has_list levels (Some ns) is listed = and-true here
+
   has_list levels None is listed =
       let empty_list : is_listed q (list_of levels hides) ≡ false = ap (λ o. is_listed q (unwrap_or o [])) is in
       let nowhere : here ≡ false = sym (ap (λ b. b && here) (equal_itself hides)) ∙ sym listed ∙ empty_list in
-      and_false here ∙ sym nowhere
+      and-false here ∙ sym nowhere
 
 -- a number that is on no list is on none up to a level of observation
 none_within : (q observation : ℕ) (es : List (ℕ × List ℕ)) → EachEntry (λ level ns. is_listed q ns ≡ false) es → is_within q observation es ≡ false
 none_within q observation [] h = refl
 none_within q observation (e ∷ es) h =
     ap (λ b. (nat_le e.0 observation && b) || is_within q observation es) h.0
-    ∙ ap (λ b. b || is_within q observation es) (and_false (nat_le e.0 observation))
+    ∙ ap (λ b. b || is_within q observation es) (and-false (nat_le e.0 observation))
     ∙ none_within q observation es h.1
 
 -- a unit's hiding level is at most a level of observation exactly if it guards, or its level of stealth is at most that

@@ -2,17 +2,16 @@
 use Rattle.std.proofs.Common.{◌≡◌, ◌==◌, ℕ, Bool, true, false, cond, ◌&&◌, ◌||◌, nat_lt, List, [], ◌∷◌, filter, map, Option, Some, None, refl, sym, ap, ◌∙◌, T}
 use Rattle.std.specs.Prelude.{option_map}
 use Rattle.std.specs.declared.cmp.Ordering.TheVariants.{Less, Equal, Greater}
-use Rattle.std.specs.Ordering.{nat_cmp, eq_by_cmp, is_eq, is_lt, ordering_reverse}
+use Rattle.std.specs.Ordering.{nat_cmp, eq_by_cmp, is_eq, is_lt}
 use Rattle.std.specs.Cmp.{nat_cmp_total}
 use Rattle.std.specs.List.{filter_map, list_any}
 use Rattle.std.specs.FinMap.{FinMap, get, get-entries, get-empty, get-insert, get-from_sorted, find, empty, entries, entries_sorted, entries-from_sorted, from_sorted, is_sorted, same_map, nat_cmp-IsAntisymmetric}
 use Rattle.std.specs.FinMap.Entries.{below_all, where_key, is_sorted-where_key, find-where_key}
-use Rattle.std.proofs.lemmas.Bool.{false≢true, and_parts}
-use Rattle.std.proofs.lemmas.Cmp.{tied_itself}
+use Rattle.std.proofs.lemmas.Bool.{and_parts}
 use Rattle.atl_world.specs.Sums.{numbers_among, numbers_where}
 use Rattle.atl_world.proofs.SumLaws.{chosen-cons}
 use Rattle.atl_world.proofs.TrackLaws.{is_true}
-use Rattle.atl_world.proofs.GeneralLaws.{key_equality_is_symmetric}
+use Rattle.atl_world.proofs.GeneralLaws.{key_equality_is_symmetric, key_itself}
 use Rattle.atl_records.specs.declared.records.Region.{Region}
 use Rattle.atl_records.specs.declared.records.Unit.{Unit}
 use Rattle.atl_records.specs.Every.{EachEntry}
@@ -20,16 +19,8 @@ use Rattle.atl_campaign.specs.Campaign.{CampaignValue, numbers_of_faction}
 use Rattle.atl_records.proofs.EveryLaws.{each-from_every}
 use Rattle.atl_report.specs.Watching.{is_watching, sees_region}
 use Rattle.atl_report.specs.Gathering.{with_region, with_watched, with_all_watched}
-
-equal_to_itself : (n : ℕ) → is_eq (nat_cmp n n) ≡ true
-equal_to_itself n = ap is_eq (tied_itself nat_cmp_total n)
-
-above_is_not_equal : (k q : ℕ) → is_lt (nat_cmp k q) ≡ true → is_eq (nat_cmp q k) ≡ false
-above_is_not_equal k q h = elim (nat_cmp q k) as (λ o. nat_cmp q k ≡ o → is_eq o ≡ false) [
-  | Less ↦ λ _. refl
-  | Equal ↦ λ e. absurd (false≢true (sym (ap is_lt (nat_cmp_total.antisymm k q ∙ ap ordering_reverse e)) ∙ h))
-  | Greater ↦ λ _. refl
-] refl
+use mathlib.Core.Bool.{or-false}
+use Rattle.atl_campaign.proofs.SortedMapLaws.{above_compares_unequal}
 
 -- ---- what holds of some entry
 
@@ -40,7 +31,7 @@ module _ {X : Type 0} (p : X → Bool) (g : Option X → Bool) where
   past k v fs [] h = refl
   past k v fs (e ∷ es) h =
       let rest = past k v fs es (and_parts _ _ h).1 in
-      let here : g (find nat_cmp e.0 ((k, v) ∷ fs)) ≡ g (find nat_cmp e.0 fs) = ap (λ b. g (cond b (Some v) (find nat_cmp e.0 fs))) (above_is_not_equal k e.0 (and_parts _ _ h).0) in
+      let here : g (find nat_cmp e.0 ((k, v) ∷ fs)) ≡ g (find nat_cmp e.0 fs) = ap (λ b. g (cond b (Some v) (find nat_cmp e.0 fs))) (above_compares_unequal e.0 k (and_parts _ _ h).0) in
       ap (list_any (λ n. g (find nat_cmp n ((k, v) ∷ fs)))) (chosen-cons p e es)
       ∙ elim (p e.1) as (λ b. list_any (λ n. g (find nat_cmp n ((k, v) ∷ fs))) (cond b (e.0 ∷ numbers_among p es) (numbers_among p es)) ≡ list_any (λ n. g (find nat_cmp n fs)) (cond b (e.0 ∷ numbers_among p es) (numbers_among p es))) [
         | true ↦ ap (λ b. b || list_any (λ n. g (find nat_cmp n ((k, v) ∷ fs))) (numbers_among p es)) here ∙ ap (λ b. g (find nat_cmp e.0 fs) || b) rest
@@ -54,7 +45,7 @@ module _ {X : Type 0} (p : X → Bool) (g : Option X → Bool) where
   some_found [] h = refl
   some_found (e ∷ es) h =
       let rest = past e.0 e.1 es es (and_parts _ _ h).0 ∙ some_found es (and_parts _ _ h).1 in
-      let here : g (find nat_cmp e.0 (e ∷ es)) ≡ g (Some e.1) = ap (λ b. g (cond b (Some e.1) (find nat_cmp e.0 es))) (equal_to_itself e.0) in
+      let here : g (find nat_cmp e.0 (e ∷ es)) ≡ g (Some e.1) = ap (λ b. g (cond b (Some e.1) (find nat_cmp e.0 es))) (key_itself e.0) in
       ap (list_any (λ n. g (find nat_cmp n (e ∷ es)))) (chosen-cons p e es)
       ∙ elim (p e.1) as (λ b. list_any (λ n. g (find nat_cmp n (e ∷ es))) (cond b (e.0 ∷ numbers_among p es) (numbers_among p es)) ≡ ((b && g (Some e.1)) || list_any (λ e. p e.1 && g (Some e.1)) es)) [
         | true ↦ ap (λ b. b || list_any (λ n. g (find nat_cmp n (e ∷ es))) (numbers_among p es)) here ∙ ap (λ b. g (Some e.1) || b) rest
@@ -165,15 +156,10 @@ module _ (c : CampaignValue) (f q : ℕ) where
       all_watched ns (with_watched c f seen (get c.units n)) (watches_in f q (get c.units n) || b) (one_watched seen b (get c.units n) was)
       ∙ ap (λ t. cond t (there q) None) (or_order (list_any (λ n. watches_in f q (get c.units n)) ns) (watches_in f q (get c.units n)) b)
 
-  -- `a or false` is `a`: for `get-with_all_watched`, where at first no region is gathered
-  or_none : (a : Bool) → (a || false) ≡ a
-  or_none true = refl
-  or_none false = refl
-
   get-with_all_watched : get (with_all_watched c f (numbers_of_faction f c.units) empty) q ≡ cond (sees_region c f q) (there q) None
   get-with_all_watched =
       all_watched (numbers_of_faction f c.units) empty false (get-empty nat_cmp q)
-      ∙ ap (λ t. cond t (there q) None) (or_none (list_any (λ n. watches_in f q (get c.units n)) (numbers_of_faction f c.units)) ∙ region_is_seen_by_unit c f q)
+      ∙ ap (λ t. cond t (there q) None) (or-false (list_any (λ n. watches_in f q (get c.units n)) (numbers_of_faction f c.units)) ∙ region_is_seen_by_unit c f q)
 
 -- a set that has just those numbers of a map that pass a test has them in the order of the map
 pub chosen_numbers : {V : Type 0} (m : FinMap nat_cmp V) (t : ℕ → Bool) (seen : FinMap nat_cmp (Prim.Unit {0}))

@@ -11,11 +11,11 @@ use Rattle.atl_report.specs.Report.{report_of}
 use Rattle.atl_report.specs.Sight.{view_of}
 use Rattle.atl_store.specs.Keeps.{IsJoining}
 use Rattle.atl_store.specs.Arriving.{HasArrival}
-use Rattle.atl_store.proofs.ArriveLaws.{get_inserted}
 use Rattle.atl_service.specs.declared.command.Command.TheVariants.{Join}
 use Rattle.atl_service.specs.declared.command.Answer.TheVariants.{Joined, Refused}
 use Rattle.atl_service.specs.declared.command.Refusal.TheVariants as why
 use Rattle.atl_service.specs.Step.{step, reported}
+use Rattle.atl_world.proofs.TrackLaws.{get_inserted}
 
 module _ (w : WorldValue) (c : CampaignValue) (name pass : List ℕ) (word : ℕ) where
   pub bad_name : not (name_ok name) ≡ true → step w c (Join name pass word) ≡ (c, Refused why.BadName)

@@ -4,7 +4,6 @@
 use Rattle.std.proofs.Common.{◌≡◌, ◌⊎◌, ◌≤◌, ◌<◌, ◌+◌, ◌++◌, ◌∷◌, [], ℕ, List, map, drop, length, get_or, Option, Some, None, IfSome, refl, sym, ap, ap₂, ◌∙◌, subst, inl, inr, append_assoc, append-nil, arith}
 use native.Mathlib.Numerals.{unary_clauses}
 use Rattle.std.proofs.lemmas.List.{drop_more, drop_all}
-use Rattle.sqlite_disk.specs.Disk.{MoreFaults}
 use Rattle.sqlite_trees.specs.declared.store.Store.{Ghosts}
 use Rattle.sqlite.specs.Held.{state}
 use Rattle.sqlite.specs.State.{State, HasCleanDisk}
@@ -22,6 +21,7 @@ use Rattle.atl_service.specs.Left.{LeavesGood}
 use Rattle.atl_service.specs.Step.{step}
 use Rattle.atl_service.specs.Service.{ServiceValue, text_in}
 use Rattle.atl_service.specs.Runs.{Runs, RunsAt, RunsOpen, Accepts, Closes, RunsAll, Follows, FollowsAt, AreClosed, Headline, Interrupted, HeadlineAt}
+use Rattle.atl_sql.proofs.CauseLaws.{more_before}
 
 -- what a fault may leave in the tables (`LeavesGood`) if the disk had failed `many` times before, it may leave also if
 -- it had failed `few` times, which is no more
@@ -29,15 +29,12 @@ stops_from : (w : WorldValue) (few many : ℕ) (s : State) (text : List ℕ) (be
 stops_from w few many s text before after h stops = record {
   tables = record {
     still = stops.tables.still;
-    shuts = elim stops.tables.shuts [ inl up ↦ inl up | inr more ↦ inr (lower few many s.faults h more) ];
+    shuts = elim stops.tables.shuts [ inl up ↦ inl up | inr more ↦ inr (more_before few many s.faults h more) ];
     crash = stops.tables.crash;
   };
   good = stops.good;
   crash = stops.crash;
 }
-  where
-    lower : (few many now : ℕ) → few ≤ many → MoreFaults many now → MoreFaults few now
-    lower few many now h more = omega (arith, h, more)
 
 module _ {S : Type 0} (g : Ghosts S) where
   -- answers that follow from `step` (`Follows`) do so with a world text that is equal on a clean disk, and with a lower

@@ -1,6 +1,6 @@
 -- Laws on `open`: it returns what was stored, or refuses and leaves the tables unchanged; the opened service is
 -- consistent. A disk is clean if each read has returned what was written (docs/PROVED.md, "Premises").
-use Rattle.std.proofs.Common.{◌≡◌, Bool, false, true, not, Some, refl, ap, ◌∙◌, subst, inl, arith}
+use Rattle.std.proofs.Common.{◌≡◌, false, true, Some, refl, ap, ◌∙◌, subst, inl, arith}
 use Rattle.sqlite_trees.specs.declared.store.Store.{Ghosts}
 use Rattle.sqlite.specs.Effect.{Database}
 use Rattle.sqlite.specs.Held.{Held, state}
@@ -18,15 +18,6 @@ use Rattle.atl_store.proofs.StayLaws.{survives_is_later, unchanged_itself}
 use Rattle.atl_service.specs.Service.{IsService}
 use Rattle.atl_service.specs.Opened.{ComesBack, Opens, RefusesOpening, cause_of_loading_fault}
 use Rattle.sqlite.specs.State.{HasCleanDisk}
-
--- a connection that says that it is idle isn't busy, and one that says that it isn't is busy
-pub is_idle : (idle busy : Bool) → idle ≡ not busy → idle ≡ true → busy ≡ false
-is_idle idle false is so = refl
-is_idle idle true is so = cc
-
-pub is_busy : (idle busy : Bool) → idle ≡ not busy → idle ≡ false → busy ≡ true
-is_busy idle false is so = cc
-is_busy idle true is so = refl
 
 module _ {S : Type 0} (g : Ghosts S) where
   -- a connection that isn't touched is left alone (`LeavesAlone`): its tables and what a crash may leave stay as they

@@ -1,9 +1,8 @@
 -- Laws on stored mailings: only the last one of each faction counts for closing a month (`OnlyTheLastMailCounts`).
-use Rattle.std.proofs.Common.{◌≡◌, ◌==◌, ℕ, Bool, true, false, cond, not, List, [], ◌∷◌, Option, Some, None, Result, Ok, Err, refl, sym, ap, ◌∙◌, arith}
-use Rattle.std.proofs.lemmas.Bool.Decides.{nat_tests}
+use Rattle.std.proofs.Common.{◌≡◌, ◌==◌, ℕ, Bool, true, false, cond, not, List, [], ◌∷◌, Option, Some, None, Result, Ok, Err, refl, sym, ap, ◌∙◌}
 use Rattle.std.specs.Option.{option_or}
-use Rattle.std.specs.Ordering.{nat_cmp, eq_by_cmp}
-use Rattle.std.specs.Cmp.{nat_cmp_total, unsigned_ties}
+use Rattle.std.specs.Ordering.{nat_cmp}
+use Rattle.std.specs.Cmp.{nat_cmp_total}
 use Rattle.std.specs.FinMap.{FinMap, get, insert, get-insert, same_map, nat_cmp-IsAntisymmetric}
 use Rattle.atl_world.specs.Worlds.{WorldValue}
 use Rattle.atl_orders.specs.declared.fault.MailFault.{MailFault}
@@ -19,6 +18,7 @@ use Rattle.atl_service.specs.declared.command.Refusal.{Refusal}
 use Rattle.atl_service.specs.declared.command.Refusal.TheVariants as why
 use Rattle.atl_service.specs.Step.{faction_with_pass, mailed, mailed_by, run_of, step}
 use Rattle.atl_service.specs.Posting.{AreMailed, IsMailed, OnlyTheLastMailCounts, last_text}
+use Rattle.atl_world.proofs.GeneralLaws.{key_equality_is_symmetric}
 
 -- ---- one mailing that is answered Mailed is stored
 
@@ -75,10 +75,8 @@ get_posted mail [] n = refl
 get_posted mail (Join _ _ _ ∷ more) n = get_posted mail more n
 get_posted mail (Mail faction pass text ∷ more) n =
     get_posted (insert mail faction text) more n
-    ∙ ap (λ o. last_text n o more) (get-insert nat_cmp_total mail faction text n ∙ ap (λ b. cond b (Some text) (get mail n)) (swapped n faction))
-  where
-    swapped : (a b : ℕ) → eq_by_cmp nat_cmp a b ≡ (b == a)
-    swapped a b = sym (unsigned_ties a b) ∙ grind (arith, nat_tests)
+    ∙ ap (λ o. last_text n o more) (get-insert nat_cmp_total mail faction text n ∙ ap (λ b. cond b (Some text) (get mail n)) (key_equality_is_symmetric n faction))
+
 get_posted mail (Close _ _ _ ∷ more) n = get_posted mail more n
 get_posted mail (Report _ _ ∷ more) n = get_posted mail more n
 

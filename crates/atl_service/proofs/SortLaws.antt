@@ -1,13 +1,12 @@
 -- Laws on sorting events by faction: each list has the faction's own events, and a report needs only these.
-use Rattle.std.proofs.Common.{Result, Ok, Err, ◌≡◌, ◌==◌, ◌++◌, ◌+◌, ◌<◌, ℕ, Bool, true, false, cond, List, [], ◌∷◌, Option, Some, unwrap_or, refl, sym, ap, ◌∙◌, arith, length, get_or, drop}
+use Rattle.std.proofs.Common.{Result, Ok, Err, ◌≡◌, ◌==◌, ◌++◌, ◌+◌, ◌<◌, ℕ, Bool, true, false, cond, List, [], ◌∷◌, Option, Some, unwrap_or, refl, sym, ap, ◌∙◌, length, get_or, drop}
 use Rattle.std.specs.Prelude.{OnOk}
 use Rattle.std.specs.Ordering.{nat_cmp}
 use Rattle.std.specs.Cmp.{nat_cmp_total}
 use Rattle.std.specs.FinMap.{FinMap, get, get-insert, get-empty, empty}
-use Rattle.std.proofs.lemmas.Bool.Decides.{nat_tests}
 use Rattle.std.proofs.lemmas.List.{append_assoc, drop_more}
 use Rattle.atl_world.specs.Worlds.{WorldValue}
-use Rattle.atl_world.proofs.GeneralLaws.{key_equality_is_symmetric}
+use Rattle.atl_world.proofs.GeneralLaws.{key_equality_is_symmetric, is_equal}
 use Rattle.atl_orders.specs.declared.fault.FaultyLine.{FaultyLine}
 use Rattle.atl_records.specs.declared.event.Event.{Event}
 use Rattle.atl_campaign.specs.Campaign.{CampaignValue, with_report}
@@ -24,10 +23,7 @@ by_faction true o listed rest e h = ap (λ l. (l ++ (e ∷ [])) ++ rest) (h refl
 by_faction false o listed rest e h = refl
 
 same_list : (sorted : FinMap nat_cmp (List Event)) (q r : ℕ) → (r == q) ≡ true → events_of sorted r ≡ events_of sorted q
-same_list sorted q r h = ap (events_of sorted) (equal q r h)
-  where
-    equal : (q r : ℕ) → (r == q) ≡ true → r ≡ q
-    equal q r h = grind (arith, nat_tests)
+same_list sorted q r h = ap (events_of sorted) (is_equal q r h)
 
 event_goes_on : (sorted : FinMap nat_cmp (List Event)) (e : Event) (es : List Event) (n : ℕ)
     → events_of (with_event sorted e) n ++ own_events n es ≡ events_of sorted n ++ own_events n (e ∷ es)

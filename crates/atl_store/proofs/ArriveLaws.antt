@@ -1,11 +1,10 @@
 -- Laws on what single statements make of a table: a row put under its number, and an amount of the books written.
-use Rattle.std.proofs.Common.{◌≡◌, ◌≢◌, ◌⊎◌, ◌+◌, ℕ, ℤ, pos, false, cond, List, [], ◌∷◌, take, Some, None, Less, Equal, Greater, refl, sym, ap, ◌∙◌, subst, inl, inr, arith}
+use Rattle.std.proofs.Common.{◌≡◌, ◌≢◌, ◌⊎◌, ◌+◌, ℕ, ℤ, pos, List, [], ◌∷◌, take, None, refl, sym, ap, ◌∙◌, subst, inl, inr, arith}
 use Rattle.std.specs.Prelude.{◌↔◌}
-use Rattle.std.specs.Ordering.{nat_cmp, is_eq, int_eq}
-use Rattle.std.specs.Cmp.{nat_cmp_total}
-use Rattle.std.specs.FinMap.{FinMap, get, insert, empty, get-insert, get-empty, nat_cmp-IsAntisymmetric}
+use Rattle.std.specs.Ordering.{nat_cmp, int_eq}
+use Rattle.std.specs.FinMap.{FinMap, get, insert, empty, get-empty}
 use Rattle.std.proofs.lemmas.Bool.{cases_eq}
-use Rattle.std.proofs.lemmas.Cmp.{tied_itself}
+use Rattle.std.proofs.lemmas.Option.{same_Some, none-some}
 use Rattle.sqlite.specs.Order.{Row}
 use Rattle.sqlite.specs.Effect.{Database}
 use Rattle.sqlite_rules.specs.Lists.{Has}
@@ -15,6 +14,7 @@ use Rattle.atl_records.specs.declared.books.BooksEntry.{BooksEntry}
 use Rattle.atl_records.specs.declared.books.Thing.{Thing}
 use Rattle.atl_records.specs.declared.records.Unit.{Unit}
 use Rattle.atl_records.proofs.AccountLaws.{same_account}
+use Rattle.atl_records.proofs.EveryLaws.{get-insert_other}
 use Rattle.atl_sql.specs.declared.rows.has.ThingKind.{ThingKind}
 use Rattle.atl_sql.specs.Sets.{Set, HasExactly, put}
 use Rattle.atl_sql.specs.Tables.{Books, books_table}
@@ -28,43 +28,25 @@ use Rattle.atl_store.proofs.EntryLaws.{same_number}
 use Rattle.atl_store.proofs.HasTableLaws.{optional_has, has_optional}
 use Rattle.atl_store.proofs.LedgerLaws.{books_key_determines_numbers, differs_zero, is_differing, amount_is}
 use Rattle.atl_sql.specs.Inside.{Puts, Drops}
+use Rattle.atl_world.proofs.TrackLaws.{get_inserted}
 
 -- ---- one entry more in a map
 
-other : (k n : ℕ) → k ≢ n → is_eq (nat_cmp k n) ≡ false
-other k n apart = elim (nat_cmp k n) as (λ o. nat_cmp k n ≡ o → is_eq o ≡ false) [
-  | Less ↦ λ _. refl
-  | Equal ↦ λ e. absurd (apart (nat_cmp-IsAntisymmetric k n e))
-  | Greater ↦ λ _. refl
-] refl
-
 module _ {V : Type 0} where
-  some_is : (a b : V) → Some a ≡ Some b → a ≡ b
-  some_is a b e = cc
-
-  nothing_is : (v : V) → None ≡ Some v → ⊥
-  nothing_is v e = cc
-
-  pub get_inserted : (m : FinMap nat_cmp V) (n : ℕ) (v : V) → get (insert m n v) n ≡ Some v
-  get_inserted m n v = get-insert nat_cmp_total m n v n ∙ ap (λ b. cond b (Some v) (get m n)) (ap is_eq (tied_itself nat_cmp_total n))
-
-  pub get_others : (m : FinMap nat_cmp V) (n : ℕ) (v : V) (k : ℕ) → k ≢ n → get (insert m n v) k ≡ get m k
-  get_others m n v k apart = get-insert nat_cmp_total m n v k ∙ ap (λ b. cond b (Some v) (get m k)) (other k n apart)
-
 pub put_rows : {V : Type 0} (line : ℕ → V → Row) (numbered : (n : ℕ) (v : V) → take 1 (line n v) ≡ int n ∷ []) (rows news : List Row) (m : FinMap nat_cmp V) (n : ℕ) (v : V) → HasExactly rows (RowsOf line m) → HasExactly news (put 1 (line n v) (Has rows)) → HasExactly news (RowsOf line (insert m n v))
 put_rows line numbered rows news m n v was made r = (
   λ there. elim ((made r).0 there) [
     | inl same ↦ (n, v, get_inserted m n v, same)
     | inr kept ↦
         let old = (was r).0 kept.0 in
-        (old.0, old.1, get_others m n v old.0 (λ e. kept.1 (ap (take 1) old.3 ∙ numbered old.0 old.1 ∙ ap (λ k. int k ∷ []) e ∙ sym (numbered n v))) ∙ old.2, old.3)
+        (old.0, old.1, get-insert_other m n old.0 v (λ e. kept.1 (ap (take 1) old.3 ∙ numbered old.0 old.1 ∙ ap (λ k. int k ∷ []) e ∙ sym (numbered n v))) ∙ old.2, old.3)
   ],
   λ of. (made r).1 (elim (cases_eq of.0 n) [
     | inl same ↦
-        let value : v ≡ of.1 = some_is v of.1 (sym (ap (get (insert m n v)) same ∙ get_inserted m n v) ∙ of.2) in
+        let value : v ≡ of.1 = same_Some v of.1 (sym (ap (get (insert m n v)) same ∙ get_inserted m n v) ∙ of.2) in
         inl (of.3 ∙ ap (λ k. line k of.1) same ∙ ap (line n) (sym value))
     | inr apart ↦ inr (
-      (was r).1 (of.0, of.1, sym (get_others m n v of.0 apart) ∙ of.2, of.3),
+      (was r).1 (of.0, of.1, sym (get-insert_other m n of.0 v apart) ∙ of.2, of.3),
       λ e. apart (same_number of.0 n (sym (numbered of.0 of.1) ∙ ap (take 1) (sym of.3) ∙ e ∙ numbered n v)),
     )
   ]),
@@ -75,14 +57,14 @@ pub no_goods : (rows : List Row) (units : FinMap nat_cmp Unit) (n : ℕ) (u : Un
 no_goods rows units n u fresh bare was r = (
   λ there.
       let old = (was r).0 there in
-      let apart : old.0 ≢ n = λ same. nothing_is old.1 (sym fresh ∙ ap (get units) (sym same) ∙ old.2) in
-      (old.0, old.1, get_others units n u old.0 apart ∙ old.2, old.3, old.4, old.5, old.6, old.7, old.8),
+      let apart : old.0 ≢ n = λ same. none-some old.1 (sym fresh ∙ ap (get units) (sym same) ∙ old.2) in
+      (old.0, old.1, get-insert_other units n old.0 u apart ∙ old.2, old.3, old.4, old.5, old.6, old.7, old.8),
   λ of. (was r).1 (elim (cases_eq of.0 n) [
     | inl same ↦
-        let value : u ≡ of.1 = some_is u of.1 (sym (ap (get (insert units n u)) same ∙ get_inserted units n u) ∙ of.2) in
+        let value : u ≡ of.1 = same_Some u of.1 (sym (ap (get (insert units n u)) same ∙ get_inserted units n u) ∙ of.2) in
         let none : get (things_of of.3 of.1.holding) of.4 ≡ None = ap (λ (x : Unit). get (things_of of.3 x.holding) of.4) (sym value) ∙ ap (λ (m : FinMap nat_cmp ℕ). get m of.4) (bare of.3) ∙ get-empty nat_cmp of.4 in
-        absurd (nothing_is of.5 (sym none ∙ of.6))
-    | inr apart ↦ (of.0, of.1, sym (get_others units n u of.0 apart) ∙ of.2, of.3, of.4, of.5, of.6, of.7, of.8)
+        absurd (none-some of.5 (sym none ∙ of.6))
+    | inr apart ↦ (of.0, of.1, sym (get-insert_other units n of.0 u apart) ∙ of.2, of.3, of.4, of.5, of.6, of.7, of.8)
   ]),
 )
 

@@ -28,8 +28,9 @@ use Rattle.atl_store.specs.Marked.{entry_and_thing_pass, amount_marked, is_marke
 use Rattle.atl_store.specs.Rewriting.{RewritesAmounts, RewritesBooks, equals_number, is_among, is_of_marked_amount}
 use Rattle.atl_store.proofs.HasTableLaws.{optional_has, has_optional}
 use Rattle.atl_store.proofs.LedgerLaws.{books_key_determines_numbers, differs_zero, is_differing}
-use Rattle.atl_store.proofs.RewriteLaws.{Remaining, one_less_remaining, all_rewritten, equal_by_order, is_itself, rewrites_key}
+use Rattle.atl_store.proofs.RewriteLaws.{Remaining, one_less_remaining, all_rewritten, rewrites_key}
 use Rattle.atl_store.proofs.WholeLaws.{inside_weaker}
+use Rattle.atl_world.proofs.GeneralLaws.{same_key, key_itself}
 
 -- ---- a row that begins with an entry and a thing
 
@@ -80,7 +81,7 @@ module _ (marks : FinSet nat_cmp) where
   in_range from (suc count) i least most = elim (cases_Bool (eq_by_cmp nat_cmp i from)) [
     | inl here ↦ ap (λ b. b || is_among (range_with_len (from + 1) count) i) here
     | inr later ↦
-        let apart : i ≢ from = λ same. true≢false (sym (is_itself i) ∙ ap (eq_by_cmp nat_cmp i) same ∙ later) in
+        let apart : i ≢ from = λ same. true≢false (sym (key_itself i) ∙ ap (eq_by_cmp nat_cmp i) same ∙ later) in
         ap (λ b. b || is_among (range_with_len (from + 1) count) i) later ∙ in_range (from + 1) count i (past from i least apart) (omega (arith, most))
   ]
     where
@@ -90,7 +91,7 @@ module _ (marks : FinSet nat_cmp) where
   beyond : (from count i : ℕ) → from + count ≤ i → is_among (range_with_len from count) i ≡ false
   beyond from zero i past = refl
   beyond from (suc count) i past =
-      ap (λ b. b || is_among (range_with_len (from + 1) count) i) (false_from_ne_true (eq_by_cmp nat_cmp i from) (λ is. absurd (omega (arith, past, equal_by_order i from is)))) ∙ beyond (from + 1) count i (omega (arith, past))
+      ap (λ b. b || is_among (range_with_len (from + 1) count) i) (false_from_ne_true (eq_by_cmp nat_cmp i from) (λ is. absurd (omega (arith, past, same_key i from is)))) ∙ beyond (from + 1) count i (omega (arith, past))
 
   among_first : (count e : ℕ) → is_among (range_with_len 0 count) e ≡ nat_le (suc e) count
   among_first count e = elim (cases_lt e count) [
@@ -146,13 +147,13 @@ module _ (c : MarkedCampaign) (e : BooksEntry) (t : Thing) where
   unmarked_none unmarked r = accounts_none _ (λ k j. false_from_ne_true _ (λ is.
       let one = and_parts _ _ is in
       let two = and_parts _ _ one.1 in
-      true≢false (sym two.1 ∙ ap (λ x. contains c.marks.books (entry_count * x + k)) (equal_by_order j (thing_index t) two.0) ∙ ap (λ x. contains c.marks.books (entry_count * thing_index t + x)) (equal_by_order k (entry_index e) one.0) ∙ unmarked))) r
+      true≢false (sym two.1 ∙ ap (λ x. contains c.marks.books (entry_count * x + k)) (same_key j (thing_index t) two.0) ∙ ap (λ x. contains c.marks.books (entry_count * thing_index t + x)) (same_key k (entry_index e) one.0) ∙ unmarked))) r
 
   key_of : (r : Row) → is_here r ≡ true → take 2 r ≡ books_key (entry_index e + 1) (thing_index t)
   key_of (Int (pos (suc index)) ∷ Int (pos thing) ∷ row) is =
       let one = and_parts _ _ is in
       let two = and_parts _ _ one.1 in
-      ap (λ k. books_key k thing) (next index (entry_index e) (equal_by_order index (entry_index e) one.0)) ∙ ap (books_key (entry_index e + 1)) (equal_by_order thing (thing_index t) two.0)
+      ap (λ k. books_key k thing) (next index (entry_index e) (same_key index (entry_index e) one.0)) ∙ ap (books_key (entry_index e + 1)) (same_key thing (thing_index t) two.0)
     where
       -- for `key_of`: if `a` is `b`, the successor of `a` is `b + 1`; a row of `books` has an entry's index plus 1
       next : (a b : ℕ) → a ≡ b → suc a ≡ b + 1
@@ -168,7 +169,7 @@ module _ (c : MarkedCampaign) (e : BooksEntry) (t : Thing) where
         let second : w ≡ int (thing_index t) = cc in
         let index : entry_index e + 1 ≡ suc (entry_index e) = omega arith in
         ap (λ x. is_here (x ∷ w ∷ row)) (first ∙ ap int index) ∙ ap (λ x. is_here (int (suc (entry_index e)) ∷ x ∷ row)) second
-        ∙ ap (λ b. b && (equals_number (thing_index t) (thing_index t) && contains c.marks.books (amount_number e t))) (is_itself (entry_index e)) ∙ ap (λ b. b && contains c.marks.books (amount_number e t)) (is_itself (thing_index t)) ∙ marked
+        ∙ ap (λ b. b && (equals_number (thing_index t) (thing_index t) && contains c.marks.books (amount_number e t))) (key_itself (entry_index e)) ∙ ap (λ b. b && contains c.marks.books (amount_number e t)) (key_itself (thing_index t)) ∙ marked
 
     written_amount_is_rewritten : (old new : Database) → WritesAmount c.value e t old new
         → RewritesAmounts c (equals_number (entry_index e)) (equals_number (thing_index t)) old new

@@ -1,5 +1,5 @@
 -- Laws on maps by number: look-ups find just the entries, and a table filled with the entries' rows has the map's rows.
-use Rattle.std.proofs.Common.{◌≡◌, ◌≢◌, ◌⊎◌, ℕ, true, false, cond, List, [], ◌∷◌, ◌++◌, take, Some, None, Less, Equal, Greater, refl, sym, ap, ◌∙◌, subst, inl, inr, true≢false}
+use Rattle.std.proofs.Common.{◌≡◌, ◌≢◌, ◌⊎◌, ℕ, true, false, cond, List, [], ◌∷◌, ◌++◌, take, Some, Less, Equal, Greater, refl, sym, ap, ◌∙◌, subst, inl, inr, true≢false}
 use Rattle.std.specs.List.{flat_map}
 use Rattle.std.specs.Ordering.{nat_cmp, is_eq, is_lt}
 use Rattle.std.specs.Cmp.{nat_cmp_total}
@@ -7,6 +7,7 @@ use Rattle.std.specs.FinMap.{FinMap, get, get-entries, entries, entries_sorted, 
 use Rattle.std.specs.FinMap.Entries.{below_all}
 use Rattle.std.proofs.lemmas.Bool.{and_parts}
 use Rattle.std.proofs.lemmas.Cmp.{tied_itself}
+use Rattle.std.proofs.lemmas.Option.{same_Some, none-some}
 use Rattle.atl_world.proofs.TrackLaws.{is_true}
 use Rattle.sqlite.specs.Order.{Row}
 use Rattle.sqlite_rules.specs.Lists.{Has}
@@ -26,24 +27,18 @@ pub less_apart : (m n : ℕ) → is_lt (nat_cmp m n) ≡ true → m ≢ n
 less_apart m n less same = true≢false (sym less ∙ ap (λ k. is_lt (nat_cmp m k)) (sym same) ∙ not_less_itself m)
 
 module _ {V : Type 0} where
-  same_some : (a b : V) → Some a ≡ Some b → a ≡ b
-  same_some a b e = cc
-
-  nothing_there : (v : V) → None ≡ Some v → ⊥
-  nothing_there v e = cc
-
   pub below_has : (k : ℕ) (es : List (ℕ × V)) (x : ℕ × V) → below_all nat_cmp k es ≡ true → Has es x → is_lt (nat_cmp k x.0) ≡ true
   below_has k [] x below there = absurd there
   below_has k (e ∷ es) x below (inl same) = ap (λ (y : ℕ × V). is_lt (nat_cmp k y.0)) same ∙ (and_parts _ _ below).0
   below_has k (e ∷ es) x below (inr later) = below_has k es x (and_parts _ _ below).1 later
 
   get_has : (es : List (ℕ × V)) (n : ℕ) (v : V) → find nat_cmp n es ≡ Some v → Has es (n, v)
-  get_has [] n v got = absurd (nothing_there v got)
+  get_has [] n v got = absurd (none-some v got)
   get_has (e ∷ es) n v got = elim (nat_cmp n e.0) as (λ o. nat_cmp n e.0 ≡ o → cond (is_eq o) (Some e.1) (find nat_cmp n es) ≡ Some v → Has (e ∷ es) (n, v)) [
     | Less ↦ λ _ h. inr (get_has es n v h)
     | Equal ↦ λ tie h.
         let number : n ≡ e.0 = nat_cmp-IsAntisymmetric n e.0 tie in
-        let value : v ≡ e.1 = sym (same_some e.1 v h) in
+        let value : v ≡ e.1 = sym (same_Some e.1 v h) in
         inl (λ i. (number i, value i))
     | Greater ↦ λ _ h. inr (get_has es n v h)
   ] refl got

@@ -7,7 +7,7 @@ use Rattle.sqlite_schema.specs.declared.command.Returning.{Returning}
 use Rattle.sqlite.specs.Effect.{Database}
 use Rattle.sqlite.specs.Held.{Held, state}
 use Rattle.sqlite.specs.Order.{Row}
-use Rattle.sqlite.specs.State.{State, HasCleanDisk, Survives, Shown, ShowsRows}
+use Rattle.sqlite.specs.State.{State, HasCleanDisk, Shown, ShowsRows}
 use Rattle.sqlite_rules.specs.Lists.{Has}
 use Rattle.sqlite_rules.proofs.ListLemmas.{has_left, has_right, has_either, test_has}
 use Rattle.atl_world.specs.declared.format.Format.{Format}
@@ -24,6 +24,7 @@ use Rattle.atl_store.specs.declared.fault.LoadFault.TheVariants.{Store, Damaged,
 use Rattle.atl_sql.proofs.KeepLaws.{survives_more}
 use Rattle.atl_sql.proofs.ListLaws.{has_map}
 use Rattle.atl_sql.proofs.PartLaws.{is_among, not_among}
+use Rattle.atl_sql.proofs.WriteLaws.{survives_start}
 use Rattle.atl_store.proofs.PartsLaws.{every_part}
 
 shows_open : (old new : State) (sql : List ℕ) (c : _) (row : Row) (rows : List Row) (what : Option Returning) → ShowsRows old new sql c row rows what → IsTrue old.is_open
@@ -45,9 +46,6 @@ store_no_memory is = cc
 
 refused_no_memory : read.Refused ≢ read.Memory
 refused_no_memory is = cc
-
-survives_start : (s : State) → Survives s s (λ _. ⊥)
-survives_start s = record { clean = omega arith; shield = λ k. k; counts = omega arith; limit = refl; closes = λ clean up. inl up; crash = λ clean db may. inl may }
 
 each_of_both : {X : Type 0} (P : X → Type 0) (xs ys : List X) → ((x : X) → Has xs x → P x) → ((x : X) → Has ys x → P x) → (x : X) → Has (xs ++ ys) x → P x
 each_of_both P xs ys first second x there = elim (has_either xs ys x there) [

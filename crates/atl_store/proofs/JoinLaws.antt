@@ -32,8 +32,9 @@ use Rattle.atl_store.specs.Keeps.{IsJoining}
 use Rattle.atl_store.specs.Arriving.{HasArrivalWith, AddsJoin, rows_with_amount, WritesAmount, HasPut, WritesJoin, WritesMail}
 use Rattle.atl_sql.proofs.PartLaws.{listed, same_part, is_among, not_among}
 use Rattle.atl_store.proofs.TurnLaws.{stays_is}
-use Rattle.atl_store.proofs.ArriveLaws.{get_inserted, put_rows, no_goods, written_amount_changes_books}
+use Rattle.atl_store.proofs.ArriveLaws.{put_rows, no_goods, written_amount_changes_books}
 use Rattle.atl_store.proofs.WholeLaws.{inside_then, inside_weaker}
+use Rattle.atl_world.proofs.TrackLaws.{get_inserted}
 
 -- ---- one booking changes one amount
 

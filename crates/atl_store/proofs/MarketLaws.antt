@@ -16,13 +16,14 @@ use Rattle.atl_sql.specs.Tables.{market_table}
 use Rattle.atl_sql.specs.Inside.{DoesInside, HasTables, Puts, Drops}
 use Rattle.atl_store.specs.Marked.{region_and_item_pass}
 use Rattle.atl_store.specs.Rewriting.{FindsByNumbers, RewritesChosenStocks, is_owner_and_thing}
-use Rattle.atl_store.proofs.RewriteLaws.{equal_by_order, is_itself, rewrites_key, kept_only}
+use Rattle.atl_store.proofs.RewriteLaws.{rewrites_key, kept_only}
 use Rattle.atl_store.proofs.WholeLaws.{inside_weaker}
 use Rattle.atl_store.specs.Rows.{MarketRowsOf}
 use Rattle.atl_store.specs.GroupedRows.{AreGroups, region_stock_lines}
 use Rattle.atl_store.proofs.EntryLaws.{got_entry, entry_got, in_order}
 use Rattle.atl_store.proofs.HasTableLaws.{amounts_have, have_amount, amounts_apart}
 use Rattle.sqlite.specs.Order.{Row}
+use Rattle.atl_world.proofs.GeneralLaws.{same_key, key_itself}
 
 one_item : (region m a n b : ℕ) → ◌≡◌ {A = Row} (take 2 (market_row region m a)) (take 2 (market_row region n b)) → m ≡ n
 one_item region m a n b same = cc
@@ -90,7 +91,7 @@ module _ (region item : ℕ) where
   key_of : (r : Row) → is_here r ≡ true → take 2 r ≡ market_key region item
   key_of (Int (pos n) ∷ Int (pos t) ∷ row) is =
       let both = and_parts _ _ is in
-      ap (λ k. market_key k t) (equal_by_order n region both.0) ∙ ap (market_key region) (equal_by_order t item both.1)
+      ap (λ k. market_key k t) (same_key n region both.0) ∙ ap (market_key region) (same_key t item both.1)
   key_of row is = absurd (true≢false (sym is))
 
   of_key : (r : Row) → take 2 r ≡ market_key region item → is_here r ≡ true
@@ -99,7 +100,7 @@ module _ (region item : ℕ) where
   of_key (u ∷ v ∷ row) key =
       let first : u ≡ int region = cc in
       let second : v ≡ int item = cc in
-      ap (λ x. is_here (x ∷ v ∷ row)) first ∙ ap (λ x. is_here (int region ∷ x ∷ row)) second ∙ and_from _ _ (is_itself region) (is_itself item)
+      ap (λ x. is_here (x ∷ v ∷ row)) first ∙ ap (λ x. is_here (int region ∷ x ∷ row)) second ∙ and_from _ _ (key_itself region) (key_itself item)
 
   module _ (c : CampaignValue) (stock : ℕ) (is : stock ≡ stock_in c.regions region item) where
     abbrev row : Row

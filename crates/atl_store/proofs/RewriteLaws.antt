@@ -1,12 +1,11 @@
 -- Laws on rewriting the rows of a table that pass a test, one step after another.
 -- To rewrite is to put the wanted rows (`Wanted`) that pass the test in place of the old ones.
-use Rattle.std.proofs.Common.{◌≡◌, ◌≢◌, ◌⊎◌, ◌↔◌, ◌||◌, ℕ, pos, Bool, true, false, List, [], ◌∷◌, take, Some, None, Less, Equal, Greater, refl, sym, ap, ◌∙◌, subst, inl, inr, true≢false}
-use Rattle.std.specs.Ordering.{nat_cmp, is_eq, eq_by_cmp}
+use Rattle.std.proofs.Common.{◌≡◌, ◌≢◌, ◌⊎◌, ◌↔◌, ◌||◌, ℕ, pos, Bool, true, false, List, [], ◌∷◌, take, Some, None, refl, sym, ap, ◌∙◌, subst, inl, inr, true≢false}
+use Rattle.std.specs.Ordering.{nat_cmp}
 use Rattle.std.specs.Cmp.{nat_cmp_total}
-use Rattle.std.specs.FinMap.{FinMap, get, nat_cmp-IsAntisymmetric}
+use Rattle.std.specs.FinMap.{FinMap, get}
 use Rattle.std.specs.FinSet.{FinSet, contains, from_list, contains-from_list}
 use Rattle.std.proofs.lemmas.Bool.{false_from_ne_true}
-use Rattle.std.proofs.lemmas.Cmp.{tied_itself}
 use Rattle.std.proofs.lemmas.Option.{same_Some, none-some}
 use Rattle.sqlite.specs.Effect.{Database}
 use Rattle.sqlite.specs.Order.{Row}
@@ -25,6 +24,7 @@ use Rattle.atl_store.specs.Rewriting.{Rewrites, RewritesNumber, equals_number, i
 use Rattle.atl_sql.proofs.CarryLaws.{carries_then, carries_none}
 use Rattle.atl_store.proofs.EntryLaws.{same_number}
 use Rattle.atl_store.proofs.WholeLaws.{inside_weaker}
+use Rattle.atl_world.proofs.GeneralLaws.{same_key, key_itself}
 
 -- ---- one step after another
 
@@ -113,16 +113,6 @@ module _ (table : Table) (Wanted : Set) where
 
 -- ---- numbers
 
-pub equal_by_order : (k n : ℕ) → eq_by_cmp nat_cmp k n ≡ true → k ≡ n
-equal_by_order k n is = elim (nat_cmp k n) as (λ o. nat_cmp k n ≡ o → is_eq o ≡ true → k ≡ n) [
-  | Less ↦ λ _ never. absurd (true≢false (sym never))
-  | Equal ↦ λ same _. nat_cmp-IsAntisymmetric k n same
-  | Greater ↦ λ _ never. absurd (true≢false (sym never))
-] refl is
-
-pub is_itself : (n : ℕ) → eq_by_cmp nat_cmp n n ≡ true
-is_itself n = ap is_eq (tied_itself nat_cmp_total n)
-
 -- ---- a row that begins with a number
 
 begins_either : (f g : ℕ → Bool) (r : Row) → first_column_passes (λ n. f n || g n) r ≡ (first_column_passes f r || first_column_passes g r)
@@ -134,14 +124,14 @@ begins_none (Int (pos n) ∷ row) = refl
 begins_none row = refl
 
 pub begins_key : (n : ℕ) (r : Row) → first_column_passes (equals_number n) r ≡ true → take 1 r ≡ int n ∷ []
-begins_key n (Int (pos k) ∷ row) is = ap (λ k. int k ∷ []) (equal_by_order k n is)
+begins_key n (Int (pos k) ∷ row) is = ap (λ k. int k ∷ []) (same_key k n is)
 begins_key n row is = absurd (true≢false (sym is))
 
 pub key_begins : (n : ℕ) (r : Row) → take 1 r ≡ int n ∷ [] → first_column_passes (equals_number n) r ≡ true
 key_begins n [] key = absurd cc
 key_begins n (v ∷ row) key =
     let value : v ≡ int n = cc in
-    ap (λ x. first_column_passes (equals_number n) (x ∷ row)) value ∙ is_itself n
+    ap (λ x. first_column_passes (equals_number n) (x ∷ row)) value ∙ key_itself n
 
 next_number : (n : ℕ) (ns : List ℕ) (r : Row) → first_column_passes (is_among (n ∷ ns)) r ≡ (first_column_passes (equals_number n) r || first_column_passes (is_among ns) r)
 next_number n ns r = begins_either (equals_number n) (is_among ns) r

@@ -16,7 +16,8 @@ use Rattle.atl_sql.specs.Inside.{DoesInside, HasTables}
 use Rattle.atl_store.specs.Marked.{has_thing}
 use Rattle.atl_store.specs.Rewriting.{FindsByNumbers, Rewrites, equals_number, is_among, is_owner_and_thing, is_owner_and_listed}
 use Rattle.atl_store.proofs.EntryLaws.{in_order}
-use Rattle.atl_store.proofs.RewriteLaws.{Remaining, one_less_remaining, all_rewritten, equal_by_order}
+use Rattle.atl_store.proofs.RewriteLaws.{Remaining, one_less_remaining, all_rewritten}
+use Rattle.atl_world.proofs.GeneralLaws.{same_key}
 
 -- ---- the entries of a map
 
@@ -48,7 +49,7 @@ module _ {V : Type 0} where
   listed_thing [] n t sorted = sym (ap is_some (get-empty {X = V} nat_cmp t))
   listed_thing (e ∷ es) n t sorted = elim (cases_Bool (eq_by_cmp nat_cmp n e.0)) [
     | inl here ↦
-        ap (λ b. b && is_some (get e.1 t) || is_listed es n t) here ∙ ap (λ b. is_some (get e.1 t) || b) (ap (λ k. is_listed es k t) (equal_by_order n e.0 here) ∙ not_listed es e.0 t (and_parts _ _ sorted).0) ∙ or-false (is_some (get e.1 t))
+        ap (λ b. b && is_some (get e.1 t) || is_listed es n t) here ∙ ap (λ b. is_some (get e.1 t) || b) (ap (λ k. is_listed es k t) (same_key n e.0 here) ∙ not_listed es e.0 t (and_parts _ _ sorted).0) ∙ or-false (is_some (get e.1 t))
         ∙ ap (λ b. is_some (get (unwrap_or (cond b (Some e.1) (find nat_cmp n es)) empty) t)) (sym here)
     | inr other ↦ ap (λ b. b && is_some (get e.1 t) || is_listed es n t) other ∙ listed_thing es n t (and_parts _ _ sorted).1 ∙ ap (λ b. is_some (get (unwrap_or (cond b (Some e.1) (find nat_cmp n es)) empty) t)) (sym other)
   ]

@@ -1,7 +1,6 @@
 -- Laws on writing a single item or skill of a unit: its row alone is put or deleted.
 use Rattle.std.proofs.Common.{◌≡◌, ◌≢◌, ◌==◌, ◌||◌, ℕ, pos, Bool, true, false, [], ◌∷◌, take, refl, sym, ap, ◌∙◌, subst, inr, true≢false, arith}
 use Rattle.std.proofs.lemmas.Bool.{and_parts, and_from}
-use Rattle.std.proofs.lemmas.Bool.Decides.{nat_tests}
 use Rattle.std.proofs.Math.Bool.{and-false, and-or_distrib_left}
 use Rattle.sqlite.specs.Order.{Row}
 use Rattle.sqlite.specs.State.{State}
@@ -17,8 +16,9 @@ use Rattle.atl_sql.specs.Inside.{DoesInside, HasTables, Puts, Drops}
 use Rattle.atl_store.specs.Marked.{unit_and_thing_pass}
 use Rattle.atl_store.specs.Rewriting.{FindsByNumbers, RewritesThings, is_owner_and_thing}
 use Rattle.atl_store.proofs.HasTableLaws.{three_same, row_has_amount, amount_has_row}
-use Rattle.atl_store.proofs.RewriteLaws.{equal_by_order, is_itself, rewrites_key, kept_only}
+use Rattle.atl_store.proofs.RewriteLaws.{rewrites_key, kept_only}
 use Rattle.atl_store.proofs.WholeLaws.{inside_weaker}
+use Rattle.atl_world.proofs.GeneralLaws.{same_key, key_itself, is_equal, equal_itself}
 
 -- `unit_and_thing_pass` finds rows of `has` by unit and thing: a test "`f` or `g`" finds what `f` or `g` finds, and a
 -- test that is always false finds nothing (`FindsByNumbers`)
@@ -47,10 +47,8 @@ module _ (unit : ℕ) (sort : ThingKind) (thing : ℕ) where
   key_of (Int (pos n) ∷ Int (pos number) ∷ Int (pos t) ∷ row) is =
       let one = and_parts _ _ is in
       let two = and_parts _ _ one.1 in
-      ap (λ k. has_key k number t) (equal_by_order n unit two.0) ∙ ap (λ k. has_key unit k t) (equals number (sort_number sort) one.0) ∙ ap (has_key unit (sort_number sort)) (equal_by_order t thing two.1)
-    where
-      equals : (a b : ℕ) → (a == b) ≡ true → a ≡ b
-      equals a b is = grind (arith, nat_tests)
+      ap (λ k. has_key k number t) (same_key n unit two.0) ∙ ap (λ k. has_key unit k t) (is_equal number (sort_number sort) one.0) ∙ ap (has_key unit (sort_number sort)) (same_key t thing two.1)
+
   key_of row is = absurd (true≢false (sym is))
 
   of_key : (r : Row) → take 3 r ≡ has_key unit (sort_number sort) thing → is_here r ≡ true
@@ -62,10 +60,7 @@ module _ (unit : ℕ) (sort : ThingKind) (thing : ℕ) where
       let second : v ≡ int (sort_number sort) = cc in
       let third : w ≡ int thing = cc in
       ap (λ x. is_here (x ∷ v ∷ w ∷ row)) first ∙ ap (λ x. is_here (int unit ∷ x ∷ w ∷ row)) second ∙ ap (λ x. is_here (int unit ∷ int (sort_number sort) ∷ x ∷ row)) third
-      ∙ and_from _ _ (itself (sort_number sort)) (and_from _ _ (is_itself unit) (is_itself thing))
-    where
-      itself : (a : ℕ) → (a == a) ≡ true
-      itself a = grind (arith, nat_tests)
+      ∙ and_from _ _ (equal_itself (sort_number sort)) (and_from _ _ (key_itself unit) (key_itself thing))
 
   module _ (c : CampaignValue) (amount : ℕ) (is : amount ≡ amount_under c.units unit sort thing) where
     abbrev row : Row

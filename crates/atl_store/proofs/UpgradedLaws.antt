@@ -1,5 +1,5 @@
 -- Laws on `upgrade`: what it returns and leaves after its reads and after its transaction.
-use Rattle.std.proofs.Common.{◌≡◌, ◌≤◌, ℕ, Bool, true, false, cond, List, IsTrue, Result, Ok, Err, IsErrAnd, IfErr, refl, sym, ap, ◌∙◌, subst, inl, inr, arith}
+use Rattle.std.proofs.Common.{◌≡◌, ◌≤◌, ℕ, Bool, true, false, cond, List, IsTrue, Result, Ok, Err, refl, sym, ap, ◌∙◌, subst, inl, inr, arith}
 use Rattle.sqlite_trees.specs.Tree.{Trees}
 use Rattle.sqlite_trees.specs.declared.store.Store.{Ghosts}
 use Rattle.sqlite.specs.declared.error.Error.{Error}
@@ -33,10 +33,6 @@ use Rattle.atl_store.specs.declared.fault.UpgradeFault.{UpgradeFault}
 use Rattle.atl_store.specs.declared.fault.UpgradeFault.TheVariants as upgrade
 use Rattle.atl_store.proofs.BareWorldLaws.{good_either}
 use Rattle.atl_store.proofs.StayLaws.{commits_keeps, failed_changes_nothing, may_found}
-
-pub holds_of_error : {A F : Type 0} (P : F → Type 0) (r : Result A F) (fault : F) → IsErrAnd r (λ f. f ≡ fault) → P fault → IfErr r P
-holds_of_error P (Ok a) fault says p = tt
-holds_of_error P (Err f) fault says p = subst P (sym says) p
 
 -- ---- what was loaded is what the tables held
 

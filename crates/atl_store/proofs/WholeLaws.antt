@@ -1,5 +1,5 @@
 -- Laws on a transaction as a whole: steps one after the other inside it, its commit, and what it leaves if it fails.
-use Rattle.std.proofs.Common.{◌≡◌, [], false, true, true≢false, IsTrue, Result, Ok, Err, OnOk, OnErr, IfErr, sym, ap, subst, ◌∙◌, inl, inr, arith}
+use Rattle.std.proofs.Common.{◌≡◌, [], false, true, true≢false, IsTrue, Result, Ok, Err, OnOk, IfErr, sym, ap, subst, ◌∙◌, inl, inr, arith}
 use Rattle.std.specs.Borrow.{MutBor}
 use Rattle.sqlite.specs.declared.error.Error.{Error}
 use Rattle.sqlite.specs.Steps.{FailsToCommit}
@@ -16,6 +16,7 @@ use Rattle.atl_sql.proofs.KeepLaws.{on_ok, if_err}
 use Rattle.atl_sql.proofs.CauseLaws.{gives, gives_after, gives_until, gives_begun, property_of_equal_error}
 use Rattle.atl_sql.proofs.CarryLaws.{carries_then}
 use Rattle.atl_sql.proofs.WriteLaws.{on_ok_of_error, HandsOn, weaker, two_steps}
+use Rattle.atl_campaign.proofs.SlotLaws.{on_err}
 
 pub inside_then : (Before : Database → Type 0) (First Second : Database → Database → Type 0) (a b c : State) → DoesInside Before First a b → DoesInside HasTables Second b c → DoesInside Before (DoesBoth First Second) a c
 inside_then Before First Second a b c one two = (
@@ -68,10 +69,6 @@ module _ {S : Type 0} (g : Ghosts S) (old begun mid end : Held S) (begins : begu
         is_open = shows.is_open;
       }
 
-given_err : {A E P : Type 0} (r : Result A E) → P → OnErr r P
-given_err (Ok a) p = tt
-given_err (Err e) p = p
-
 module _ {S : Type 0} (g : Ghosts S) (old : Held S) (begun mid : MutBor (Held S)) (begins : begun.now ≡ record old { in_transaction = true }) (Before : Database → Type 0) (Does : Database → Database → Type 0) (end : Held S) (over : end.in_transaction ≡ false) where
   rolled_back : KeepsCommit (state g begun.now) (state g mid.now) → IsRolledBack (state g mid.now) (state g end) → LeavesOff (state g old) (state g end)
   rolled_back kept back = record {
@@ -91,7 +88,7 @@ module _ {S : Type 0} (g : Ghosts S) (old : Held S) (begun mid : MutBor (Held S)
       → (HasCleanDisk (state g end) → IsRolledBack (state g mid.now) (state g end)) → Survives (state g mid.now) (state g end) (λ _. ⊥) → Transacts g own Before Does r old end
   left_off {own = own} r {e = e} failed did back survives = record {
     ok = λ _. on_ok_of_error r _ failed.0;
-    err = λ clean. given_err r (rolled_back (did.kept (omega (arith, survives.clean))) (back clean));
+    err = λ clean. on_err r (rolled_back (did.kept (omega (arith, survives.clean))) (back clean));
     error_given = λ clean. property_of_equal_error _ r e failed.1 (gives_begun g own e old begun.now end begins (gives_until g own e begun.now mid.now end survives.counts (did.error_given (omega (arith, survives.clean)) inside_begun)));
     crash = survives_then (state g old) (state g mid.now) (state g end) _ _ (MayLeave Before Does (state g old)) (λ _ db none. absurd none) (λ _ db none. absurd none) (survives_begin g old (state g mid.now) _ (rw begins at did.survives)) survives;
     idle = over;

@@ -1,4 +1,5 @@
-use Rattle.std.proofs.Common.{◌≡◌, false, is_some, List, [], ◌∷◌, map, length, refl, sym, ◌∙◌, ap, rules, arith}
+use Rattle.std.proofs.Common.{◌≡◌, false, is_some, [], map, sym, ◌∙◌, ap, rules}
+use Rattle.std.proofs.lemmas.List.{nil_from_length}
 use Rattle.std.specs.List.{zip}
 use Rattle.std.specs.FinMap.{get}
 use Rattle.atl_market.proofs.PotLaws.{none_asked}
@@ -8,13 +9,9 @@ use Rattle.atl_market.specs.Puts.{with_entries}
 use Rattle.atl_shares.specs.Share.{shares}
 use Rattle.atl_market.proofs.pots.share_region.Goals as goal
 
-empty_list : {X : Type 0} (xs : List X) → length xs ≡ 0 → xs ≡ []
-empty_list [] h = refl
-empty_list (x ∷ xs) h = absurd (omega arith)
-
 pub returns-then-is_empty : goal.returns-then-is_empty
 returns-then-is_empty g c =
-    let empty : c.in_ok-takers.takers.items ≡ [] = empty_list c.in_ok-takers.takers.items (search rules) in
+    let empty : c.in_ok-takers.takers.items ≡ [] = nil_from_length c.in_ok-takers.takers.items (search rules) in
     let none : takers_in c.args.wants.now c.args.campaign.now.value.units c.args.region ≡ [] = sym (search rules) ∙ empty in
     ap (λ takers. with_entries c.args.given.now (zip takers (shares (g.P.Pots.pot_of c.args.pots.now c.args.region) (map (want_of c.args.wants.now) takers)))) (sym none)
 

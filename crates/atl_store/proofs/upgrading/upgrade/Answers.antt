@@ -2,8 +2,9 @@ use Rattle.std.proofs.Common.{inr, sym, ◌∙◌, true≢false}
 use Rattle.sqlite.specs.Held.{state}
 use Rattle.atl_store.specs.Faults.{upgrade_fault}
 use Rattle.atl_store.specs.Upgrading.{RefusesToUpgrade}
-use Rattle.atl_store.proofs.UpgradedLaws.{has_more, later_both, refused_after, refused_before, holds_of_error, upgrades}
+use Rattle.atl_store.proofs.UpgradedLaws.{has_more, later_both, refused_after, refused_before, upgrades}
 use Rattle.atl_store.proofs.upgrading.upgrade.Goals as goal
+use Rattle.atl_sql.proofs.CauseLaws.{property_of_equal_error}
 
 pub returns-in_err-world-clause-err : goal.returns-in_err-world-clause-err
 returns-in_err-world-clause-err g c =
@@ -11,7 +12,7 @@ returns-in_err-world-clause-err g c =
     let mid = c.world_and_campaign.new.conn in
     let text = c.args.new_world.now in
     let fault = c.in_err-world.field-0.0 in
-    holds_of_error (RefusesToUpgrade g.S.Store text old mid) c.from_residual.result fault c.from_residual.ensures.1 (refused_before g.S.Store text old mid fault c.in_err-world.ensures.err c.world_and_campaign.ensures.alone)
+    property_of_equal_error (RefusesToUpgrade g.S.Store text old mid) c.from_residual.result fault c.from_residual.ensures.1 (refused_before g.S.Store text old mid fault c.in_err-world.ensures.err c.world_and_campaign.ensures.alone)
 
 pub returns-then-not-is_first_format_only-clause-err : goal.returns-then-not-is_first_format_only-clause-err
 returns-then-not-is_first_format_only-clause-err g c =
@@ -29,7 +30,7 @@ returns-in_err-write_upgrade-clause-err g c =
     let new = c.write_upgrade.new.conn in
     let text = c.args.new_world.now in
     let error = c.in_err-write_upgrade.field-0.0 in
-    holds_of_error (RefusesToUpgrade g.S.Store text old new) c.from_residual-in_err-write_upgrade.result (upgrade_fault error) c.from_residual-in_err-write_upgrade.ensures.1
+    property_of_equal_error (RefusesToUpgrade g.S.Store text old new) c.from_residual-in_err-write_upgrade.result (upgrade_fault error) c.from_residual-in_err-write_upgrade.ensures.1
     (refused_after g.S.Store text old mid new c.in_ok-world.world c.in_ok-world.campaign c.world_and_campaign.ensures.alone c.in_ok-world.ensures.ok
     (sym c.schema.ensures.value ∙ c.is_first_format_only.ensures.0 c.if-not-is_first_format_only.false) c.in_ok-world.ensures.idle c.in_err-write_upgrade.ensures.err c.write_upgrade.ensures.crash error c.in_err-write_upgrade.ensures.error_given)
 

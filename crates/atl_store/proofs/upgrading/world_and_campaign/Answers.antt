@@ -1,8 +1,9 @@
 use Rattle.std.proofs.Common.{sym, ◌∙◌, true≢false}
 use Rattle.atl_store.specs.Faults.{first_format_fault, new_world_fault}
 use Rattle.atl_store.specs.Upgrading.{FailsCheck}
-use Rattle.atl_store.proofs.UpgradedLaws.{fails_to_read, loaded_old, other_world, holds_of_error, fails_to_load}
+use Rattle.atl_store.proofs.UpgradedLaws.{fails_to_read, loaded_old, other_world, fails_to_load}
 use Rattle.atl_store.proofs.upgrading.world_and_campaign.Goals as goal
+use Rattle.atl_sql.proofs.CauseLaws.{property_of_equal_error}
 
 pub returns-in_err-old_world-clause-err : goal.returns-in_err-old_world-clause-err
 returns-in_err-old_world-clause-err g c clean =
@@ -10,14 +11,14 @@ returns-in_err-old_world-clause-err g c clean =
     let mid = c.load_as.new.conn in
     let text = c.args.new_world.now in
     let fault = c.in_err-old_world.field-0.0 in
-    holds_of_error (FailsCheck g.S.Store text old mid) c.from_residual.result (first_format_fault fault) c.from_residual.ensures.1 (fails_to_load g.S.Store text old mid fault (c.in_err-old_world.ensures.err clean))
+    property_of_equal_error (FailsCheck g.S.Store text old mid) c.from_residual.result (first_format_fault fault) c.from_residual.ensures.1 (fails_to_load g.S.Store text old mid fault (c.in_err-old_world.ensures.err clean))
 
 pub returns-in_err-world-clause-err : goal.returns-in_err-world-clause-err
 returns-in_err-world-clause-err g c clean =
     let old = c.args.conn.now in
     let mid = c.load_as.new.conn in
     let text = c.args.new_world.now in
-    holds_of_error (FailsCheck g.S.Store text old mid) c.from_residual-in_err-world.result (new_world_fault c.in_err-world.field-0.0) c.from_residual-in_err-world.ensures.1
+    property_of_equal_error (FailsCheck g.S.Store text old mid) c.from_residual-in_err-world.result (new_world_fault c.in_err-world.field-0.0) c.from_residual-in_err-world.ensures.1
     (fails_to_read g.S.Store text old mid c.in_err-world.field-0.0 c.in_err-world.ensures.definition (
       c.in_ok-old_world.old_world,
       c.in_ok-old_world.campaign.value,
