@@ -51,6 +51,16 @@ sail_gives = gives_by_orders sail_step is_sailing all_orders sail_takes
 
 -- ---- TEACH and STUDY
 
+-- an order of TEACH has the shape of TEACH
+pub teach_shape : (v : Verb) (o : OperandsValue) → is_teaching v ≡ true → Fits v o → Fits verbs.Teach o
+teach_shape verbs.Teach o of_phase fits = fits
+teach_shape v o of_phase fits = cc
+
+-- an order of STUDY has the shape of STUDY
+pub study_shape : (v : Verb) (o : OperandsValue) → is_studying v ≡ true → Fits v o → Fits verbs.Study o
+study_shape verbs.Study o of_phase fits = fits
+study_shape v o of_phase fits = cc
+
 -- the phase passes over no order of STUDY
 study_takes : (taught : TaughtMen) → TakesThose (study_step taught) is_studying all_orders
 study_takes taught w a t of_phase fit = by_verb t.order_value.verb t.order_value.operands of_phase fit.shape

@@ -1,7 +1,9 @@
 //! Finds the units that are learning, each with its skill, as the phase of TEACH and STUDY begins.
 //! See docs/RULES.md, "Learning".
-ghost use Rattle.std.specs.Prelude.{◌≡◌, ◌*◌, IfOk, List, OnOk, ℕ};
-ghost use Rattle.atl_orders.specs.Orders.{named};
+ghost use Rattle.std.specs.Prelude.{◌≡◌, ◌*◌, IfOk, OnOk, Some};
+ghost use Rattle.atl_orders.specs.Bounds.{shape_of};
+ghost use Rattle.atl_orders.specs.Verbs.{row_of};
+ghost use Rattle.atl_phase.specs.Fit.{AreFit};
 ghost use Rattle.atl_phase.specs.PhaseOrders.{task_of};
 ghost use Rattle.atl_action.specs.Learners.{UnitsLearnByOrders, can_learn, is_studying, learners, skill_of, with_learner};
 ghost use Rattle.atl_world.specs.ByNumber.{fee_of};
@@ -23,12 +25,13 @@ impl PhaseVerbs for StudyVerbs {
     }
 }
 
-fn skill_of(what: &Operands) -> Option<u16>
-    ensures { (text : List ℕ) → result ≡ skill_of (named text what.now) }
+fn skill_of(order: PhaseOrder<'_>) -> u16
+    requires { shape_of (task_of order).order_value.operands ≡ (row_of Verb.Study).shape }
+    ensures { skill_of (task_of order.entry).order_value.operands ≡ Some result }
 {
-    match what {
-        Operands::Skill(skill) => Some(*skill),
-        _ => None,
+    match &order.order.operands {
+        Operands::Skill(skill) => *skill,
+        _ => unreachable!(),
     }
 }
 
@@ -52,11 +55,12 @@ fn add_learner(
     order: PhaseOrder<'_>,
     learning: &mut Numbered<u32>,
 ) -> Result<(), AllocError>
+    requires { shape_of (task_of order).order_value.operands ≡ (row_of Verb.Study).shape }
     ensures { OnOk result (learning.new
         ≡ with_learner world.now campaign.now.value learning.old (task_of order.entry)) }
 {
-    if let Some(skill) = skill_of(&order.order.operands)
-        && let Some(unit) = own_unit(campaign, order)
+    let skill = skill_of(order);
+    if let Some(unit) = own_unit(campaign, order)
         && can_learn(world, skill, &unit.holding)
     {
         learning.insert(order.unit, u32::from(skill))?;
@@ -64,13 +68,15 @@ fn add_learner(
     Ok(())
 }
 
-/// The number of the skill that each learning unit is learning, by the units' numbers.
+/// The number of the skill that each learning unit is learning, by the units' numbers. The orders
+/// are such as can be read with the world.
 pub(crate) fn learners(
     alloc: Global,
     world: &World,
     campaign: &Campaign,
     month: &Month,
 ) -> Result<Numbered<u32>, AllocError>
+    requires { AreFit world.now month.now.readings }
     ensures { IfOk result (λ learning. learning ≡ learners world.now campaign.now.value month.now) }
 {
     let orders = month.orders(alloc, &StudyVerbs, Arrangement::ByUnit)?;

@@ -1,10 +1,13 @@
 //! TEACH: people teach units that are learning. See docs/RULES.md, "Learning".
-ghost use Rattle.std.specs.Prelude.{◌≡◌, ◌≤◌, ◌+◌, IfOk, List, OnOk, filter, nat_eq, ℕ};
+ghost use Rattle.std.specs.Prelude.{◌≡◌, ◌≤◌, ◌+◌, IfOk, OnOk, filter, nat_eq};
 ghost use Rattle.std.specs.List.{IsDistinct};
-ghost use Rattle.atl_orders.specs.Orders.{named};
+ghost use Rattle.atl_world.specs.Worlds.{WorldValue};
+ghost use Rattle.atl_orders.specs.Bounds.{shape_of};
+ghost use Rattle.atl_orders.specs.Verbs.{row_of};
 ghost use Rattle.atl_records.specs.Holdings.{amount_of};
 ghost use Rattle.atl_records.specs.Limits.{men_limit};
 ghost use Rattle.atl_action.specs.Teach.{NobodyIsTaughtTwice, after_lessons, first_mentions, is_below, is_pupil, is_teaching, lesson, level_at, listed_units, men_at, pupils_of, teach, teach_fault, untaught_men};
+ghost use Rattle.atl_phase.specs.Fit.{AreFit};
 ghost use Rattle.atl_phase.specs.PhaseOrders.{task_of};
 ghost use Rattle.atl_records.specs.declared.event.Outcome.TheVariants.{Done};
 
@@ -28,12 +31,13 @@ impl PhaseVerbs for TeachVerbs {
     }
 }
 
-fn listed_units(what: &Operands) -> &[UnitRef]
-    ensures { (text : List ℕ) → result.now ≡ listed_units (named text what.now) }
+fn listed_units<'m>(order: PhaseOrder<'m>) -> &'m [UnitRef]
+    requires { shape_of (task_of order).order_value.operands ≡ (row_of Verb.Teach).shape }
+    ensures { result.now ≡ listed_units (task_of order.entry).order_value.operands }
 {
-    match what {
+    match &order.order.operands {
         Operands::Units(refs) => refs.as_slice(),
-        _ => &[],
+        _ => unreachable!(),
     }
 }
 
@@ -66,13 +70,14 @@ fn pupils_of(
     learning: &Numbered<u32>,
     order: PhaseOrder<'_>,
 ) -> Result<Vec<u32>, AllocError>
+    requires { shape_of (task_of order).order_value.operands ≡ (row_of Verb.Teach).shape }
     ensures { IfOk result (λ list.
         list.items ≡ pupils_of campaign.now.value month.now.aliases learning.now
         (task_of order.entry)) }
 {
     let region = region_of(campaign, order.unit);
     let mut list = Vec::new(alloc);
-    for target in listed_units(&order.order.operands) {
+    for target in listed_units(order) {
         let unit = month.unit(order.faction, *target);
         if is_pupil(campaign, learning, region, unit) {
             list.push(unit)?;
@@ -215,6 +220,7 @@ fn teach(
     taught: &mut Numbered<u32>,
     order: PhaseOrder<'_>,
 ) -> Result<Outcome, AllocError>
+    requires { shape_of (task_of order).order_value.operands ≡ (row_of Verb.Teach).shape }
     ensures { IfOk result (λ outcome.
         (amount_of taught.new, outcome)
         ≡ teach campaign.now.value month.now.aliases learning.now (amount_of taught.old)
@@ -229,14 +235,15 @@ fn teach(
     give_lesson(alloc, campaign, taught, places, &below)
 }
 
-/// Carries out all orders of TEACH, and adds their events to the month.
-/// Returns how many men of each unit were taught.
+/// Carries out all orders of TEACH, which are such as can be read with some world, and adds their
+/// events to the month. Returns how many men of each unit were taught.
 pub(crate) fn teach_all(
     alloc: Global,
     campaign: &Campaign,
     month: &mut Month,
     learning: &Numbered<u32>,
 ) -> Result<Numbered<u32>, AllocError>
+    requires { (w : WorldValue) × AreFit w month.old.readings }
     ensures meaning { IfOk result (λ taught.
         (amount_of taught, month.new) ≡ after_lessons campaign.now.value learning.now month.old) }
     ensures readings { OnOk result (month.new.readings ≡ month.old.readings) }

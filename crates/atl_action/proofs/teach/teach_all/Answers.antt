@@ -10,6 +10,11 @@ use Rattle.atl_phase.specs.PhaseOrders.{orders_by_unit, task_of}
 use Rattle.atl_phase.specs.declared.phase_order.PhaseOrder.{PhaseOrder}
 use Rattle.atl_phase.proofs.FoldLaws.{fold_after_step, fold_ended, fold_mapped}
 use Rattle.atl_action.specs.Teach.{TaughtMen, after_lessons, is_teaching, teach_order}
+use Rattle.atl_orders.specs.declared.verb.Verb.TheVariants as verbs
+use Rattle.atl_phase.specs.declared.phase_order.Arrangement.TheVariants.{ByUnit}
+use Rattle.atl_phase.proofs.EventLaws.{Fits}
+use Rattle.atl_phase.proofs.OrderEffectLaws.{listed_order}
+use Rattle.atl_action.proofs.TakenLaws.{teach_shape}
 use Rattle.atl_action.proofs.teach.teach_all.Goals as goal
 
 nobody_yet : amount_of empty ≡ (λ n. 0)
@@ -22,6 +27,12 @@ loop-order-init c =
     let m = c.args.month.now in
     ap (λ t. fold (λ p o. step p (task_of o)) (t, with_events m c.new-events.result.items) xs) (ap amount_of c.new-taught.ensures ∙ nobody_yet)
     ∙ ap (λ es. fold (λ p o. step p (task_of o)) ((λ n. 0), with_events m es) xs) c.new-events.ensures.items
+
+pub teach-requires : goal.teach-requires
+teach-requires c =
+    let m = c.args.month.now in
+    listed_order c.requires.0 m.aliases m.readings c.requires.1 is_teaching ByUnit (λ t. Fits verbs.Teach t.order_value.operands) (λ t of_phase fit. teach_shape t.order_value.verb t.order_value.operands of_phase fit.shape)
+    c.deref-order-items.result.now (ap (map task_of) c.deref-order-items.ensures.value ∙ c.in_ok-orders.ensures) c.loop-order.order-index c.order-item.result c.order-item.is c.loop-order-test.true
 
 pub loop-order-preserved : goal.loop-order-preserved
 loop-order-preserved c =

@@ -10,6 +10,9 @@ use Rattle.atl_phase.specs.NoWorse.{IsUnchanged}
 use Rattle.atl_action.specs.Learners.{is_studying}
 use Rattle.atl_action.proofs.learn.LearnPhasePhase.run.Goals as goal
 
+pub teach_all-requires : goal.teach_all-requires
+teach_all-requires c = (c.args.world.now, c.requires.read)
+
 pub carry_out_orders-requires-clause-read : goal.carry_out_orders-requires-clause-read
 carry_out_orders-requires-clause-read c = λ f r is. c.requires.read f r (ap (λ m. get m f) (sym c.in_ok-taught.ensures.readings) ∙ is)
 
