@@ -110,6 +110,8 @@ mail_order_does_not_count w c words mailings others own same = ap (λ readings. 
 
 -- ---- the month
 
+-- a month that keeps what `month_keeps` says removes a unit of a faction without a mailing only if all its men starve,
+-- and else leaves it its items and its other men (`IsLeft`)
 month_leaves : ClosesUnmailed month_meaning month_keeps
 month_leaves =
     then_closes (both_leave (leave_together early_phases (each_also (λ phase (is : KeepsPhaseLaws phase). is.leaves) early_phases early_are)) (leave_together later_phases (each_also (λ phase (is : KeepsPhaseLaws phase). is.leaves) later_phases later_are)))

@@ -60,7 +60,8 @@ both_move first second e t = first e t + second e t
 abbrev pub moves_only : ℕ → BooksEntry → Thing → BookBound
 moves_only most e t f u = if amount_number f u == amount_number e t then most else 0
 
--- by how much one phase moves an amount of the books at most: 10^14 - 1
+-- by how much one phase moves an amount of the books at most: 10^14 - 1, more than 100,000 units of 999,999,999 hold
+-- together
 abbrev pub most_moved : ℕ
 most_moved = 99999999999999
 
