@@ -107,7 +107,7 @@ fn unit_views(
     ensures { IfOk result (λ units. units ≡ unit_views world.now campaign.now.value watch) }
 {
     let seen = units_seen(alloc, world, campaign, &lists.levels, own, watch)?;
-    let mut units = Sequence::new(alloc);
+    let mut units = Sequence::from_vec(Vec::with_capacity(alloc, seen.len())?);
     for (number, ()) in seen.iter() {
         if let Some(unit) = campaign.unit(number) {
             units.push(unit_view(alloc, campaign, watch.faction, number, unit)?)?;

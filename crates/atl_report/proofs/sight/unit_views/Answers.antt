@@ -14,7 +14,7 @@ loop-number-init c =
     let campaign = c.args.campaign.now.value in
     let watch = c.args.watch in
     let listed : c.into_iter-number-iterator.result ≡ map (λ e. (e.0, tt)) (filter (λ e. is_seen_there w watch (get campaign.units e.0)) (entries campaign.units)) = search (rules, c.in_ok-seen.ensures) in
-    let none : c.new-units.result ≡ [] = search rules in
+    let none : c.from_vec-units.result ≡ [] = c.from_vec-units.ensures ∙ c.in_ok-with_capacity.ensures.items in
     ap (λ l. l ++ filter_map (λ (e : ℕ × Prim.Unit {0}). option_map (unit_view campaign watch.faction e.0) (get campaign.units e.0)) c.into_iter-number-iterator.result) none
     ∙ ap (filter_map (λ (e : ℕ × Prim.Unit {0}). option_map (unit_view campaign watch.faction e.0) (get campaign.units e.0))) listed
     ∙ views_of_seen w campaign watch
