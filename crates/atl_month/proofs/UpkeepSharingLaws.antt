@@ -1,7 +1,7 @@
 -- Laws of the accounts of upkeep: what the code computes with them for each unit in turn is what the definition says.
 -- An account has the money that a faction's units in a region have left and are short of, and how much of it was given
 -- and covered so far.
-use Rattle.std.proofs.Common.{◌≡◌, ◌++◌, ℕ, zero, suc, ◌+◌, ◌-◌, ◌*◌, ◌≤◌, ◌<◌, min, Bool, true, false, cond, List, [], ◌∷◌, length, get_or, take, filter, sum_by, unwrap_or, refl, sym, ap, ◌∙◌, mul_comm, add-zero, arith, Some}
+use Rattle.std.proofs.Common.{◌≡◌, ◌==◌, ◌++◌, ℕ, zero, suc, ◌+◌, ◌-◌, ◌*◌, ◌≤◌, ◌<◌, min, Bool, true, false, cond, List, [], ◌∷◌, length, get_or, take, filter, sum_by, unwrap_or, refl, sym, ap, ◌∙◌, mul_comm, add-zero, arith, Some}
 use Rattle.std.specs.Prelude.{All, nat_lt}
 use Rattle.std.specs.Ordering.{nat_cmp}
 use Rattle.std.specs.FinMap.{empty, get, get-empty}
@@ -12,12 +12,13 @@ use Rattle.std.proofs.lemmas.List.Sums.{sum_by-append}
 use Rattle.std.proofs.lemmas.Bool.{lt-ltb}
 use Rattle.atl_world.specs.Limits.{most_per_head}
 use Rattle.atl_world.specs.Groups.{group_of}
+use Rattle.atl_world.proofs.GeneralLaws.{is_equal}
 use Rattle.atl_records.specs.Limits.{holding_limit, men_limit}
 use Rattle.atl_records.proofs.EveryLaws.{same_number}
 use Rattle.atl_month.specs.declared.accounts.Account.{Account}
 use Rattle.atl_month.specs.declared.upkeep_sharing.UpkeepInput.{UpkeepInput}
 use Rattle.atl_month.specs.declared.upkeep_sharing.UpkeepResult.{UpkeepResult}
-use Rattle.atl_month.specs.Accounts.{FactionAccounts, IsOpen, account_after, account_at, account_of, left_among, no_account, short_among, upkeep_result_by, with_account, with_counted}
+use Rattle.atl_month.specs.Accounts.{FactionAccounts, IsOpen, account_after, account_at, account_of, counted_left, left_among, no_account, opened, short_among, to_give, upkeep_result_by, with_account, with_if_short}
 use Rattle.atl_phase.specs.InTurn.{amount_in_turn}
 use Rattle.atl_month.specs.UpkeepSharing.{AreInOrder, EachCanSpare, given_among, is_input_of, left_of, paid_by, peers_of, short_of, starved_of, upkeep_result_among}
 use Rattle.atl_month.proofs.GroupedLaws.{get-grouped}
@@ -51,7 +52,7 @@ account left short given covered = record { left = left; short = short; given = 
 account_is : (a b c d e f g h : ℕ) → a ≡ e → b ≡ f → c ≡ g → d ≡ h → account a b c d ≡ account e f g h
 account_is a b c d e f g h x y z u = rw (x, y, z, u) refl
 
-pub each_account : (P : ℕ → ℕ → Account → Type 0) (m : FactionAccounts) (p : UpkeepInput) (a : Account)
+each_account : (P : ℕ → ℕ → Account → Type 0) (m : FactionAccounts) (p : UpkeepInput) (a : Account)
     → P p.region p.faction a → ((s g : ℕ) → is_input_of s g p ≡ false → P s g (account_at m s g))
     → (s g : ℕ) → P s g (account_at (with_account m p.region p.faction a) s g)
 each_account P m p a here others s g = by_test (is_input_of s g p) refl
@@ -67,43 +68,121 @@ each_account P m p a here others s g = by_test (is_input_of s g p) refl
         rw (account_found true is, ← region, ← faction) here
     by_test false is = rw (account_found false is) (others s g is)
 
+-- the same where an account whose units aren't short is left out of the map
+each_if_short : (P : ℕ → ℕ → Account → Type 0) (m : FactionAccounts) (p : UpkeepInput) (a : Account)
+    → ((a.short == 0) ≡ true → P p.region p.faction (account_at m p.region p.faction))
+    → ((a.short == 0) ≡ false → P p.region p.faction a)
+    → ((s g : ℕ) → is_input_of s g p ≡ false → P s g (account_at m s g))
+    → (s g : ℕ) → P s g (account_at (with_if_short m p.region p.faction a) s g)
+each_if_short P m p a none some others s g = by_short (a.short == 0) refl
+  where
+    by_test : (test : Bool) → is_input_of s g p ≡ test → P p.region p.faction (account_at m p.region p.faction) → P s g (account_at m s g)
+    by_test true is old =
+        let region : p.region ≡ s = grind (arith, nat_tests) in
+        let faction : p.faction ≡ g = grind (arith, nat_tests) in
+        rw (← region, ← faction) old
+    by_test false is old = others s g is
+
+    by_short : (b : Bool) → (a.short == 0) ≡ b → P s g (account_at (cond b m (with_account m p.region p.faction a)) s g)
+    by_short true is = by_test (is_input_of s g p) refl (none is)
+    by_short false is = each_account P m p a (some is) others s g
+
+-- ---- what is left counts only where units are short
+
+counted : (short left : ℕ) (b : Bool) → (short == 0) ≡ b → counted_left short left ≡ cond b 0 left
+counted short left b is = ap (λ t. cond t 0 left) is
+
+pub nothing_left : (short : ℕ) → counted_left short 0 ≡ 0
+nothing_left short = by_test (short == 0) refl
+  where
+    by_test : (b : Bool) → (short == 0) ≡ b → counted_left short 0 ≡ 0
+    by_test true is = counted short 0 true is
+    by_test false is = counted short 0 false is
+
+gives_all : (short left : ℕ) → min (counted_left short left) short ≡ min left short
+gives_all short left = by_test (short == 0) refl
+  where
+    by_test : (b : Bool) → (short == 0) ≡ b → min (counted_left short left) short ≡ min left short
+    by_test true is = omega (arith, counted short left true is, is_equal short 0 is)
+    by_test false is = omega (arith, counted short left false is)
+
 -- ---- the units are counted
 
-pub no_accounts : (m s g : ℕ) → account_at empty s g ≡ account_of m [] [] s g
+pub no_accounts : (m s g : ℕ) → account_at empty s g ≡ opened m [] [] s g
 no_accounts m s g = rw (get-empty nat_cmp s, get-empty nat_cmp g) refl
 
--- the sums of an account are at most what `n` units may have left and be short of
-pub record IsAccountWithin (n : ℕ) (a : Account) : Type 0 where
-  pub left : a.left ≤ holding_limit * n
-  pub short : a.short ≤ most_per_head * men_limit * n
+pub none_short : (m s g : ℕ) → (account_at empty s g).short ≤ most_per_head * men_limit * 0
+none_short m s g = rw (no_accounts m s g) (omega arith)
 
-pub none_few : (s g : ℕ) → IsAccountWithin 0 (account_at empty s g)
-none_few s g = rw (no_accounts 0 s g) (record { left = omega arith; short = omega arith })
+module _ (m : ℕ) (before : List UpkeepInput) (p : UpkeepInput) (accounts : FactionAccounts) (a : Account) where
+  -- with one more unit, each account has what the units so far are short of
+  pub short_more : ((s g : ℕ) → account_at accounts s g ≡ opened m before [] s g)
+      → a ≡ record (account_at accounts p.region p.faction) { short = (account_at accounts p.region p.faction).short + short_of m p }
+      → (s g : ℕ) → account_at (with_if_short accounts p.region p.faction a) s g ≡ opened m (before ++ p ∷ []) [] s g
+  short_more each is =
+      each_if_short (λ s g b. b ≡ opened m (before ++ p ∷ []) [] s g) accounts p a
+      (λ none. each p.region p.faction ∙ account_is _ _ _ _ _ _ _ _ (same_left _ _) (no_more (is_equal a.short 0 none)) refl refl) (λ some. this)
+      (λ s g apart. each s g ∙ account_is _ _ _ _ _ _ _ _ (same_left _ _) (sym (more_other (short_of m) before p s g apart)) refl refl)
+    where
+      same_left : (x y : ℕ) → counted_left x 0 ≡ counted_left y 0
+      same_left x y = nothing_left x ∙ sym (nothing_left y)
 
-module _ (m : ℕ) (before : List UpkeepInput) (p : UpkeepInput) where
-  none_given : (x y : ℕ) → min 0 x ≡ min 0 y
-  none_given x y = omega arith
+      this : a ≡ opened m (before ++ p ∷ []) [] p.region p.faction
+      this =
+          is ∙ ap (λ (b : Account). record b { short = b.short + short_of m p }) (each p.region p.faction)
+          ∙ account_is _ _ _ _ _ _ _ _ (same_left _ _) (sym (more_own (short_of m) before p)) refl refl
 
-  pub opened_more : (accounts : FactionAccounts) (a : Account) → ((s g : ℕ) → account_at accounts s g ≡ account_of m before [] s g)
-      → a ≡ with_counted m p (account_at accounts p.region p.faction)
-      → (s g : ℕ) → account_at (with_account accounts p.region p.faction a) s g ≡ account_of m (before ++ p ∷ []) [] s g
-  opened_more accounts a each is =
-      each_account (λ s g b. b ≡ account_of m (before ++ p ∷ []) [] s g) accounts p a
-      (is ∙ ap (with_counted m p) (each p.region p.faction)
-      ∙ account_is _ _ _ _ _ _ _ _ (sym (more_own (left_of m) before p)) (sym (more_own (short_of m) before p)) (none_given _ _) (none_given _ _))
-      (λ s g apart. each s g
-      ∙ account_is _ _ _ _ _ _ _ _ (sym (more_other (left_of m) before p s g apart)) (sym (more_other (short_of m) before p s g apart)) (none_given _ _) (none_given _ _))
+      no_more : a.short ≡ 0 → short_among m p.region p.faction before ≡ short_among m p.region p.faction (before ++ p ∷ [])
+      no_more none = omega (arith, none, ap (λ (b : Account). b.short) this, more_own (short_of m) before p)
 
--- If the sums of each account are within those of `n` units (`IsAccountWithin`), they are, with one more unit counted,
--- within those of `n + 1`.
-pub few_more : (m n : ℕ) (accounts : FactionAccounts) (p : UpkeepInput) (a : Account) → left_of m p ≤ holding_limit → short_of m p ≤ most_per_head * men_limit
-    → ((s g : ℕ) → IsAccountWithin n (account_at accounts s g)) → a ≡ with_counted m p (account_at accounts p.region p.faction)
-    → (s g : ℕ) → IsAccountWithin (n + 1) (account_at (with_account accounts p.region p.faction a) s g)
-few_more m n accounts p a left short each is =
+  -- what all units of the faction in the unit's region are short of
+  abbrev all_short : (all : List UpkeepInput) → ℕ
+  all_short all = short_among m p.region p.faction all
+
+  -- with one more unit, each account whose units are short has what the units so far have left
+  pub left_more : (all : List UpkeepInput) → ((s g : ℕ) → account_at accounts s g ≡ opened m all before s g)
+      → a ≡ record (account_at accounts p.region p.faction) { left = (account_at accounts p.region p.faction).left + left_of m p }
+      → (s g : ℕ) → account_at (with_if_short accounts p.region p.faction a) s g ≡ opened m all (before ++ p ∷ []) s g
+  left_more all each is =
+      each_if_short (λ s g b. b ≡ opened m all (before ++ p ∷ []) s g) accounts p a
+      (λ none. each p.region p.faction ∙ account_is _ _ _ _ _ _ _ _ (counted (all_short all) _ true (none_short true none) ∙ sym (counted (all_short all) _ true (none_short true none))) refl refl refl)
+      (λ some. this ∙ account_is _ _ _ _ _ _ _ _ (now_left (none_short false some)) refl refl refl)
+      (λ s g apart. each s g ∙ account_is _ _ _ _ _ _ _ _ (ap (counted_left (short_among m s g all)) (sym (more_other (left_of m) before p s g apart))) refl refl refl)
+    where
+      this : a ≡ account (counted_left (all_short all) (left_among m p.region p.faction before) + left_of m p) (all_short all) 0 0
+      this = is ∙ ap (λ (b : Account). record b { left = b.left + left_of m p }) (each p.region p.faction)
+
+      none_short : (b : Bool) → (a.short == 0) ≡ b → (all_short all == 0) ≡ b
+      none_short b is = ap (λ (c : Account). c.short == 0) (sym this) ∙ is
+
+      now_left : (all_short all == 0) ≡ false
+          → counted_left (all_short all) (left_among m p.region p.faction before) + left_of m p ≡ counted_left (all_short all) (left_among m p.region p.faction (before ++ p ∷ []))
+      now_left some = ap (λ n. n + left_of m p) (counted (all_short all) _ false some) ∙ sym (more_own (left_of m) before p) ∙ sym (counted (all_short all) _ false some)
+
+-- If the money that each account is short of is within that of `n` units, it is, with one more unit counted, within
+-- that of `n + 1`.
+pub few_short : (m n : ℕ) (accounts : FactionAccounts) (p : UpkeepInput) (a : Account) → short_of m p ≤ most_per_head * men_limit
+    → ((s g : ℕ) → (account_at accounts s g).short ≤ most_per_head * men_limit * n)
+    → a ≡ record (account_at accounts p.region p.faction) { short = (account_at accounts p.region p.faction).short + short_of m p }
+    → (s g : ℕ) → (account_at (with_if_short accounts p.region p.faction a) s g).short ≤ most_per_head * men_limit * (n + 1)
+few_short m n accounts p a short each is =
     let old = each p.region p.faction in
-    each_account (λ s g b. IsAccountWithin (n + 1) b) accounts p a
-    (rw is (record { left = omega (arith, old.left, left); short = omega (arith, old.short, short) }))
-    (λ s g apart. let o = each s g in record { left = omega (arith, o.left); short = omega (arith, o.short) })
+    each_if_short (λ s g b. b.short ≤ most_per_head * men_limit * (n + 1)) accounts p a
+    (λ none. omega (arith, old)) (λ some. rw is (omega (arith, old, short))) (λ s g apart. omega (arith, each s g))
+
+-- the same of the money that is left
+pub few_left : (m n : ℕ) (accounts : FactionAccounts) (p : UpkeepInput) (a : Account) → left_of m p ≤ holding_limit
+    → ((s g : ℕ) → (account_at accounts s g).left ≤ holding_limit * n)
+    → a ≡ record (account_at accounts p.region p.faction) { left = (account_at accounts p.region p.faction).left + left_of m p }
+    → (s g : ℕ) → (account_at (with_if_short accounts p.region p.faction a) s g).left ≤ holding_limit * (n + 1)
+few_left m n accounts p a left each is =
+    let old = each p.region p.faction in
+    each_if_short (λ s g b. b.left ≤ holding_limit * (n + 1)) accounts p a
+    (λ none. omega (arith, old)) (λ some. rw is (omega (arith, old, left))) (λ s g apart. omega (arith, each s g))
+
+-- once all units are counted, each account is that of all units, of which none had its turn
+pub all_counted : (m : ℕ) (all : List UpkeepInput) (s g : ℕ) → opened m all all s g ≡ account_of m all [] s g
+all_counted m all s g = account_is _ _ _ _ _ _ _ _ refl refl (omega arith) (omega arith)
 
 -- ---- the units of lower numbers
 
@@ -137,13 +216,13 @@ lower_first (p ∷ ps) (suc i) d order l =
 
 -- for `upkeep_result_more`: what the units before gave in turn, with what the next one gives, is the lesser of what all
 -- these want to give (`before + want`) and the amount to give
-next_dealt : (before want amount : ℕ) → min before amount + min (amount - min before amount) want ≡ min (before + want) amount
-next_dealt before want amount = omega arith
+next_dealt : (before want amount give : ℕ) → give ≡ amount → min before amount + min (give - min before amount) want ≡ min (before + want) amount
+next_dealt before want amount give is = omega (arith, is)
 
 -- For `upkeep_result_is`: what a unit gives or gets in turn is what all units up to and with this one give or get
 -- together, less what the units before it do.
-is_dealt : (before want amount : ℕ) → min (amount - min before amount) want ≡ min (before + want) amount - min before amount
-is_dealt before want amount = omega arith
+is_dealt : (before want amount give : ℕ) → give ≡ amount → min (give - min before amount) want ≡ min (before + want) amount - min before amount
+is_dealt before want amount give is = omega (arith, is)
 
 module _ (m : ℕ) (all before : List UpkeepInput) (p : UpkeepInput) (accounts : FactionAccounts)
     (each : (s g : ℕ) → account_at accounts s g ≡ account_of m all before s g) where
@@ -158,19 +237,32 @@ module _ (m : ℕ) (all before : List UpkeepInput) (p : UpkeepInput) (accounts :
   abbrev amount : ℕ
   amount = given_among m peers
 
+  to_give_is : to_give now ≡ amount
+  to_give_is = gives_all (short_among m p.region p.faction all) (left_among m p.region p.faction all)
+
   -- after a unit had its turn, each account is that of all units, of which those before it and it had their turn
   -- (`account_of`)
   pub upkeep_result_more : (a : Account) → a ≡ account_after m (account_at accounts p.region p.faction) p
-      → (s g : ℕ) → account_at (with_account accounts p.region p.faction a) s g ≡ account_of m all (before ++ p ∷ []) s g
+      → (s g : ℕ) → account_at (with_if_short accounts p.region p.faction a) s g ≡ account_of m all (before ++ p ∷ []) s g
   upkeep_result_more a is =
-      each_account (λ s g b. b ≡ account_of m all (before ++ p ∷ []) s g) accounts p a
-      (is ∙ ap (λ b. account_after m b p) (each p.region p.faction)
-      ∙ account_is _ _ _ _ _ _ _ _ refl refl
-      (next_dealt (left_among m p.region p.faction before) (left_of m p) amount ∙ sym (ap (λ n. min n amount) (more_own (left_of m) before p)))
-      (next_dealt (short_among m p.region p.faction before) (short_of m p) amount ∙ sym (ap (λ n. min n amount) (more_own (short_of m) before p))))
+      each_if_short (λ s g b. b ≡ account_of m all (before ++ p ∷ []) s g) accounts p a
+      (λ none. each p.region p.faction ∙ account_is _ _ _ _ _ _ _ _ refl refl (none_dealt _ _ (none_short none)) (none_dealt _ _ (none_short none))) (λ some. this)
       (λ s g apart. each s g ∙ account_is _ _ _ _ _ _ _ _ refl refl
       (sym (ap (λ n. min n (given_among m (peers_of s g all))) (more_other (left_of m) before p s g apart)))
       (sym (ap (λ n. min n (given_among m (peers_of s g all))) (more_other (short_of m) before p s g apart))))
+    where
+      this : a ≡ account_of m all (before ++ p ∷ []) p.region p.faction
+      this =
+          is ∙ ap (λ b. account_after m b p) (each p.region p.faction)
+          ∙ account_is _ _ _ _ _ _ _ _ refl refl
+          (next_dealt (left_among m p.region p.faction before) (left_of m p) amount (to_give now) to_give_is ∙ sym (ap (λ n. min n amount) (more_own (left_of m) before p)))
+          (next_dealt (short_among m p.region p.faction before) (short_of m p) amount (to_give now) to_give_is ∙ sym (ap (λ n. min n amount) (more_own (short_of m) before p)))
+
+      none_short : (a.short == 0) ≡ true → short_among m p.region p.faction all ≡ 0
+      none_short none = ap (λ (b : Account). b.short) (sym this) ∙ is_equal a.short 0 none
+
+      none_dealt : (x y : ℕ) → short_among m p.region p.faction all ≡ 0 → min x amount ≡ min y amount
+      none_dealt x y none = omega (arith, none)
 
   before_among : filter (is_lower p.unit) all ≡ before → filter (is_lower p.unit) peers ≡ peers_of p.region p.faction before
   before_among first =
@@ -184,9 +276,9 @@ module _ (m : ℕ) (all before : List UpkeepInput) (p : UpkeepInput) (accounts :
       ∙ same_upkeep_result _ _ _ _ (ap (λ n. paid_by m p + n) (part_of (left_of m))) (ap (λ n. starved_of m (short_of m p - n)) (part_of (short_of m)))
     where
       -- what a unit gives or gets by the account is what it gives or gets in turn, after its peers with lower numbers
-      part_of : (f : UpkeepInput → ℕ) → min (amount - min (sum_by f (peers_of p.region p.faction before)) amount) (f p) ≡ amount_in_turn amount (sum_by f (filter (is_lower p.unit) peers)) (f p)
+      part_of : (f : UpkeepInput → ℕ) → min (to_give now - min (sum_by f (peers_of p.region p.faction before)) amount) (f p) ≡ amount_in_turn amount (sum_by f (filter (is_lower p.unit) peers)) (f p)
       part_of f =
-          is_dealt (sum_by f (peers_of p.region p.faction before)) (f p) amount
+          is_dealt (sum_by f (peers_of p.region p.faction before)) (f p) amount (to_give now) to_give_is
           ∙ ap (λ xs. amount_in_turn amount (sum_by f xs) (f p)) (sym (before_among first))
 
       upkeep_result : (paid starved : ℕ) → UpkeepResult
@@ -198,7 +290,7 @@ module _ (m : ℕ) (all before : List UpkeepInput) (p : UpkeepInput) (accounts :
   -- Of the account of the unit's faction in its region, at most the amount to give was given so far, and at most that
   -- amount covered.
   pub account_open : IsOpen (account_at accounts p.region p.faction)
-  account_open = rw (each p.region p.faction) (record { given = omega arith; covered = omega arith })
+  account_open = rw (each p.region p.faction) (record { given = omega (arith, to_give_is); covered = omega (arith, to_give_is) })
 
 -- ---- a unit pays no more than it has
 

@@ -1,6 +1,6 @@
 -- For proofs alone: the accounts in which the code adds up the upkeep of a faction's units in a region; all amounts are
 -- money.
-use Rattle.std.specs.Prelude.{List, min, unwrap_or, ℕ, ◌+◌, ◌-◌, ◌≤◌}
+use Rattle.std.specs.Prelude.{List, min, unwrap_or, ℕ, ◌+◌, ◌-◌, ◌≤◌, ◌==◌, if◌then◌else◌}
 use Rattle.std.specs.Ordering.{nat_cmp}
 use Rattle.std.specs.FinMap.{FinMap, get, insert}
 use Rattle.std.specs.List.{sum_by}
@@ -26,6 +26,10 @@ account_at m region faction = unwrap_or (get (group_of m region) faction) no_acc
 abbrev pub with_account : FactionAccounts → (region faction : ℕ) → Account → FactionAccounts
 with_account m region faction a = insert m region (insert (group_of m region) faction a)
 
+-- a map of accounts in which that of a faction in a region is `a`, if its units are short; else the map as it was
+abbrev pub with_if_short : FactionAccounts → (region faction : ℕ) → Account → FactionAccounts
+with_if_short m region faction a = if a.short == 0 then m else with_account m region faction a
+
 -- The money that the listed units of a faction in a region have left after their own upkeep, at this maintenance for
 -- each man.
 abbrev pub left_among : ℕ → (region faction : ℕ) → List UpkeepInput → ℕ
@@ -39,11 +43,6 @@ short_among maintenance region faction inputs = sum_by (short_of maintenance) (p
 -- the money that units of an account with some left give to those that are short: the lesser of all left and all short
 abbrev pub to_give : Account → ℕ
 to_give a = min a.left a.short
-
--- an account to which is added what one more unit has left and what it is short of
-abbrev pub with_counted : ℕ → UpkeepInput → Account → Account
-with_counted maintenance input a =
-    record a { left = a.left + left_of maintenance input; short = a.short + short_of maintenance input }
 
 -- what upkeep takes from a unit, by the account of its faction in its region as it is when the unit's turn comes
 abbrev pub upkeep_result_by : ℕ → Account → UpkeepInput → UpkeepResult
@@ -66,12 +65,24 @@ pub record IsOpen (a : Account) : Type 0 where
   pub given : a.given ≤ to_give a
   pub covered : a.covered ≤ to_give a
 
--- the account of a faction in a region, where `all` are the units of upkeep, and those `before` had their turn
+-- the money left that an account counts, where its units are short of `short` together: none if they aren't short
+abbrev pub counted_left : (short left : ℕ) → ℕ
+counted_left short left = if short == 0 then 0 else left
+
+-- the account of a faction in a region, with nothing given or covered yet, where what the units `all` are short of is
+-- counted, and what those `counted` have left
+abbrev pub opened : ℕ → (all counted : List UpkeepInput) → (region faction : ℕ) → Account
+opened maintenance all counted region faction =
+    let short = short_among maintenance region faction all in
+    record { left = counted_left short (left_among maintenance region faction counted); short = short; given = 0; covered = 0 }
+
+-- The account of a faction in a region, where `all` are the units of upkeep, and those `before` had their turn. What is
+-- left counts only where units are short.
 abbrev pub account_of : ℕ → (all before : List UpkeepInput) → (region faction : ℕ) → Account
 account_of maintenance all before region faction =
     let given = given_among maintenance (peers_of region faction all) in
     record {
-      left = left_among maintenance region faction all;
+      left = counted_left (short_among maintenance region faction all) (left_among maintenance region faction all);
       short = short_among maintenance region faction all;
       given = min (left_among maintenance region faction before) given;
       covered = min (short_among maintenance region faction before) given;

@@ -1,7 +1,7 @@
 //! Accounts of upkeep: for each faction in each region, the money left, short, given and covered.
 //! See docs/RULES.md, "Upkeep".
 ghost use Rattle.std.specs.Prelude.{◌≡◌, OnOk};
-ghost use Rattle.atl_month.specs.Accounts.{account_at, with_account};
+ghost use Rattle.atl_month.specs.Accounts.{account_at, with_account, with_if_short};
 
 use crate::upkeep_sharing::UpkeepInput;
 use atl_world::Numbered;
@@ -36,9 +36,7 @@ pub(crate) fn account_of(accounts: &Accounts, input: &UpkeepInput) -> Account
     })
 }
 
-/// Sets the account of the faction of a unit (`input`) in the unit's region. After an AllocError
-/// the accounts are no longer valid.
-pub(crate) fn put_account(
+fn put_account(
     alloc: Global,
     accounts: &mut Accounts,
     input: &UpkeepInput,
@@ -48,4 +46,21 @@ pub(crate) fn put_account(
         ≡ with_account accounts.old input.now.region input.now.faction account) }
 {
     accounts.insert_under(alloc, input.region, input.faction, account)
+}
+
+/// Sets the account of the faction of a unit (`input`) in the unit's region, if its units are
+/// short of money. After an AllocError the accounts are no longer valid.
+pub(crate) fn put_if_short(
+    alloc: Global,
+    accounts: &mut Accounts,
+    input: &UpkeepInput,
+    account: Account,
+) -> Result<(), AllocError>
+    ensures { OnOk result (accounts.new
+        ≡ with_if_short accounts.old input.now.region input.now.faction account) }
+{
+    if account.short == 0 {
+        return Ok(());
+    }
+    put_account(alloc, accounts, input, account)
 }

@@ -1,11 +1,11 @@
 //! How the units of one faction in one region share their upkeep: what each pays and how many of
 //! its men starve. See docs/RULES.md, "Upkeep".
-ghost use Rattle.std.specs.Prelude.{◌≡◌, ◌≤◌, [], ℕ, All, IfOk};
+ghost use Rattle.std.specs.Prelude.{◌≡◌, ◌≤◌, [], ℕ, All, IfOk, OnOk};
 ghost use Rattle.atl_world.specs.Limits.{most_per_head};
-ghost use Rattle.atl_month.specs.Accounts.{IsOpen, account_after, account_at, account_of, upkeep_result_by};
+ghost use Rattle.atl_month.specs.Accounts.{IsOpen, account_after, account_at, account_of, opened, upkeep_result_by};
 ghost use Rattle.atl_month.specs.UpkeepSharing.{AreInOrder, EachCanSpare, IsUpkeepInput, left_of, short_of, upkeep_results_of};
 
-use crate::accounts::{Account, Accounts, account_of, put_account};
+use crate::accounts::{Account, Accounts, account_of, put_if_short};
 use atl_world::Numbered;
 use std::alloc::{AllocError, Global};
 
@@ -39,7 +39,56 @@ fn left_and_short(maintenance: u32, input: &UpkeepInput) -> (u64, u64)
     (money.saturating_sub(due), due.saturating_sub(money))
 }
 
+/// What the units `inputs` are short of, by region and faction. Where none is short there is no
+/// account.
+fn short_accounts(
+    alloc: Global,
+    maintenance: u32,
+    inputs: &[UpkeepInput],
+) -> Result<Accounts, AllocError>
+    requires most { maintenance ≤ most_per_head }
+    requires inputs { All IsUpkeepInput inputs.now }
+    ensures { IfOk result (λ accounts. (region faction : ℕ)
+        → account_at accounts region faction
+        ≡ opened maintenance inputs.now [] region faction) }
+{
+    let mut accounts = Numbered::new(alloc);
+    for input in inputs {
+        let (_, short) = left_and_short(maintenance, input);
+        let mut account = account_of(&accounts, input);
+        account.short += u128::from(short);
+        put_if_short(alloc, &mut accounts, input, account)?;
+    }
+    Ok(accounts)
+}
+
+/// Adds to the accounts what the units `inputs` have left, where others are short.
+fn add_left(
+    alloc: Global,
+    maintenance: u32,
+    inputs: &[UpkeepInput],
+    accounts: &mut Accounts,
+) -> Result<(), AllocError>
+    requires most { maintenance ≤ most_per_head }
+    requires inputs { All IsUpkeepInput inputs.now }
+    requires accounts { (region faction : ℕ)
+        → account_at accounts.old region faction
+        ≡ opened maintenance inputs.now [] region faction }
+    ensures { OnOk result ((region faction : ℕ)
+        → account_at accounts.new region faction
+        ≡ opened maintenance inputs.now inputs.now region faction) }
+{
+    for input in inputs {
+        let (left, _) = left_and_short(maintenance, input);
+        let mut account = account_of(accounts, input);
+        account.left += u128::from(left);
+        put_if_short(alloc, accounts, input, account)?;
+    }
+    Ok(())
+}
+
 /// The accounts of the units `inputs` by region and faction, with nothing given or covered yet.
+/// There is none where no unit is short, so what these have left isn't added up.
 fn open_accounts(
     alloc: Global,
     maintenance: u32,
@@ -51,14 +100,8 @@ fn open_accounts(
         → account_at accounts region faction
         ≡ account_of maintenance inputs.now [] region faction) }
 {
-    let mut accounts = Numbered::new(alloc);
-    for input in inputs {
-        let (left, short) = left_and_short(maintenance, input);
-        let mut account = account_of(&accounts, input);
-        account.left += u128::from(left);
-        account.short += u128::from(short);
-        put_account(alloc, &mut accounts, input, account)?;
-    }
+    let mut accounts = short_accounts(alloc, maintenance, inputs)?;
+    add_left(alloc, maintenance, inputs, &mut accounts)?;
     Ok(accounts)
 }
 
@@ -110,7 +153,7 @@ pub fn upkeep_payments(
     for input in inputs {
         let mut account = account_of(&accounts, input);
         let upkeep_result = payment_of(maintenance, &mut account, input);
-        put_account(alloc, &mut accounts, input, account)?;
+        put_if_short(alloc, &mut accounts, input, account)?;
         list.push(upkeep_result)?;
     }
     Ok(list)

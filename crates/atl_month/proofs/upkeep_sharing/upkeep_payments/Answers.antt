@@ -2,7 +2,7 @@ use Rattle.std.proofs.Common.{rules, ◌≡◌, ◌+◌, ◌∷◌, [], ◌++◌
 use Rattle.std.proofs.lemmas.List.{map_more, take_more}
 use Rattle.atl_month.specs.declared.upkeep_sharing.UpkeepInput.{UpkeepInput}
 use Rattle.atl_month.specs.declared.upkeep_sharing.UpkeepResult.{UpkeepResult}
-use Rattle.atl_month.specs.Accounts.{account_after, account_at, with_account}
+use Rattle.atl_month.specs.Accounts.{account_after, account_at, with_if_short}
 use Rattle.atl_month.specs.UpkeepSharing.{peers_of, upkeep_result_among}
 use Rattle.atl_month.proofs.UpkeepSharingLaws.{lower_first, upkeep_result_is, upkeep_result_more}
 use Rattle.atl_month.proofs.upkeep_sharing.upkeep_payments.Goals as goal
@@ -18,7 +18,7 @@ loop-input-preserved c =
     let old = c.loop-input.accounts in
     let account = c.payment_of-upkeep_result.new.account in
     let more : take (i + 1) inputs ≡ take i inputs ++ p ∷ [] = take_more inputs i _ c.loop-input-test.true in
-    let put : c.put_account.new.accounts ≡ with_account old p.region p.faction account = search rules in
+    let put : c.put_if_short.new.accounts ≡ with_if_short old p.region p.faction account = search rules in
     let is : account ≡ account_after m (account_at old p.region p.faction) p = search rules in
     let first = lower_first inputs i none c.requires.order c.loop-input-test.true in
     let one : c.payment_of-upkeep_result.result ≡ upkeep_result_among m (peers_of p.region p.faction inputs) p =
