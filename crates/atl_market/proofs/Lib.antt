@@ -10,6 +10,7 @@ pub mod TaxLaws
 pub mod ExchangeLaws
 pub mod RecruitLaws
 pub mod WorkLaws
+pub mod WriterLaws
 pub mod WorkOrderLaws
 pub mod TakenLaws
 pub mod UnmailedPotLaws

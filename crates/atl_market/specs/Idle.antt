@@ -4,6 +4,7 @@ use Rattle.std.specs.Prelude.{◌&&◌, ◌++◌, ℕ, List, [], ◌∷◌, is_s
 use Rattle.std.specs.List.{flat_map}
 use Rattle.std.specs.Ordering.{nat_cmp}
 use Rattle.std.specs.FinMap.{FinMap, empty, entries, get}
+use Rattle.std.specs.FinSet as set
 use Rattle.atl_records.specs.declared.records.Unit.{Unit}
 use Rattle.atl_campaign.specs.Campaign.{CampaignValue}
 use Rattle.atl_phase.specs.PhaseOrders.{Task}
@@ -18,6 +19,10 @@ own_unit c t = if is_of_faction t.faction (get c.units t.unit) then (t.unit, t.f
 -- a map from each unit for which its own faction wrote one of the orders `ts` to that faction
 abbrev pub own_writers : CampaignValue → List Task → FinMap nat_cmp ℕ
 own_writers c ts = with_entries empty (flat_map (own_unit c) ts)
+
+-- a set of units to which this unit is added, if it is of this faction
+abbrev pub with_writer : CampaignValue → (unit faction : ℕ) → set.FinSet nat_cmp → set.FinSet nat_cmp
+with_writer c unit faction units = if is_of_faction faction (get c.units unit) then set.insert units unit else units
 
 -- an order of WORK for a unit that has men and isn't in the map `writers`, which has the units with an order of their
 -- own faction; else nothing

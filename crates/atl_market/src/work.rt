@@ -1,6 +1,8 @@
 //! WORK: units share the work places of their region's terrain, and each place pays the wage. See
 //! docs/RULES.md, "Work".
-ghost use Rattle.std.specs.Prelude.{⊤, ◌≡◌, ◌++◌, map, IfOk, OnOk};
+ghost use Rattle.std.specs.Prelude.{⊤, ℕ, ◌≡◌, ◌<◌, ◌++◌, is_some, map, IfOk, OnOk};
+ghost use Rattle.std.specs.FinMap.{get};
+ghost use Rattle.std.specs.FinSet as set;
 ghost use Rattle.std.specs.List.Sorted.{IsPermutation, IsSortedByKey};
 ghost use Rattle.std.specs.Cmp.Lexicographic.{slice_cmp};
 ghost use Rattle.std.specs.Ordering.{nat_cmp};
@@ -13,7 +15,7 @@ ghost use Rattle.atl_orders.specs.declared.order.Operands.TheVariants.{Nothing};
 ghost use Rattle.atl_orders.specs.declared.verb.Verb.TheVariants.{Work};
 ghost use Rattle.atl_phase.specs.PhaseOrders.{key_of, task_of};
 ghost use Rattle.atl_phase.specs.declared.phase_order.Arrangement.TheVariants.{ByUnit};
-ghost use Rattle.atl_market.specs.Idle.{all_idle_orders, own_writers};
+ghost use Rattle.atl_market.specs.Idle.{all_idle_orders, own_writers, with_writer};
 ghost use Rattle.atl_market.specs.AfterPots.{WorksAtOnce};
 ghost use Rattle.atl_market.specs.Payable.{CanWork};
 
@@ -24,7 +26,7 @@ use atl_orders::{Mailing, Operands, Order, Verb};
 use atl_phase::{
     Arrangement, Month, MonthLongVerbs, Phase, PhaseOrder, PhaseResult, add_events, is_of_faction,
 };
-use atl_world::{Numbered, Sequence, World};
+use atl_world::{Marks, Numbered, Sequence, World};
 use std::alloc::{AllocError, Global};
 
 /// The phase WORK: units with an order, or with men and without a month-long order, share the work
@@ -32,19 +34,29 @@ use std::alloc::{AllocError, Global};
 #[derive(Drop, Clone, Copy)]
 pub struct WorkPhase;
 
+/// Adds a unit to the set if it is of this faction.
+fn add_writer(campaign: &Campaign, unit: u32, faction: u32, writers: &mut Marks)
+    requires { set.len writers.old.numbers < writers.old.room }
+    ensures { writers.new ≡ record writers.old
+        { numbers = with_writer campaign.now.value unit faction writers.old.numbers } }
+{
+    if is_of_faction(campaign, unit, faction) {
+        writers.add(unit);
+    }
+}
+
+/// The units for which their own faction wrote one of the orders.
 fn own_writers(
     alloc: Global,
     campaign: &Campaign,
     orders: &[PhaseOrder<'_>],
-) -> Result<Numbered<u32>, AllocError>
-    ensures { IfOk result (λ writers. writers
-        ≡ own_writers campaign.now.value (map task_of orders.now)) }
+) -> Result<Marks, AllocError>
+    ensures { IfOk result (λ writers. (unit : ℕ) → set.contains writers.numbers unit
+        ≡ is_some (get (own_writers campaign.now.value (map task_of orders.now)) unit)) }
 {
-    let mut writers = Numbered::new(alloc);
+    let mut writers = Marks::with_room(alloc, orders.len())?;
     for order in orders {
-        if is_of_faction(campaign, order.unit, order.faction) {
-            writers.insert(order.unit, order.faction)?;
-        }
+        add_writer(campaign, order.unit, order.faction, &mut writers);
     }
     Ok(writers)
 }
@@ -82,7 +94,7 @@ fn add_idle_orders<'m>(
 {
     let writers = own_writers(alloc, campaign, orders)?;
     for (number, unit) in campaign.units() {
-        if unit.holding.men() > 0 && writers.get(number).is_none() {
+        if unit.holding.men() > 0 && !writers.contains(number) {
             list.push(PhaseOrder {
                 unit: number,
                 line: 0,
