@@ -13,7 +13,7 @@ use Rattle.atl_rows.specs.declared.parts.StoredRegion.{StoredRegion}
 use Rattle.atl_rows.specs.declared.parts.StoredUnit.{StoredUnit}
 use Rattle.atl_campaign.specs.Assembling.{bare_unit, bare_region, with_has_row, with_market_row, with_rows_added}
 use Rattle.atl_campaign.specs.FromRows.{as_u32, is_of_unit_and_sort, put_rows, by_number, unit_with_goods, unit_of, region_with_stocks, region_of}
-use Rattle.atl_campaign.proofs.AssemblyLaws.{taken_or_not}
+use Rattle.atl_campaign.proofs.AssemblyLaws.{amount_of, taken_or_not, thing_of}
 use Rattle.atl_world.proofs.GeneralLaws.{is_equal}
 use Rattle.atl_world.proofs.TrackLaws.{get_inserted}
 use Rattle.atl_records.proofs.EveryLaws.{get-insert_other}
@@ -87,12 +87,6 @@ module _ {R V : Type 0} (owner : R → ℕ) (more : R → V → V) where
         same_map nat_cmp_total nat_cmp-IsAntisymmetric _ _ (λ n. get-with_rows_added rows (by_number number before ts) n ∙ put_each ts empty empty none n)
 
 -- ---- units
-
-abbrev thing_of : StoredHas → ℕ
-thing_of r = as_u32 r.thing
-
-abbrev amount_of : StoredHas → ℕ
-amount_of r = as_u32 r.amount
 
 -- for unit_given: choosing among a unit with new items, with new days, or unchanged gives the unit whose items and days
 -- are chosen each for itself

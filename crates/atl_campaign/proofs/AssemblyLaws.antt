@@ -42,10 +42,10 @@ from_range low high (pos n) h e =
     (ap pos (sym same), rw same least, rw same most)
 from_range low high (negsuc n) h e = absurd (false≢true e)
 
-abbrev thing_of : StoredHas → ℕ
+abbrev pub thing_of : StoredHas → ℕ
 thing_of r = as_u32 r.thing
 
-abbrev amount_of : StoredHas → ℕ
+abbrev pub amount_of : StoredHas → ℕ
 amount_of r = as_u32 r.amount
 
 -- a sort that is read as 0 (items) is not 1 (skills)

@@ -16,6 +16,7 @@ use Rattle.atl_records.specs.declared.records.Unit.{Unit}
 use Rattle.atl_campaign.specs.FromRows.{as_u32, is_of_unit_and_sort, things_had, unit_of, by_number}
 use Rattle.atl_campaign.specs.RowRules.{Key, key_cmp, has_key}
 use Rattle.atl_campaign.specs.Rows.{is_zero, has_row, rows_of_sort, held_rows, has_rows}
+use Rattle.atl_campaign.proofs.AssemblyLaws.{amount_of, thing_of}
 use Rattle.atl_campaign.proofs.GroupLaws as group
 use Rattle.atl_campaign.proofs.GroupLaws.{filter_both, filter_each, gathered, lines_order, of_group}
 use Rattle.atl_campaign.proofs.MapOfRowsLaws.{HaveDistinctNumbers, HasNumber, each_follows, flat_order}
@@ -58,12 +59,6 @@ pub record IsExactGoods (h : StoredHas) : Type 0 where
   pub keys : KeyFitsU32 h
   pub amount : FitsU32 h.amount
   pub some : is_zero h.amount ≡ false
-
-abbrev thing_of : StoredHas → ℕ
-thing_of h = as_u32 h.thing
-
-abbrev amount_of : StoredHas → ℕ
-amount_of h = as_u32 h.amount
 
 -- a row of unit n and of one sort (0 items, 1 days), whose key is read as it is
 abbrev IsRowOfUnit : ℕ → ℕ → StoredHas → Type 0
