@@ -1,6 +1,7 @@
 pub mod PotLaws
 pub mod TurnLaws
 pub mod WantLaws
+pub mod AskLaws
 pub mod DrawLaws
 pub mod UnorderedLaws
 pub mod AtOnceLaws

@@ -1,11 +1,12 @@
 -- Laws of PRODUCE: it keeps a campaign steady, its books balanced and units without an order as they are; all shares
 -- can be made.
-use Rattle.std.proofs.Common.{◌≡◌, ◌≢◌, ◌==◌, ℕ, ◌+◌, ◌-◌, ◌*◌, ◌/◌, ◌≤◌, ◌<◌, Bool, true, false, List, [], ◌∷◌, length, Option, Some, None, option_map, refl, sym, subst, ◌∙◌, arith}
+use Rattle.std.proofs.Common.{◌≡◌, ◌≢◌, ◌==◌, ℕ, ◌+◌, ◌-◌, ◌*◌, ◌/◌, ◌≤◌, ◌<◌, Bool, true, false, List, [], ◌∷◌, length, Option, Some, None, is_some, option_map, refl, sym, subst, ◌∙◌, arith}
 use Rattle.std.specs.Prelude.{ℤ, IfSome, fold, min, if◌then◌else◌}
 use Rattle.std.specs.List.{AllByRecursion, slice_get}
 use Rattle.std.specs.Option.{option_map_or}
 use Rattle.std.specs.Ordering.{nat_cmp}
 use Rattle.std.specs.FinMap.{FinMap, entries, get}
+use Rattle.std.proofs.lemmas.Bool.{false≢true}
 use Rattle.std.proofs.lemmas.Bool.Decides.{nat_tests}
 use Rattle.std.proofs.lemmas.Option.{same_Some, slice_get_within}
 use Rattle.std.proofs.Math.Nat.{mul-div-le, mul-le-mul_right, mul_comm}
@@ -199,10 +200,12 @@ produce_keeps_others w c os = others_no_worse produce_pots w (λ items. produced
 
 -- ---- what a unit makes it can make
 
-needs_item : (w : WorldValue) (h : HoldingValue) → produce_fault h (item_of w None) ≡ None → ⊥
-needs_item w h fine = by_men (h.men == 0) fine
+-- an order without a fault names an item of the world
+pub names_item : (h : HoldingValue) (item : Option Item) → produce_fault h item ≡ None → is_some item ≡ true
+names_item h (Some x) fine = refl
+names_item h None fine = absurd (by_men (h.men == 0) fine)
   where
-    -- for `needs_item`: an order without an item has a fault: NoMen for a unit without men (`b`), else NoSkill
+    -- for `names_item`: an order without an item has a fault: NoMen for a unit without men (`b`), else NoSkill
     by_men : (b : Bool) → first_fault ((b, NoMen) ∷ (true, NoSkill) ∷ []) ≡ None → ⊥
     by_men true never = none_some NoMen (sym never)
     by_men false never = none_some NoSkill (sym never)
@@ -222,7 +225,7 @@ module _ (w : WorldValue) (c : CampaignValue) (os : List Task) where
       (u, there, by_item u (item_in t.order_value.operands) low fine named)
     where
       by_item : (u : Unit) (s : Option ℕ) → made ≤ most_makeable w u.holding s → produce_fault u.holding (item_of w s) ≡ None → ((i : ℕ) → s ≡ Some i → get items n ≡ Some i) → made ≤ most_makeable w u.holding (get items n)
-      by_item u None low fine named = absurd (needs_item w u.holding fine)
+      by_item u None low fine named = absurd (false≢true (names_item u.holding None fine))
       by_item u (Some i) low fine named = subst (λ o. made ≤ most_makeable w u.holding o) (sym (named i refl)) low
 
 up_to_most : (h : HoldingValue) (count : ℕ) (raw : Option ℕ) (most : ℕ) → up_to_raw h count raw most ≤ most

@@ -1,6 +1,6 @@
 -- A phase in which the units of each region share a pot: who takes part, what each gets, and what is reported. All of
 -- it is read from the campaign as the phase began. See docs/RULES.md, "Pots".
-use Rattle.std.specs.Prelude.{ℕ, Bool, List, map, reverse, Option, Some, None, option_map, unwrap_or, Result, Ok, Err, if◌then◌else◌}
+use Rattle.std.specs.Prelude.{ℕ, Bool, true, false, List, map, reverse, Option, Some, None, option_map, unwrap_or, Result, Ok, Err, if◌then◌else◌}
 use Rattle.std.specs.List.{filter_map, fold}
 use Rattle.std.specs.Result.{is_ok, result_ok}
 use Rattle.std.specs.Ordering.{nat_cmp}
@@ -29,6 +29,12 @@ abbrev pub item_in : OperandsValue → Option ℕ
 item_in (operands.Item i) = Some i
 item_in (operands.Goods n i) = Some i
 item_in other = None
+
+-- whether operands ask for a count, as those of RECRUIT, SELL and BUY do
+abbrev pub asks_count : OperandsValue → Bool
+asks_count (operands.Number n) = true
+asks_count (operands.Goods n i) = true
+asks_count other = false
 
 -- how many the operands of RECRUIT, SELL or BUY ask for; 0 for operands of any other form
 abbrev pub count_in : OperandsValue → ℕ

@@ -52,6 +52,7 @@ fn note_want<P: ItemPots>(
 {
     match (pots.item(unit), wants.get(unit)) {
         (Some(item), Some(want)) => groups.insert_under(alloc, u32::from(item), unit, *want),
+        // the unit has no order that counts, one with a fault, or one for an item of raw items
         _ => Ok(()),
     }
 }

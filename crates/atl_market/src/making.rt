@@ -1,5 +1,5 @@
 //! How much of an item a unit can make, and making it. See docs/RULES.md, "Producing".
-ghost use Rattle.std.specs.Prelude.{ℕ, ◌≡◌, ◌≤◌, ◌*◌, IfSome, OnOk};
+ghost use Rattle.std.specs.Prelude.{ℕ, ◌≡◌, ◌≤◌, ◌*◌, IfSome, OnOk, is_some, true};
 ghost use Rattle.std.specs.Option.{option_copied};
 ghost use Rattle.atl_world.specs.Limits.{most_amount};
 ghost use Rattle.atl_campaign.specs.Covers.{MarksChanges};
@@ -77,15 +77,15 @@ fn most_makeable_of(holding: &Holding, number: u16, item: &Item) -> u32
     up_to_raw(holding, item.raw_count, item.raw, skilled.min(room))
 }
 
-/// The most that a unit can make of the item that its order names, at most 999,999,999; 0 where it
-/// names none of the world's items.
+/// The most that a unit can make of the item that its order names, at most 999,999,999.
 pub(crate) fn most_makeable(world: &World, holding: &Holding, asked: Option<u16>) -> u32
+    requires { is_some (item_of world.now asked) ≡ true }
     ensures value { result ≡ most_makeable world.now holding.now asked }
     ensures bound { result ≤ most_amount }
 {
     match (asked, item_of(world, asked)) {
         (Some(number), Some(item)) => most_makeable_of(holding, number, item),
-        _ => 0,
+        _ => unreachable!(),
     }
 }
 

@@ -1,6 +1,7 @@
 //! Phases in which the units of each region share a pot: their trait, and the one body that shares
 //! out and reports. See docs/RULES.md, "Pots".
-ghost use Rattle.std.specs.Prelude.{ℕ, ◌≡◌, ◌≤◌, IfOk, OnOk, fold, map};
+ghost use Rattle.std.specs.Prelude.{⊤, ℕ, ◌≡◌, ◌≤◌, IfOk, None, OnOk, fold, map, true};
+ghost use Rattle.std.specs.List.{All};
 ghost use Rattle.std.specs.FinMap.{FinMap, entries};
 ghost use Rattle.std.specs.Result.{result_map_both};
 ghost use Rattle.atl_world.specs.Limits.{most_amount};
@@ -8,8 +9,9 @@ ghost use Rattle.atl_world.specs.Worlds.{WorldValue};
 ghost use Rattle.atl_campaign.specs.Covers.{MarksChanges};
 ghost use Rattle.atl_campaign.specs.Campaign.{CampaignValue};
 ghost use Rattle.std.specs.Ordering.{nat_cmp};
+ghost use Rattle.atl_orders.specs.Orders.{OperandsValue};
 ghost use Rattle.atl_phase.specs.PhaseOrders.{task_of};
-ghost use Rattle.atl_market.specs.PotPhase.{PotMeaning, after_sharing, count_in, event_of, events_by, given_by, item_by, item_in, items_by, unit_for, want_by, wants_by};
+ghost use Rattle.atl_market.specs.PotPhase.{PotMeaning, after_sharing, asks_count, count_in, event_of, events_by, given_by, item_by, item_in, items_by, unit_for, want_by, wants_by};
 ghost use Rattle.atl_market.specs.Bounds.{CanInTurn};
 ghost use Rattle.atl_market.specs.Pots.{AreWants};
 ghost use Rattle.atl_market.specs.Puts.{with_entry_if_some};
@@ -33,13 +35,19 @@ pub(crate) trait PotPhase {
     // each unit's order names.
     ghost can_pay: { Self → FinMap nat_cmp ℕ → WorldValue → CampaignValue → ℕ × ℕ → Type 0 };
 
+    // What the operands of the phase's orders must be, by default anything.
+    ghost asks: { OperandsValue → Type 0 } = { λ _. ⊤ };
+
     /// The fault that the phase finds in an order of the unit's own faction, if there is one.
     fn fault(&self, world: &World, unit: &Unit, order: PhaseOrder<'_>) -> Option<EventFault>
         ensures { result ≡ PotMeaning.fault (meaning self.now) world.now unit.now
             (task_of order.entry) };
 
-    /// How much a unit wants by an order, at most 999,999,999.
+    /// How much a unit wants by an order in which `fault` finds no fault, at most 999,999,999.
     fn want(&self, world: &World, unit: &Unit, order: PhaseOrder<'_>) -> u32
+        requires asks { asks (task_of order).order_value.operands }
+        requires faultless { PotMeaning.fault (meaning self.now) world.now unit.now
+            (task_of order) ≡ None }
         ensures value { result ≡ PotMeaning.want (meaning self.now) world.now unit.now
             (task_of order.entry) }
         ensures bound { result ≤ most_amount };
@@ -81,7 +89,7 @@ pub(crate) trait PotPhase {
         ensures marks { OnOk result (MarksChanges campaign.old campaign.new) };
 }
 
-/// The item that an order of PRODUCE, SELL or BUY names; None for operands of any other form.
+/// The item that an order of PRODUCE, SELL or BUY names; None for one of TAX, RECRUIT or WORK.
 pub(crate) fn named_item(order: PhaseOrder<'_>) -> Option<u16>
     ensures { result ≡ item_in (task_of order.entry).order_value.operands }
 {
@@ -92,14 +100,15 @@ pub(crate) fn named_item(order: PhaseOrder<'_>) -> Option<u16>
     }
 }
 
-/// How many an order of RECRUIT, SELL or BUY asks for; 0 for operands of any other form.
+/// How many an order of RECRUIT, SELL or BUY asks for.
 pub(crate) fn named_count(order: PhaseOrder<'_>) -> u32
+    requires { asks_count (task_of order).order_value.operands ≡ true }
     ensures { result ≡ count_in (task_of order.entry).order_value.operands }
 {
     match &order.order.operands {
         Operands::Number(number) => *number,
         Operands::Goods { amount, .. } => *amount,
-        _ => 0,
+        _ => unreachable!(),
     }
 }
 
@@ -131,7 +140,8 @@ fn note_order<P: PotPhase>(
     wants: &mut Numbered<u32>,
     items: &mut Numbered<u16>,
 ) -> Result<(), AllocError>
-    requires { AreWants wants.old }
+    requires wants { AreWants wants.old }
+    requires asks { P.asks (task_of order).order_value.operands }
     ensures wants { OnOk result
         (wants.new ≡ with_entry_if_some wants.old
         (want_by (P.meaning phase.now) world.now campaign.now.value (task_of order.entry))) }
@@ -160,6 +170,7 @@ fn wants_and_items<P: PotPhase>(
     campaign: &Campaign,
     orders: &[PhaseOrder<'_>],
 ) -> Result<(Numbered<u32>, Numbered<u16>), AllocError>
+    requires { All (λ t. P.asks t.order_value.operands) (map task_of orders.now) }
     ensures wants { IfOk result (λ both. both.0
         ≡ wants_by (P.meaning phase.now) world.now campaign.now.value (map task_of orders.now)) }
     ensures bound { IfOk result (λ both. AreWants both.0) }
@@ -248,6 +259,7 @@ pub(crate) fn share_out<P: PotPhase>(
     orders: &[PhaseOrder<'_>],
 ) -> Result<Vec<Event>, AllocError>
     requires needs { P.needs phase.now world.now campaign.old.value }
+    requires asks { All (λ t. P.asks t.order_value.operands) (map task_of orders.now) }
     requires can { CanInTurn
         (P.can_pay phase.now (items_by (P.meaning phase.now) world.now campaign.old.value
         (map task_of orders.now)) world.now)

@@ -1,8 +1,10 @@
 //! RECRUIT: peasants of a region join its units, at a price. See docs/RULES.md, "Recruiting".
+ghost use Rattle.std.specs.Prelude.{◌≡◌, true};
 ghost use Rattle.atl_campaign.specs.Good.{IsEarly};
 ghost use Rattle.atl_phase.specs.Meaning.{most_moved};
 ghost use Rattle.atl_market.specs.Recruit.{is_recruit, recruit_keeps, recruit_meaning, recruit_moves, recruit_pots, recruits_at};
 ghost use Rattle.atl_market.specs.Payable.{CanRecruit};
+ghost use Rattle.atl_market.specs.PotPhase.{asks_count};
 ghost use Rattle.atl_market.specs.AfterPots.{RecruitsAtOnce};
 
 use crate::pot_phase::{PotPhase, named_count, share_out};
@@ -57,6 +59,8 @@ impl PotPhase for RecruitPhase {
     ghost needs = { λ _. IsEarly };
 
     ghost can_pay = { λ _ _. CanRecruit };
+
+    ghost asks = { λ what. asks_count what ≡ true };
 
     fn fault(&self, world: &World, unit: &Unit, _order: PhaseOrder<'_>) -> Option<EventFault> {
         (unit.holding.money() < world.rules().recruit_price).then_some(EventFault::NotEnough)

@@ -1,6 +1,6 @@
 //! SELL and BUY: units trade items with the markets of their regions. See docs/RULES.md, "Selling"
 //! and docs/RULES.md, "Buying".
-ghost use Rattle.std.specs.Prelude.{◌≡◌, ◌≤◌, IfSome, OnOk, Some};
+ghost use Rattle.std.specs.Prelude.{◌≡◌, ◌≤◌, IfSome, OnOk, Some, true};
 ghost use Rattle.std.specs.FinMap as finmap;
 ghost use Rattle.std.specs.Option.{option_copied};
 ghost use Rattle.atl_world.specs.Limits.{most_amount};
@@ -10,6 +10,7 @@ ghost use Rattle.atl_records.specs.declared.records.Unit.{Unit};
 ghost use Rattle.atl_phase.specs.Meaning.{most_moved};
 ghost use Rattle.atl_market.specs.Trade.{has_too_little, is_trade, limit_of, market_for, most_tradable, trade_entry, trade_fault, trade_keeps, trade_meaning, trade_moves, trade_of, trade_pot, trade_pots, trade_result_of, with_trade_booked};
 ghost use Rattle.atl_market.specs.Trading.{CanAfford, CanBookTrade, CanTrade, PotAllowsShare, IsPriced};
+ghost use Rattle.atl_market.specs.PotPhase.{asks_count};
 ghost use Rattle.atl_market.specs.AfterPots.{TradesAtOnce};
 
 use crate::item_pots::{ItemPots, item_shares};
@@ -210,6 +211,8 @@ impl PotPhase for Trade {
     ghost needs = { λ _. IsEarly };
 
     ghost can_pay = { CanTrade };
+
+    ghost asks = { λ what. asks_count what ≡ true };
 
     fn fault(&self, world: &World, unit: &Unit, order: PhaseOrder<'_>) -> Option<EventFault> {
         trade_fault(

@@ -35,6 +35,7 @@ returns-clause-what c =
     ∙ ap (λ (d : CampaignValue). with_place d n c.args.region next) (begun ∙ ap (λ (d : CampaignValue). with_new_structure d c.args.number k c.args.region c.args.size) c.in_ok-use_item.ensures.what)
     ∙ ap (with_place new n c.args.region) number
 
+-- three changes in turn: the material used, the structure begun, the unit placed in it
 pub returns-clause-marks : goal.returns-clause-marks
 returns-clause-marks c =
     let old = c.args.campaign.now in

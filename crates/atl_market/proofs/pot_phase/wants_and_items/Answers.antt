@@ -1,5 +1,6 @@
-use Rattle.std.proofs.Common.{◌≤◌, ◌∙◌, ℕ, ap, map}
-use Rattle.atl_phase.specs.PhaseOrders.{task_of}
+use Rattle.std.proofs.Common.{◌≤◌, ◌∙◌, ℕ, ap, map, refl, subst, sym}
+use Rattle.atl_phase.specs.PhaseOrders.{Task, task_of}
+use Rattle.atl_phase.proofs.FoldLaws.{each_mapped}
 use Rattle.std.specs.List.{filter_map}
 use Rattle.atl_world.specs.Limits.{most_amount}
 use Rattle.atl_records.proofs.EveryLaws.{every-empty}
@@ -19,3 +20,8 @@ loop-order-init g c =
       bound = rw c.new-wants.ensures (every-empty (λ (number want : ℕ). want ≤ most_amount));
       items = ap (λ m. with_entries m named) c.new-items.ensures ∙ put_in_turn named;
     }
+
+pub note_order-requires-clause-asks : goal.note_order-requires-clause-asks
+note_order-requires-clause-asks g c =
+    let asks = λ (t : Task). g.P.PotPhase.asks t.order_value.operands in
+    subst (λ x. asks (task_of x)) (sym c.order-item.is) (each_mapped asks task_of c.args.orders.now (map task_of c.args.orders.now) refl c.requires c.loop-order.order-index c.order-item.result c.loop-order-test.true)

@@ -7,6 +7,9 @@ use Rattle.atl_market.specs.Unordered.{OthersAreNoWorse}
 use Rattle.atl_market.proofs.ProduceLaws.{can_share_out, produce_keeps_others, produce_leaves_well}
 use Rattle.atl_market.proofs.produce.ProducePhasePhase.run.Goals as goal
 
+pub share_out-requires-clause-asks : goal.share_out-requires-clause-asks
+share_out-requires-clause-asks c = λ k d l. tt
+
 pub share_out-requires-clause-can : goal.share_out-requires-clause-can
 share_out-requires-clause-can c = can_share_out c.args.world.now c.args.campaign.value c.world_is_well_formed.ensures c.requires.needs (map task_of c.deref.result.now) c.requires.room
 

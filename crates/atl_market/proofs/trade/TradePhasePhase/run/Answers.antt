@@ -1,12 +1,24 @@
-use Rattle.std.proofs.Common.{◌≡◌, map, subst, sym, rules}
+use Rattle.std.proofs.Common.{◌≡◌, All, map, subst, sym, true, rules}
 use Rattle.atl_campaign.specs.Good.{IsEarly}
 use Rattle.atl_phase.specs.Meaning.{LeavesWell, most_moved}
 use Rattle.atl_phase.specs.Bounds.{HaveRoom}
 use Rattle.atl_phase.specs.PhaseOrders.{orders_by_unit, task_of}
+use Rattle.atl_phase.specs.declared.phase_order.Arrangement.TheVariants.{ByUnit}
+use Rattle.atl_phase.proofs.OrderEffectLaws.{each_order}
+use Rattle.atl_market.specs.PotPhase.{asks_count}
 use Rattle.atl_market.specs.Trade.{is_trade, trade_moves}
 use Rattle.atl_market.specs.Unordered.{OthersAreNoWorse}
+use Rattle.atl_market.proofs.AskLaws.{trade_asks}
 use Rattle.atl_market.proofs.TradeLaws.{all_trades_leave_well, can_share_out, trade_keeps_others}
 use Rattle.atl_market.proofs.trade.TradePhasePhase.run.Goals as goal
+
+pub share_out-requires-clause-asks : goal.share_out-requires-clause-asks
+share_out-requires-clause-asks g c =
+    let trade = c.trade_of-trade.result in
+    let m = c.args.month in
+    let orders : map task_of c.deref.result.now ≡ orders_by_unit (is_trade trade) m = rw c.trade_of-trade.ensures (search rules) in
+    subst (All (λ t. asks_count t.order_value.operands ≡ true)) (sym orders)
+    (each_order c.args.world.now m.aliases m.readings c.requires.read (is_trade trade) ByUnit (λ t. asks_count t.order_value.operands ≡ true) (λ t of_phase fit. trade_asks trade t.order_value.verb t.order_value.operands of_phase fit.shape))
 
 pub share_out-requires-clause-can : goal.share_out-requires-clause-can
 share_out-requires-clause-can g c =
