@@ -3,6 +3,7 @@ pub mod Covers
 pub mod Early
 pub mod Founding
 pub mod FromRows
+pub mod Taking
 pub mod Good
 pub mod KeptLists
 pub mod Joining

@@ -9,7 +9,9 @@ ghost use Rattle.atl_state.specs.Checking.{rule_number, KeepsRule, KeepsRulesBel
 ghost use Rattle.atl_campaign.specs.FromRows.{campaign_of};
 ghost use Rattle.atl_campaign.specs.Good.{AreKnown, HasValidMail, AreReported};
 ghost use Rattle.atl_records.specs.Limits.{entries_in};
+ghost use Rattle.atl_rows.specs.declared.parts.Parts.{Parts};
 ghost use Rattle.atl_campaign.specs.RowRules.{is_one_campaign_row, are_of_format, is_of_unit, is_of_market, is_booked};
+ghost use Rattle.atl_campaign.specs.Taking.{without_texts};
 
 use crate::row_rules::{
     are_of_format, are_of_markets, is_one_campaign_row, rows_in_range, rows_named,
@@ -163,49 +165,52 @@ fn are_goods_known(world: &World, parts: &Parts, campaign: &Campaign) -> bool
     are_of_units(parts, campaign) && are_of_markets(world, parts.markets.as_slice())
 }
 
-/// Whether rows keep rule 4: all that they name exists. The campaign is the one read from the rows.
+/// Whether rows and the campaign that is read from them keep rule 4: all that they name exists.
 fn keeps_known(world: &World, parts: &Parts, campaign: &Campaign) -> bool
-    requires { campaign.now.value ≡ campaign_of world.now parts.now }
     ensures { IsTrue result ↔
-        (AreKnown world.now (campaign_of world.now parts.now)
-        × IsTrue (list_all (is_of_unit (campaign_of world.now parts.now)) parts.now.has)
+        (AreKnown world.now campaign.now.value
+        × IsTrue (list_all (is_of_unit campaign.now.value) parts.now.has)
         × IsTrue (list_all (is_of_market world.now) parts.now.markets)) }
 {
     are_known(world, campaign) && are_goods_known(world, parts, campaign)
 }
 
 /// Whether rows that keep rules 1 to 10 keep rule 11: the books balance, and have only entries and
-/// things that exist. The campaign is the one read from the rows.
+/// things that exist. The campaign is the one read from the rows, and `parts` are what that left of
+/// them.
 fn keeps_books(format: Format, world: &World, parts: &Parts, campaign: &Campaign) -> bool
-    requires what { campaign.now.value ≡ campaign_of world.now parts.now }
-    requires before { KeepsRulesBelow format world.now parts.now 11 }
-    ensures { IsTrue result ↔ (KeepsRule format world.now parts.now rule.Books) }
+    ghost rows: { Parts }
+    requires what { campaign.now.value ≡ campaign_of world.now rows }
+    requires rest { parts.now ≡ without_texts rows }
+    requires before { KeepsRulesBelow format world.now rows 11 }
+    ensures { IsTrue result ↔ (KeepsRule format world.now rows rule.Books) }
 {
     are_booked(format, world, parts) && are_balanced(world, campaign)
 }
 
-/// Whether rows keep rule 12: each mail is a mailing of a faction that isn't gone, and each faction
-/// has a report. The campaign is the one read from the rows.
-fn keeps_mail(world: &World, parts: &Parts, campaign: &Campaign) -> bool
-    requires { campaign.now.value ≡ campaign_of world.now parts.now }
+/// Whether a campaign keeps rule 12: each mail is a mailing of a faction that isn't gone, and each
+/// faction has a report.
+fn keeps_mail(campaign: &Campaign) -> bool
     ensures { IsTrue result ↔
-        (HasValidMail (campaign_of world.now parts.now) × AreReported
-        (campaign_of world.now parts.now)) }
+        (HasValidMail campaign.now.value × AreReported campaign.now.value) }
 {
     are_mailings(campaign) && are_reported(campaign)
 }
 
 /// Checks rules 4 to 7 (what rows name exists, next numbers, days of study, gone factions): Err is
-/// the first that is broken. The rows keep rules 1 to 3, and the campaign is read from them.
+/// the first that is broken. The rows keep rules 1 to 3, the campaign is read from them, and `parts`
+/// are what that left of them.
 fn check_rules_4_to_7(
     world: &World,
     parts: &Parts,
     format: Format,
     campaign: &Campaign,
 ) -> Result<(), CheckFault>
-    requires what { campaign.now.value ≡ campaign_of world.now parts.now }
-    requires before { KeepsRulesBelow format world.now parts.now 4 }
-    ensures { Passes format world.now parts.now 8 result }
+    ghost rows: { Parts }
+    requires what { campaign.now.value ≡ campaign_of world.now rows }
+    requires rest { parts.now ≡ without_texts rows }
+    requires before { KeepsRulesBelow format world.now rows 4 }
+    ensures { Passes format world.now rows 8 result }
 {
     if !keeps_known(world, parts, campaign) {
         return Err(CheckFault::Damaged(Rule::Known));
@@ -223,16 +228,18 @@ fn check_rules_4_to_7(
 }
 
 /// Checks rules 8 to 12 (owners, water, guards, books, mail): Err is the first that is broken. The
-/// rows keep rules 1 to 7, and the campaign is read from them.
+/// rows keep rules 1 to 7, the campaign is read from them, and `parts` are what that left of them.
 fn check_rules_8_to_12(
     world: &World,
     parts: &Parts,
     format: Format,
     campaign: &Campaign,
 ) -> Result<(), CheckFault>
-    requires what { campaign.now.value ≡ campaign_of world.now parts.now }
-    requires before { KeepsRulesBelow format world.now parts.now 8 }
-    ensures { Passes format world.now parts.now 13 result }
+    ghost rows: { Parts }
+    requires what { campaign.now.value ≡ campaign_of world.now rows }
+    requires rest { parts.now ≡ without_texts rows }
+    requires before { KeepsRulesBelow format world.now rows 8 }
+    ensures { Passes format world.now rows 13 result }
 {
     if !are_owned(campaign) {
         return Err(CheckFault::Damaged(Rule::Owners));
@@ -246,7 +253,7 @@ fn check_rules_8_to_12(
     if !keeps_books(format, world, parts, campaign) {
         return Err(CheckFault::Damaged(Rule::Books));
     }
-    if !keeps_mail(world, parts, campaign) {
+    if !keeps_mail(campaign) {
         return Err(CheckFault::Damaged(Rule::Mail));
     }
     Ok(())
@@ -257,13 +264,15 @@ fn check_rules_8_to_12(
 fn check_parts(
     alloc: Global,
     world: &World,
-    parts: Parts,
+    mut parts: Parts,
     format: Format,
 ) -> Result<Campaign, CheckFault>
-    ensures { Checks format world.now parts result }
+    ghost rows: { Parts }
+    requires { parts ≡ rows }
+    ensures { Checks format world.now rows result }
 {
     check_rows(alloc, world, &parts, format)?;
-    let campaign = match assemble(alloc, world, &parts) {
+    let campaign = match assemble(alloc, world, &mut parts) {
         Ok(campaign) => campaign,
         Err(_) => return Err(CheckFault::Memory),
     };

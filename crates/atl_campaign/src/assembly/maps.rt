@@ -1,12 +1,13 @@
-//! Builds the maps of factions, regions, structures, mail and reports from their rows. Where memory
-//! runs out, the answer is AllocError.
-ghost use Rattle.std.specs.Prelude.{◌≡◌, IfOk, true};
+//! Builds the maps of factions, regions, structures, mail and reports from their rows. The texts of
+//! mail and reports are moved, not copied. Where memory runs out, the answer is AllocError.
+ghost use Rattle.std.specs.Prelude.{◌≡◌, IfOk, OnOk, [], true};
 ghost use Rattle.std.specs.List.{list_all};
 ghost use Rattle.atl_world.specs.Names.{name_ok};
 ghost use Rattle.atl_campaign.specs.Assembling.{without_marks, bare_region, campaign_maps_of};
 ghost use Rattle.atl_campaign.specs.FromRows.{as_u32, faction_of, region_of, structure_of, by_number};
 ghost use Rattle.atl_campaign.specs.Regions.{unmarked_regions};
 ghost use Rattle.atl_campaign.specs.RowRules.{faction_named};
+ghost use Rattle.atl_campaign.specs.Taking.{without_texts};
 
 use super::goods::put_stocks;
 use super::records::{bare_region, faction_of, structure_of};
@@ -18,6 +19,7 @@ use atl_rows::parts::{
 };
 use atl_world::{MarkedMap, Numbered, Sequence, Text};
 use std::alloc::{AllocError, Global};
+use std::mem;
 
 /// The factions that rows of `faction` say, by number. Their names and pass texts have to keep
 /// their rules.
@@ -80,26 +82,29 @@ pub(crate) fn structures_of(
 
 pub(crate) fn mail_of(
     alloc: Global,
-    rows: &[StoredMail],
+    rows: Sequence<StoredMail>,
 ) -> Result<Numbered<Sequence<u8>>, AllocError>
     ensures { IfOk result (λ mail. mail
-        ≡ by_number (λ r. as_u32 r.faction) (λ r. r.text) rows.now) }
+        ≡ by_number (λ r. as_u32 r.faction) (λ r. r.text) rows) }
 {
     let mut mail = Numbered::new(alloc);
-    for row in rows {
-        let text = Sequence::from_slice(alloc, row.text.as_slice())?;
+    for mut row in rows.into_vec() {
+        let text = mem::replace(&mut row.text, Sequence::new(alloc));
         mail.insert(as_u32(row.faction), text)?;
     }
     Ok(mail)
 }
 
-pub(crate) fn reports_of(alloc: Global, rows: &[StoredReport]) -> Result<Numbered<Text>, AllocError>
+pub(crate) fn reports_of(
+    alloc: Global,
+    rows: Sequence<StoredReport>,
+) -> Result<Numbered<Text>, AllocError>
     ensures { IfOk result (λ reports. reports
-        ≡ by_number (λ r. as_u32 r.faction) (λ r. r.text) rows.now) }
+        ≡ by_number (λ r. as_u32 r.faction) (λ r. r.text) rows) }
 {
     let mut reports = Numbered::new(alloc);
-    for row in rows {
-        let text = row.text.copy(alloc)?;
+    for mut row in rows.into_vec() {
+        let text = mem::replace(&mut row.text, Text::from_string(String::new(alloc)));
         reports.insert(as_u32(row.faction), text)?;
     }
     Ok(reports)
@@ -150,34 +155,50 @@ fn unmarked_structures(
     MarkedMap::from_values(alloc, structures)
 }
 
-fn unmarked_mail(alloc: Global, rows: &[StoredMail]) -> Result<MarkedMap<Sequence<u8>>, AllocError>
+fn unmarked_mail(
+    alloc: Global,
+    rows: Sequence<StoredMail>,
+) -> Result<MarkedMap<Sequence<u8>>, AllocError>
     ensures { IfOk result (λ t. t
-        ≡ without_marks (by_number (λ r. as_u32 r.faction) (λ r. r.text) rows.now)) }
+        ≡ without_marks (by_number (λ r. as_u32 r.faction) (λ r. r.text) rows)) }
 {
     let mail = mail_of(alloc, rows)?;
     MarkedMap::from_values(alloc, mail)
 }
 
-fn unmarked_reports(alloc: Global, rows: &[StoredReport]) -> Result<MarkedMap<Text>, AllocError>
+fn unmarked_reports(
+    alloc: Global,
+    rows: Sequence<StoredReport>,
+) -> Result<MarkedMap<Text>, AllocError>
     ensures { IfOk result (λ t. t
-        ≡ without_marks (by_number (λ r. as_u32 r.faction) (λ r. r.text) rows.now)) }
+        ≡ without_marks (by_number (λ r. as_u32 r.faction) (λ r. r.text) rows)) }
 {
     let reports = reports_of(alloc, rows)?;
     MarkedMap::from_values(alloc, reports)
 }
 
+/// Takes all rows of a list, and leaves it empty.
+fn take_rows<T: Drop>(alloc: Global, rows: &mut Sequence<T>) -> Sequence<T>
+    ensures taken { result ≡ rows.old }
+    ensures left { rows.new ≡ [] }
+{
+    mem::replace(rows, Sequence::new(alloc))
+}
+
 /// The factions, regions, structures, mail and reports that are read from rows, with nothing
-/// marked. Names and pass texts have to keep their rules. AllocError without memory.
-pub(crate) fn campaign_maps_of(alloc: Global, parts: &Parts) -> Result<CampaignMaps, AllocError>
-    requires factions { list_all faction_named parts.now.factions ≡ true }
-    requires structures { list_all (λ r. name_ok r.name) parts.now.structures ≡ true }
-    ensures { IfOk result (λ tables. tables ≡ campaign_maps_of parts.now) }
+/// marked. Names and pass texts have to keep their rules. The rows of mail and reports are taken,
+/// and all others stay. AllocError without memory.
+pub(crate) fn campaign_maps_of(alloc: Global, parts: &mut Parts) -> Result<CampaignMaps, AllocError>
+    requires factions { list_all faction_named parts.old.factions ≡ true }
+    requires structures { list_all (λ r. name_ok r.name) parts.old.structures ≡ true }
+    ensures maps { IfOk result (λ tables. tables ≡ campaign_maps_of parts.old) }
+    ensures rest { OnOk result (parts.new ≡ without_texts parts.old) }
 {
     let factions = unmarked_factions(alloc, parts.factions.as_slice())?;
     let regions = unmarked_regions(alloc, parts.regions.as_slice(), parts.markets.as_slice())?;
     let structures = unmarked_structures(alloc, parts.structures.as_slice())?;
-    let mail = unmarked_mail(alloc, parts.mail.as_slice())?;
-    let reports = unmarked_reports(alloc, parts.reports.as_slice())?;
+    let mail = unmarked_mail(alloc, take_rows(alloc, &mut parts.mail))?;
+    let reports = unmarked_reports(alloc, take_rows(alloc, &mut parts.reports))?;
     Ok(CampaignMaps {
         factions,
         regions,

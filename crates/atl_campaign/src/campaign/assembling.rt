@@ -1,9 +1,10 @@
 //! Builds a campaign from rows that keep the rules on the campaign row, ranges and names.
-ghost use Rattle.std.specs.Prelude.{◌≡◌, IfOk, length, true};
+ghost use Rattle.std.specs.Prelude.{◌≡◌, IfOk, OnOk, length, true};
 ghost use Rattle.atl_world.specs.Worlds.{IsWorld};
 ghost use Rattle.atl_campaign.specs.FromRows.{campaign_of};
 ghost use Rattle.atl_campaign.specs.Marks.{no_marks};
 ghost use Rattle.atl_campaign.specs.RowRules.{are_named, first_tables_in_range};
+ghost use Rattle.atl_campaign.specs.Taking.{without_texts};
 
 use super::Campaign;
 use crate::assembly::{CampaignMaps, books_of, campaign_maps_of, lists_of, pass_of, roster_of};
@@ -15,19 +16,20 @@ use std::alloc::{AllocError, Global};
 
 /// The campaign that is read from rows, with nothing marked. There has to be one campaign row.
 /// Names and pass texts have to keep their rules, and rows of `faction`, `region`, `unit` and `has`
-/// have to be in their ranges. AllocError without memory.
+/// have to be in their ranges. The rows of mail and reports are taken, since their texts are moved;
+/// all other rows stay. AllocError without memory: nothing is said of the rows then.
 #[tactic(auto, unfolding(crate::specs::FromRows::campaign_of))]
-pub fn assemble(alloc: Global, world: &World, parts: &Parts) -> Result<Campaign, AllocError>
-    requires one { length parts.now.campaign ≡ 1 }
-    requires named { are_named parts.now ≡ true }
-    requires people { first_tables_in_range parts.now ≡ true }
-    ensures what { IfOk result (λ c. c.value ≡ campaign_of world.now parts.now) }
+pub fn assemble(alloc: Global, world: &World, parts: &mut Parts) -> Result<Campaign, AllocError>
+    requires one { length parts.old.campaign ≡ 1 }
+    requires named { are_named parts.old ≡ true }
+    requires people { first_tables_in_range parts.old ≡ true }
+    ensures what { IfOk result (λ c. c.value ≡ campaign_of world.now parts.old) }
     ensures marks { IfOk result (λ c. c.marks ≡ no_marks) }
+    ensures rest { OnOk result (parts.new ≡ without_texts parts.old) }
     ensures world { IsWorld world.now }
 {
-    let head = campaign_row_of(parts);
     let things = FIRST_ITEM + world.items().len();
-    let pass = pass_of(alloc, &head.pass)?;
+    let pass = pass_of(alloc, &campaign_row_of(parts).pass)?;
     let units = roster_of(alloc, parts)?;
     let lists = lists_of(alloc, &units)?;
     let books = books_of(alloc, things, parts.books.as_slice())?;
@@ -39,6 +41,7 @@ pub fn assemble(alloc: Global, world: &World, parts: &Parts) -> Result<Campaign,
         mail,
         reports,
     } = campaign_maps_of(alloc, parts)?;
+    let head = campaign_row_of(parts);
     Ok(Campaign {
         alloc,
         month: as_u32(head.month),

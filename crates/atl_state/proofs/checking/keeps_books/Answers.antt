@@ -9,15 +9,15 @@ use Rattle.atl_state.proofs.CheckLaws.{few-said, books-said, items-said, stocks-
 use Rattle.atl_state.proofs.checking.keeps_books.Goals as goal
 
 pub are_balanced-requires-clause-few : goal.are_balanced-requires-clause-few
-are_balanced-requires-clause-few c = subst IsCountable (sym c.requires.what) (few-said c.args.format c.args.world.now c.args.parts.now c.requires.before)
+are_balanced-requires-clause-few g c = subst IsCountable (sym c.requires.0) (few-said c.args.format c.args.world.now g.rows c.requires.1.1)
 
 pub are_balanced-requires-clause-books : goal.are_balanced-requires-clause-books
-are_balanced-requires-clause-books c = subst (λ (s : CampaignValue). AreBooks (thing_count c.args.world.now) s.books) (sym c.requires.what) (books-said c.args.format c.args.world.now c.args.parts.now c.requires.before)
+are_balanced-requires-clause-books g c = subst (λ (s : CampaignValue). AreBooks (thing_count c.args.world.now) s.books) (sym c.requires.0) (books-said c.args.format c.args.world.now g.rows c.requires.1.1)
 
 pub are_balanced-requires-clause-items : goal.are_balanced-requires-clause-items
-are_balanced-requires-clause-items c =
-    subst (λ (s : CampaignValue). Every (λ n u. Every (λ i amount. i < length c.args.world.now.items) u.holding.items) s.units) (sym c.requires.what) (items-said c.args.format c.args.world.now c.args.parts.now c.requires.before)
+are_balanced-requires-clause-items g c =
+    subst (λ (s : CampaignValue). Every (λ n u. Every (λ i amount. i < length c.args.world.now.items) u.holding.items) s.units) (sym c.requires.0) (items-said c.args.format c.args.world.now g.rows c.requires.1.1)
 
 pub are_balanced-requires-clause-stocks : goal.are_balanced-requires-clause-stocks
-are_balanced-requires-clause-stocks c =
-    subst (λ (s : CampaignValue). Every (λ n r. AreOfMarkets c.args.world.now n r.stocks) s.regions) (sym c.requires.what) (stocks-said c.args.format c.args.world.now c.args.parts.now c.requires.before)
+are_balanced-requires-clause-stocks g c =
+    subst (λ (s : CampaignValue). Every (λ n r. AreOfMarkets c.args.world.now n r.stocks) s.regions) (sym c.requires.0) (stocks-said c.args.format c.args.world.now g.rows c.requires.1.1)

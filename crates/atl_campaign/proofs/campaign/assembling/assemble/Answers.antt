@@ -17,4 +17,4 @@ invariant_of-result c =
     }
 
 pub returns-clause-marks : goal.returns-clause-marks
-returns-clause-marks c = rw (c.in_ok-factions.ensures, c.in_ok-units.ensures, c.in_ok-amounts_marked.ensures) refl
+returns-clause-marks c = rw (c.in_ok-factions.ensures.maps, c.in_ok-units.ensures, c.in_ok-amounts_marked.ensures) refl
