@@ -167,6 +167,24 @@ fn sweep_units(
     Ok(())
 }
 
+/// Removes the units without men. Who receives what they leave is looked for only where there are
+/// such units.
+fn sweep_menless(alloc: Global, world: &World, campaign: &mut Campaign) -> Result<(), AllocError>
+    requires steady { IsSteady world.now campaign.old.value }
+    requires room { HaveRoom (moved_times (length (menless_units campaign.old.value))
+        (loses_by most_amount)) campaign.old.value }
+    ensures what { OnOk result (campaign.new.value
+        ≡ fold after_sweeping_unit campaign.old.value (menless_units campaign.old.value)) }
+    ensures marks { OnOk result (MarksChanges campaign.old campaign.new) }
+{
+    let numbers = menless_units(alloc, campaign)?;
+    if numbers.is_empty() {
+        return Ok(());
+    }
+    let receivers = receivers_of(alloc, campaign)?;
+    sweep_units(alloc, world, &receivers, campaign, &numbers)
+}
+
 fn sweep_faction(campaign: &mut Campaign, number: u32)
     ensures what { campaign.new.value ≡ after_sweeping_faction campaign.old.value number }
     ensures marks { MarksChanges campaign.old campaign.new }
@@ -198,9 +216,7 @@ impl Phase for SweepPhase {
 
     fn run(&self, alloc: Global, world: &World, campaign: Campaign, month: Month) -> PhaseResult {
         let mut campaign = campaign;
-        let receivers = receivers_of(alloc, &campaign)?;
-        let numbers = menless_units(alloc, &campaign)?;
-        sweep_units(alloc, world, &receivers, &mut campaign, &numbers)?;
+        sweep_menless(alloc, world, &mut campaign)?;
         let factions = campaign.active()?;
         sweep_factions(&mut campaign, &factions);
         Ok((campaign, month))

@@ -9,15 +9,11 @@ use Rattle.atl_month.specs.Sweep.{loses_by, menless_units, sweep}
 use Rattle.atl_month.proofs.SweepAllLaws.{few_menless, loses_little, sweep_keeps_all, sweep_leaves_well}
 use Rattle.atl_month.proofs.sweep.SweepPhasePhase.run.Goals as goal
 
-pub receivers_of-requires : goal.receivers_of-requires
-receivers_of-requires c n u is = (c.requires.needs.numbers.units n u is).0
-
-pub sweep_units-requires-clause-room : goal.sweep_units-requires-clause-room
-sweep_units-requires-clause-room c =
+pub sweep_menless-requires-clause-room : goal.sweep_menless-requires-clause-room
+sweep_menless-requires-clause-room c =
     let w = c.args.world.now in
     let before = c.args.campaign.value in
-    let list : c.deref.result.now ≡ menless_units before = search rules in
-    rw list (room_less (moved_times (length (menless_units before)) (loses_by most_amount)) (loses_by most_moved) before (loses_little (length (menless_units before)) (few_menless w before c.requires.needs)) c.requires.room)
+    room_less (moved_times (length (menless_units before)) (loses_by most_amount)) (loses_by most_moved) before (loses_little (length (menless_units before)) (few_menless w before c.requires.needs)) c.requires.room
 
 pub returns : goal.returns
 returns c =
@@ -29,5 +25,5 @@ returns c =
       leaves = rw is (sweep_leaves_well w before c.requires.needs);
       keeps = rw is (sweep_keeps_all w before c.requires.needs);
       readings = refl;
-      marks = marks-trans c.args.campaign c.sweep_units.new.campaign c.sweep_factions.new.campaign c.in_ok-sweep_units.ensures.marks c.sweep_factions.ensures.marks;
+      marks = marks-trans c.args.campaign c.sweep_menless.new.campaign c.sweep_factions.new.campaign c.in_ok-sweep_menless.ensures.marks c.sweep_factions.ensures.marks;
     }
