@@ -12,24 +12,31 @@ abbrev pub is_new : FinMap nat_cmp ℕ → ℕ → Bool
 is_new seen k = not (is_some (get seen k))
 
 -- two filters in turn are one filter, if its test is true exactly where both of their tests are
-both_filters : (p q r : ℕ → Bool) → ((k : ℕ) → (q k && p k) ≡ r k) → (ns : List ℕ) → filter p (filter q ns) ≡ filter r ns
+both_filters : (p q r : ℕ → Bool) → ((k : ℕ) → (q k && p k) ≡ r k) → (ns : List ℕ)
+    → filter p (filter q ns) ≡ filter r ns
 both_filters p q r same [] = refl
 both_filters p q r same (n ∷ ns) = grind (rules, same n, both_filters p q r same ns)
 
 new_after_insert : (seen : FinMap nat_cmp ℕ) (n k : ℕ) → (not (k == n) && is_new seen k) ≡ is_new (insert seen n n) k
 new_after_insert seen n k = grind (rules, get-insert nat_cmp_total seen n n k, unsigned_ties k n)
 
-new_before : (seen : FinMap nat_cmp ℕ) (n : ℕ) → is_some (get seen n) ≡ true → (k : ℕ) → (not (k == n) && is_new seen k) ≡ is_new seen k
+new_before : (seen : FinMap nat_cmp ℕ) (n : ℕ) → is_some (get seen n) ≡ true → (k : ℕ)
+    → (not (k == n) && is_new seen k) ≡ is_new seen k
 new_before seen n there k = grind (arith, nat_tests)
 
 -- If the first number n of a list is new, the new numbers of the list, without repetitions, are n and then those of the
 -- numbers after n. There a number is new if it is new once n was seen.
 pub first_mention_is_kept : (seen : FinMap nat_cmp ℕ) (n : ℕ) (ns : List ℕ) → is_some (get seen n) ≡ false →
     filter (is_new seen) (first_mentions (n ∷ ns)) ≡ n ∷ filter (is_new (insert seen n n)) (first_mentions ns)
-first_mention_is_kept seen n ns new = grind (rules, new, both_filters (is_new seen) (λ k. not (k == n)) (is_new (insert seen n n)) (new_after_insert seen n) (first_mentions ns))
+first_mention_is_kept seen n ns new =
+    grind
+    (rules, new, both_filters (is_new seen) (λ k. not (k == n)) (is_new (insert seen n n)) (new_after_insert seen n) (first_mentions ns))
 
-pub later_mention_is_dropped : (seen : FinMap nat_cmp ℕ) (n : ℕ) (ns : List ℕ) → is_some (get seen n) ≡ true → filter (is_new seen) (first_mentions (n ∷ ns)) ≡ filter (is_new seen) (first_mentions ns)
-later_mention_is_dropped seen n ns there = grind (rules, there, both_filters (is_new seen) (λ k. not (k == n)) (is_new seen) (new_before seen n there) (first_mentions ns))
+pub later_mention_is_dropped : (seen : FinMap nat_cmp ℕ) (n : ℕ) (ns : List ℕ) → is_some (get seen n) ≡ true
+    → filter (is_new seen) (first_mentions (n ∷ ns)) ≡ filter (is_new seen) (first_mentions ns)
+later_mention_is_dropped seen n ns there =
+    grind
+    (rules, there, both_filters (is_new seen) (λ k. not (k == n)) (is_new seen) (new_before seen n there) (first_mentions ns))
 
 pub all_new : (ns : List ℕ) → filter (is_new empty) ns ≡ ns
 all_new [] = refl

@@ -17,14 +17,17 @@ use Rattle.atl_action.specs.Teach.{AreTaughtOnce, NobodyIsTaughtTwice, TaughtMen
 
 module _ (c : CampaignValue) where
   -- a lesson teaches at most those men of a unit who weren't taught yet
-  few_in_lesson : (taught : TaughtMen) (places : ℕ) (ns : List ℕ) (n : ℕ) → taught_in_lesson c taught places ns n ≤ untaught_men c taught n
+  few_in_lesson : (taught : TaughtMen) (places : ℕ) (ns : List ℕ) (n : ℕ)
+      → taught_in_lesson c taught places ns n ≤ untaught_men c taught n
   few_in_lesson taught places [] n = omega arith
   few_in_lesson taught places (k ∷ ns) n = let rest = few_in_lesson taught (places - untaught_men c taught k) ns n in grind (arith, nat_tests, rest)
 
-  once_lesson : (taught : TaughtMen) (places : ℕ) (ns : List ℕ) → AreTaughtOnce c taught → AreTaughtOnce c (lesson c taught places ns).0
+  once_lesson : (taught : TaughtMen) (places : ℕ) (ns : List ℕ) → AreTaughtOnce c taught
+      → AreTaughtOnce c (lesson c taught places ns).0
   once_lesson taught places ns old n = omega (arith, old n, few_in_lesson taught places ns n)
 
-  once_taught : (aliases : Aliases) (learning : Learning) (taught : TaughtMen) (t : Task) → AreTaughtOnce c taught → AreTaughtOnce c (teach c aliases learning taught t).0
+  once_taught : (aliases : Aliases) (learning : Learning) (taught : TaughtMen) (t : Task) → AreTaughtOnce c taught
+      → AreTaughtOnce c (teach c aliases learning taught t).0
   unfolding teach
   once_taught aliases learning taught t old =
       let pupils = filter (is_pupil c learning (region_of c t.unit)) (map (unit_of aliases t.faction) (listed_units t.order_value.operands)) in
@@ -36,10 +39,13 @@ module _ (c : CampaignValue) where
       by_fault ns (Some fault) = old
       by_fault ns None = once_lesson taught (pupils_per_teacher * men_at c t.unit) ns old
 
-  once_all : (learning : Learning) (ts : List Task) (p : TaughtMen × MonthValue) → AreTaughtOnce c p.0 → AreTaughtOnce c (fold (teach_order c learning) p ts).0
+  once_all : (learning : Learning) (ts : List Task) (p : TaughtMen × MonthValue) → AreTaughtOnce c p.0
+      → AreTaughtOnce c (fold (teach_order c learning) p ts).0
   once_all learning [] p old = old
-  once_all learning (t ∷ ts) p old = once_all learning ts (teach_order c learning p t) (once_taught p.1.aliases learning p.0 t old)
+  once_all learning (t ∷ ts) p old =
+      once_all learning ts (teach_order c learning p t) (once_taught p.1.aliases learning p.0 t old)
 
 pub nobody_twice : NobodyIsTaughtTwice
 unfolding after_lessons
-nobody_twice c learning m = once_all c learning (orders_of is_teaching ByUnit m.aliases m.readings) ((λ n. 0), m) (λ n. omega arith)
+nobody_twice c learning m =
+    once_all c learning (orders_of is_teaching ByUnit m.aliases m.readings) ((λ n. 0), m) (λ n. omega arith)

@@ -28,13 +28,15 @@ use Rattle.atl_action.proofs.TravelLaws.{IsSameUnit}
 pub record AreSamePeople (before after : FinMap nat_cmp Unit) : Type 0 where
   pub count : len after ≡ len before
   pub of_factions : (m : ℕ) → numbers_of_faction m after ≡ numbers_of_faction m before
-  pub hold : (t : Thing) → sum_over (λ (x : Unit). unit_amount t x.holding) after ≡ sum_over (λ (x : Unit). unit_amount t x.holding) before
+  pub hold : (t : Thing)
+      → sum_over (λ (x : Unit). unit_amount t x.holding) after ≡ sum_over (λ (x : Unit). unit_amount t x.holding) before
 
 pub people_same : (m : FinMap nat_cmp Unit) → AreSamePeople m m
 people_same m = record { count = refl; of_factions = λ k. refl; hold = λ t. refl }
 
 pub people_twice : (a b c : FinMap nat_cmp Unit) → AreSamePeople a b → AreSamePeople b c → AreSamePeople a c
-people_twice a b c one two = record { count = two.count ∙ one.count; of_factions = λ k. two.of_factions k ∙ one.of_factions k; hold = λ t. two.hold t ∙ one.hold t }
+people_twice a b c one two =
+    record { count = two.count ∙ one.count; of_factions = λ k. two.of_factions k ∙ one.of_factions k; hold = λ t. two.hold t ∙ one.hold t }
 
 held_same : (u v : Unit) → IsSameUnit u v → (t : Thing) → unit_amount t v.holding ≡ unit_amount t u.holding
 held_same u v same Money = same.money
@@ -74,8 +76,11 @@ module _ (structure to : ℕ) where
   elsewhere m n = with_changed_value gone m n
 
   -- putting unit n elsewhere and then clearing its flag changes nothing of the campaign but the units (`elsewhere`)
-  pub elsewhere_is : (c : CampaignValue) (n : ℕ) → with_guard (with_position c n to structure) n false ≡ record c { units = elsewhere c.units n }
-  elsewhere_is c n = changed_twice (λ x. record x { region = to; structure = structure }) (λ x. record x { holding = record x.holding { guard = false } }) c n
+  pub elsewhere_is : (c : CampaignValue) (n : ℕ)
+      → with_guard (with_position c n to structure) n false ≡ record c { units = elsewhere c.units n }
+  elsewhere_is c n =
+      changed_twice (λ x. record x { region = to; structure = structure })
+      (λ x. record x { holding = record x.holding { guard = false } }) c n
 
   pub gone_same : (b : Bool) (x : Unit) → IsSameUnit x (gone_if b x)
   gone_same true x = record { faction = refl; name = refl; men = refl; money = refl; items = refl; days = refl }
@@ -89,15 +94,18 @@ module _ (structure to : ℕ) where
   pub elsewhere_people : (m : FinMap nat_cmp Unit) (n : ℕ) → AreSamePeople m (elsewhere m n)
   elsewhere_people m n = people_changed gone (gone_same true) m n
 
-  pub elsewhere_inside : (m : FinMap nat_cmp Unit) (n q : ℕ) (v : Unit) → get m n ≡ Some v → v.structure ≡ structure → numbers_inside q (elsewhere m n) ≡ numbers_inside q m
+  pub elsewhere_inside : (m : FinMap nat_cmp Unit) (n q : ℕ) (v : Unit) → get m n ≡ Some v → v.structure ≡ structure
+      → numbers_inside q (elsewhere m n) ≡ numbers_inside q m
   elsewhere_inside m n q v is here =
       ap (λ o. numbers_inside q (with_changed_option gone m n o)) is
       ∙ inside_as_before q m (insert m n (gone v)) (numbers_where-insert_known (λ (x : Unit). x.structure == q) m n v (gone v) is (ap (λ s. s == q) here))
 
 -- ---- the totals
 
-pub total_people : (c d : CampaignValue) → AreSamePeople c.units d.units → d.regions ≡ c.regions → (t : Thing) → total d t ≡ total c t
+pub total_people : (c d : CampaignValue) → AreSamePeople c.units d.units → d.regions ≡ c.regions → (t : Thing)
+    → total d t ≡ total c t
 unfolding total
 total_people c d people regions t =
     let keep = λ (r : Region). region_amount t r in
-    ap (λ m. sum_over (λ (x : Unit). unit_amount t x.holding) d.units + sum_over keep m) regions ∙ ap (λ n. n + sum_over keep c.regions) (people.hold t)
+    ap (λ m. sum_over (λ (x : Unit). unit_amount t x.holding) d.units + sum_over keep m) regions
+    ∙ ap (λ n. n + sum_over keep c.regions) (people.hold t)

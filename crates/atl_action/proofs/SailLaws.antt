@@ -86,23 +86,29 @@ all_listed P (n ∷ ns) h = (h n (inl refl), all_listed P ns (λ k l. h k (inr l
 module _ (ship to : ℕ) where
   all_people : (m : FinMap nat_cmp Unit) (ns : List ℕ) → AreSamePeople m (fold (elsewhere ship to) m ns)
   all_people m [] = people_same m
-  all_people m (n ∷ ns) = people_twice m (elsewhere ship to m n) (fold (elsewhere ship to) (elsewhere ship to m n) ns) (elsewhere_people ship to m n) (all_people (elsewhere ship to m n) ns)
+  all_people m (n ∷ ns) =
+      people_twice m (elsewhere ship to m n) (fold (elsewhere ship to) (elsewhere ship to m n) ns)
+      (elsewhere_people ship to m n) (all_people (elsewhere ship to m n) ns)
 
-  mapped_both : (a b : Bool) (o : Option Unit) → option_map (gone_if ship to b) (option_map (gone_if ship to a) o) ≡ option_map (gone_if ship to (a || b)) o
+  mapped_both : (a b : Bool) (o : Option Unit)
+      → option_map (gone_if ship to b) (option_map (gone_if ship to a) o) ≡ option_map (gone_if ship to (a || b)) o
   mapped_both a b o = grind rules
 
   -- A look-up of a unit, after the units of a list went along with the ship, finds it gone along if listed, else
   -- unchanged.
-  all_at : (m : FinMap nat_cmp Unit) (ns : List ℕ) (k : ℕ) → get (fold (elsewhere ship to) m ns) k ≡ option_map (gone_if ship to (list_any (λ n. k == n) ns)) (get m k)
+  all_at : (m : FinMap nat_cmp Unit) (ns : List ℕ) (k : ℕ)
+      → get (fold (elsewhere ship to) m ns) k ≡ option_map (gone_if ship to (list_any (λ n. k == n) ns)) (get m k)
   all_at m [] k = sym (option_map_id (get m k))
   all_at m (n ∷ ns) k =
-      all_at (elsewhere ship to m n) ns k ∙ ap (option_map (gone_if ship to (list_any (λ n. k == n) ns))) (get-changed (gone ship to) m n k)
+      all_at (elsewhere ship to m n) ns k
+      ∙ ap (option_map (gone_if ship to (list_any (λ n. k == n) ns))) (get-changed (gone ship to) m n k)
       ∙ mapped_both (k == n) (list_any (λ n. k == n) ns) (get m k)
 
   abbrev IsInside : FinMap nat_cmp Unit → ℕ → Type 0
   IsInside m n = (v : Unit) × (get m n ≡ Some v) × (v.structure ≡ ship)
 
-  one_is : (d : CampaignValue) (n : ℕ) (v : Unit) → get d.units n ≡ Some v → v.structure ≡ ship → with_unit_moved ship to d n ≡ record d { units = elsewhere ship to d.units n }
+  one_is : (d : CampaignValue) (n : ℕ) (v : Unit) → get d.units n ≡ Some v → v.structure ≡ ship
+      → with_unit_moved ship to d n ≡ record d { units = elsewhere ship to d.units n }
   unfolding with_place
   one_is d n v is here =
       ap (λ o. with_guard (with_place_at d n to ship o) n false) is
@@ -110,23 +116,27 @@ module _ (ship to : ℕ) where
       ∙ elsewhere_is ship to d n
 
   still_inside : (m : FinMap nat_cmp Unit) (n k : ℕ) → IsInside m k → IsInside (elsewhere ship to m n) k
-  still_inside m n k (v, there, here) = (gone_if ship to (k == n) v, get-changed (gone ship to) m n k ∙ ap (option_map (gone_if ship to (k == n))) there, by_test (k == n))
+  still_inside m n k (v, there, here) =
+      (gone_if ship to (k == n) v, get-changed (gone ship to) m n k ∙ ap (option_map (gone_if ship to (k == n))) there, by_test (k == n))
     where
       by_test : (b : Bool) → (gone_if ship to b v).structure ≡ ship
       by_test true = refl
       by_test false = here
 
-  still_all : (m : FinMap nat_cmp Unit) (n : ℕ) (ns : List ℕ) → AllByRecursion (IsInside m) ns → AllByRecursion (IsInside (elsewhere ship to m n)) ns
+  still_all : (m : FinMap nat_cmp Unit) (n : ℕ) (ns : List ℕ) → AllByRecursion (IsInside m) ns
+      → AllByRecursion (IsInside (elsewhere ship to m n)) ns
   still_all m n [] all = tt
   still_all m n (k ∷ ns) all = (still_inside m n k all.0, still_all m n ns all.1)
 
-  all_is : (d : CampaignValue) (ns : List ℕ) → AllByRecursion (IsInside d.units) ns → fold (with_unit_moved ship to) d ns ≡ record d { units = fold (elsewhere ship to) d.units ns }
+  all_is : (d : CampaignValue) (ns : List ℕ) → AllByRecursion (IsInside d.units) ns
+      → fold (with_unit_moved ship to) d ns ≡ record d { units = fold (elsewhere ship to) d.units ns }
   all_is d [] all = refl
   all_is d (n ∷ ns) all =
       let (v, there, here) = all.0 in
       ap (λ e. fold (with_unit_moved ship to) e ns) (one_is d n v there here) ∙ all_is (record d { units = elsewhere ship to d.units n }) ns (still_all d.units n ns all.1)
 
-  all_inside : (q : ℕ) (m : FinMap nat_cmp Unit) (ns : List ℕ) → AllByRecursion (IsInside m) ns → numbers_inside q (fold (elsewhere ship to) m ns) ≡ numbers_inside q m
+  all_inside : (q : ℕ) (m : FinMap nat_cmp Unit) (ns : List ℕ) → AllByRecursion (IsInside m) ns
+      → numbers_inside q (fold (elsewhere ship to) m ns) ≡ numbers_inside q m
   all_inside q m [] all = refl
   all_inside q m (n ∷ ns) all =
       let (v, there, here) = all.0 in
@@ -135,7 +145,8 @@ module _ (ship to : ℕ) where
 -- ---- a ship that goes
 
 carried_same : (v : Unit) → IsAtMostMoved v v
-carried_same v = record { faction = refl; structure = refl; region = λ none. refl; name = refl; guard = λ none. refl; no_flag = λ off. off; men = omega arith; money = omega arith; items = λ i. omega arith; days = λ s. omega arith }
+carried_same v =
+    record { faction = refl; structure = refl; region = λ none. refl; name = refl; guard = λ none. refl; no_flag = λ off. off; men = omega arith; money = omega arith; items = λ i. omega arith; days = λ s. omega arith }
 
 module _ (w : WorldValue) (c : CampaignValue) (ship to : ℕ) (steady : IsSteady w c) (x : Structure) (is : get c.structures ship ≡ Some x) where
   abbrev aboard_numbers : List ℕ
@@ -163,7 +174,9 @@ module _ (w : WorldValue) (c : CampaignValue) (ship to : ℕ) (steady : IsSteady
 
   sailed_is : after_sailing c ship to ≡ after
   unfolding after_sailing
-  sailed_is = ap (λ d. with_structure_region d ship to) (all_is ship to c aboard_numbers (all_listed (IsInside ship to c.units) aboard_numbers (listed_is_inside ship c.units)))
+  sailed_is =
+      ap (λ d. with_structure_region d ship to)
+      (all_is ship to c aboard_numbers (all_listed (IsInside ship to c.units) aboard_numbers (listed_is_inside ship c.units)))
 
   some_ship : ship ≢ 0
   some_ship = is_no_zero c.structures c.next_structure steady.next.structures ship x is
@@ -178,7 +191,8 @@ module _ (w : WorldValue) (c : CampaignValue) (ship to : ℕ) (steady : IsSteady
         unlisted ∙ sym (other_number v.structure ship apart)
   ]
 
-  units_by : (k : ℕ) (o : Option Unit) → get c.units k ≡ o → option_map (gone_if ship to (list_any (λ n. k == n) aboard_numbers)) o ≡ option_map (f k) o
+  units_by : (k : ℕ) (o : Option Unit) → get c.units k ≡ o
+      → option_map (gone_if ship to (list_any (λ n. k == n) aboard_numbers)) o ≡ option_map (f k) o
   units_by k None there = refl
   units_by k (Some v) there = ap (λ b. Some (gone_if ship to b v)) (member k v there)
 
@@ -186,7 +200,9 @@ module _ (w : WorldValue) (c : CampaignValue) (ship to : ℕ) (steady : IsSteady
   units_at k = all_at ship to c.units aboard_numbers k ∙ units_by k (get c.units k) refl
 
   carried : (k : ℕ) (v : Unit) → IsAtMostMoved v (f k v)
-  carried k v = cond_both (v.structure == ship) (gone ship to v) v (IsAtMostMoved v) (λ t. along (is_equal v.structure ship t)) (λ _. carried_same v)
+  carried k v =
+      cond_both (v.structure == ship) (gone ship to v) v (IsAtMostMoved v) (λ t. along (is_equal v.structure ship t))
+      (λ _. carried_same v)
     where
       along : v.structure ≡ ship → IsAtMostMoved v (gone ship to v)
       along here = record {
@@ -203,13 +219,17 @@ module _ (w : WorldValue) (c : CampaignValue) (ship to : ℕ) (steady : IsSteady
       }
 
   at_ship : get structures ship ≡ Some (shifted x)
-  at_ship = get-changed shifted c.structures ship ship ∙ ap (option_map (g ship)) is ∙ ap (λ b. Some (if b then shifted x else x)) (eq-eqb ship ship refl)
+  at_ship =
+      get-changed shifted c.structures ship ship ∙ ap (option_map (g ship)) is
+      ∙ ap (λ b. Some (if b then shifted x else x)) (eq-eqb ship ship refl)
 
   at_other : (q : ℕ) → q ≢ ship → get structures q ≡ get c.structures q
   at_other q apart = changed_else shifted c.structures ship q apart (get c.structures ship)
 
   ship_owned : (q : ℕ) (y : Structure) → get c.structures q ≡ Some y → IsOwned after q (g q y)
-  ship_owned q y there = cond_both (q == ship) (shifted y) y (IsOwned after q) (λ _. record { owned = owned; ownerless = ownerless }) (λ _. record { owned = owned; ownerless = ownerless })
+  ship_owned q y there =
+      cond_both (q == ship) (shifted y) y (IsOwned after q) (λ _. record { owned = owned; ownerless = ownerless })
+      (λ _. record { owned = owned; ownerless = ownerless })
     where
       owned : y.owner ≢ 0 → (v : Unit) × (get units y.owner ≡ Some v) × (v.structure ≡ q)
       owned some =
@@ -229,12 +249,14 @@ module _ (w : WorldValue) (c : CampaignValue) (ship to : ℕ) (steady : IsSteady
         let p = steady.known.units k v there in
         record { region = p.region; structure = λ some. let (s, was, near) = p.structure some in (s, at_other v.structure (is_unequal v.structure ship t) ∙ was, near) })
 
-    aboard : (k : ℕ) (v : Unit) → get c.units k ≡ Some v → is_land_at w (f k v).region ≡ false → IsAboard w after (f k v)
+    aboard : (k : ℕ) (v : Unit) → get c.units k ≡ Some v → is_land_at w (f k v).region ≡ false
+        → IsAboard w after (f k v)
     aboard k v there =
         cond_both (v.structure == ship) (gone ship to v) v (λ u. is_land_at w u.region ≡ false → IsAboard w after u) (λ _ wet. (shifted x, at_ship, floats))
         (λ t wet. let (s, was, afloat) = steady.water.units k v there wet in (s, at_other v.structure (is_unequal v.structure ship t) ∙ was, afloat))
 
-    afloat : (q : ℕ) (y : Structure) → get c.structures q ≡ Some y → is_land_at w (g q y).region ≡ false → (is_ship w y ≡ true) × (y.done ≡ size_of w y.kind)
+    afloat : (q : ℕ) (y : Structure) → get c.structures q ≡ Some y → is_land_at w (g q y).region ≡ false
+        → (is_ship w y ≡ true) × (y.done ≡ size_of w y.kind)
     afloat q y there =
         cond_both (q == ship) (shifted y) y (λ (z : Structure). is_land_at w z.region ≡ false → (is_ship w y ≡ true) × (y.done ≡ size_of w y.kind))
         (λ t wet. subst (λ z. (is_ship w z ≡ true) × (z.done ≡ size_of w z.kind)) (same_Some x y (sym is ∙ ap (get c.structures) (sym (is_equal q ship t)) ∙ there)) (floats, whole))
@@ -267,7 +289,8 @@ module _ (w : WorldValue) (c : CampaignValue) (ship to : ℕ) (steady : IsSteady
 
   -- ---- what stays of each unit
 
-  pub sailed_at_most_moved : (k : ℕ) (v : Unit) → get c.units k ≡ Some v → IsStillThere IsAtMostMoved (after_sailing c ship to) k v
+  pub sailed_at_most_moved : (k : ℕ) (v : Unit) → get c.units k ≡ Some v
+      → IsStillThere IsAtMostMoved (after_sailing c ship to) k v
   sailed_at_most_moved k v there =
       subst (λ d. IsStillThere IsAtMostMoved d k v) (sym sailed_is)
       (record { unit = f k v; there = units_at k ∙ ap (option_map (f k)) there; is_unaffected = carried k v })
@@ -290,7 +313,10 @@ module _ (w : WorldValue) (c : CampaignValue) (ship to : ℕ) (steady : IsSteady
   sailed_structure q apart = ap (λ d. get d.structures q) sailed_is ∙ at_other q apart
 
   sailed_list : (q : ℕ) → numbers_inside q (after_sailing c ship to).units ≡ numbers_inside q c.units
-  sailed_list q = ap (λ d. numbers_inside q d.units) sailed_is ∙ all_inside ship to q c.units aboard_numbers (all_listed (IsInside ship to c.units) aboard_numbers (listed_is_inside ship c.units))
+  sailed_list q =
+      ap (λ d. numbers_inside q d.units) sailed_is
+      ∙ all_inside ship to q c.units aboard_numbers
+      (all_listed (IsInside ship to c.units) aboard_numbers (listed_is_inside ship c.units))
 
 -- ---- an order
 
@@ -311,15 +337,19 @@ carried_twice u v x one two = record {
 at_most_moved_is_relation : IsUnaffectedRelation IsAtMostMoved
 at_most_moved_is_relation = record { same = carried_same; transitive = carried_twice; faction = λ u v h. h.faction }
 
-way_there : (w : WorldValue) (from : ℕ) (to : Option ℕ) → not (is_way w from to) ≡ false → HasValue w.regions (unwrap_or to 0)
+way_there : (w : WorldValue) (from : ℕ) (to : Option ℕ) → not (is_way w from to) ≡ false
+    → HasValue w.regions (unwrap_or to 0)
 way_there w from None t = false_true (sym t)
-way_there w from (Some r) t = by_plan (get w.regions r) refl (and_parts (is_some (get w.regions r)) (not (is_land_at w from && is_land_at w r)) (not-false (is_way w from (Some r)) t)).0
+way_there w from (Some r) t =
+    by_plan (get w.regions r) refl
+    (and_parts (is_some (get w.regions r)) (not (is_land_at w from && is_land_at w r)) (not-false (is_way w from (Some r)) t)).0
   where
     by_plan : (o : Option RegionPlan) → get w.regions r ≡ o → is_some o ≡ true → HasValue w.regions r
     by_plan None there t = false_true t
     by_plan (Some p) there t = (p, there)
 
-abbrev sail_faults : WorldValue → (n : ℕ) → Unit → (to : Option ℕ) → Option Structure → (crew load : ℕ) → List (Bool × EventFault)
+abbrev sail_faults : WorldValue → (n : ℕ) → Unit → (to : Option ℕ) → Option Structure → (crew load : ℕ)
+    → List (Bool × EventFault)
 sail_faults w n u to ship crew load =
     (u.holding.men == 0, NoMen)
     ∷ (u.structure == 0, NotInside)
@@ -332,31 +362,38 @@ sail_faults w n u to ship crew load =
 
 -- A condition P holds of the result of an order of SAIL, if it holds of each outcome without a change, and after each
 -- sailing. A ship that sails is complete, and sails to a region of the world.
-sail_cases : (P : CampaignValue × Outcome → Type 0) (w : WorldValue) (c : CampaignValue) (n : ℕ) (u : Unit) (direction : Direction) → ((outcome : Outcome) → P (c, outcome))
-    → ((to : ℕ) (x : Structure) → get c.structures u.structure ≡ Some x → is_ship w x ≡ true → x.done ≡ size_of w x.kind → HasValue w.regions to → P (after_sailing c u.structure to, Done 0)) → P (sail w n direction c u)
+sail_cases : (P : CampaignValue × Outcome → Type 0) (w : WorldValue) (c : CampaignValue) (n : ℕ) (u : Unit) (direction : Direction)
+    → ((outcome : Outcome) → P (c, outcome))
+    → ((to : ℕ) (x : Structure) → get c.structures u.structure ≡ Some x → is_ship w x ≡ true → x.done ≡ size_of w x.kind → HasValue w.regions to → P (after_sailing c u.structure to, Done 0))
+    → P (sail w n direction c u)
 unfolding sail
 sail_cases P w c n u direction same gone_off =
     by_fault (neighbour w u.region direction) (sail_fault w c n u (get c.structures u.structure) (neighbour w u.region direction)) refl
   where
-    by_ship : (to : Option ℕ) (o : Option Structure) → get c.structures u.structure ≡ o → not (is_complete_ship w o) ≡ false → not (is_way w u.region to) ≡ false → P (after_sailing c u.structure (unwrap_or to 0), Done 0)
+    by_ship : (to : Option ℕ) (o : Option Structure) → get c.structures u.structure ≡ o
+        → not (is_complete_ship w o) ≡ false → not (is_way w u.region to) ≡ false
+        → P (after_sailing c u.structure (unwrap_or to 0), Done 0)
     by_ship to None at whole way = false_true (sym whole)
     by_ship to (Some x) at whole way =
         let parts = and_parts (is_ship w x) (x.done == size_of w x.kind) (not-false (is_complete_ship w (Some x)) whole) in
         gone_off (unwrap_or to 0) x at parts.0 (is_equal x.done (size_of w x.kind) parts.1) (way_there w u.region to way)
 
-    by_fault : (to : Option ℕ) (o : Option EventFault) → sail_fault w c n u (get c.structures u.structure) to ≡ o → P (unless c o (after_sailing c u.structure (unwrap_or to 0), Done 0))
+    by_fault : (to : Option ℕ) (o : Option EventFault) → sail_fault w c n u (get c.structures u.structure) to ≡ o
+        → P (unless c o (after_sailing c u.structure (unwrap_or to 0), Done 0))
     by_fault to (Some fault) e = same (Fault (event_fault_number fault))
     by_fault to None e =
         let ship = get c.structures u.structure in
         let fine = none_fit (sail_faults w n u to ship (sum_inside (crew_of w) c u.structure) (sum_inside (load_of w) c u.structure)) e in
         by_ship to ship refl fine.1.1.1.0 fine.1.1.1.1.0
 
-sail_well : (w : WorldValue) (c : CampaignValue) (n : ℕ) (u : Unit) (direction : Direction) → IsSteady w c → StepsWell IsSteady nothing_remaining w c (sail w n direction c u).0
+sail_well : (w : WorldValue) (c : CampaignValue) (n : ℕ) (u : Unit) (direction : Direction) → IsSteady w c
+    → StepsWell IsSteady nothing_remaining w c (sail w n direction c u).0
 sail_well w c n u direction steady =
     sail_cases (λ p. StepsWell IsSteady nothing_remaining w c p.0) w c n u direction (λ outcome. well_same w c steady)
     (λ to x at floats whole there. sailed_well w c u.structure to steady x at floats whole ((steady.known.regions to).1 there))
 
-sail_moves_at_most : (w : WorldValue) (c : CampaignValue) (n : ℕ) (u : Unit) (direction : Direction) → IsSteady w c → (k : ℕ) (v : Unit) → get c.units k ≡ Some v → IsStillThere IsAtMostMoved (sail w n direction c u).0 k v
+sail_moves_at_most : (w : WorldValue) (c : CampaignValue) (n : ℕ) (u : Unit) (direction : Direction) → IsSteady w c
+    → (k : ℕ) (v : Unit) → get c.units k ≡ Some v → IsStillThere IsAtMostMoved (sail w n direction c u).0 k v
 sail_moves_at_most w c n u direction steady k v there =
     sail_cases (λ p. IsStillThere IsAtMostMoved p.0 k v) w c n u direction (λ outcome. record { unit = v; there = there; is_unaffected = carried_same v })
     (λ to x at floats whole near. sailed_at_most_moved w c u.structure to steady x at k v there)
@@ -372,16 +409,19 @@ sail_orderly = record {
 
 -- Every unit at most went along, if each unit that no order of SAIL affects did: by `affects_nobody` these are all
 -- units.
-pub all_carried : (w : WorldValue) (m : MonthValue) (c d : CampaignValue) → others_unaffected affects_nobody IsAtMostMoved is_sailing w m c d → AreAtMostMoved c d
+pub all_carried : (w : WorldValue) (m : MonthValue) (c d : CampaignValue)
+    → others_unaffected affects_nobody IsAtMostMoved is_sailing w m c d → AreAtMostMoved c d
 all_carried w m c d keeps n u there = keeps n u there (λ k d l nobody. nobody)
 
 -- ---- units that stay: those whose structure doesn't sail
 
 sum_same : (g h : ℕ → ℕ) (ns : List ℕ) → ((k : ℕ) → IsListed k ns → g k ≡ h k) → sum_by g ns ≡ sum_by h ns
 sum_same g h [] same = refl
-sum_same g h (n ∷ ns) same = grind (arith, sum_by-cons g n ns, sum_by-cons h n ns, same n (inl refl), sum_same g h ns (λ k l. same k (inr l)))
+sum_same g h (n ∷ ns) same =
+    grind (arith, sum_by-cons g n ns, sum_by-cons h n ns, same n (inl refl), sum_same g h ns (λ k l. same k (inr l)))
 
-same_outcome_unless : (c d x y : CampaignValue) (o : Option EventFault) → (unless c o (x, Done 0)).1 ≡ (unless d o (y, Done 0)).1
+same_outcome_unless : (c d x y : CampaignValue) (o : Option EventFault)
+    → (unless c o (x, Done 0)).1 ≡ (unless d o (y, Done 0)).1
 same_outcome_unless c d x y o = grind rules
 
 module _ (w : WorldValue) (begun : CampaignValue) (number faction : ℕ) where
@@ -409,28 +449,39 @@ module _ (w : WorldValue) (begun : CampaignValue) (number faction : ℕ) where
 
     -- if `c` is as begun (`IsAsBegun`), an order of SAIL for a unit in unit `number`'s structure has the fault, or
     -- none, that it would have had at the start
-    fault_same : (n : ℕ) (u : Unit) (to : Option ℕ) → u.structure ≡ s → sail_fault w c n u (get c.structures u.structure) to ≡ sail_fault w begun n u (get begun.structures u.structure) to
+    fault_same : (n : ℕ) (u : Unit) (to : Option ℕ) → u.structure ≡ s
+        → sail_fault w c n u (get c.structures u.structure) to
+        ≡ sail_fault w begun n u (get begun.structures u.structure) to
     fault_same n u to here = rw (here, same.structure, sum_inside_same (crew_of w), sum_inside_same (load_of w)) refl
 
-    same_outcome : (n : ℕ) (u : Unit) (direction : Direction) → u.structure ≡ s → (sail w n direction c u).1 ≡ (sail w n direction begun u).1
+    same_outcome : (n : ℕ) (u : Unit) (direction : Direction) → u.structure ≡ s
+        → (sail w n direction c u).1 ≡ (sail w n direction begun u).1
     unfolding sail
     same_outcome n u direction here =
         let to = neighbour w u.region direction in
         ap (λ o. (unless c o (after_sailing c u.structure (unwrap_or to 0), Done 0)).1) (fault_same n u to here)
         ∙ same_outcome_unless c begun (after_sailing c u.structure (unwrap_or to 0)) (after_sailing begun u.structure (unwrap_or to 0)) (sail_fault w begun n u (get begun.structures u.structure) to)
 
-    same_faction_outcome : (f n : ℕ) (direction : Direction) → structure_of_unit begun n ≡ s → (faction_effect (sail w n direction) c f n).1 ≡ (faction_effect (sail w n direction) begun f n).1
-    same_faction_outcome f n direction here = ap (λ o. (effect_on (sail w n direction) c (of_faction f o)).1) (same.units n here) ∙ by_unit (get begun.units n) here
+    same_faction_outcome : (f n : ℕ) (direction : Direction) → structure_of_unit begun n ≡ s
+        → (faction_effect (sail w n direction) c f n).1 ≡ (faction_effect (sail w n direction) begun f n).1
+    same_faction_outcome f n direction here =
+        ap (λ o. (effect_on (sail w n direction) c (of_faction f o)).1) (same.units n here)
+        ∙ by_unit (get begun.units n) here
       where
-        by_faction : (u : Unit) → u.structure ≡ s → (b : Bool) → (effect_on (sail w n direction) c (if b then Some u else None)).1 ≡ (effect_on (sail w n direction) begun (if b then Some u else None)).1
+        by_faction : (u : Unit) → u.structure ≡ s → (b : Bool)
+            → (effect_on (sail w n direction) c (if b then Some u else None)).1
+            ≡ (effect_on (sail w n direction) begun (if b then Some u else None)).1
         by_faction u here true = same_outcome n u direction here
         by_faction u here false = refl
 
-        by_unit : (o : Option Unit) → structure_in o ≡ s → (effect_on (sail w n direction) c (of_faction f o)).1 ≡ (effect_on (sail w n direction) begun (of_faction f o)).1
+        by_unit : (o : Option Unit) → structure_in o ≡ s
+            → (effect_on (sail w n direction) c (of_faction f o)).1
+            ≡ (effect_on (sail w n direction) begun (of_faction f o)).1
         by_unit None here = refl
         by_unit (Some u) here = by_faction u here (u.faction == f)
 
-    sailed_else : (ship to : ℕ) (x : Structure) → get c.structures ship ≡ Some x → is_ship w x ≡ true → x.done ≡ size_of w x.kind → HasValue w.regions to → s ≢ ship → IsAsBegun (after_sailing c ship to)
+    sailed_else : (ship to : ℕ) (x : Structure) → get c.structures ship ≡ Some x → is_ship w x ≡ true
+        → x.done ≡ size_of w x.kind → HasValue w.regions to → s ≢ ship → IsAsBegun (after_sailing c ship to)
     sailed_else ship to x at floats whole there apart = record {
       steady = (sailed_well w c ship to same.steady x at floats whole ((same.steady.known.regions to).1 there)).holds_still;
       places = λ k. sailed_inside w c ship to same.steady x at k ∙ same.places k;
@@ -441,7 +492,9 @@ module _ (w : WorldValue) (begun : CampaignValue) (number faction : ℕ) where
 
     -- If `c` is as begun (`IsAsBegun`), so is the campaign after an order of SAIL with operands `o` for unit n of
     -- faction f. This supposes that by the order the structure of unit `number` wouldn't have sailed at the start.
-    order_stays : (f n : ℕ) (o : OperandsValue) → (structure_of_unit begun n ≡ s → (order_result (by_direction (sail w n) o) begun f n).1 ≡ Some (Done 0) → ⊥) → IsAsBegun (order_result (by_direction (sail w n) o) c f n).0
+    order_stays : (f n : ℕ) (o : OperandsValue)
+        → (structure_of_unit begun n ≡ s → (order_result (by_direction (sail w n) o) begun f n).1 ≡ Some (Done 0) → ⊥)
+        → IsAsBegun (order_result (by_direction (sail w n) o) c f n).0
     order_stays f n (operands.Direction direction) apart =
         carried_cases (λ p. (structure_of_unit begun n ≡ s → p.1 ≡ Done 0 → ⊥) → IsAsBegun p.0) (sail w n direction) c f n (λ apart. same)
         (λ u is own. sail_cases (λ p. (structure_of_unit begun n ≡ s → p.1 ≡ Done 0 → ⊥) → IsAsBegun p.0) w c n u direction (λ outcome apart. same)
@@ -449,17 +502,23 @@ module _ (w : WorldValue) (begun : CampaignValue) (number faction : ℕ) where
         (λ in_it done. apart in_it (ap (λ outcome. Some outcome) (sym (same_faction_outcome f n direction in_it) ∙ done)))
     order_stays f n other apart = same
 
-    task_stays : (m : MonthValue) (t : Task) → (SailsWith w begun t number faction → ⊥) → IsAsBegun (one_order sail_step w (c, m) t).0
-    task_stays m t apart = order_stays t.faction t.unit t.order_value.operands (λ in_it done. apart (record { together = in_it; done = done }))
+    task_stays : (m : MonthValue) (t : Task) → (SailsWith w begun t number faction → ⊥)
+        → IsAsBegun (one_order sail_step w (c, m) t).0
+    task_stays m t apart =
+        order_stays t.faction t.unit t.order_value.operands
+        (λ in_it done. apart (record { together = in_it; done = done }))
 
-  tasks_stay : (c : CampaignValue) (m : MonthValue) (ts : List Task) → IsAsBegun c → AllByRecursion (λ t. SailsWith w begun t number faction → ⊥) ts → IsAsBegun (fold (one_order sail_step w) (c, m) ts).0
+  tasks_stay : (c : CampaignValue) (m : MonthValue) (ts : List Task) → IsAsBegun c
+      → AllByRecursion (λ t. SailsWith w begun t number faction → ⊥) ts
+      → IsAsBegun (fold (one_order sail_step w) (c, m) ts).0
   tasks_stay c m [] same others = same
   tasks_stay c m (t ∷ ts) same others =
       let next = one_order sail_step w (c, m) t in
       tasks_stay next.0 next.1 ts (task_stays c same m t others.0) others.1
 
 -- a unit whose ship doesn't sail is unchanged after the phase, if the campaign is steady
-pub others_do_not_sail : (w : WorldValue) (c : CampaignValue) (m : MonthValue) → IsSteady w c → others_unaffected (SailsWith w c) IsUnchanged is_sailing w m c (sail_spec.meaning w c m).0
+pub others_do_not_sail : (w : WorldValue) (c : CampaignValue) (m : MonthValue) → IsSteady w c
+    → others_unaffected (SailsWith w c) IsUnchanged is_sailing w m c (sail_spec.meaning w c m).0
 unfolding meaning_by_orders
 others_do_not_sail w c m steady n u there others =
     let ts = orders_of is_sailing ByUnit m.aliases m.readings in

@@ -44,10 +44,13 @@ module _ (w : WorldValue) (taught n s : ℕ) (c d : CampaignValue) (u : Unit) (i
   cost = fee_of w s * u.holding.men
 
   abbrev days_in : CampaignValue → ℕ
-  days_in b = days_after u.holding.men (amount_of u.holding.days s) taught (is_helpful w s (get b.structures u.structure))
+  days_in b =
+      days_after u.holding.men (amount_of u.holding.days s) taught (is_helpful w s (get b.structures u.structure))
 
   same_days : days_in d ≡ days_in c
-  same_days = ap (λ (o : Option Structure). days_after u.holding.men (amount_of u.holding.days s) taught (is_helpful w s o)) (ap (λ m. get m u.structure) structures)
+  same_days =
+      ap (λ (o : Option Structure). days_after u.holding.men (amount_of u.holding.days s) taught (is_helpful w s o))
+      (ap (λ m. get m u.structure) structures)
 
   abbrev after_paying_with_days : ℕ → Unit
   after_paying_with_days days = record u { holding = with_study u.holding s cost days }
@@ -55,12 +58,18 @@ module _ (w : WorldValue) (taught n s : ℕ) (c d : CampaignValue) (u : Unit) (i
   -- an order of STUDY changes a unit alike in two campaigns in which the unit and the structures are the same
   study_alike : get (study w taught n s d u).0.units n ≡ get (study w taught n s c u).0.units n
   unfolding study
-  study_alike = by_fault (study_fault u.holding cost) (Done (days_in d - amount_of u.holding.days s)) (Done (days_in c - amount_of u.holding.days s))
+  study_alike =
+      by_fault (study_fault u.holding cost) (Done (days_in d - amount_of u.holding.days s))
+      (Done (days_in c - amount_of u.holding.days s))
     where
-      by_fault : (o : Option EventFault) (x y : Outcome) → get (unless d o (after_study d n u s cost (days_in d), x)).0.units n ≡ get (unless c o (after_study c n u s cost (days_in c), y)).0.units n
+      by_fault : (o : Option EventFault) (x y : Outcome)
+          → get (unless d o (after_study d n u s cost (days_in d), x)).0.units n
+          ≡ get (unless c o (after_study c n u s cost (days_in c), y)).0.units n
       by_fault (Some fault) x y = in_d ∙ sym in_c
       by_fault None x y =
-          get-insert_same d.units n (after_paying_with_days (days_in d)) ∙ ap (λ k. Some (after_paying_with_days k)) same_days ∙ sym (get-insert_same c.units n (after_paying_with_days (days_in c)))
+          get-insert_same d.units n (after_paying_with_days (days_in d))
+          ∙ ap (λ k. Some (after_paying_with_days k)) same_days
+          ∙ sym (get-insert_same c.units n (after_paying_with_days (days_in c)))
 
 -- ---- all orders
 
@@ -91,16 +100,19 @@ module _ (w : WorldValue) (taught : TaughtMen) (n : ℕ) (u : Unit) where
       (λ x own. of_each_skill (λ effect. (effect d x).0.structures ≡ d.structures) w taught t.unit t.order_value.operands
       (λ s says. study_cases (λ b. b.structures ≡ d.structures) w (taught t.unit) d t.unit s x refl (λ days payable most. refl)))
 
-  one_stays : (d : CampaignValue) (l : MonthValue) (t : Task) (v : Unit) → get d.units n ≡ Some v → v.faction ≡ u.faction → IsOther t → get (step (d, l) t).0.units n ≡ Some v
+  one_stays : (d : CampaignValue) (l : MonthValue) (t : Task) (v : Unit) → get d.units n ≡ Some v
+      → v.faction ≡ u.faction → IsOther t → get (step (d, l) t).0.units n ≡ Some v
   one_stays d l t v there own other =
       ordered_cases (λ b. get b.units n ≡ Some v) (study_step taught w l.aliases t) d t there
       (λ x its. of_each_skill (λ effect. get (effect d x).0.units n ≡ Some v) w taught t.unit t.order_value.operands (λ s says.
       let apart : n ≢ t.unit = (λ same. other (sym same) (sym its.faction ∙ ap (λ (y : Unit). y.faction) (same_Some x v (sym its.there ∙ ap (get d.units) (sym same) ∙ there)) ∙ own)) in
       study_stays w (taught t.unit) d t.unit s x n apart ∙ there))
 
-  all_stay : (ts : List Task) (p : CampaignValue × MonthValue) (v : Unit) → get p.0.units n ≡ Some v → v.faction ≡ u.faction → AllByRecursion IsOther ts → get (fold step p ts).0.units n ≡ Some v
+  all_stay : (ts : List Task) (p : CampaignValue × MonthValue) (v : Unit) → get p.0.units n ≡ Some v
+      → v.faction ≡ u.faction → AllByRecursion IsOther ts → get (fold step p ts).0.units n ≡ Some v
   all_stay [] p v there own others = there
-  all_stay (t ∷ ts) p v there own others = all_stay ts (step p t) v (one_stays p.0 p.1 t v there own others.0) own others.1
+  all_stay (t ∷ ts) p v there own others =
+      all_stay ts (step p t) v (one_stays p.0 p.1 t v there own others.0) own others.1
 
   module _ (skill : ℕ) (order : Task) (for_unit : order.unit ≡ n) (own : order.faction ≡ u.faction) (says : order.order_value ≡ order_of verbs.Study (operands.Skill skill)) where
     studies : Studies order
@@ -109,7 +121,8 @@ module _ (w : WorldValue) (taught : TaughtMen) (n : ℕ) (u : Unit) where
     apart : (t : Task) → share_slot t order ≡ false → Studies t → IsOther t
     apart t never other unit faction = both_own t order never other studies (unit ∙ sym for_unit) (faction ∙ sym own)
 
-    all_apart : (ts : List Task) → AllByRecursion (λ t. share_slot order t ≡ false) ts → AllByRecursion Studies ts → AllByRecursion IsOther ts
+    all_apart : (ts : List Task) → AllByRecursion (λ t. share_slot order t ≡ false) ts → AllByRecursion Studies ts
+        → AllByRecursion IsOther ts
     all_apart [] all others = tt
     all_apart (t ∷ ts) all others = (one_apart, all_apart ts all.1 others.1)
       where
@@ -136,15 +149,18 @@ module _ (w : WorldValue) (taught : TaughtMen) (n : ℕ) (u : Unit) where
 
       -- After some orders of STUDY unit n is as its own order alone makes it. This supposes that its own order is one
       -- of them, and that no two of them share a slot.
-      alone : (ts : List Task) (p : CampaignValue × MonthValue) → get p.0.units n ≡ Some u → p.0.structures ≡ c.structures → IsDistinct share_slot ts → AllByRecursion Studies ts
-          → (k : ℕ) → k < length ts → slice_index_or ts k order ≡ order → get (fold step p ts).0.units n ≡ get (effect c u).0.units n
+      alone : (ts : List Task) (p : CampaignValue × MonthValue) → get p.0.units n ≡ Some u
+          → p.0.structures ≡ c.structures → IsDistinct share_slot ts → AllByRecursion Studies ts
+          → (k : ℕ) → k < length ts → slice_index_or ts k order ≡ order
+          → get (fold step p ts).0.units n ≡ get (effect c u).0.units n
       unfolding IsDistinct
       alone [] p there structures distinct all k low at = absurd (omega (arith, low))
       alone (t ∷ ts) p there structures distinct all zero low at =
           let (v, is, faction) = after_it in
           let now : get (step p t).0.units n ≡ get (effect c u).0.units n =
           ap (λ o. get (step p o).0.units n) at ∙ ap (λ (d : CampaignValue). get d.units n) (own_study p.0 p.1 there) ∙ study_alike w (taught n) n skill c p.0 u begun there structures in
-          all_stay ts (step p t) v (now ∙ is) faction (all_apart ts (subst (λ o. AllByRecursion (λ y. share_slot o y ≡ false) ts) at distinct.0) all.1) ∙ sym is
+          all_stay ts (step p t) v (now ∙ is) faction (all_apart ts (subst (λ o. AllByRecursion (λ y. share_slot o y ≡ false) ts) at distinct.0) all.1)
+          ∙ sym is
       alone (t ∷ ts) p there structures distinct all (suc k) low at =
           let never : share_slot t order ≡ false = All-contains (λ y. share_slot t y ≡ false) ts order (All-from_recursion (λ y. share_slot t y ≡ false) ts distinct.0) (k, omega (arith, low), at) in
           alone ts (step p t) (one_stays p.0 p.1 t u there refl (apart t never all.0)) (structures_stay p.0 p.1 t ∙ structures) distinct.1 all.1 k (omega (arith, low)) at

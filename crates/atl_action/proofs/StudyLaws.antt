@@ -75,11 +75,14 @@ module _ (w : WorldValue) (c : CampaignValue) (n : ℕ) (u : Unit) (s cost days 
       }
 
   steady_after : s < length w.skills → days ≤ most_days * u.holding.men → IsSteady w after
-  steady_after known most = steady-amount w paid Study Money (neg_ℤ (pos cost)) (omega arith) (steady-new_holding w c n u learned is (may_hold known most) steady)
+  steady_after known most =
+      steady-amount w paid Study Money (neg_ℤ (pos cost)) (omega arith)
+      (steady-new_holding w c n u learned is (may_hold known most) steady)
 
   -- the total of each thing changes from b to a by what is booked, as the unit pays: money falls by the cost, and every
   -- other thing stays
-  owed : (t : Thing) (a b : ℕ) → a + unit_amount t u.holding ≡ b + unit_amount t learned → pos a ≡ pos b +ℤ cond (thing_index t == 0) (neg_ℤ (pos cost)) (pos 0)
+  owed : (t : Thing) (a b : ℕ) → a + unit_amount t u.holding ≡ b + unit_amount t learned
+      → pos a ≡ pos b +ℤ cond (thing_index t == 0) (neg_ℤ (pos cost)) (pos 0)
   owed Money a b e = omega (arith, ints, e, payable)
   owed People a b e = omega (arith, ints, e)
   owed (Item i) a b e = let other : (2 + i == 0) ≡ false = grind (arith, nat_tests) in grind (arith, ints)
@@ -88,7 +91,8 @@ module _ (w : WorldValue) (c : CampaignValue) (n : ℕ) (u : Unit) (s cost days 
   balanced old t =
       let sum : total after t + unit_amount t u.holding ≡ total c t + unit_amount t learned =
       ap (λ k. k + unit_amount t u.holding) (total-booking paid Study Money t (neg_ℤ (pos cost))) ∙ total-new_holding w c n u learned is t in
-      owed t (total after t) (total c t) sum ∙ ap (λ z. z +ℤ cond (thing_index t == 0) (neg_ℤ (pos cost)) (pos 0)) (old t)
+      owed t (total after t) (total c t) sum
+      ∙ ap (λ z. z +ℤ cond (thing_index t == 0) (neg_ℤ (pos cost)) (pos 0)) (old t)
       ∙ sym (booked-after_booking c.books Study Money (neg_ℤ (pos cost)) t)
 
   less : sum_over (λ (x : Unit). x.holding.money) after.units + cost ≡ sum_over (λ (x : Unit). x.holding.money) c.units
@@ -104,7 +108,8 @@ module _ (w : WorldValue) (c : CampaignValue) (n : ℕ) (u : Unit) (s cost days 
       let all : HasRoom (sum_over (λ (x : Unit). x.holding.money) c.units) (amount_in c.books Study Money) = room Study Money in
       record { above = omega (arith, ints, all.above, less); below = omega (arith, ints, all.below, less) }
 
-  uses_bound : (e : BooksEntry) (t : Thing) → UsesBound (study_remaining c e t) (study_remaining after e t) (amount_in c.books e t) (amount_in after.books e t)
+  uses_bound : (e : BooksEntry) (t : Thing)
+      → UsesBound (study_remaining c e t) (study_remaining after e t) (amount_in c.books e t) (amount_in after.books e t)
   uses_bound e t =
       bound_used_near (moves_only cost Study Money e t) (study_remaining c e t) (study_remaining after e t) (amount_in c.books e t) (amount_in after.books e t)
       (let fallen = less in grind arith)
@@ -132,7 +137,8 @@ payable_fee h cost e =
 
 -- A condition P holds of the campaign after an order of STUDY, if it holds of the campaign before, and of the one in
 -- which the unit studied
-pub study_cases : (P : CampaignValue → Type 0) (w : WorldValue) (taught : ℕ) (c : CampaignValue) (n s : ℕ) (u : Unit) → P c
+pub study_cases : (P : CampaignValue → Type 0) (w : WorldValue) (taught : ℕ) (c : CampaignValue) (n s : ℕ) (u : Unit)
+    → P c
     → ((days : ℕ) → fee_of w s * u.holding.men ≤ u.holding.money → days ≤ most_days * u.holding.men → P (after_study c n u s (fee_of w s * u.holding.men) days))
     → P (study w taught n s c u).0
 unfolding study
@@ -141,37 +147,44 @@ study_cases P w taught c n s u same learned =
     let helped = is_helpful w s (get c.structures u.structure) in
     by_fault (days_after u.holding.men old taught helped) (days_after u.holding.men old taught helped - old) (days_most u.holding.men old taught helped) (study_fault u.holding (fee_of w s * u.holding.men)) refl
   where
-    by_fault : (days done : ℕ) → days ≤ most_days * u.holding.men → (o : Option EventFault) → study_fault u.holding (fee_of w s * u.holding.men) ≡ o
+    by_fault : (days done : ℕ) → days ≤ most_days * u.holding.men → (o : Option EventFault)
+        → study_fault u.holding (fee_of w s * u.holding.men) ≡ o
         → P (unless c o (after_study c n u s (fee_of w s * u.holding.men) days, Done done)).0
     by_fault days done most (Some fault) e = same
     by_fault days done most None e = learned days (payable_fee u.holding (fee_of w s * u.holding.men) e) most
 
-study_well : (w : WorldValue) (taught : ℕ) (c : CampaignValue) (n s : ℕ) (u : Unit) → get c.units n ≡ Some u → IsSteady w c → s < length w.skills → StepsWell IsSteady study_remaining w c (study w taught n s c u).0
+study_well : (w : WorldValue) (taught : ℕ) (c : CampaignValue) (n s : ℕ) (u : Unit) → get c.units n ≡ Some u
+    → IsSteady w c → s < length w.skills → StepsWell IsSteady study_remaining w c (study w taught n s c u).0
 study_well w taught c n s u is steady known =
     study_cases (λ d. StepsWell IsSteady study_remaining w c d) w taught c n s u (well_same w c steady)
     (λ days payable most. studied_well w c n u s (fee_of w s * u.holding.men) days is steady payable known most)
 
-pub study_stays : (w : WorldValue) (taught : ℕ) (c : CampaignValue) (n s : ℕ) (u : Unit) (k : ℕ) → k ≢ n → get (study w taught n s c u).0.units k ≡ get c.units k
+pub study_stays : (w : WorldValue) (taught : ℕ) (c : CampaignValue) (n s : ℕ) (u : Unit) (k : ℕ) → k ≢ n
+    → get (study w taught n s c u).0.units k ≡ get c.units k
 study_stays w taught c n s u k apart =
     study_cases (λ d. get d.units k ≡ get c.units k) w taught c n s u refl
     (λ days payable most. get-insert_other c.units n k (record u { holding = with_study u.holding s (fee_of w s * u.holding.men) days }) apart)
 
 -- A condition P holds of the effect of an order of STUDY with any operands, if it holds for each skill that they may
 -- name
-pub of_each_skill : (P : OrderEffect → Type 0) (w : WorldValue) (taught : TaughtMen) (n : ℕ) (o : OperandsValue) → ((s : ℕ) → o ≡ operands.Skill s → P (study w (taught n) n s)) → IfSome (study_effect w taught n o) P
+pub of_each_skill : (P : OrderEffect → Type 0) (w : WorldValue) (taught : TaughtMen) (n : ℕ) (o : OperandsValue)
+    → ((s : ℕ) → o ≡ operands.Skill s → P (study w (taught n) n s)) → IfSome (study_effect w taught n o) P
 of_each_skill P w taught n (operands.Skill s) each = each s refl
 of_each_skill P w taught n other each = tt
 
 -- ---- the phase
 
 unchanged_is_unaffected_relation : IsUnaffectedRelation IsUnchanged
-unchanged_is_unaffected_relation = record { same = λ u. refl; transitive = λ u v x one two. two ∙ one; faction = λ u v same. ap (λ (x : Unit). x.faction) same }
+unchanged_is_unaffected_relation =
+    record { same = λ u. refl; transitive = λ u v x one two. two ∙ one; faction = λ u v same. ap (λ (x : Unit). x.faction) same }
 
-money_most : (w : WorldValue) (c : CampaignValue) → IsSteady w c → (e : BooksEntry) (t : Thing) → study_remaining c e t ≤ study_moves e t
+money_most : (w : WorldValue) (c : CampaignValue) → IsSteady w c → (e : BooksEntry) (t : Thing)
+    → study_remaining c e t ≤ study_moves e t
 money_most w c steady e t = let most = all_held_within w c steady Money in grind arith
 
 -- STUDY keeps a steady campaign steady and books the fee, and a unit without an own STUDY is unchanged (`IsOrderly`)
-pub study_orderly : (taught : TaughtMen) → IsOrderly (study_step taught) IsSteady study_remaining study_moves IsOwnOrder IsUnchanged
+pub study_orderly : (taught : TaughtMen)
+    → IsOrderly (study_step taught) IsSteady study_remaining study_moves IsOwnOrder IsUnchanged
 study_orderly taught = record {
   well = λ w a c t x steady fit own.
       of_each_skill (λ effect. StepsWell IsSteady study_remaining w c (effect c x).0) w taught t.unit t.order_value.operands

@@ -26,7 +26,8 @@ walk_takes : TakesThose walk_step is_walking all_orders
 walk_takes w a t of_phase fit = by_verb t.order_value.verb t.order_value.operands of_phase fit.shape
   where
     -- operands of the shape of the verb have an effect
-    by_verb : (v : Verb) (o : OperandsValue) → is_walking v ≡ true → Fits v o → is_some (by_direction (walk w t.unit) o) ≡ true
+    by_verb : (v : Verb) (o : OperandsValue) → is_walking v ≡ true → Fits v o
+        → is_some (by_direction (walk w t.unit) o) ≡ true
     by_verb verbs.Move (operands.Direction d) of_phase fits = refl
     by_verb verbs.Move o of_phase fits = cc
     by_verb v o of_phase fits = cc
@@ -40,7 +41,8 @@ sail_takes : TakesThose sail_step is_sailing all_orders
 sail_takes w a t of_phase fit = by_verb t.order_value.verb t.order_value.operands of_phase fit.shape
   where
     -- operands of the shape of the verb have an effect
-    by_verb : (v : Verb) (o : OperandsValue) → is_sailing v ≡ true → Fits v o → is_some (by_direction (sail w t.unit) o) ≡ true
+    by_verb : (v : Verb) (o : OperandsValue) → is_sailing v ≡ true → Fits v o
+        → is_some (by_direction (sail w t.unit) o) ≡ true
     by_verb verbs.Sail (operands.Direction d) of_phase fits = refl
     by_verb verbs.Sail o of_phase fits = cc
     by_verb v o of_phase fits = cc
@@ -66,7 +68,8 @@ study_takes : (taught : TaughtMen) → TakesThose (study_step taught) is_studyin
 study_takes taught w a t of_phase fit = by_verb t.order_value.verb t.order_value.operands of_phase fit.shape
   where
     -- operands of the shape of the verb have an effect
-    by_verb : (v : Verb) (o : OperandsValue) → is_studying v ≡ true → Fits v o → is_some (study_effect w taught t.unit o) ≡ true
+    by_verb : (v : Verb) (o : OperandsValue) → is_studying v ≡ true → Fits v o
+        → is_some (study_effect w taught t.unit o) ≡ true
     by_verb verbs.Study (operands.Skill s) of_phase fits = refl
     by_verb verbs.Study o of_phase fits = cc
     by_verb v o of_phase fits = cc
@@ -75,17 +78,22 @@ module _ (c : CampaignValue) (learning : Learning) (m : MonthValue) where
   -- the orders of TEACH keep the mailings
   lessons_keep_readings : (after_lessons c learning m).1.readings ≡ m.readings
   unfolding after_lessons
-  lessons_keep_readings = fold_keeps (λ x. x.readings) (teach_order c learning) (λ p t. refl) (orders_by_unit is_teaching m) ((λ n. 0), m)
+  lessons_keep_readings =
+      fold_keeps (λ x. x.readings) (teach_order c learning) (λ p t. refl) (orders_by_unit is_teaching m) ((λ n. 0), m)
 
   -- the orders of TEACH keep the aliases
   lessons_keep_aliases : (after_lessons c learning m).1.aliases ≡ m.aliases
   unfolding after_lessons
-  lessons_keep_aliases = fold_keeps (λ x. x.aliases) (teach_order c learning) (λ p t. refl) (orders_by_unit is_teaching m) ((λ n. 0), m)
+  lessons_keep_aliases =
+      fold_keeps (λ x. x.aliases) (teach_order c learning) (λ p t. refl) (orders_by_unit is_teaching m) ((λ n. 0), m)
 
   -- the orders of TEACH add an event each
-  lessons_add : map report_of (after_lessons c learning m).1.events ≡ map report_of m.events ++ map report_for (orders_by_unit is_teaching m)
+  lessons_add : map report_of (after_lessons c learning m).1.events
+      ≡ map report_of m.events ++ map report_for (orders_by_unit is_teaching m)
   unfolding after_lessons
-  lessons_add = fold_adds (teach_order c learning) (λ p t. map-append report_of p.1.events _) (orders_by_unit is_teaching m) ((λ n. 0), m)
+  lessons_add =
+      fold_adds (teach_order c learning) (λ p t. map-append report_of p.1.events _) (orders_by_unit is_teaching m)
+      ((λ n. 0), m)
 
 -- the phase gives an event to each order of TEACH, and then to each of STUDY
 pub learn_gives : Gives (λ counts t. report_if (is_teaching t.order_value.verb && counts) t ++ report_if (is_studying t.order_value.verb && counts && true) t) learn_spec.meaning

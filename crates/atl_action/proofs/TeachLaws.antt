@@ -28,12 +28,15 @@ filtered_distinct p (k ∷ ns) all =
     cond_both (p k) (k ∷ filter p ns) (filter p ns) (IsDistinct nat_eq) (λ _. (others, rest)) (λ _. rest)
 
 filtered_out_is_not_listed : (n : ℕ) (ns : List ℕ) → AreOthers n (filter (λ k. not (k == n)) ns)
-filtered_out_is_not_listed n ns = recursion_from_All (IsOther n) (filter (λ k. not (k == n)) ns) (λ k d l. equality_is_symmetric n _ ∙ not-true _ (filter_passes (λ k. not (k == n)) ns k d l))
+filtered_out_is_not_listed n ns =
+    recursion_from_All (IsOther n) (filter (λ k. not (k == n)) ns)
+    (λ k d l. equality_is_symmetric n _ ∙ not-true _ (filter_passes (λ k. not (k == n)) ns k d l))
 
 pub mentions_distinct : (ns : List ℕ) → IsDistinct nat_eq (first_mentions ns)
 unfolding IsDistinct
 mentions_distinct [] = tt
-mentions_distinct (n ∷ ns) = (filtered_out_is_not_listed n (first_mentions ns), filtered_distinct (λ k. not (k == n)) (first_mentions ns) (mentions_distinct ns))
+mentions_distinct (n ∷ ns) =
+    (filtered_out_is_not_listed n (first_mentions ns), filtered_distinct (λ k. not (k == n)) (first_mentions ns) (mentions_distinct ns))
 
 -- ---- men of the first unit are taught, and then men of the others
 
@@ -45,7 +48,8 @@ module _ (c : CampaignValue) (taught after : TaughtMen) (n given : ℕ) (here : 
       grind (arith, sum_by-cons (untaught_men c after) k ns, sum_by-cons (untaught_men c taught) k ns, same, same_sum ns all.1)
 
   -- a lesson to units other than n teaches as many men as before unit n got its part of the lesson
-  same_lesson : (places : ℕ) (ns : List ℕ) (k : ℕ) → AreOthers n ns → taught_in_lesson c after places ns k ≡ taught_in_lesson c taught places ns k
+  same_lesson : (places : ℕ) (ns : List ℕ) (k : ℕ) → AreOthers n ns
+      → taught_in_lesson c after places ns k ≡ taught_in_lesson c taught places ns k
   same_lesson places [] k all = refl
   same_lesson places (j ∷ ns) k all =
       let same : untaught_men c after j ≡ untaught_men c taught j = ap (λ m. men_at c j - m) (away j (λ is. is_unequal n j all.0 (sym is))) in
@@ -60,7 +64,9 @@ module _ (c : CampaignValue) (taught after : TaughtMen) (n given : ℕ) (here : 
   module _ (places : ℕ) (ns : List ℕ) (is : given ≡ min places (untaught_men c taught n)) (others : AreOthers n ns) where
     -- unit n's part and then a lesson to the others, for the places left, leave as many men of each unit taught as the
     -- whole lesson
-    pub rest_taught : (k : ℕ) → after k + taught_in_lesson c after (places - given) ns k ≡ taught k + taught_in_lesson c taught places (n ∷ ns) k
+    pub rest_taught : (k : ℕ)
+        → after k + taught_in_lesson c after (places - given) ns k
+        ≡ taught k + taught_in_lesson c taught places (n ∷ ns) k
     rest_taught k = elim (cases_eq k n) [
       | inl same ↦ rw same (grind (arith, not_taught (places - given) ns others, equal_itself n, here, is))
       | inr apart ↦
@@ -70,6 +76,7 @@ module _ (c : CampaignValue) (taught after : TaughtMen) (n given : ℕ) (here : 
 
 -- The men taught so far and those that the places left allow make the same `total` before and after the first unit's
 -- turn. It has `want` untaught men, and gets `given` of the `left` places.
-pub men_so_far : (places left given want rest total : ℕ) → left ≤ places → given ≡ min left want → (places - left) + min (want + rest) left ≡ total
+pub men_so_far : (places left given want rest total : ℕ) → left ≤ places → given ≡ min left want
+    → (places - left) + min (want + rest) left ≡ total
     → (places - (left - given)) + min rest (left - given) ≡ total
 men_so_far places left given want rest total few is all = grind (arith, few, is, all)

@@ -28,27 +28,32 @@ pub record AddsNoStarved (before after : MonthValue) : Type 0 where
   pub aliases : after.aliases ≡ before.aliases
   pub starved : (n : ℕ) → starved_in after.events n ≡ starved_in before.events n
 
-lesson_adds_no_starved : (c : CampaignValue) (learning : Learning) (p : TaughtMen × MonthValue) (t : Task) → AddsNoStarved p.1 (teach_order c learning p t).1
+lesson_adds_no_starved : (c : CampaignValue) (learning : Learning) (p : TaughtMen × MonthValue) (t : Task)
+    → AddsNoStarved p.1 (teach_order c learning p t).1
 lesson_adds_no_starved c learning (taught, m) t = record {
   readings = refl;
   aliases = refl;
   starved = λ n. order_event_starves_none m.events t (teach c m.aliases learning taught t).1 n;
 }
 
-lessons_add_no_starved : (c : CampaignValue) (learning : Learning) (p : TaughtMen × MonthValue) (ts : List Task) → AddsNoStarved p.1 (fold (teach_order c learning) p ts).1
+lessons_add_no_starved : (c : CampaignValue) (learning : Learning) (p : TaughtMen × MonthValue) (ts : List Task)
+    → AddsNoStarved p.1 (fold (teach_order c learning) p ts).1
 lessons_add_no_starved c learning p [] = record { readings = refl; aliases = refl; starved = λ n. refl }
 lessons_add_no_starved c learning p (t ∷ ts) =
     let one = lesson_adds_no_starved c learning p t in
     let rest = lessons_add_no_starved c learning (teach_order c learning p t) ts in
     record { readings = rest.readings ∙ one.readings; aliases = rest.aliases ∙ one.aliases; starved = λ n. rest.starved n ∙ one.starved n }
 
-pub all_lessons_add_no_starved : (c : CampaignValue) (learning : Learning) (m : MonthValue) → AddsNoStarved m (after_lessons c learning m).1
+pub all_lessons_add_no_starved : (c : CampaignValue) (learning : Learning) (m : MonthValue)
+    → AddsNoStarved m (after_lessons c learning m).1
 unfolding after_lessons
-all_lessons_add_no_starved c learning m = lessons_add_no_starved c learning ((λ n. 0), m) (orders_of is_teaching ByUnit m.aliases m.readings)
+all_lessons_add_no_starved c learning m =
+    lessons_add_no_starved c learning ((λ n. 0), m) (orders_of is_teaching ByUnit m.aliases m.readings)
 
 -- ---- STUDY
 
-study_men : (w : WorldValue) (taught : ℕ) (c : CampaignValue) (n s : ℕ) (u : Unit) → get c.units n ≡ Some u → HaveTheirMen c (study w taught n s c u).0
+study_men : (w : WorldValue) (taught : ℕ) (c : CampaignValue) (n s : ℕ) (u : Unit) → get c.units n ≡ Some u
+    → HaveTheirMen c (study w taught n s c u).0
 unfolding study
 study_men w taught c n s u is =
     let cost = fee_of w s * u.holding.men in
@@ -63,10 +68,13 @@ study_leaves_men taught w a c t x own =
     (λ s is. others_men t.faction c (study w (taught t.unit) t.unit s c x).0 (study_men w (taught t.unit) c t.unit s x own.there))
 
 items_of_unchanged : (u v : Unit) → IsUnchanged u v → HasItsItems u v
-items_of_unchanged u v same = record { name = ap (λ (x : Unit). x.holding.name) same; items = λ i. omega (arith, ap (λ (x : Unit). amount_of x.holding.items i) same) }
+items_of_unchanged u v same =
+    record { name = ap (λ (x : Unit). x.holding.name) same; items = λ i. omega (arith, ap (λ (x : Unit). amount_of x.holding.items i) same) }
 
 all_study : (taught : TaughtMen) → LeavesUnmailed (meaning_by_orders (study_step taught) is_studying) learn_keeps
-all_study taught = carried_leaves (study_step taught) is_studying (study_leaves_men taught) (unmailed_keep_items is_studying own_faction items_of_unchanged)
+all_study taught =
+    carried_leaves (study_step taught) is_studying (study_leaves_men taught)
+    (unmailed_keep_items is_studying own_faction items_of_unchanged)
 
 -- ---- both
 
@@ -85,5 +93,6 @@ learn_leaves = record {
       record { unit = one.unit; there = one.there; is_unaffected = subst (λ k. IsLessBy (starved_in (learn_meaning w c m).1.events n - k) u one.unit) (same.starved n) one.is_unaffected };
 }
   where
-    alike : (w : WorldValue) (c d : CampaignValue) (m l : MonthValue) → l.readings ≡ m.readings → l.aliases ≡ m.aliases → learn_keeps w m c d → learn_keeps w l c d
+    alike : (w : WorldValue) (c d : CampaignValue) (m l : MonthValue) → l.readings ≡ m.readings → l.aliases ≡ m.aliases
+        → learn_keeps w m c d → learn_keeps w l c d
     alike w c d m l readings aliases h = rw (readings, aliases) h

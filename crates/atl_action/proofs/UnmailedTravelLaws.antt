@@ -20,7 +20,8 @@ gone_men c n r s = let there = with_place c n r s in men_twice c there (with_gua
 
 -- ---- MOVE
 
-walk_men : (w : WorldValue) (c : CampaignValue) (n : ℕ) (u : Unit) (direction : Direction) → HaveTheirMen c (walk w n direction c u).0
+walk_men : (w : WorldValue) (c : CampaignValue) (n : ℕ) (u : Unit) (direction : Direction)
+    → HaveTheirMen c (walk w n direction c u).0
 unfolding walk
 walk_men w c n u direction =
     let to = neighbour w u.region direction in
@@ -31,7 +32,8 @@ walk_leaves_men w a c t x own =
     in_each_direction (λ effect. OthersHaveMen t.faction c (effect c x).0) (walk w t.unit) t.order_value.operands (λ direction. others_men t.faction c (walk w t.unit direction c x).0 (walk_men w c t.unit x direction))
 
 pub walk_leaves : PhaseLeavesUnmailed walk_spec
-walk_leaves = carried_leaves walk_step is_walking walk_leaves_men (unmailed_keep_items is_walking own_faction items_of_no_worse)
+walk_leaves =
+    carried_leaves walk_step is_walking walk_leaves_men (unmailed_keep_items is_walking own_faction items_of_no_worse)
 
 -- ---- SAIL
 
@@ -42,7 +44,8 @@ sailed_men c ship to =
     let gone = fold (with_unit_moved ship to) c ns in
     men_twice c gone (with_structure_region gone ship to) (men_in_turn (with_unit_moved ship to) (λ d n. gone_men d n to ship) c ns) (men_same gone (with_structure_region gone ship to) refl)
 
-sail_men : (w : WorldValue) (c : CampaignValue) (n : ℕ) (u : Unit) (direction : Direction) → HaveTheirMen c (sail w n direction c u).0
+sail_men : (w : WorldValue) (c : CampaignValue) (n : ℕ) (u : Unit) (direction : Direction)
+    → HaveTheirMen c (sail w n direction c u).0
 unfolding sail
 sail_men w c n u direction =
     let to = neighbour w u.region direction in

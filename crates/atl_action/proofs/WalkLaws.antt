@@ -48,7 +48,8 @@ use Rattle.atl_action.proofs.TravelLaws.{AreTravelled, IsPut, IsSameStructure, s
 pub land_is_there : (w : WorldValue) (r : ℕ) → is_land_at w r ≡ true → HasValue w.regions r
 land_is_there w r land = by_plan (get w.regions r) refl land
   where
-    by_plan : (o : Option RegionPlan) → get w.regions r ≡ o → option_map_or (is_land w.terrains) o false ≡ true → HasValue w.regions r
+    by_plan : (o : Option RegionPlan) → get w.regions r ≡ o → option_map_or (is_land w.terrains) o false ≡ true
+        → HasValue w.regions r
     by_plan None is dry = false_true dry
     by_plan (Some p) is dry = (p, is)
 
@@ -79,7 +80,9 @@ module _ (w : WorldValue) (c : CampaignValue) (n : ℕ) (u : Unit) (to : ℕ) (i
   here = units_at n ∙ ap (option_map (f n)) is ∙ ap (λ b. Some (gone_if 0 to b u)) (eq-eqb n n refl)
 
   away : (k : ℕ) → k ≢ n → get units k ≡ get c.units k
-  away k apart = units_at k ∙ ap (λ b. option_map (gone_if 0 to b) (get c.units k)) (other_number k n apart) ∙ option_map_id (get c.units k)
+  away k apart =
+      units_at k ∙ ap (λ b. option_map (gone_if 0 to b) (get c.units k)) (other_number k n apart)
+      ∙ option_map_id (get c.units k)
 
   outside : (v : Unit) → get units n ≡ Some v → v.structure ≡ 0
   outside v there = sym (ap (λ (x : Unit). x.structure) (same_Some (gone 0 to u) v (sym here ∙ there)))
@@ -99,7 +102,9 @@ module _ (w : WorldValue) (c : CampaignValue) (n : ℕ) (u : Unit) (to : ℕ) (i
     after = travelled w c units structures f (λ q y. y)
 
     still_owned : (q : ℕ) (y : Structure) → get c.structures q ≡ Some y → y.owner ≢ n → IsOwned after q y
-    still_owned q y there other = owner_stays c after n away q y (steady.owners q y there) other (λ none v at inside. not_first q y there (sym inside ∙ outside v at))
+    still_owned q y there other =
+        owner_stays c after n away q y (steady.owners q y there) other
+        (λ none v at inside. not_first q y there (sym inside ∙ outside v at))
 
     -- The structure that unit n left, given to its next owner, has its right owner after the walk: the lowest of the
     -- other units inside, or none.
@@ -112,13 +117,16 @@ module _ (w : WorldValue) (c : CampaignValue) (n : ℕ) (u : Unit) (to : ℕ) (i
       forth : (k : ℕ) (y : Structure) → get c.structures k ≡ Some y → get structures k ≡ Some (g k y)
       forth k y there = at k ∙ ap (option_map (g k)) there
 
-      put_by : (k : ℕ) (x : Unit) → get c.units k ≡ Some x → (b : Bool) → IsPut w c units structures f g (gone_if 0 to b x)
-      put_by k x there true = record { region = (steady.known.regions to).1 (land_is_there w to land); structure = λ some. absurd (some refl) }
+      put_by : (k : ℕ) (x : Unit) → get c.units k ≡ Some x → (b : Bool)
+          → IsPut w c units structures f g (gone_if 0 to b x)
+      put_by k x there true =
+          record { region = (steady.known.regions to).1 (land_is_there w to land); structure = λ some. absurd (some refl) }
       put_by k x there false =
           let p = steady.known.units k x there in
           record { region = p.region; structure = λ some. let (s, was, near) = p.structure some in (g x.structure s, forth x.structure s was, (same x.structure s was).1 ∙ near) }
 
-      aboard_by : (k : ℕ) (x : Unit) → get c.units k ≡ Some x → (b : Bool) → is_land_at w (gone_if 0 to b x).region ≡ false
+      aboard_by : (k : ℕ) (x : Unit) → get c.units k ≡ Some x → (b : Bool)
+          → is_land_at w (gone_if 0 to b x).region ≡ false
           → (s : Structure) × (get structures (gone_if 0 to b x).structure ≡ Some s) × (is_ship w s ≡ true)
       aboard_by k x there true wet = absurd (true≢false (sym land ∙ wet))
       aboard_by k x there false wet =
@@ -152,7 +160,9 @@ module _ (w : WorldValue) (c : CampaignValue) (n : ℕ) (u : Unit) (to : ℕ) (i
   -- ---- a unit that was inside no structure
 
   unowned : old_place ≡ 0 → (q : ℕ) (y : Structure) → get c.structures q ≡ Some y → IsOwned (after c.structures) q y
-  unowned outside q y there = still_owned c.structures q y there (owns_no_other w c n u is steady q y there (λ same. not_first q y there (same ∙ outside)))
+  unowned outside q y there =
+      still_owned c.structures q y there
+      (owns_no_other w c n u is steady q y there (λ same. not_first q y there (same ∙ outside)))
 
   outside_well : old_place ≡ 0 → StepsWell IsSteady nothing_remaining w c (after c.structures)
   outside_well outside =
@@ -178,19 +188,30 @@ module _ (w : WorldValue) (c : CampaignValue) (n : ℕ) (u : Unit) (to : ℕ) (i
   abbrev with_both_handovers : (a e b : Bool) → Structure → Structure
   with_both_handovers a e b y = let x = if a && e then owned_by next y else y in if b && x.owner == 0 then owned_by n x else x
 
-  given_same : (a e b : Bool) (y : Structure) → b ≡ false → IsSameStructure y (with_both_handovers a e b y) × ((with_both_handovers a e b y).region ≡ y.region)
+  given_same : (a e b : Bool) (y : Structure) → b ≡ false
+      → IsSameStructure y (with_both_handovers a e b y) × ((with_both_handovers a e b y).region ≡ y.region)
   given_same true true b y high = rw high (record { kind = refl; done = refl; name = refl }, refl)
   given_same true false b y high = rw high (record { kind = refl; done = refl; name = refl }, refl)
   given_same false e b y high = rw high (record { kind = refl; done = refl; name = refl }, refl)
 
-  given_owned : old_place ≢ 0 → (q : ℕ) (y : Structure) → get c.structures q ≡ Some y → (a e b : Bool) → (q == old_place) ≡ a → (y.owner == n) ≡ e → b ≡ false → IsOwned (after gone_off.structures) q (with_both_handovers a e b y)
-  given_owned some q y there true true b p r high = rw high (subst (λ k. IsOwned (after gone_off.structures) k (owned_by next y)) (sym (is_equal q old_place p)) (left_owned gone_off.structures some y))
-  given_owned some q y there true false b p r high = rw high (still_owned gone_off.structures q y there (is_unequal y.owner n r))
-  given_owned some q y there false e b p r high = rw high (still_owned gone_off.structures q y there (owns_no_other w c n u is steady q y there (is_unequal q old_place p)))
+  given_owned : old_place ≢ 0 → (q : ℕ) (y : Structure) → get c.structures q ≡ Some y → (a e b : Bool)
+      → (q == old_place) ≡ a → (y.owner == n) ≡ e → b ≡ false
+      → IsOwned (after gone_off.structures) q (with_both_handovers a e b y)
+  given_owned some q y there true true b p r high =
+      rw high
+      (subst (λ k. IsOwned (after gone_off.structures) k (owned_by next y)) (sym (is_equal q old_place p)) (left_owned gone_off.structures some y))
+  given_owned some q y there true false b p r high =
+      rw high (still_owned gone_off.structures q y there (is_unequal y.owner n r))
+  given_owned some q y there false e b p r high =
+      rw high
+      (still_owned gone_off.structures q y there (owns_no_other w c n u is steady q y there (is_unequal q old_place p)))
 
-  given_at : (q : ℕ) → get gone_off.structures q ≡ option_map (λ y. handed_on 0 0 n q (handed_on old_place n next q y)) (get c.structures q)
+  given_at : (q : ℕ)
+      → get gone_off.structures q
+      ≡ option_map (λ y. handed_on 0 0 n q (handed_on old_place n next q y)) (get c.structures q)
   given_at q =
-      get-after_handover gone_out 0 0 n q ∙ ap (option_map (handed_on 0 0 n q)) (get-after_handover begun old_place n next q)
+      get-after_handover gone_out 0 0 n q
+      ∙ ap (option_map (handed_on 0 0 n q)) (get-after_handover begun old_place n next q)
       ∙ mapped_twice (handed_on 0 0 n q) (handed_on old_place n next q) (get c.structures q)
 
   inside_well : old_place ≢ 0 → StepsWell IsSteady nothing_remaining w c (after gone_off.structures)
@@ -201,12 +222,17 @@ module _ (w : WorldValue) (c : CampaignValue) (n : ℕ) (u : Unit) (to : ℕ) (i
       (λ q y there. given_owned some q y there (q == old_place) (y.owner == n) (q == 0) refl refl (other_number q 0 (not_first q y there)))
 
   off_is : gone_off ≡ record begun { structures = gone_off.structures }
-  off_is = handed_is gone_out 0 0 n ∙ ap (λ (d : CampaignValue). record d { structures = gone_off.structures }) (handed_is begun old_place n next)
+  off_is =
+      handed_is gone_out 0 0 n
+      ∙ ap (λ (d : CampaignValue). record d { structures = gone_off.structures }) (handed_is begun old_place n next)
 
   -- ---- both
 
-  by_place : (b : Bool) → (old_place == 0) ≡ b → StepsWell IsSteady nothing_remaining w c (with_guard (if b then begun else gone_off) n false)
-  by_place true t = subst (StepsWell IsSteady nothing_remaining w c) (sym (elsewhere_is 0 to c n)) (outside_well (is_equal old_place 0 t))
+  by_place : (b : Bool) → (old_place == 0) ≡ b
+      → StepsWell IsSteady nothing_remaining w c (with_guard (if b then begun else gone_off) n false)
+  by_place true t =
+      subst (StepsWell IsSteady nothing_remaining w c) (sym (elsewhere_is 0 to c n))
+      (outside_well (is_equal old_place 0 t))
   by_place false t =
       subst (λ d. StepsWell IsSteady nothing_remaining w c (with_guard d n false)) (sym off_is)
       (subst (λ (d : CampaignValue). StepsWell IsSteady nothing_remaining w c (record d { structures = gone_off.structures })) (sym (elsewhere_is 0 to c n)) (inside_well (is_unequal old_place 0 t)))
@@ -215,17 +241,21 @@ module _ (w : WorldValue) (c : CampaignValue) (n : ℕ) (u : Unit) (to : ℕ) (i
   -- factions, and with balanced books still balanced (`StepsWell`).
   pub walked_well : StepsWell IsSteady nothing_remaining w c (with_unit_moved 0 to c n)
   unfolding with_place
-  walked_well = subst (λ o. StepsWell IsSteady nothing_remaining w c (with_guard (with_place_at c n to 0 o) n false)) (sym is) (by_place (old_place == 0) refl)
+  walked_well =
+      subst (λ o. StepsWell IsSteady nothing_remaining w c (with_guard (with_place_at c n to 0 o) n false)) (sym is)
+      (by_place (old_place == 0) refl)
 
 -- ---- an order
 
-pub none_fit : (faults : List (Bool × EventFault)) → first_fault faults ≡ None → AllByRecursion (λ fault. fault.0 ≡ false) faults
+pub none_fit : (faults : List (Bool × EventFault)) → first_fault faults ≡ None
+    → AllByRecursion (λ fault. fault.0 ≡ false) faults
 none_fit [] is = tt
 none_fit ((fits, fault) ∷ more) is = let (none, others) = none_fits fits fault more is in (none, none_fit more others)
 
 -- A condition P holds of the effect of an order with any operands (`by_direction`), if it holds of the effect in each
 -- direction
-pub in_each_direction : (P : OrderEffect → Type 0) (effect : Direction → OrderEffect) (o : OperandsValue) → ((direction : Direction) → P (effect direction)) → IfSome (by_direction effect o) P
+pub in_each_direction : (P : OrderEffect → Type 0) (effect : Direction → OrderEffect) (o : OperandsValue)
+    → ((direction : Direction) → P (effect direction)) → IfSome (by_direction effect o) P
 in_each_direction P effect (operands.Direction direction) each = each direction
 in_each_direction P effect other each = tt
 
@@ -235,23 +265,30 @@ land_to w (Some r) dry = not-false (is_land_at w r) dry
 
 -- A condition P holds of the campaign after an order of MOVE, if it holds of the campaign before, and of the one in
 -- which the unit walked
-walk_cases : (P : CampaignValue → Type 0) (w : WorldValue) (c : CampaignValue) (n : ℕ) (u : Unit) (direction : Direction) → P c → ((to : ℕ) → is_land_at w to ≡ true → P (with_unit_moved 0 to c n)) → P (walk w n direction c u).0
+walk_cases : (P : CampaignValue → Type 0) (w : WorldValue) (c : CampaignValue) (n : ℕ) (u : Unit) (direction : Direction)
+    → P c → ((to : ℕ) → is_land_at w to ≡ true → P (with_unit_moved 0 to c n)) → P (walk w n direction c u).0
 unfolding walk
-walk_cases P w c n u direction same gone = by_fault (neighbour w u.region direction) (walk_fault w u (neighbour w u.region direction)) refl
+walk_cases P w c n u direction same gone =
+    by_fault (neighbour w u.region direction) (walk_fault w u (neighbour w u.region direction)) refl
   where
-    by_fault : (to : Option ℕ) (o : Option EventFault) → walk_fault w u to ≡ o → P (unless c o (with_unit_moved 0 (unwrap_or to 0) c n, Done 0)).0
+    by_fault : (to : Option ℕ) (o : Option EventFault) → walk_fault w u to ≡ o
+        → P (unless c o (with_unit_moved 0 (unwrap_or to 0) c n, Done 0)).0
     by_fault to (Some fault) e = same
     by_fault to None e =
         let no_way = (not (is_land_there w to), NoWay) ∷ (nat_lt (carried_by w u.holding) (goods_weight w u.holding), TooHeavy) ∷ [] in
         let fine = none_fit ((u.holding.men == 0, NoMen) ∷ (not (is_land_at w u.region), AtSea) ∷ no_way) e in
         gone (unwrap_or to 0) (land_to w to fine.1.1.0)
 
-walk_well : (w : WorldValue) (c : CampaignValue) (n : ℕ) (u : Unit) → get c.units n ≡ Some u → (direction : Direction) → IsSteady w c → StepsWell IsSteady nothing_remaining w c (walk w n direction c u).0
-walk_well w c n u is direction steady = walk_cases (λ d. StepsWell IsSteady nothing_remaining w c d) w c n u direction (well_same w c steady) (λ to land. walked_well w c n u to is steady land)
+walk_well : (w : WorldValue) (c : CampaignValue) (n : ℕ) (u : Unit) → get c.units n ≡ Some u → (direction : Direction)
+    → IsSteady w c → StepsWell IsSteady nothing_remaining w c (walk w n direction c u).0
+walk_well w c n u is direction steady =
+    walk_cases (λ d. StepsWell IsSteady nothing_remaining w c d) w c n u direction (well_same w c steady)
+    (λ to land. walked_well w c n u to is steady land)
 
 -- ---- other units stay
 
-walk_stays : (w : WorldValue) (c : CampaignValue) (n : ℕ) (u : Unit) (direction : Direction) (k : ℕ) → k ≢ n → get (walk w n direction c u).0.units k ≡ get c.units k
+walk_stays : (w : WorldValue) (c : CampaignValue) (n : ℕ) (u : Unit) (direction : Direction) (k : ℕ) → k ≢ n
+    → get (walk w n direction c u).0.units k ≡ get c.units k
 walk_stays w c n u direction k apart =
     walk_cases (λ d. get d.units k ≡ get c.units k) w c n u direction refl (λ to land.
     changed_else (λ (x : Unit). record x { holding = record x.holding { guard = false } }) (with_place c n to 0).units n k apart (get (with_place c n to 0).units n) ∙ place_stays c n to 0 k apart)

@@ -28,11 +28,13 @@ pub map_twice : {V : Type 0} (f g : V → V) (o : Option V) → option_map f (op
 map_twice f g None = refl
 map_twice f g (Some v) = refl
 
-at_same : {V : Type 0} (f : V → V) (m : FinMap nat_cmp V) (k : ℕ) (o : Option V) → get m k ≡ o → get (with_changed_option f m k o) k ≡ option_map f o
+at_same : {V : Type 0} (f : V → V) (m : FinMap nat_cmp V) (k : ℕ) (o : Option V) → get m k ≡ o
+    → get (with_changed_option f m k o) k ≡ option_map f o
 at_same f m k None e = e
 at_same f m k (Some v) e = get_inserted m k (f v)
 
-at_other : {V : Type 0} (f : V → V) (m : FinMap nat_cmp V) (k n : ℕ) (o : Option V) → n ≢ k → get (with_changed_option f m k o) n ≡ get m n
+at_other : {V : Type 0} (f : V → V) (m : FinMap nat_cmp V) (k n : ℕ) (o : Option V) → n ≢ k
+    → get (with_changed_option f m k o) n ≡ get m n
 at_other f m k n None apart = refl
 at_other f m k n (Some v) apart = get-insert_other m k n (f v) apart
 
@@ -42,21 +44,28 @@ module _ {R V : Type 0} (owner : R → ℕ) (more : R → V → V) where
   value_with_rows n [] v = v
   value_with_rows n (r ∷ rows) v = value_with_rows n rows (cond (owner r == n) (more r v) v)
 
-  get-changed : (r : R) (m : FinMap nat_cmp V) (n : ℕ) → get (with_changed_value (more r) m (owner r)) n ≡ option_map (λ v. cond (owner r == n) (more r v) v) (get m n)
+  get-changed : (r : R) (m : FinMap nat_cmp V) (n : ℕ)
+      → get (with_changed_value (more r) m (owner r)) n ≡ option_map (λ v. cond (owner r == n) (more r v) v) (get m n)
   get-changed r m n =
       let k = owner r in
       elim (cases_eq k n) [
         | inl same ↦
             let it : (k == n) ≡ true = grind (arith, nat_tests) in
-            subst (λ q. get (with_changed_value (more r) m k) q ≡ option_map (more r) (get m q)) same (at_same (more r) m k (get m k) refl) ∙ ap (λ b. option_map (λ v. cond b (more r v) v) (get m n)) (sym it)
+            subst (λ q. get (with_changed_value (more r) m k) q ≡ option_map (more r) (get m q)) same (at_same (more r) m k (get m k) refl)
+            ∙ ap (λ b. option_map (λ v. cond b (more r v) v) (get m n)) (sym it)
         | inr apart ↦
             let other : (k == n) ≡ false = grind (arith, nat_tests) in
-            at_other (more r) m k n (get m k) (λ e. apart (sym e)) ∙ map_none (get m n) ∙ ap (λ b. option_map (λ v. cond b (more r v) v) (get m n)) (sym other)
+            at_other (more r) m k n (get m k) (λ e. apart (sym e)) ∙ map_none (get m n)
+            ∙ ap (λ b. option_map (λ v. cond b (more r v) v) (get m n)) (sym other)
       ]
 
-  get-with_rows_added : (rows : List R) (m : FinMap nat_cmp V) (n : ℕ) → get (with_rows_added owner more rows m) n ≡ option_map (value_with_rows n rows) (get m n)
+  get-with_rows_added : (rows : List R) (m : FinMap nat_cmp V) (n : ℕ)
+      → get (with_rows_added owner more rows m) n ≡ option_map (value_with_rows n rows) (get m n)
   get-with_rows_added [] m n = map_none (get m n)
-  get-with_rows_added (r ∷ rows) m n = get-with_rows_added rows (with_changed_value (more r) m (owner r)) n ∙ ap (option_map (value_with_rows n rows)) (get-changed r m n) ∙ map_twice (value_with_rows n rows) (λ v. cond (owner r == n) (more r v) v) (get m n)
+  get-with_rows_added (r ∷ rows) m n =
+      get-with_rows_added rows (with_changed_value (more r) m (owner r)) n
+      ∙ ap (option_map (value_with_rows n rows)) (get-changed r m n)
+      ∙ map_twice (value_with_rows n rows) (λ v. cond (owner r == n) (more r v) v) (get m n)
 
   module _ {T : Type 0} (number : T → ℕ) (before after : T → V) (rows : List R) (each : (t : T) → value_with_rows (number t) rows (before t) ≡ after t) where
     -- both maps have the same numbers, and the second has each value of the first with the rows of its number added
@@ -65,7 +74,8 @@ module _ {R V : Type 0} (owner : R → ℕ) (more : R → V → V) where
 
     -- if adding the rows to m gives l (Becomes), it also does once t is put into m without its rows, and into l with
     -- them
-    put_one : (t : T) (m l : FinMap nat_cmp V) → Becomes m l → Becomes (insert m (number t) (before t)) (insert l (number t) (after t))
+    put_one : (t : T) (m l : FinMap nat_cmp V) → Becomes m l
+        → Becomes (insert m (number t) (before t)) (insert l (number t) (after t))
     put_one t m l all n =
         let k = number t in
         elim (cases_eq k n) [
@@ -75,13 +85,16 @@ module _ {R V : Type 0} (owner : R → ℕ) (more : R → V → V) where
           | inr apart ↦ ap (option_map (value_with_rows n rows)) (get-insert_other m k n (before t) (λ e. apart (sym e))) ∙ all n ∙ sym (get-insert_other l k n (after t) (λ e. apart (sym e)))
         ]
 
-    put_each : (ts : List T) (m l : FinMap nat_cmp V) → Becomes m l → Becomes (put_rows number before ts m) (put_rows number after ts l)
+    put_each : (ts : List T) (m l : FinMap nat_cmp V) → Becomes m l
+        → Becomes (put_rows number before ts m) (put_rows number after ts l)
     put_each [] m l all = all
-    put_each (t ∷ ts) m l all = put_each ts (insert m (number t) (before t)) (insert l (number t) (after t)) (put_one t m l all)
+    put_each (t ∷ ts) m l all =
+        put_each ts (insert m (number t) (before t)) (insert l (number t) (after t)) (put_one t m l all)
 
     -- if `after` gives each of ts its value by `before` with the rows added, adding all rows to the map of ts by
     -- `before` gives the map by `after`
-    pub with_rows_added-by_number : (ts : List T) → with_rows_added owner more rows (by_number number before ts) ≡ by_number number after ts
+    pub with_rows_added-by_number : (ts : List T)
+        → with_rows_added owner more rows (by_number number before ts) ≡ by_number number after ts
     with_rows_added-by_number ts =
         let none : Becomes empty empty = λ n. ap (option_map (value_with_rows n rows)) (get-empty nat_cmp n) ∙ sym (get-empty nat_cmp n) in
         same_map nat_cmp_total nat_cmp-IsAntisymmetric _ _ (λ n. get-with_rows_added rows (by_number number before ts) n ∙ put_each ts empty empty none n)
@@ -90,10 +103,12 @@ module _ {R V : Type 0} (owner : R → ℕ) (more : R → V → V) where
 
 -- for unit_given: choosing among a unit with new items, with new days, or unchanged gives the unit whose items and days
 -- are chosen each for itself
-picked : (r : StoredUnit) (items items' days days' : FinMap nat_cmp ℕ) (mine item skill : Bool) → (item ≡ true → skill ≡ false)
+picked : (r : StoredUnit) (items items' days days' : FinMap nat_cmp ℕ) (mine item skill : Bool)
+    → (item ≡ true → skill ≡ false)
     → cond mine (cond item (unit_with_goods r items' days) (cond skill (unit_with_goods r items days') (unit_with_goods r items days))) (unit_with_goods r items days) ≡ unit_with_goods r (cond (mine && item) items' items) (cond (mine && skill) days' days)
 picked r items items' days days' false item skill h = refl
-picked r items items' days days' true true skill h = ap (λ b. unit_with_goods r items' (cond b days' days)) (sym (h refl))
+picked r items items' days days' true true skill h =
+    ap (λ b. unit_with_goods r items' (cond b days' days)) (sym (h refl))
 picked r items items' days days' true false true h = refl
 picked r items items' days days' true false false h = refl
 
@@ -113,8 +128,12 @@ unit_given r n (h ∷ has) items days =
     ∙ ap (λ m. unit_with_goods r (put_rows thing_of amount_of (filter (is_of_unit_and_sort n 0) (h ∷ has)) items) m) (sym (taken_or_not thing_of amount_of (is_of_unit_and_sort n 1) h has (is_of_unit_and_sort n 1 h) days refl))
 
 -- units without goods (bare_unit), once all rows of `has` are added, are the units assembled with these rows (unit_of)
-pub units_with_rows : (has : List StoredHas) (rows : List StoredUnit) → with_rows_added (λ h. as_u32 h.unit) with_has_row has (by_number (λ r. as_u32 r.number) bare_unit rows) ≡ by_number (λ r. as_u32 r.number) (unit_of has) rows
-units_with_rows has rows = with_rows_added-by_number (λ (h : StoredHas). as_u32 h.unit) with_has_row (λ (r : StoredUnit). as_u32 r.number) bare_unit (unit_of has) has (λ r. unit_given r (as_u32 r.number) has empty empty) rows
+pub units_with_rows : (has : List StoredHas) (rows : List StoredUnit)
+    → with_rows_added (λ h. as_u32 h.unit) with_has_row has (by_number (λ r. as_u32 r.number) bare_unit rows)
+    ≡ by_number (λ r. as_u32 r.number) (unit_of has) rows
+units_with_rows has rows =
+    with_rows_added-by_number (λ (h : StoredHas). as_u32 h.unit) with_has_row (λ (r : StoredUnit). as_u32 r.number)
+    bare_unit (unit_of has) has (λ r. unit_given r (as_u32 r.number) has empty empty) rows
 
 -- ---- regions
 
@@ -124,7 +143,9 @@ item_of r = as_u32 r.item
 abbrev stock_of : StoredMarket → ℕ
 stock_of r = as_u32 r.stock
 
-stocked : (r : StoredRegion) (stocks stocks' : FinMap nat_cmp ℕ) (mine : Bool) → cond mine (region_with_stocks r stocks') (region_with_stocks r stocks) ≡ region_with_stocks r (cond mine stocks' stocks)
+stocked : (r : StoredRegion) (stocks stocks' : FinMap nat_cmp ℕ) (mine : Bool)
+    → cond mine (region_with_stocks r stocks') (region_with_stocks r stocks)
+    ≡ region_with_stocks r (cond mine stocks' stocks)
 stocked r stocks stocks' true = refl
 stocked r stocks stocks' false = refl
 
@@ -142,4 +163,7 @@ region_given r n (m ∷ markets) stocks =
 -- (region_of)
 pub regions_with_rows : (markets : List StoredMarket) (rows : List StoredRegion)
     → with_rows_added (λ m. as_u32 m.region) with_market_row markets (by_number (λ r. as_u32 r.number) bare_region rows) ≡ by_number (λ r. as_u32 r.number) (region_of markets) rows
-regions_with_rows markets rows = with_rows_added-by_number (λ (m : StoredMarket). as_u32 m.region) with_market_row (λ (r : StoredRegion). as_u32 r.number) bare_region (region_of markets) markets (λ r. region_given r (as_u32 r.number) markets empty) rows
+regions_with_rows markets rows =
+    with_rows_added-by_number (λ (m : StoredMarket). as_u32 m.region) with_market_row
+    (λ (r : StoredRegion). as_u32 r.number) bare_region (region_of markets) markets
+    (λ r. region_given r (as_u32 r.number) markets empty) rows

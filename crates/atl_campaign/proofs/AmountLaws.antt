@@ -23,17 +23,22 @@ use Rattle.atl_records.proofs.EveryLaws.{each-from_every}
 use Rattle.atl_campaign.proofs.RuleLaws.{free_from}
 use Rattle.atl_campaign.proofs.MarketLaws.{market_known}
 
-pub sum_of_zeros_is_zero : {V : Type 0} (f : V → ℕ) (es : List (ℕ × V)) → EachEntry (λ _ v. f v ≡ 0) es → sum_by (λ e. f e.1) es ≡ 0
+pub sum_of_zeros_is_zero : {V : Type 0} (f : V → ℕ) (es : List (ℕ × V)) → EachEntry (λ _ v. f v ≡ 0) es
+    → sum_by (λ e. f e.1) es ≡ 0
 sum_of_zeros_is_zero f [] each = refl
 sum_of_zeros_is_zero {V} f (e ∷ es) each = let more = sum_by-cons (λ (e : ℕ × V). f e.1) e es in omega (arith, more, each.0, sum_of_zeros_is_zero f es each.1)
 
-unlisted_amount_is_zero : (items : FinMap nat_cmp ℕ) (count i : ℕ) → Every (λ k amount. k < count) items → count ≤ i → amount_of items i ≡ 0
-unlisted_amount_is_zero items count i known l = ap (λ o. unwrap_or o 0) (free_from items i (λ there. let few = known i there.0 there.1 in omega (arith, few)))
+unlisted_amount_is_zero : (items : FinMap nat_cmp ℕ) (count i : ℕ) → Every (λ k amount. k < count) items → count ≤ i
+    → amount_of items i ≡ 0
+unlisted_amount_is_zero items count i known l =
+    ap (λ o. unwrap_or o 0) (free_from items i (λ there. let few = known i there.0 there.1 in omega (arith, few)))
 
 module _ (w : WorldValue) (c : CampaignValue) (world : IsWorld w) (are : AreBooks (thing_count w) c.books) (known : Every (λ n u. Every (λ i amount. i < length w.items) u.holding.items) c.units)
     (stocks : Every (λ n r. AreOfMarkets w n r.stocks) c.regions) where
   none_kept : (i : ℕ) → length w.items ≤ i → EachEntry (λ _ r. region_amount (Item i) r ≡ 0) (entries c.regions)
-  none_kept i l = each-from_every (λ _ r. region_amount (Item i) r ≡ 0) c.regions (λ n r is. unlisted_amount_is_zero r.stocks (length w.items) i (λ k amount at. market_known w world n k (stocks n r is k amount at)) l)
+  none_kept i l =
+      each-from_every (λ _ r. region_amount (Item i) r ≡ 0) c.regions
+      (λ n r is. unlisted_amount_is_zero r.stocks (length w.items) i (λ k amount at. market_known w world n k (stocks n r is k amount at)) l)
 
   unknown_total : (i : ℕ) → length w.items ≤ i → total c (Item i) ≡ 0
   unfolding total
@@ -47,7 +52,10 @@ module _ (w : WorldValue) (c : CampaignValue) (world : IsWorld w) (are : AreBook
 
   -- the books balance for all things if they do for money, for people, and for each item of the world, and if units,
   -- regions and books list no other items
-  pub all_balance : (pos (total c Money) ≡ booked c.books Money) × (pos (total c People) ≡ booked c.books People) → ((i : ℕ) → i < length w.items → pos (total c (Item i)) ≡ booked c.books (Item i)) → Balances c
+  pub all_balance : (pos (total c Money) ≡ booked c.books Money) × (pos (total c People) ≡ booked c.books People)
+      → ((i : ℕ) → i < length w.items → pos (total c (Item i)) ≡ booked c.books (Item i)) → Balances c
   all_balance both items Money = both.0
   all_balance both items People = both.1
-  all_balance both items (Item i) = elim (cases_lt i (length w.items)) [ inl l ↦ items i l | inr past ↦ ap pos (unknown_total i past) ∙ sym (unknown_booked i past) ]
+  all_balance both items (Item i) =
+      elim (cases_lt i (length w.items))
+      [ inl l ↦ items i l | inr past ↦ ap pos (unknown_total i past) ∙ sym (unknown_booked i past) ]

@@ -50,10 +50,14 @@ module _ (w : WorldValue) (c : CampaignValue) (s : Structure) (fresh : IsFresh w
   free = old.next.structures.free next (omega arith)
 
   stays : (k : ℕ) (y : Structure) → get c.structures k ≡ Some y → get structures k ≡ Some y
-  stays k y there = get-insert_other c.structures next k s (λ same. none_some y (sym free ∙ ap (get c.structures) (sym same) ∙ there)) ∙ there
+  stays k y there =
+      get-insert_other c.structures next k s (λ same. none_some y (sym free ∙ ap (get c.structures) (sym same) ∙ there))
+      ∙ there
 
   one_more : len structures ≡ len c.structures + 1
-  one_more = len-insert nat_cmp_total c.structures next s ∙ ap (λ o. cond (is_some o) (len c.structures) (len c.structures + 1)) free
+  one_more =
+      len-insert nat_cmp_total c.structures next s
+      ∙ ap (λ o. cond (is_some o) (len c.structures) (len c.structures + 1)) free
 
   numbers_kept : AreInRange w raised
   numbers_kept = record {
@@ -82,7 +86,9 @@ module _ (w : WorldValue) (c : CampaignValue) (s : Structure) (fresh : IsFresh w
     units = λ k x there.
         let p = old.known.units k x there in
         record { faction = p.faction; region = p.region; structure = λ some. let (y, at, here) = p.structure some in (y, stays x.structure y at, here); items = p.items; skills = p.skills };
-    structures = every-insert (λ k x. IsBuilt w raised x) c.structures next s (record { kind = fresh.kind; region = fresh.region; owner = λ some. nobody some })
+    structures =
+        every-insert (λ k x. IsBuilt w raised x) c.structures next s
+        (record { kind = fresh.kind; region = fresh.region; owner = λ some. nobody some })
         old.known.structures;
     posts = old.known.posts;
   }
@@ -144,7 +150,8 @@ module _ (w : WorldValue) (c : CampaignValue) (s : Structure) (fresh : IsFresh w
   pub raised_there : get raised.structures next ≡ Some s
   raised_there = get-insert_same c.structures next s
 
-pub marks-structure_begun : (c : MarkedCampaign) (s : Structure) → MarksChanges c (record { value = with_structure_begun c.value s; marks = mark_structure_begun c })
+pub marks-structure_begun : (c : MarkedCampaign) (s : Structure)
+    → MarksChanges c (record { value = with_structure_begun c.value s; marks = mark_structure_begun c })
 marks-structure_begun c s =
     let n = c.value.next_structure in
     let next : MarkedCampaign = record { value = with_structure_begun c.value s; marks = mark_structure_begun c } in
@@ -171,7 +178,9 @@ module _ (w : WorldValue) (c : CampaignValue) (k : ℕ) (s : Structure) (done : 
 
   module _ (more : s.done ≤ done) (most : done ≤ size_of w s.kind) (was : IsSteady w c) where
     -- a structure with a property P is still there with P after building on structure k, if building on k keeps P
-    still : (P : Structure → Type 0) → (P s → P further) → (j : ℕ) → (y : Structure) × (get c.structures j ≡ Some y) × P y → (y : Structure) × (get built.structures j ≡ Some y) × P y
+    still : (P : Structure → Type 0) → (P s → P further) → (j : ℕ)
+        → (y : Structure) × (get c.structures j ≡ Some y) × P y
+        → (y : Structure) × (get built.structures j ≡ Some y) × P y
     still P keep j (y, there, p) = elim (cases_eq j k) [
       | inl same ↦
           let one : Some y ≡ Some s = sym there ∙ ap (get c.structures) same ∙ is in
@@ -203,13 +212,17 @@ module _ (w : WorldValue) (c : CampaignValue) (k : ℕ) (s : Structure) (done : 
       units = λ j x there.
           let p = was.known.units j x there in
           record { faction = p.faction; region = p.region; structure = λ some. still (λ y. y.region ≡ x.region) (λ here. here) x.structure (p.structure some); items = p.items; skills = p.skills };
-      structures = every-insert (λ j x. IsBuilt w built x) c.structures k further (let b = was.known.structures k s is in record { kind = b.kind; region = b.region; owner = b.owner })
+      structures =
+          every-insert (λ j x. IsBuilt w built x) c.structures k further
+          (let b = was.known.structures k s is in record { kind = b.kind; region = b.region; owner = b.owner })
           was.known.structures;
       posts = was.known.posts;
     }
 
     apart_free : (j : ℕ) → get c.structures j ≡ None → get built.structures j ≡ None
-    apart_free j none = get-insert_other c.structures k j further (λ same. none_some s (sym none ∙ ap (get c.structures) same ∙ is)) ∙ none
+    apart_free j none =
+        get-insert_other c.structures k j further (λ same. none_some s (sym none ∙ ap (get c.structures) same ∙ is))
+        ∙ none
 
     next_built : AreNumbered built
     next_built = record {
@@ -233,7 +246,9 @@ module _ (w : WorldValue) (c : CampaignValue) (k : ℕ) (s : Structure) (done : 
     water_built : AreAfloat w built
     water_built = record {
       units = λ j x there wet. still (λ y. is_ship w y ≡ true) (λ ship. ship) x.structure (was.water.units j x there wet);
-      structures = every-insert (λ j x. is_land_at w x.region ≡ false → (is_ship w x ≡ true) × (x.done ≡ size_of w x.kind)) c.structures k further
+      structures =
+          every-insert (λ j x. is_land_at w x.region ≡ false → (is_ship w x ≡ true) × (x.done ≡ size_of w x.kind))
+          c.structures k further
           (λ wet. let (ship, all) = was.water.structures k s is wet in (ship, complete all)) was.water.structures;
     }
 

@@ -34,7 +34,8 @@ contrapositive : (a b : Bool) → (a ≡ true → b ≡ true) → b ≡ false �
 contrapositive true b stays free = absurd (true≢false (sym (stays refl) ∙ free))
 contrapositive false b stays free = refl
 
-pub was_unmarked : (before after : FinSet nat_cmp) → StaysMarked before after → (n : ℕ) → contains after n ≡ false → contains before n ≡ false
+pub was_unmarked : (before after : FinSet nat_cmp) → StaysMarked before after → (n : ℕ) → contains after n ≡ false
+    → contains before n ≡ false
 was_unmarked before after stays n free = contrapositive (contains before n) (contains after n) (stays n) free
 
 pub stay-trans : {a b c : Marks} → StayMarked a b → StayMarked b c → StayMarked a c
@@ -73,7 +74,8 @@ covers-trans {m} {n} a b c stay one two = record {
 }
 
 pub marks-trans : (a b c : MarkedCampaign) → MarksChanges a b → MarksChanges b c → MarksChanges a c
-marks-trans a b c one two = record { stay = stay-trans one.stay two.stay; covers = covers-trans a.value b.value c.value two.stay one.covers two.covers }
+marks-trans a b c one two =
+    record { stay = stay-trans one.stay two.stay; covers = covers-trans a.value b.value c.value two.stay one.covers two.covers }
 
 -- ---- one change at a time
 
@@ -82,13 +84,15 @@ or-true true = refl
 or-true false = refl
 
 pub put_stays : (marks : FinSet nat_cmp) (n : ℕ) → StaysMarked marks (insert marks n)
-put_stays marks n k h = contains-insert nat_cmp_total marks n k ∙ ap (λ b. eq_by_cmp nat_cmp k n || b) h ∙ or-true (eq_by_cmp nat_cmp k n)
+put_stays marks n k h =
+    contains-insert nat_cmp_total marks n k ∙ ap (λ b. eq_by_cmp nat_cmp k n || b) h ∙ or-true (eq_by_cmp nat_cmp k n)
 
 equal_numbers_compare_equal : (k n : ℕ) → k ≡ n → eq_by_cmp nat_cmp k n ≡ true
 equal_numbers_compare_equal k n e = sym (unsigned_ties k n) ∙ (let t : (k == n) ≡ true = grind (arith, nat_tests) in t)
 
 put_there : (marks : FinSet nat_cmp) (n k : ℕ) → k ≡ n → contains (insert marks n) k ≡ true
-put_there marks n k e = contains-insert nat_cmp_total marks n k ∙ ap (λ b. b || contains marks k) (equal_numbers_compare_equal k n e)
+put_there marks n k e =
+    contains-insert nat_cmp_total marks n k ∙ ap (λ b. b || contains marks k) (equal_numbers_compare_equal k n e)
 
 pub unmarked_differs_from_put : (marks : FinSet nat_cmp) (n k : ℕ) → contains (insert marks n) k ≡ false → k ≢ n
 unmarked_differs_from_put marks n k free same = absurd (true≢false (sym (put_there marks n k same) ∙ free))
@@ -100,16 +104,24 @@ both_stay : (a b c d : Bool) → (a ≡ true → b ≡ true) → (c ≡ true →
 both_stay true b c d one two h = ap (λ x. x || d) (one refl)
 both_stay false b c d one two h = ap (λ x. b || x) (two h) ∙ or-true b
 
-pub whole_stays : (goods : FinSet nat_cmp) (things : MarkedThings) (n : ℕ) → ThingsStayMarked goods things (insert goods n) things
-whole_stays goods things n k t = both_stay (contains goods k) (contains (insert goods n) k) (is_some (get (group_of things k) t)) (is_some (get (group_of things k) t)) (put_stays goods n k) (λ h. h)
+pub whole_stays : (goods : FinSet nat_cmp) (things : MarkedThings) (n : ℕ)
+    → ThingsStayMarked goods things (insert goods n) things
+whole_stays goods things n k t =
+    both_stay (contains goods k) (contains (insert goods n) k) (is_some (get (group_of things k) t))
+    (is_some (get (group_of things k) t)) (put_stays goods n k) (λ h. h)
 
-pub apart_by_whole : (goods : FinSet nat_cmp) (things : MarkedThings) (n k t : ℕ) → is_thing_marked (insert goods n) things k t ≡ false → k ≢ n
-apart_by_whole goods things n k t free = unmarked_differs_from_put goods n k (or_parts (contains (insert goods n) k) (is_some (get (group_of things k) t)) free).0
+pub apart_by_whole : (goods : FinSet nat_cmp) (things : MarkedThings) (n k t : ℕ)
+    → is_thing_marked (insert goods n) things k t ≡ false → k ≢ n
+apart_by_whole goods things n k t free =
+    unmarked_differs_from_put goods n k
+    (or_parts (contains (insert goods n) k) (is_some (get (group_of things k) t)) free).0
 
 module _ (goods : FinSet nat_cmp) (things : MarkedThings) (n thing : ℕ) where
   -- once `thing` of unit or region n is marked, thing t of unit or region k has a mark of its own exactly if it is that
   -- thing or had such a mark before
-  put_in : (k t : ℕ) → is_some (get (group_of (with_thing things n thing) k) t) ≡ cond (eq_by_cmp nat_cmp k n) (eq_by_cmp nat_cmp t thing || is_some (get (group_of things n) t)) (is_some (get (group_of things k) t))
+  put_in : (k t : ℕ)
+      → is_some (get (group_of (with_thing things n thing) k) t)
+      ≡ cond (eq_by_cmp nat_cmp k n) (eq_by_cmp nat_cmp t thing || is_some (get (group_of things n) t)) (is_some (get (group_of things k) t))
   put_in k t =
       ap (λ (o : Option (FinMap nat_cmp (Prim.Unit {0}))). is_some (get (unwrap_or o map.empty) t)) (get-insert nat_cmp_total things n (map.insert (group_of things n) thing tt) k)
       ∙ by_unit (eq_by_cmp nat_cmp k n)
@@ -118,16 +130,26 @@ module _ (goods : FinSet nat_cmp) (things : MarkedThings) (n thing : ℕ) where
       by_thing true o = refl
       by_thing false o = refl
 
-      by_unit : (b : Bool) → is_some (get (unwrap_or (cond b (Some (map.insert (group_of things n) thing tt)) (get things k)) map.empty) t)
+      by_unit : (b : Bool)
+          → is_some (get (unwrap_or (cond b (Some (map.insert (group_of things n) thing tt)) (get things k)) map.empty) t)
           ≡ cond b (eq_by_cmp nat_cmp t thing || is_some (get (group_of things n) t)) (is_some (get (group_of things k) t))
-      by_unit true = ap is_some (get-insert nat_cmp_total (group_of things n) thing tt t) ∙ by_thing (eq_by_cmp nat_cmp t thing) (get (group_of things n) t)
+      by_unit true =
+          ap is_some (get-insert nat_cmp_total (group_of things n) thing tt t)
+          ∙ by_thing (eq_by_cmp nat_cmp t thing) (get (group_of things n) t)
       by_unit false = refl
 
   pub thing_stays : ThingsStayMarked goods things goods (with_thing things n thing)
-  thing_stays k t = both_stay (contains goods k) (contains goods k) (is_some (get (group_of things k) t)) (is_some (get (group_of (with_thing things n thing) k) t)) (λ h. h) (λ h. put_in k t ∙ by_unit h (eq_by_cmp nat_cmp k n) refl)
+  thing_stays k t =
+      both_stay (contains goods k) (contains goods k) (is_some (get (group_of things k) t))
+      (is_some (get (group_of (with_thing things n thing) k) t)) (λ h. h)
+      (λ h. put_in k t ∙ by_unit h (eq_by_cmp nat_cmp k n) refl)
     where
-      by_unit : is_some (get (group_of things k) t) ≡ true → (b : Bool) → eq_by_cmp nat_cmp k n ≡ b → cond b (eq_by_cmp nat_cmp t thing || is_some (get (group_of things n) t)) (is_some (get (group_of things k) t)) ≡ true
-      by_unit h true e = ap (λ q. eq_by_cmp nat_cmp t thing || is_some (get (group_of things q) t)) (sym (same_key k n e)) ∙ ap (λ b. eq_by_cmp nat_cmp t thing || b) h ∙ or-true (eq_by_cmp nat_cmp t thing)
+      by_unit : is_some (get (group_of things k) t) ≡ true → (b : Bool) → eq_by_cmp nat_cmp k n ≡ b
+          → cond b (eq_by_cmp nat_cmp t thing || is_some (get (group_of things n) t)) (is_some (get (group_of things k) t))
+          ≡ true
+      by_unit h true e =
+          ap (λ q. eq_by_cmp nat_cmp t thing || is_some (get (group_of things q) t)) (sym (same_key k n e))
+          ∙ ap (λ b. eq_by_cmp nat_cmp t thing || b) h ∙ or-true (eq_by_cmp nat_cmp t thing)
       by_unit h false e = h
 
   pub apart_by_thing : (k t : ℕ) → is_thing_marked goods (with_thing things n thing) k t ≡ false → k ≡ n → t ≢ thing
@@ -242,10 +264,12 @@ PartStaysMarked m n p = (k : MarkKey p) → is_marked p m k ≡ true → is_mark
 
 -- each value of part p that is not marked in the marks m is the same in the campaigns `before` and `after`
 abbrev pub KeepsUnmarked : Marks → CampaignValue → CampaignValue → MarkedPart → Type 0
-KeepsUnmarked m before after p = (k : LookupKey p) → is_marked p m (mark_at p k) ≡ false → covered_value p after k ≡ covered_value p before k
+KeepsUnmarked m before after p =
+    (k : LookupKey p) → is_marked p m (mark_at p k) ≡ false → covered_value p after k ≡ covered_value p before k
 
 -- MarksChanges holds if for each part no mark is lost, and all values that are not marked are unchanged
-pub part_by_part : (a b : MarkedCampaign) → ((p : MarkedPart) → PartStaysMarked a.marks b.marks p) → ((p : MarkedPart) → KeepsUnmarked b.marks a.value b.value p) → MarksChanges a b
+pub part_by_part : (a b : MarkedCampaign) → ((p : MarkedPart) → PartStaysMarked a.marks b.marks p)
+    → ((p : MarkedPart) → KeepsUnmarked b.marks a.value b.value p) → MarksChanges a b
 part_by_part a b stays says = record {
   stay = record {
     factions = stays Factions;
@@ -284,14 +308,16 @@ marks-refl a = part_by_part a a (λ p k h. h) (λ p k free. refl)
 -- P holds of a map in which f changes the value of n, and of the old value, if it holds in both cases: n has no value,
 -- or n has one
 pub holds_of_changed : {V : Type 0} (P : FinMap nat_cmp V → Option V → Type 0) (f : V → V) (values : FinMap nat_cmp V) (n : ℕ)
-    → P values None → ((v : V) → get values n ≡ Some v → P (map.insert values n (f v)) (Some v)) → P (with_changed_value f values n) (get values n)
+    → P values None → ((v : V) → get values n ≡ Some v → P (map.insert values n (f v)) (Some v))
+    → P (with_changed_value f values n) (get values n)
 holds_of_changed {V} P f values n none some = by_value (get values n) refl
   where
     by_value : (o : Option V) → get values n ≡ o → P (with_changed_option f values n o) o
     by_value None is = none
     by_value (Some v) is = some v is
 
-pub marks-faction : (f : Faction → Faction) (c : MarkedCampaign) (n : ℕ) → MarksChanges c (record { value = faction_changed f c.value n; marks = mark_faction c n })
+pub marks-faction : (f : Faction → Faction) (c : MarkedCampaign) (n : ℕ)
+    → MarksChanges c (record { value = faction_changed f c.value n; marks = mark_faction c n })
 marks-faction f c n =
     let after : FinMap nat_cmp Faction → Option Faction → MarkedCampaign = λ m o. record { value = record c.value { factions = m }; marks = record c.marks { factions = marked_with c.marks.factions n o } } in
     holds_of_changed (λ m o. MarksChanges c (after m o)) f c.value.factions n (marks-refl c) (λ v is.
@@ -302,8 +328,11 @@ marks-faction f c n =
 
 -- what `shows` gives for each number's value stays the same when n's value v is replaced by w, if `shows` gives the
 -- same for w as for v
-pub shown_still : {V X : Type 0} (shows : Option V → X) (values : FinMap nat_cmp V) (n k : ℕ) (v w : V) → get values n ≡ Some v → (k ≡ n → shows (Some w) ≡ shows (Some v)) → shows (get (map.insert values n w) k) ≡ shows (get values k)
-shown_still shows values n k v w is same = ap shows (get-insert nat_cmp_total values n w k) ∙ by_number (eq_by_cmp nat_cmp k n) refl
+pub shown_still : {V X : Type 0} (shows : Option V → X) (values : FinMap nat_cmp V) (n k : ℕ) (v w : V)
+    → get values n ≡ Some v → (k ≡ n → shows (Some w) ≡ shows (Some v))
+    → shows (get (map.insert values n w) k) ≡ shows (get values k)
+shown_still shows values n k v w is same =
+    ap shows (get-insert nat_cmp_total values n w k) ∙ by_number (eq_by_cmp nat_cmp k n) refl
   where
     by_number : (b : Bool) → eq_by_cmp nat_cmp k n ≡ b → shows (cond b (Some w) (get values k)) ≡ shows (get values k)
     by_number true e = let here = same_key k n e in same here ∙ sym (ap shows (ap (get values) here ∙ is))
@@ -329,7 +358,8 @@ row-marked f same c n =
 -- a number of region n, which `of` reads, is set to x by f; if it was another, the region's row is marked
 module _ (of : Region → ℕ) (f : Region → Region) (x : ℕ) (same : (r : Region) → (f r).stocks ≡ r.stocks) (again : (r : Region) → of r ≡ x → f r ≡ r) (c : MarkedCampaign) (n : ℕ) where
   -- setting a region's number to what it is already needs no mark (MarksChanges)
-  number_stays : (v : Region) → get c.value.regions n ≡ Some v → of v ≡ x → MarksChanges c (record c { value = record c.value { regions = map.insert c.value.regions n (f v) } })
+  number_stays : (v : Region) → get c.value.regions n ≡ Some v → of v ≡ x
+      → MarksChanges c (record c { value = record c.value { regions = map.insert c.value.regions n (f v) } })
   number_stays v is was =
       let next : MarkedCampaign = record c { value = record c.value { regions = map.insert c.value.regions n (f v) } } in
       part_by_part c next (λ p k h. h)
@@ -352,13 +382,15 @@ module _ (of : Region → ℕ) (f : Region → Region) (x : ℕ) (same : (r : Re
       by_number false was = row-marked f same c n
 
 -- setting the peasants of a region, with its row marked if they were others (`mark_peasants`), marks all that changes
-pub marks-peasants : (c : MarkedCampaign) (n peasants : ℕ) → MarksChanges c (record { value = with_peasants c.value n peasants; marks = mark_peasants c n peasants })
+pub marks-peasants : (c : MarkedCampaign) (n peasants : ℕ)
+    → MarksChanges c (record { value = with_peasants c.value n peasants; marks = mark_peasants c n peasants })
 marks-peasants c n peasants =
     marks-region (λ r. r.peasants) (λ r. record r { peasants = peasants }) peasants (λ r. refl) (λ r was. ap (λ p. record r { peasants = p }) (sym was)) c n
 
 -- setting the money of a region, with its row marked if it was another amount (`mark_region_money`), marks all that
 -- changes
-pub marks-region-money : (c : MarkedCampaign) (n money : ℕ) → MarksChanges c (record { value = with_region_money c.value n money; marks = mark_region_money c n money })
+pub marks-region-money : (c : MarkedCampaign) (n money : ℕ)
+    → MarksChanges c (record { value = with_region_money c.value n money; marks = mark_region_money c n money })
 marks-region-money c n money =
     marks-region (λ r. r.money) (λ r. record r { money = money }) money (λ r. refl) (λ r was. ap (λ m. record r { money = m }) (sym was)) c n
 
@@ -373,20 +405,26 @@ module _ (c : MarkedCampaign) (n item amount : ℕ) where
   abbrev there_after : Region → CampaignValue
   there_after v = with_regions (map.insert c.value.regions n (stocked v))
 
-  unstocked_stays : (v : Region) → get c.value.regions n ≡ Some v → (k : ℕ) → option_map unstocked (get (there_after v).regions k) ≡ option_map unstocked (get c.value.regions k)
+  unstocked_stays : (v : Region) → get c.value.regions n ≡ Some v → (k : ℕ)
+      → option_map unstocked (get (there_after v).regions k) ≡ option_map unstocked (get c.value.regions k)
   unstocked_stays v is k = shown_still (option_map unstocked) c.value.regions n k v (stocked v) is (λ _. refl)
 
-  other_stays : (v : Region) → get c.value.regions n ≡ Some v → (k i : ℕ) → (k ≡ n → i ≢ item) → stock_of (there_after v) k i ≡ stock_of c.value k i
-  other_stays v is k i other = shown_still (in_stock i) c.value.regions n k v (stocked v) is (λ here. set_other v.stocks item amount i (other here))
+  other_stays : (v : Region) → get c.value.regions n ≡ Some v → (k i : ℕ) → (k ≡ n → i ≢ item)
+      → stock_of (there_after v) k i ≡ stock_of c.value k i
+  other_stays v is k i other =
+      shown_still (in_stock i) c.value.regions n k v (stocked v) is
+      (λ here. set_other v.stocks item amount i (other here))
 
-  set_again : (stocks : FinMap nat_cmp ℕ) (i : ℕ) → amount_of stocks item ≡ amount → amount_of (with_amount_of stocks item amount) i ≡ amount_of stocks i
+  set_again : (stocks : FinMap nat_cmp ℕ) (i : ℕ) → amount_of stocks item ≡ amount
+      → amount_of (with_amount_of stocks item amount) i ≡ amount_of stocks i
   set_again stocks i was = amount_after_setting stocks item amount i ∙ by_item (eq_by_cmp nat_cmp i item) refl
     where
       by_item : (b : Bool) → eq_by_cmp nat_cmp i item ≡ b → cond b amount (amount_of stocks i) ≡ amount_of stocks i
       by_item true e = sym was ∙ ap (amount_of stocks) (sym (same_key i item e))
       by_item false e = refl
 
-  stock_stays : (v : Region) → get c.value.regions n ≡ Some v → amount_of v.stocks item ≡ amount → MarksChanges c (record c { value = there_after v })
+  stock_stays : (v : Region) → get c.value.regions n ≡ Some v → amount_of v.stocks item ≡ amount
+      → MarksChanges c (record c { value = there_after v })
   stock_stays v is was =
       let next : MarkedCampaign = record c { value = there_after v } in
       part_by_part c next (λ p k h. h)
@@ -432,23 +470,30 @@ module _ (c : MarkedCampaign) (n item amount : ℕ) where
   after_regions regions marks = MarksChanges c (record { value = with_regions regions; marks = marks })
 
   abbrev item_alone : Option Region → Marks
-  item_alone o = record c.marks { markets = marked_with c.marks.markets n o; stock_items = thing_marked c.marks.stock_items n item o }
+  item_alone o =
+      record c.marks
+      { markets = marked_with c.marks.markets n o; stock_items = thing_marked c.marks.stock_items n item o }
 
   abbrev all_of_region : Option Region → Marks
-  all_of_region o = record c.marks { markets = marked_with c.marks.markets n o; stocks = marked_with c.marks.stocks n o }
+  all_of_region o =
+      record c.marks { markets = marked_with c.marks.markets n o; stocks = marked_with c.marks.stocks n o }
 
   abbrev to_restock : Bool → Option Region
   to_restock b = if b then None else get c.value.regions n
 
   -- setting a stock, with a mark on it alone or on all stocks of its region if the amount changes (MarksStock), marks
   -- all that changes (MarksChanges)
-  pub marks-stock : (m : Marks) → MarksStock c n item amount m → MarksChanges c (record { value = with_stock c.value n item amount; marks = m })
+  pub marks-stock : (m : Marks) → MarksStock c n item amount m
+      → MarksChanges c (record { value = with_stock c.value n item amount; marks = m })
   marks-stock m how = by_amount (stock_of c.value n item == amount) refl
     where
-      was : (v : Region) → get c.value.regions n ≡ Some v → (stock_of c.value n item == amount) ≡ true → amount_of v.stocks item ≡ amount
+      was : (v : Region) → get c.value.regions n ≡ Some v → (stock_of c.value n item == amount) ≡ true
+          → amount_of v.stocks item ≡ amount
       was v is same = sym (ap (in_stock item) is) ∙ is_equal (stock_of c.value n item) amount same
 
-      either : (b : Bool) → (stock_of c.value n item == amount) ≡ b → after_regions (with_changed_value stocked c.value.regions n) (item_alone (to_restock b)) × after_regions (with_changed_value stocked c.value.regions n) (all_of_region (to_restock b))
+      either : (b : Bool) → (stock_of c.value n item == amount) ≡ b
+          → after_regions (with_changed_value stocked c.value.regions n) (item_alone (to_restock b))
+          × after_regions (with_changed_value stocked c.value.regions n) (all_of_region (to_restock b))
       either true same =
           let still = holds_of_changed (λ regions o. after_regions regions c.marks) stocked c.value.regions n (marks-refl c) (λ v is. stock_stays v is (was v is same)) in
           (still, still)
@@ -457,13 +502,15 @@ module _ (c : MarkedCampaign) (n item amount : ℕ) where
         holds_of_changed (λ regions o. after_regions regions (all_of_region o)) stocked c.value.regions n (marks-refl c) stocks_change,
       )
 
-      by_amount : (b : Bool) → (stock_of c.value n item == amount) ≡ b → after_regions (with_changed_value stocked c.value.regions n) m
+      by_amount : (b : Bool) → (stock_of c.value n item == amount) ≡ b
+          → after_regions (with_changed_value stocked c.value.regions n) m
       by_amount b is = elim how [
         | inl e ↦ subst (after_regions (with_changed_value stocked c.value.regions n)) (sym (e ∙ ap (λ k. item_alone (to_restock k)) is)) (either b is).0
         | inr e ↦ subst (after_regions (with_changed_value stocked c.value.regions n)) (sym (e ∙ ap (λ k. all_of_region (to_restock k)) is)) (either b is).1
       ]
 
-pub marks-unit : (c : MarkedCampaign) (units : FinMap nat_cmp Unit) (n : ℕ) → ((k : ℕ) → k ≢ n → get units k ≡ get c.value.units k)
+pub marks-unit : (c : MarkedCampaign) (units : FinMap nat_cmp Unit) (n : ℕ)
+    → ((k : ℕ) → k ≢ n → get units k ≡ get c.value.units k)
     → MarksChanges c (record { value = record c.value { units = units }; marks = mark_unit_added c n })
 marks-unit c units n others =
     let next : MarkedCampaign = record { value = record c.value { units = units }; marks = mark_unit_added c n } in
@@ -483,7 +530,8 @@ marks-unit c units n others =
       | _ ↦ λ k free. refl
     ])
 
-pub marks-amount : (c : MarkedCampaign) (f : BooksEntry) (u : Thing) (z : ℤ) → MarksChanges c (record { value = with_booking c.value f u z; marks = mark_amount c f u })
+pub marks-amount : (c : MarkedCampaign) (f : BooksEntry) (u : Thing) (z : ℤ)
+    → MarksChanges c (record { value = with_booking c.value f u z; marks = mark_amount c f u })
 marks-amount c f u z =
     let next : MarkedCampaign = record { value = with_booking c.value f u z; marks = mark_amount c f u } in
     part_by_part c next

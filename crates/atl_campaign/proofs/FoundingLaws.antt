@@ -44,23 +44,30 @@ use Rattle.atl_records.proofs.BookLaws.{booked-after_booking, booked-no_amounts,
 -- AreKept holds if the lists are those of the units, and the dirty set of the books is empty, with room for all
 -- amounts. AreKept says that the lists are those of the units, and that only amounts of the first `things` things are
 -- marked, with room for all of these.
-pub AreKept-without_marks : (things : ℕ) (units : FinMap nat_cmp Unit) (lists : UnitLists) → AreUnitLists units lists → AreListsAndMarksKept units lists things (record { numbers = set.empty; room = entry_count * things })
-AreKept-without_marks things units lists listed = record { unit_lists = listed; amounts = none_marked things (entry_count * things) (omega arith) }
+pub AreKept-without_marks : (things : ℕ) (units : FinMap nat_cmp Unit) (lists : UnitLists) → AreUnitLists units lists
+    → AreListsAndMarksKept units lists things (record { numbers = set.empty; room = entry_count * things })
+AreKept-without_marks things units lists listed =
+    record { unit_lists = listed; amounts = none_marked things (entry_count * things) (omega arith) }
 
-AreBooks-founding : (things money people : ℕ) → 2 ≤ things → AreBooks things (after_booking (after_booking (no_amounts things) Founding Money (pos money)) Founding People (pos people))
+AreBooks-founding : (things money people : ℕ) → 2 ≤ things
+    → AreBooks things (after_booking (after_booking (no_amounts things) Founding Money (pos money)) Founding People (pos people))
 AreBooks-founding things money people l =
     AreBooks-after_booking things (after_booking (no_amounts things) Founding Money (pos money)) Founding People (pos people) (AreBooks-after_booking things (no_amounts things) Founding Money (pos money) (AreBooks-no_amounts things) (omega arith)) (omega arith)
 
-total_of_no_units_is_zero : (t : Thing) → sum_over (λ (u : Unit). unit_amount t u.holding) (empty {X = Unit} {R = nat_cmp}) ≡ 0
+total_of_no_units_is_zero : (t : Thing)
+    → sum_over (λ (u : Unit). unit_amount t u.holding) (empty {X = Unit} {R = nat_cmp}) ≡ 0
 total_of_no_units_is_zero t = rw (entries-empty {X = Unit}) refl
 
-no_items : (w : WorldValue) (i : ℕ) → sum_over (λ (r : Region). region_amount (Item i) r) (map_values founded_region w.regions) ≡ 0
+no_items : (w : WorldValue) (i : ℕ)
+    → sum_over (λ (r : Region). region_amount (Item i) r) (map_values founded_region w.regions) ≡ 0
 no_items w i =
     let founded = map_values founded_region w.regions in
     let nothing : Every (λ n r. region_amount (Item i) r ≡ 0) founded = every-mapped founded_region (λ n r. region_amount (Item i) r ≡ 0) w.regions (λ n p is. ap (λ o. unwrap_or o 0) (get-empty nat_cmp i)) in
     sum_of_zeros_is_zero (λ (r : Region). region_amount (Item i) r) (entries founded) (each-from_every (λ n r. region_amount (Item i) r ≡ 0) founded nothing)
 
-founding_booked : (things money people : ℕ) (t : Thing) → booked (after_booking (after_booking (no_amounts things) Founding Money (pos money)) Founding People (pos people)) t ≡ booked_for t Money (pos money) +ℤ booked_for t People (pos people)
+founding_booked : (things money people : ℕ) (t : Thing)
+    → booked (after_booking (after_booking (no_amounts things) Founding Money (pos money)) Founding People (pos people)) t
+    ≡ booked_for t Money (pos money) +ℤ booked_for t People (pos people)
 founding_booked things money people t =
     booked-after_booking (after_booking (no_amounts things) Founding Money (pos money)) Founding People (pos people) t
     ∙ ap (λ z. z +ℤ booked_for t People (pos people)) (booked-after_booking (no_amounts things) Founding Money (pos money) t ∙ ap (λ z. z +ℤ booked_for t Money (pos money)) (booked-no_amounts things t) ∙ from_nothing (booked_for t Money (pos money)))
@@ -76,26 +83,36 @@ held_money a m h = omega (arith, ints)
 held_people : (a p : ℕ) → a ≡ 0 → pos (a + p) ≡ pos 0 +ℤ pos p
 held_people a p h = omega (arith, ints)
 
-held_items : (a b i m p : ℕ) → a ≡ 0 → b ≡ 0 → (2 + i == 0) ≡ false → (2 + i == 1) ≡ false → pos (a + b) ≡ cond (2 + i == 0) (pos m) (pos 0) +ℤ cond (2 + i == 1) (pos p) (pos 0)
-held_items a b i m p h g e f = ap (λ n. pos (n + b)) h ∙ ap (λ n. pos (0 + n)) g ∙ sym (ap (λ q. cond q (pos m) (pos 0) +ℤ cond (2 + i == 1) (pos p) (pos 0)) e ∙ ap (λ q. pos 0 +ℤ cond q (pos p) (pos 0)) f)
+held_items : (a b i m p : ℕ) → a ≡ 0 → b ≡ 0 → (2 + i == 0) ≡ false → (2 + i == 1) ≡ false
+    → pos (a + b) ≡ cond (2 + i == 0) (pos m) (pos 0) +ℤ cond (2 + i == 1) (pos p) (pos 0)
+held_items a b i m p h g e f =
+    ap (λ n. pos (n + b)) h ∙ ap (λ n. pos (0 + n)) g
+    ∙ sym
+    (ap (λ q. cond q (pos m) (pos 0) +ℤ cond (2 + i == 1) (pos p) (pos 0)) e ∙ ap (λ q. pos 0 +ℤ cond q (pos p) (pos 0)) f)
 
 pub founded-balances : (w : WorldValue) (pass : List ℕ) → Balances (founded_of w pass)
 unfolding founded_of total
-founded-balances w pass Money = held_money _ _ (total_of_no_units_is_zero Money) ∙ sym (founding_booked (thing_count w) _ _ Money)
-founded-balances w pass People = held_people _ _ (total_of_no_units_is_zero People) ∙ sym (founding_booked (thing_count w) _ _ People)
+founded-balances w pass Money =
+    held_money _ _ (total_of_no_units_is_zero Money) ∙ sym (founding_booked (thing_count w) _ _ Money)
+founded-balances w pass People =
+    held_people _ _ (total_of_no_units_is_zero People) ∙ sym (founding_booked (thing_count w) _ _ People)
 founded-balances w pass (Item i) =
     held_items _ _ i (sum_over (λ (r : Region). region_amount Money r) (map_values founded_region w.regions)) (sum_over (λ (r : Region). region_amount People r) (map_values founded_region w.regions))
     (total_of_no_units_is_zero (Item i)) (no_items w i) (grind (arith, nat_tests)) (grind (arith, nat_tests))
     ∙ sym (founding_booked (thing_count w) _ _ (Item i))
 
 none_within : (things : ℕ) (e : BooksEntry) (t : Thing) → IsWithin 0 (amount_in (no_amounts things) e t)
-none_within things e t = rw (amount-no_amounts things e t) record { most = omega (arith, ints); least = omega (arith, ints) }
+none_within things e t =
+    rw (amount-no_amounts things e t) record { most = omega (arith, ints); least = omega (arith, ints) }
 
-founded_region_in_range : (w : WorldValue) (p : RegionPlan) (terrains items n : ℕ) → IsRegionPlan terrains items n p → IsRegion w n (founded_region p)
-founded_region_in_range w p terrains items n plan = record { peasants = plan.peasants; money = plan.money; stocks = every-empty (λ i amount. (1 ≤ amount) × (amount ≤ stock_limit w n i)) }
+founded_region_in_range : (w : WorldValue) (p : RegionPlan) (terrains items n : ℕ) → IsRegionPlan terrains items n p
+    → IsRegion w n (founded_region p)
+founded_region_in_range w p terrains items n plan =
+    record { peasants = plan.peasants; money = plan.money; stocks = every-empty (λ i amount. (1 ≤ amount) × (amount ≤ stock_limit w n i)) }
 
 numbered_none : {V : Type 0} → IsNumbered (empty {X = V} {R = nat_cmp}) 1
-numbered_none {V} = record { first = get-empty nat_cmp 0; count = ap (λ n. n + 1) (sym (len-empty nat_cmp V)); free = λ n _. get-empty nat_cmp n }
+numbered_none {V} =
+    record { first = get-empty nat_cmp 0; count = ap (λ n. n + 1) (sym (len-empty nat_cmp V)); free = λ n _. get-empty nat_cmp n }
 
 module _ (w : WorldValue) (pass : List ℕ) (world : IsWorld w) where
   abbrev regions : FinMap nat_cmp Region
@@ -171,7 +188,8 @@ module _ (w : WorldValue) (pass : List ℕ) (world : IsWorld w) where
       IsWithin-after_booking one Founding People people money _ (IsWithin-after_booking (no_amounts things) Founding Money money 0 money (none_within things) (omega arith)) (omega arith)
 
   -- a founded campaign is good, if its pass text keeps its rule, and its money and people are at most 10^14
-  pub founded-good : IsTrue (pass_ok pass) → money ≤ 100000000000000 → people ≤ 100000000000000 → IsGood w (founded_of w pass)
+  pub founded-good : IsTrue (pass_ok pass) → money ≤ 100000000000000 → people ≤ 100000000000000
+      → IsGood w (founded_of w pass)
   unfolding founded_of
   founded-good passes few_money few_people = record {
     sound = record {

@@ -47,13 +47,16 @@ use Rattle.atl_world.proofs.GeneralLaws.{is_equal, chosen_is_at_most_next}
 module _ {R V : Type 0} (number : R → ℕ) (value : R → V) where
   -- if P holds for a map's values, and for the value of each row that passes a test, it holds for all values once rows
   -- that pass the test are put in
-  put-every : (P : ℕ → V → Type 0) (p : R → Bool) → ((r : R) → p r ≡ true → P (number r) (value r)) → (rows : List R) (m : FinMap nat_cmp V) → list_all p rows ≡ true → Every P m → Every P (put_rows number value rows m)
+  put-every : (P : ℕ → V → Type 0) (p : R → Bool) → ((r : R) → p r ≡ true → P (number r) (value r))
+      → (rows : List R) (m : FinMap nat_cmp V) → list_all p rows ≡ true → Every P m
+      → Every P (put_rows number value rows m)
   put-every P p each [] m all old = old
   put-every P p each (r ∷ rows) m all old =
       let parts = and_parts (p r) (list_all p rows) all in
       put-every P p each rows (insert m (number r) (value r)) parts.1 (every-insert P m (number r) (value r) (each r parts.0) old)
 
-  pub by_number-every : (P : ℕ → V → Type 0) (p : R → Bool) → ((r : R) → p r ≡ true → P (number r) (value r)) → (rows : List R) → list_all p rows ≡ true → Every P (by_number number value rows)
+  pub by_number-every : (P : ℕ → V → Type 0) (p : R → Bool) → ((r : R) → p r ≡ true → P (number r) (value r))
+      → (rows : List R) → list_all p rows ≡ true → Every P (by_number number value rows)
   by_number-every P p each rows all = put-every P p each rows empty all (every-empty P)
 
   put-len : (rows : List R) (m : FinMap nat_cmp V) → len (put_rows number value rows m) ≤ length rows + len m
@@ -75,7 +78,8 @@ min_high n high most h = grind arith
 
 -- a row's number from low to high is read as a number from low to high, if `most`, the largest number that can be read,
 -- is at least low
-pub in_range : (low high most : ℕ) (z : ℤ) → low ≤ most → is_from low high z ≡ true → (low ≤ clamp most z) × (clamp most z ≤ high)
+pub in_range : (low high most : ℕ) (z : ℤ) → low ≤ most → is_from low high z ≡ true
+    → (low ≤ clamp most z) × (clamp most z ≤ high)
 in_range low high most (pos n) h e =
     let parts = and_parts (nat_le low n) (nat_le n high) e in
     let least : low ≤ n = grind (arith, nat_tests, parts.0) in
@@ -90,14 +94,17 @@ from_le m n h = grind (arith, nat_tests)
 
 -- books of `things` things (AreBooks) stay such books, whether a row's amount is put in (b is true) or left out because
 -- the row's thing is none of theirs
-row_put : (things : ℕ) (books : BooksValue) (e : BooksEntry) (r : StoredBooks) (b : Bool) → nat_lt (as_u32 r.thing) books.things ≡ b → AreBooks things books → AreBooks things (cond b (with_amount books e (thing_at (as_u32 r.thing)) r.amount) books)
+row_put : (things : ℕ) (books : BooksValue) (e : BooksEntry) (r : StoredBooks) (b : Bool)
+    → nat_lt (as_u32 r.thing) books.things ≡ b → AreBooks things books
+    → AreBooks things (cond b (with_amount books e (thing_at (as_u32 r.thing)) r.amount) books)
 row_put things books e r true inside are =
     let few : as_u32 r.thing < books.things = grind (arith, nat_tests) in
     let location = index_of_thing_at (as_u32 r.thing) in
     AreBooks-with_amount books e (thing_at (as_u32 r.thing)) r.amount things are (omega (arith, few, location, are.count))
 row_put things books e r false inside are = are
 
-row_read : (things : ℕ) (books : BooksValue) (r : StoredBooks) → AreBooks things books → AreBooks things (with_books_row books r)
+row_read : (things : ℕ) (books : BooksValue) (r : StoredBooks) → AreBooks things books
+    → AreBooks things (with_books_row books r)
 row_read things books r are =
     let put = λ (e : BooksEntry). cond (nat_lt (as_u32 r.thing) books.things) (with_amount books e (thing_at (as_u32 r.thing)) r.amount) books in
     elim (entry_numbered (as_u32 r.entry)) as (λ o. AreBooks things (option_map_or put o books)) [ None ↦ are | Some e ↦ row_put things books e r (nat_lt (as_u32 r.thing) books.things) refl are ]
@@ -108,7 +115,8 @@ row_unread books r past =
     let put = λ (e : BooksEntry). with_amount books e (thing_at (as_u32 r.thing)) r.amount in
     elim (entry_numbered (as_u32 r.entry)) as (λ o. option_map_or (λ e. cond (nat_lt (as_u32 r.thing) books.things) (put e) books) o books ≡ books) [ None ↦ refl | Some e ↦ ap (λ b. cond b (put e) books) none ]
 
-pub put-books : (things : ℕ) (rows : List StoredBooks) (books : BooksValue) → AreBooks things books → AreBooks things (with_books_rows rows books)
+pub put-books : (things : ℕ) (rows : List StoredBooks) (books : BooksValue) → AreBooks things books
+    → AreBooks things (with_books_rows rows books)
 put-books things [] books are = are
 put-books things (r ∷ rows) books are = put-books things rows (with_books_row books r) (row_read things books r are)
 
@@ -117,16 +125,20 @@ put-books things (r ∷ rows) books are = put-books things rows (with_books_row 
 abbrev IsStockInRange : WorldValue → ℕ → StoredMarket → Type 0
 IsStockInRange w n m = (1 ≤ as_u32 m.stock) × (as_u32 m.stock ≤ stock_limit w n (as_u32 m.item))
 
-row_stock_in_range : (w : WorldValue) (n : ℕ) (m : StoredMarket) → market_in_range w m ≡ true → (as_u32 m.region == n) ≡ true → IsStockInRange w n m
+row_stock_in_range : (w : WorldValue) (n : ℕ) (m : StoredMarket) → market_in_range w m ≡ true
+    → (as_u32 m.region == n) ≡ true → IsStockInRange w n m
 row_stock_in_range w n m range of =
     subst (λ k. IsStockInRange w k m) (is_equal (as_u32 m.region) n of) (in_range 1 (stock_limit w (as_u32 m.region) (as_u32 m.item)) most_u32 m.stock (omega arith) range)
 
-stocks_in_range : (w : WorldValue) (n : ℕ) (markets : List StoredMarket) → list_all (market_in_range w) markets ≡ true → Every (λ i amount. (1 ≤ amount) × (amount ≤ stock_limit w n i)) (stocks_of n markets)
+stocks_in_range : (w : WorldValue) (n : ℕ) (markets : List StoredMarket) → list_all (market_in_range w) markets ≡ true
+    → Every (λ i amount. (1 ≤ amount) × (amount ≤ stock_limit w n i)) (stocks_of n markets)
 stocks_in_range w n markets all =
     every_by (λ m. as_u32 m.item) (λ m. as_u32 m.stock) (λ i amount. (1 ≤ amount) × (amount ≤ stock_limit w n i)) (filter (λ m. as_u32 m.region == n) markets)
     (kept (λ m. as_u32 m.region == n) (IsStockInRange w n) markets (each_passes (market_in_range w) (λ m. (as_u32 m.region == n) ≡ true → IsStockInRange w n m) (row_stock_in_range w n) markets all))
 
-region_ranges : (w : WorldValue) (markets : List StoredMarket) (r : StoredRegion) → list_all (market_in_range w) markets ≡ true → region_in_range r ≡ true → IsRegion w (as_u32 r.number) (region_of markets r)
+region_ranges : (w : WorldValue) (markets : List StoredMarket) (r : StoredRegion)
+    → list_all (market_in_range w) markets ≡ true → region_in_range r ≡ true
+    → IsRegion w (as_u32 r.number) (region_of markets r)
 region_ranges w markets r all h =
     let parts = and_parts (is_from 0 most_amount r.peasants) (is_from 0 most_amount r.money) h in
     record {
@@ -135,7 +147,8 @@ region_ranges w markets r all h =
       stocks = stocks_in_range w (as_u32 r.number) markets all;
     }
 
-structure_ranges : (w : WorldValue) (r : StoredStructure) → structure_in_range w r ≡ true → (1 ≤ (structure_of r).done) × ((structure_of r).done ≤ size_of w (structure_of r).kind)
+structure_ranges : (w : WorldValue) (r : StoredStructure) → structure_in_range w r ≡ true
+    → (1 ≤ (structure_of r).done) × ((structure_of r).done ≤ size_of w (structure_of r).kind)
 structure_ranges w r h =
     let size = size_of w (as_u16 r.kind) in
     in_range 1 size most_u32 r.done (omega arith) (and_parts (is_from 1 most_structures r.number) (is_from 1 size r.done) h).1
@@ -157,7 +170,8 @@ unit_ranges r h =
     let inner = and_parts number men middle.0 in
     record { number = inner.0; men = inner.1; money = middle.1; guard = outer.1 }
 
-unit_ranges_read : (has : List StoredHas) (r : StoredUnit) → list_all has_in_range has ≡ true → unit_in_range r ≡ true → (1 ≤ as_u32 r.number) × IsHolding (unit_of has r).holding
+unit_ranges_read : (has : List StoredHas) (r : StoredUnit) → list_all has_in_range has ≡ true → unit_in_range r ≡ true
+    → (1 ≤ as_u32 r.number) × IsHolding (unit_of has r).holding
 unit_ranges_read has r all h =
     let ranges = unit_ranges r h in (
       (in_range 1 last_unit most_u32 r.number (omega arith) ranges.number).0,

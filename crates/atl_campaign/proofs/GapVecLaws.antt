@@ -5,7 +5,8 @@ use Rattle.std.specs.List.{insert, remove, copy_within}
 
 -- a list from index `at` on is the copies, and then the old elements that follow their place, once its elements from
 -- index `from` to `to` are copied to `at`
-list_after_copy : {A : Type 0} (xs : List A) (from to at : ℕ) → at ≤ length xs → drop at (copy_within xs from to at) ≡ take (to - from) (drop from xs) ++ drop (at + (to - from)) xs
+list_after_copy : {A : Type 0} (xs : List A) (from to at : ℕ) → at ≤ length xs
+    → drop at (copy_within xs from to at) ≡ take (to - from) (drop from xs) ++ drop (at + (to - from)) xs
 list_after_copy xs from to at l =
     ap (drop at) (append_assoc (take at xs) (take (to - from) (drop from xs)) (drop (at + (to - from)) xs))
     ∙ drop_at (take at xs) (take (to - from) (drop from xs) ++ drop (at + (to - from)) xs) at (length-take-le at xs l)
@@ -17,14 +18,17 @@ module _ {A : Type 0} (xs : List A) (free position : ℕ) where
   count = omega arith
 
   -- moving the elements between the free slots and an index up by one removes the element at that index from the list
-  pub closed : free + position < length xs → drop (free + 1) (copy_within xs free (free + position) (free + 1)) ≡ remove (drop free xs) position
+  pub closed : free + position < length xs
+      → drop (free + 1) (copy_within xs free (free + position) (free + 1)) ≡ remove (drop free xs) position
   closed l =
       let after : free + 1 + position ≡ free + suc position = omega arith in
       rw (list_after_copy xs free (free + position) (free + 1) (omega arith), count, after) (ap (λ ys. take position (drop free xs) ++ ys) (sym (drop-drop (suc position) free xs)))
 
   -- where a slot is free, moving the elements before an index down by one, and putting x into the gap, inserts x into
   -- the list at that index
-  pub opened : (x : A) → 0 < free → free + position ≤ length xs → drop (free - 1) (set (copy_within xs free (free + position) (free - 1)) (free - 1 + position) x) ≡ insert (drop free xs) position x
+  pub opened : (x : A) → 0 < free → free + position ≤ length xs
+      → drop (free - 1) (set (copy_within xs free (free + position) (free - 1)) (free - 1 + position) x)
+      ≡ insert (drop free xs) position x
   opened x some l =
       let after : free - 1 + position + 1 ≡ free + position = omega arith in
       let long : position ≤ length (drop free xs) = omega (arith, length-drop free xs) in
@@ -35,9 +39,12 @@ module _ {A : Type 0} (xs : List A) (free position : ℕ) where
   removed l =
       let long : free ≤ length (take (free + position) xs) = omega (arith, length-take-le (free + position) xs l) in
       let after : suc (free + position) ≡ free + suc position = omega arith in
-      drop-append-le free (take (free + position) xs) (drop (suc (free + position)) xs) long ∙ rw (drop-take free position xs, after) (ap (λ ys. take position (drop free xs) ++ ys) (sym (drop-drop (suc position) free xs)))
+      drop-append-le free (take (free + position) xs) (drop (suc (free + position)) xs) long
+      ∙ rw (drop-take free position xs, after) (ap (λ ys. take position (drop free xs) ++ ys) (sym (drop-drop (suc position) free xs)))
 
-  pub inserted : (x : A) → free + position ≤ length xs → drop free (insert xs (free + position) x) ≡ insert (drop free xs) position x
+  pub inserted : (x : A) → free + position ≤ length xs
+      → drop free (insert xs (free + position) x) ≡ insert (drop free xs) position x
   inserted x l =
       let long : free ≤ length (take (free + position) xs) = omega (arith, length-take-le (free + position) xs l) in
-      drop-append-le free (take (free + position) xs) (x ∷ drop (free + position) xs) long ∙ rw (drop-take free position xs) (ap (λ ys. take position (drop free xs) ++ x ∷ ys) (sym (drop-drop position free xs)))
+      drop-append-le free (take (free + position) xs) (x ∷ drop (free + position) xs) long
+      ∙ rw (drop-take free position xs) (ap (λ ys. take position (drop free xs) ++ x ∷ ys) (sym (drop-drop position free xs)))

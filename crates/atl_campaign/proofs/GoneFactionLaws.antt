@@ -110,7 +110,8 @@ module _ (c : CampaignValue) (n : ℕ) (x : Faction) (is : get c.factions n ≡ 
   count-gone = ap (λ (d : CampaignValue). len d.factions) gone-known ∙ same_len c.factions n x (as_gone x) is
 
   was_there : (k : ℕ) → HasValue factions k → HasValue c.factions k
-  was_there k (f, here) = every-insert (λ k f. HasValue c.factions k) c.factions n (as_gone x) (x, is) (λ k f here. (f, here)) k f here
+  was_there k (f, here) =
+      every-insert (λ k f. HasValue c.factions k) c.factions n (as_gone x) (x, is) (λ k f here. (f, here)) k f here
 
   pub known-gone : (k : ℕ) → HasValue (with_gone c n).factions k → HasValue c.factions k
   known-gone k h = was_there k (subst (λ (d : CampaignValue). HasValue d.factions k) gone-known h)
@@ -119,7 +120,8 @@ module _ (c : CampaignValue) (n : ℕ) (x : Faction) (is : get c.factions n ≡ 
   get-gone = ap (λ (d : CampaignValue). get d.factions n) gone-known ∙ get-insert_same c.factions n (as_gone x)
 
   pub get-gone_other : (k : ℕ) → k ≢ n → get (with_gone c n).factions k ≡ get c.factions k
-  get-gone_other k apart = ap (λ (d : CampaignValue). get d.factions k) gone-known ∙ get-insert_other c.factions n k (as_gone x) apart
+  get-gone_other k apart =
+      ap (λ (d : CampaignValue). get d.factions k) gone-known ∙ get-insert_other c.factions n k (as_gone x) apart
 
 pub none-gone : (c : CampaignValue) (n : ℕ) → get c.factions n ≡ None → with_gone c n ≡ c
 none-gone c n is = ap (λ o. record c { factions = with_changed_option as_gone c.factions n o }) is
@@ -128,5 +130,6 @@ pub total-gone : (c : CampaignValue) (n : ℕ) (t : Thing) → total (with_gone 
 unfolding total
 total-gone c n t = refl
 
-pub marks-gone_faction : (c : MarkedCampaign) (n : ℕ) → MarksChanges c (record { value = with_gone c.value n; marks = mark_faction c n })
+pub marks-gone_faction : (c : MarkedCampaign) (n : ℕ)
+    → MarksChanges c (record { value = with_gone c.value n; marks = mark_faction c n })
 marks-gone_faction = marks-faction as_gone

@@ -20,10 +20,14 @@ use Rattle.atl_records.proofs.EveryLaws.{every-empty, every-insert, there-new, t
 
 -- ---- mail and reports
 
-pub posted-there : {factions later : FinMap nat_cmp Faction} {mail reports : FinMap nat_cmp (List ℕ)} → ((n : ℕ) → HasValue factions n → HasValue later n) → AreOfFactions factions mail reports → AreOfFactions later mail reports
-posted-there stays posts = record { mail = λ n text is. stays n (posts.mail n text is); reports = λ n text is. stays n (posts.reports n text is) }
+pub posted-there : {factions later : FinMap nat_cmp Faction} {mail reports : FinMap nat_cmp (List ℕ)}
+    → ((n : ℕ) → HasValue factions n → HasValue later n) → AreOfFactions factions mail reports
+    → AreOfFactions later mail reports
+posted-there stays posts =
+    record { mail = λ n text is. stays n (posts.mail n text is); reports = λ n text is. stays n (posts.reports n text is) }
 
-pub posted-unsent : {factions : FinMap nat_cmp Faction} {mail reports : FinMap nat_cmp (List ℕ)} → AreOfFactions factions mail reports → AreOfFactions factions empty reports
+pub posted-unsent : {factions : FinMap nat_cmp Faction} {mail reports : FinMap nat_cmp (List ℕ)}
+    → AreOfFactions factions mail reports → AreOfFactions factions empty reports
 posted-unsent posts = record { mail = every-empty _; reports = posts.reports }
 
 pub AreOfFactions-empty : {factions : FinMap nat_cmp Faction} → AreOfFactions factions empty empty
@@ -50,11 +54,13 @@ module _ (w : WorldValue) (c : CampaignValue) (month : ℕ) (mail reports : FinM
   }
 
   posted-names : AreNamed c → AreNamed posted
-  posted-names old = record { pass = old.pass; factions = old.factions; joined = old.joined; units = old.units; structures = old.structures }
+  posted-names old =
+      record { pass = old.pass; factions = old.factions; joined = old.joined; units = old.units; structures = old.structures }
 
   module _ (early : month ≤ last_month) (posts : AreOfFactions c.factions mail reports) where
     posted-known : AreKnown w c → AreKnown w posted
-    posted-known old = record { regions = old.regions; markets = old.markets; units = old.units; structures = old.structures; posts = posts }
+    posted-known old =
+        record { regions = old.regions; markets = old.markets; units = old.units; structures = old.structures; posts = posts }
 
     -- the campaign stays steady with the given month, up to last_month, and the given mail and reports of its factions
     pub posted-steady : IsSteady w c → IsSteady w posted
@@ -70,7 +76,8 @@ module _ (w : WorldValue) (c : CampaignValue) (month : ℕ) (mail reports : FinM
       guarded = old.guarded;
     }
 
-posted-sound : (w : WorldValue) (c : CampaignValue) (mail reports : FinMap nat_cmp (List ℕ)) → AreOfFactions c.factions mail reports
+posted-sound : (w : WorldValue) (c : CampaignValue) (mail reports : FinMap nat_cmp (List ℕ))
+    → AreOfFactions c.factions mail reports
     → Every (λ n text. IsMailingOf n text × IsActive c n) mail → IsSound w c → IsSound w (record c { mail = mail; reports = reports })
 unfolding total
 posted-sound w c mail reports posts sent old = record {
@@ -82,35 +89,44 @@ posted-sound w c mail reports posts sent old = record {
   mail = sent;
 }
 
-pub IsSound-with_report : (w : WorldValue) (c : CampaignValue) (faction : ℕ) (text : List ℕ) → HasValue c.factions faction → IsSound w c → IsSound w (with_report c faction text)
+pub IsSound-with_report : (w : WorldValue) (c : CampaignValue) (faction : ℕ) (text : List ℕ)
+    → HasValue c.factions faction → IsSound w c → IsSound w (with_report c faction text)
 IsSound-with_report w c faction text there old =
     let posts = old.steady.known.posts in
     posted-sound w c c.mail (insert c.reports faction text) (record { mail = posts.mail; reports = every-insert (λ n text. HasValue c.factions n) c.reports faction text there posts.reports }) old.mail old
 
-pub IsGood-with_report : (w : WorldValue) (c : CampaignValue) (faction : ℕ) (text : List ℕ) → HasValue c.factions faction → IsGood w c → IsGood w (with_report c faction text)
+pub IsGood-with_report : (w : WorldValue) (c : CampaignValue) (faction : ℕ) (text : List ℕ)
+    → HasValue c.factions faction → IsGood w c → IsGood w (with_report c faction text)
 IsGood-with_report w c faction text there good = record {
   sound = IsSound-with_report w c faction text there good.sound;
   reported = λ n f is. there-insert c.reports faction n text (good.reported n f is);
 }
 
-pub IsGood-with_mail : (w : WorldValue) (c : CampaignValue) (faction : ℕ) (text : List ℕ) → IsMailingOf faction text → IsActive c faction → IsGood w c → IsGood w (with_mail c faction text)
+pub IsGood-with_mail : (w : WorldValue) (c : CampaignValue) (faction : ℕ) (text : List ℕ) → IsMailingOf faction text
+    → IsActive c faction → IsGood w c → IsGood w (with_mail c faction text)
 IsGood-with_mail w c faction text sent active good =
     let posts = good.sound.steady.known.posts in
     let (f, there, stays) = active in
     record {
-      sound = posted-sound w c (insert c.mail faction text) c.reports (record { mail = every-insert (λ n text. HasValue c.factions n) c.mail faction text (f, there) posts.mail; reports = posts.reports })
+      sound =
+          posted-sound w c (insert c.mail faction text) c.reports
+          (record { mail = every-insert (λ n text. HasValue c.factions n) c.mail faction text (f, there) posts.mail; reports = posts.reports })
           (every-insert (λ n text. IsMailingOf n text × IsActive c n) c.mail faction text (sent, active) good.sound.mail) good.sound;
       reported = good.reported;
     }
 
 -- for IsGood-joined: if a join answers Ok y, it was not refused, so y is x, the joined campaign with the new numbers
-joined_answer : (taken full : Bool) (x y : CampaignValue × (ℕ × ℕ)) → ◌≡◌ {A = Result (CampaignValue × (ℕ × ℕ)) JoinFault} (cond taken (Err NameTaken) (cond full (Err Full) (Ok x))) (Ok y) → x ≡ y
+joined_answer : (taken full : Bool) (x y : CampaignValue × (ℕ × ℕ))
+    → ◌≡◌ {A = Result (CampaignValue × (ℕ × ℕ)) JoinFault} (cond taken (Err NameTaken) (cond full (Err Full) (Ok x))) (Ok y)
+    → x ≡ y
 joined_answer true full x y e = cc
 joined_answer false true x y e = cc
 joined_answer false false x y e = cc
 
 -- a campaign that was good before a faction joined, and is sound after, is good once a report of that faction is stored
-pub IsGood-joined : (w : WorldValue) (name pass : List ℕ) (word : ℕ) (c d : CampaignValue) (faction unit : ℕ) (text : List ℕ) → join_of w name pass word c ≡ Ok (d, (faction, unit)) → IsGood w c → IsSound w d → IsGood w (with_report d faction text)
+pub IsGood-joined : (w : WorldValue) (name pass : List ℕ) (word : ℕ) (c d : CampaignValue) (faction unit : ℕ) (text : List ℕ)
+    → join_of w name pass word c ≡ Ok (d, (faction, unit)) → IsGood w c → IsSound w d
+    → IsGood w (with_report d faction text)
 unfolding join_of after_join
 IsGood-joined w name pass word c d faction unit text is good sound =
     let same = joined_answer (name_taken c name) (is_full c) (after_join w name pass word c, (c.next_faction, c.next_unit)) (d, (faction, unit)) is in

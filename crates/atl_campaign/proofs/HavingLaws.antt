@@ -25,7 +25,8 @@ pub record MayHave (w : WorldValue) (h : HoldingValue) : Type 0 where
   pub skills : Every (λ s days. s < length w.skills) h.days
   pub days : Every (λ s days. (1 ≤ days) × (days ≤ most_days * h.men)) h.days
 
-pub may_have : (w : WorldValue) (c : CampaignValue) (n : ℕ) (u : Unit) → get c.units n ≡ Some u → IsSteady w c → MayHave w u.holding
+pub may_have : (w : WorldValue) (c : CampaignValue) (n : ℕ) (u : Unit) → get c.units n ≡ Some u → IsSteady w c
+    → MayHave w u.holding
 may_have w c n u is steady =
     let location = steady.known.units n u is in
     record { limits = (steady.numbers.units n u is).1; name = steady.names.units n u is; items = location.items; skills = location.skills; days = steady.days n u is }

@@ -42,7 +42,8 @@ pub record MayHaveWithoutNewGuard (w : WorldValue) (u : Unit) (h : HoldingValue)
 
 -- a unit of a steady campaign may get any money up to holding_limit, with the rest of its holding unchanged
 -- (MayHaveWithoutNewGuard)
-pub may_hold_money : (w : WorldValue) (c : CampaignValue) (n money : ℕ) (u : Unit) → get c.units n ≡ Some u → money ≤ holding_limit → IsSteady w c → MayHaveWithoutNewGuard w u (record u.holding { money = money })
+pub may_hold_money : (w : WorldValue) (c : CampaignValue) (n money : ℕ) (u : Unit) → get c.units n ≡ Some u
+    → money ≤ holding_limit → IsSteady w c → MayHaveWithoutNewGuard w u (record u.holding { money = money })
 may_hold_money w c n money u is most steady =
     let location = steady.known.units n u is in
     let holding = (steady.numbers.units n u is).1 in
@@ -86,7 +87,8 @@ module _ (w : WorldValue) (c : CampaignValue) (n : ℕ) (u : Unit) (h : HoldingV
     books = old.books;
   }
 
-  pub known_kept : Every (λ i amount. i < length w.items) h.items → Every (λ s days. s < length w.skills) h.days → AreKnown w c → AreKnown w with_new_holding
+  pub known_kept : Every (λ i amount. i < length w.items) h.items → Every (λ s days. s < length w.skills) h.days
+      → AreKnown w c → AreKnown w with_new_holding
   known_kept items skills old = record {
     regions = old.regions;
     markets = old.markets;
@@ -105,9 +107,11 @@ module _ (w : WorldValue) (c : CampaignValue) (n : ℕ) (u : Unit) (h : HoldingV
   }
 
   gone_kept : GoneHaveNone c → GoneHaveNone with_new_holding
-  gone_kept old m f there gone = numbers_where-insert_known (λ x. x.faction == m) c.units n u new_unit is refl ∙ old m f there gone
+  gone_kept old m f there gone =
+      numbers_where-insert_known (λ x. x.faction == m) c.units n u new_unit is refl ∙ old m f there gone
 
-  inside_still : (k m : ℕ) → (x : Unit) × (get c.units k ≡ Some x) × (x.structure ≡ m) → (x : Unit) × (get with_new_holding.units k ≡ Some x) × (x.structure ≡ m)
+  inside_still : (k m : ℕ) → (x : Unit) × (get c.units k ≡ Some x) × (x.structure ≡ m)
+      → (x : Unit) × (get with_new_holding.units k ≡ Some x) × (x.structure ≡ m)
   inside_still k m (x, there, inside) =
       elim (nat_cmp k n) as (λ o. nat_cmp k n ≡ o → (y : Unit) × (get with_new_holding.units k ≡ Some y) × (y.structure ≡ m)) [
         | Less ↦ λ o. (x, get-insert_other c.units n k new_unit (λ same. let l = ranked k n Less (sym o) in absurd (omega arith)) ∙ there, inside)
@@ -178,7 +182,8 @@ module _ (w : WorldValue) (c : CampaignValue) (n : ℕ) (u : Unit) (h : HoldingV
 abbrev goods_of : Unit → FinMap nat_cmp ℕ × FinMap nat_cmp ℕ
 goods_of u = (u.holding.items, u.holding.days)
 
-pub marks-unit_row : (f : Unit → Unit) → ((u : Unit) → goods_of (f u) ≡ goods_of u) → (c : MarkedCampaign) (n : ℕ) → MarksChanges c (record { value = unit_changed f c.value n; marks = mark_unit_row c n })
+pub marks-unit_row : (f : Unit → Unit) → ((u : Unit) → goods_of (f u) ≡ goods_of u) → (c : MarkedCampaign) (n : ℕ)
+    → MarksChanges c (record { value = unit_changed f c.value n; marks = mark_unit_row c n })
 marks-unit_row f same c n =
     let after : FinMap nat_cmp Unit → Option Unit → MarkedCampaign = λ m o. record { value = record c.value { units = m }; marks = record c.marks { units = marked_with c.marks.units n o; rows = marked_with c.marks.rows n o } } in
     holds_of_changed (λ m o. MarksChanges c (after m o)) f c.value.units n (marks-refl c) (λ u is.
@@ -197,9 +202,11 @@ module _ (c : MarkedCampaign) (n item amount : ℕ) where
   with_other u = record u { holding = record u.holding { items = with_amount_of u.holding.items item amount } }
 
   abbrev after_item : FinMap nat_cmp Unit → Option Unit → MarkedCampaign
-  after_item units o = record { value = record c.value { units = units }; marks = record c.marks { units = marked_with c.marks.units n o; items = thing_marked c.marks.items n item o } }
+  after_item units o =
+      record { value = record c.value { units = units }; marks = record c.marks { units = marked_with c.marks.units n o; items = thing_marked c.marks.items n item o } }
 
-  other_amount : (u : Unit) → get c.value.units n ≡ Some u → MarksChanges c (after_item (insert c.value.units n (with_other u)) (Some u))
+  other_amount : (u : Unit) → get c.value.units n ≡ Some u
+      → MarksChanges c (after_item (insert c.value.units n (with_other u)) (Some u))
   other_amount u is =
       let next = after_item (insert c.value.units n (with_other u)) (Some u) in
       part_by_part c next
@@ -212,15 +219,19 @@ module _ (c : MarkedCampaign) (n item amount : ℕ) where
       ])
 
   pub marks-item : MarksChanges c (record { value = with_item c.value n item amount; marks = mark_item c n item amount })
-  marks-item = holds_of_changed (λ units o. MarksChanges c (after_item units (unit_if_other_amount item amount o))) with_other c.value.units n (marks-refl c) (λ u is. by_amount u is (has_amount u.holding.items item amount) refl)
+  marks-item =
+      holds_of_changed (λ units o. MarksChanges c (after_item units (unit_if_other_amount item amount o))) with_other
+      c.value.units n (marks-refl c) (λ u is. by_amount u is (has_amount u.holding.items item amount) refl)
     where
-      by_amount : (u : Unit) → get c.value.units n ≡ Some u → (b : Bool) → has_amount u.holding.items item amount ≡ b → MarksChanges c (after_item (insert c.value.units n (with_other u)) (if b then None else Some u))
+      by_amount : (u : Unit) → get c.value.units n ≡ Some u → (b : Bool) → has_amount u.holding.items item amount ≡ b
+          → MarksChanges c (after_item (insert c.value.units n (with_other u)) (if b then None else Some u))
       by_amount u is true has =
           let same : with_other u ≡ u = ap (λ items. record u { holding = record u.holding { items = items } }) (set_again u.holding.items item amount has) in
           subst (λ units. MarksChanges c (after_item units None)) (sym (put_same c.value.units n u (with_other u) is same)) (marks-refl c)
       by_amount u is false other = other_amount u is
 
-pub marks-skill : (c : MarkedCampaign) (n skill days : ℕ) → MarksChanges c (record { value = with_skill c.value n skill days; marks = mark_skill c n skill })
+pub marks-skill : (c : MarkedCampaign) (n skill days : ℕ)
+    → MarksChanges c (record { value = with_skill c.value n skill days; marks = mark_skill c n skill })
 marks-skill c n skill days =
     let with_other : Unit → Unit = λ u. record u { holding = record u.holding { days = with_amount_of u.holding.days skill days } } in
     let after : FinMap nat_cmp Unit → Option Unit → MarkedCampaign = λ m o. record { value = record c.value { units = m }; marks = record c.marks { units = marked_with c.marks.units n o; skills = thing_marked c.marks.skills n skill o } } in

@@ -69,7 +69,9 @@ module _ {X : Type 0} where
   rest_none false x o h = h
 
   -- for find-insert: looking up q gives the same, whichever of two entries with different numbers n and m comes first
-  turned : (q n m : ℕ) (v w o : Option X) → eq_by_cmp nat_cmp n m ≡ false → cond (eq_by_cmp nat_cmp q m) w (cond (eq_by_cmp nat_cmp q n) v o) ≡ cond (eq_by_cmp nat_cmp q n) v (cond (eq_by_cmp nat_cmp q m) w o)
+  turned : (q n m : ℕ) (v w o : Option X) → eq_by_cmp nat_cmp n m ≡ false
+      → cond (eq_by_cmp nat_cmp q m) w (cond (eq_by_cmp nat_cmp q n) v o)
+      ≡ cond (eq_by_cmp nat_cmp q n) v (cond (eq_by_cmp nat_cmp q m) w o)
   turned q n m v w o apart =
       elim (eq_by_cmp nat_cmp q n) as (λ b. eq_by_cmp nat_cmp q n ≡ b → cond (eq_by_cmp nat_cmp q m) w (cond b v o) ≡ cond b v (cond (eq_by_cmp nat_cmp q m) w o)) [
         | true ↦ λ e. ap (λ k. cond (eq_by_cmp nat_cmp k m) w v) (same_key q n e) ∙ ap (λ b. cond b w v) apart
@@ -78,15 +80,19 @@ module _ {X : Type 0} where
 
   -- once an entry with a new number n is inserted at any index, looking up n finds its value, and looking up another
   -- number finds what it found before
-  find-insert : (es : List (ℕ × X)) (i n : ℕ) (v : X) (q : ℕ) → find nat_cmp n es ≡ None → find nat_cmp q (insert es i (n, v)) ≡ cond (eq_by_cmp nat_cmp q n) (Some v) (find nat_cmp q es)
+  find-insert : (es : List (ℕ × X)) (i n : ℕ) (v : X) (q : ℕ) → find nat_cmp n es ≡ None
+      → find nat_cmp q (insert es i (n, v)) ≡ cond (eq_by_cmp nat_cmp q n) (Some v) (find nat_cmp q es)
   find-insert es zero n v q h = refl
   find-insert [] (suc i) n v q h = refl
   find-insert (e ∷ es) (suc i) n v q h =
-      ap (cond (eq_by_cmp nat_cmp q e.0) (Some e.1)) (find-insert es i n v q (rest_none _ _ _ h)) ∙ turned q n e.0 (Some v) (Some e.1) (find nat_cmp q es) (first_apart _ _ _ h)
+      ap (cond (eq_by_cmp nat_cmp q e.0) (Some e.1)) (find-insert es i n v q (rest_none _ _ _ h))
+      ∙ turned q n e.0 (Some v) (Some e.1) (find nat_cmp q es) (first_apart _ _ _ h)
 
-  from_entries-insert : (es : List (ℕ × X)) (i n : ℕ) (v : X) → finmap.get (from_entries {R = nat_cmp} es) n ≡ None → from_entries {R = nat_cmp} (insert es i (n, v)) ≡ finmap.insert (from_entries es) n v
+  from_entries-insert : (es : List (ℕ × X)) (i n : ℕ) (v : X) → finmap.get (from_entries {R = nat_cmp} es) n ≡ None
+      → from_entries {R = nat_cmp} (insert es i (n, v)) ≡ finmap.insert (from_entries es) n v
   from_entries-insert es i n v h = finmap.same_map nat_cmp_total nat_cmp-IsAntisymmetric _ _ (λ q.
-      finmap.get-from_entries nat_cmp_total (insert es i (n, v)) q ∙ find-insert es i n v q (sym (finmap.get-from_entries nat_cmp_total es n) ∙ h)
+      finmap.get-from_entries nat_cmp_total (insert es i (n, v)) q
+      ∙ find-insert es i n v q (sym (finmap.get-from_entries nat_cmp_total es n) ∙ h)
       ∙ sym (finmap.get-insert nat_cmp_total (from_entries es) n v q ∙ ap (cond (eq_by_cmp nat_cmp q n) (Some v)) (finmap.get-from_entries nat_cmp_total es q)))
 
 -- ---- what the index has under a number
@@ -95,58 +101,76 @@ pub not_some_is_none : {X : Type 0} (o : Option X) → is_some o ≡ false → o
 not_some_is_none None h = refl
 not_some_is_none (Some x) h = absurd (false≢true (sym h))
 
-unlisted : (ps : List IndexEntry) (n : ℕ) → set.contains {R = nat_cmp} (set.from_list (index_numbers ps)) n ≡ false → finmap.get (as_map ps) n ≡ None
+unlisted : (ps : List IndexEntry) (n : ℕ) → set.contains {R = nat_cmp} (set.from_list (index_numbers ps)) n ≡ false
+    → finmap.get (as_map ps) n ≡ None
 unlisted ps n h =
     finmap.get-from_entries nat_cmp_total (slots_of ps) n
     ∙ not_some_is_none _ (is_some-find nat_cmp n (slots_of ps) ∙ ap (list_any (eq_by_cmp nat_cmp n)) (keys_are ps) ∙ sym (set.contains-from_list nat_cmp_total (index_numbers ps) n) ∙ h)
 
-pub get-belongs : (ps : List IndexEntry) (n i : ℕ) → IsSortedIndex ps → BelongsAt (index_numbers ps) n i → finmap.get (as_map ps) n ≡ None
+pub get-belongs : (ps : List IndexEntry) (n i : ℕ) → IsSortedIndex ps → BelongsAt (index_numbers ps) n i
+    → finmap.get (as_map ps) n ≡ None
 get-belongs ps n i s b = unlisted ps n (contains-belongs (index_numbers ps) n i s b)
 
 removed_is_absent : (t : set.FinSet nat_cmp) (n : ℕ) → set.contains (set.remove t n) n ≡ false
 removed_is_absent t n = set.contains-remove nat_cmp_total t n n ∙ ap (λ b. not b && set.contains t n) (key_itself n)
 
-removed_entry_is_absent : (ps : List IndexEntry) (n i : ℕ) → IsSortedIndex ps → IsAt (index_numbers ps) n i → finmap.get (as_map (remove ps i)) n ≡ None
+removed_entry_is_absent : (ps : List IndexEntry) (n i : ℕ) → IsSortedIndex ps → IsAt (index_numbers ps) n i
+    → finmap.get (as_map (remove ps i)) n ≡ None
 removed_entry_is_absent ps n i s h =
     unlisted (remove ps i) n (ap (λ ns. set.contains {R = nat_cmp} (set.from_list ns) n) (map-remove (λ (p : IndexEntry). p.number) ps i) ∙ ap (λ t. set.contains t n) (from_list-remove (index_numbers ps) n i s h) ∙ removed_is_absent (set.from_list (index_numbers ps)) n)
 
 index_is_within : (ps : List IndexEntry) (n i : ℕ) → IsAt (index_numbers ps) n i → i < length ps
 index_is_within ps n i h = let size = length-map ps (λ (p : IndexEntry). p.number) in let l = h.within in omega (arith, size, l)
 
-number_at_index : (ps : List IndexEntry) (n i : ℕ) (d : IndexEntry) → IsAt (index_numbers ps) n i → (get_or ps i d).number ≡ n
+number_at_index : (ps : List IndexEntry) (n i : ℕ) (d : IndexEntry) → IsAt (index_numbers ps) n i
+    → (get_or ps i d).number ≡ n
 number_at_index ps n i d h =
-    sym (get_or-map (λ (p : IndexEntry). p.number) ps i d d.number (index_is_within ps n i h)) ∙ get_or_default (index_numbers ps) i d.number 0 h.within ∙ h.number_there
+    sym (get_or-map (λ (p : IndexEntry). p.number) ps i d d.number (index_is_within ps n i h))
+    ∙ get_or_default (index_numbers ps) i d.number 0 h.within ∙ h.number_there
 
-put_again : (ps : List IndexEntry) (n i : ℕ) (d : IndexEntry) → IsSortedIndex ps → IsAt (index_numbers ps) n i → as_map ps ≡ finmap.insert (as_map (remove ps i)) n (get_or ps i d).slot
+put_again : (ps : List IndexEntry) (n i : ℕ) (d : IndexEntry) → IsSortedIndex ps → IsAt (index_numbers ps) n i
+    → as_map ps ≡ finmap.insert (as_map (remove ps i)) n (get_or ps i d).slot
 put_again ps n i d s h =
     let p = get_or ps i d in
-    sym (ap as_map (put_back ps i d (index_is_within ps n i h))) ∙ ap from_entries (map-insert (λ (p : IndexEntry). (p.number, p.slot)) (remove ps i) i p)
-    ∙ ap (λ k. from_entries (insert (slots_of (remove ps i)) i (k, p.slot))) (number_at_index ps n i d h) ∙ from_entries-insert (slots_of (remove ps i)) i n p.slot (removed_entry_is_absent ps n i s h)
+    sym (ap as_map (put_back ps i d (index_is_within ps n i h)))
+    ∙ ap from_entries (map-insert (λ (p : IndexEntry). (p.number, p.slot)) (remove ps i) i p)
+    ∙ ap (λ k. from_entries (insert (slots_of (remove ps i)) i (k, p.slot))) (number_at_index ps n i d h)
+    ∙ from_entries-insert (slots_of (remove ps i)) i n p.slot (removed_entry_is_absent ps n i s h)
 
 -- the map of sorted index entries has under a number the slot of the entry with this number
-pub get-at_index : (ps : List IndexEntry) (n i : ℕ) (d : IndexEntry) → IsSortedIndex ps → IsAt (index_numbers ps) n i → finmap.get (as_map ps) n ≡ Some (get_or ps i d).slot
-get-at_index ps n i d s h = ap (λ m. finmap.get m n) (put_again ps n i d s h) ∙ get_inserted (as_map (remove ps i)) n (get_or ps i d).slot
+pub get-at_index : (ps : List IndexEntry) (n i : ℕ) (d : IndexEntry) → IsSortedIndex ps → IsAt (index_numbers ps) n i
+    → finmap.get (as_map ps) n ≡ Some (get_or ps i d).slot
+get-at_index ps n i d s h =
+    ap (λ m. finmap.get m n) (put_again ps n i d s h) ∙ get_inserted (as_map (remove ps i)) n (get_or ps i d).slot
 
 -- ---- an entry that is inserted
 
-pub map-added : (ps : List IndexEntry) (n i k : ℕ) → IsSortedIndex ps → BelongsAt (index_numbers ps) n i → as_map (insert ps i (record { number = n; slot = k })) ≡ finmap.insert (as_map ps) n k
+pub map-added : (ps : List IndexEntry) (n i k : ℕ) → IsSortedIndex ps → BelongsAt (index_numbers ps) n i
+    → as_map (insert ps i (record { number = n; slot = k })) ≡ finmap.insert (as_map ps) n k
 map-added ps n i k s b =
     ap from_entries (map-insert (λ (p : IndexEntry). (p.number, p.slot)) ps i (record { number = n; slot = k })) ∙ from_entries-insert (slots_of ps) i n k (get-belongs ps n i s b)
 
-pub sorted-added : (ps : List IndexEntry) (n i k : ℕ) → IsSortedIndex ps → BelongsAt (index_numbers ps) n i → IsSortedIndex (insert ps i (record { number = n; slot = k }))
-sorted-added ps n i k s b = rw (map-insert (λ (p : IndexEntry). p.number) ps i (record { number = n; slot = k })) (sorted-insert (index_numbers ps) n i s b)
+pub sorted-added : (ps : List IndexEntry) (n i k : ℕ) → IsSortedIndex ps → BelongsAt (index_numbers ps) n i
+    → IsSortedIndex (insert ps i (record { number = n; slot = k }))
+sorted-added ps n i k s b =
+    rw (map-insert (λ (p : IndexEntry). p.number) ps i (record { number = n; slot = k }))
+    (sorted-insert (index_numbers ps) n i s b)
 
 -- ---- an entry that is removed
 
-pub map-without : (ps : List IndexEntry) (n i : ℕ) → IsSortedIndex ps → IsAt (index_numbers ps) n i → as_map (remove ps i) ≡ finmap.remove (as_map ps) n
+pub map-without : (ps : List IndexEntry) (n i : ℕ) → IsSortedIndex ps → IsAt (index_numbers ps) n i
+    → as_map (remove ps i) ≡ finmap.remove (as_map ps) n
 map-without ps n i s h =
     let d : IndexEntry = record { number = 0; slot = 0 } in
     sym (ap (λ m. finmap.remove m n) (put_again ps n i d s h) ∙ remove_undoes_insert (as_map (remove ps i)) n (get_or ps i d).slot (removed_entry_is_absent ps n i s h))
 
-pub sorted-without : (ps : List IndexEntry) (n i : ℕ) → IsSortedIndex ps → IsAt (index_numbers ps) n i → IsSortedIndex (remove ps i)
-sorted-without ps n i s h = rw (map-remove (λ (p : IndexEntry). p.number) ps i) (sorted-remove (index_numbers ps) i s h.within)
+pub sorted-without : (ps : List IndexEntry) (n i : ℕ) → IsSortedIndex ps → IsAt (index_numbers ps) n i
+    → IsSortedIndex (remove ps i)
+sorted-without ps n i s h =
+    rw (map-remove (λ (p : IndexEntry). p.number) ps i) (sorted-remove (index_numbers ps) i s h.within)
 
-pub map-missing : (ps : List IndexEntry) (n i : ℕ) → IsSortedIndex ps → BelongsAt (index_numbers ps) n i → as_map ps ≡ finmap.remove (as_map ps) n
+pub map-missing : (ps : List IndexEntry) (n i : ℕ) → IsSortedIndex ps → BelongsAt (index_numbers ps) n i
+    → as_map ps ≡ finmap.remove (as_map ps) n
 map-missing ps n i s b = sym (remove_none (as_map ps) n (get-belongs ps n i s b))
 
 -- ---- the whole index
@@ -163,7 +187,8 @@ len-index ps s = len_of (slots_of ps) (rw (keys_are ps) s) ∙ length-map ps (λ
 
 -- ---- the index that a search gives: of a number, or where it belongs
 
-pub found-by_search : (ps : List IndexEntry) (n : ℕ) (r : Result ℕ ℕ) → IsSearchInRange r (length ps) → IsBinarySearchResult (λ p. nat_cmp p.number n) ps r → IfOk r (λ i. IsAt (index_numbers ps) n i)
+pub found-by_search : (ps : List IndexEntry) (n : ℕ) (r : Result ℕ ℕ) → IsSearchInRange r (length ps)
+    → IsBinarySearchResult (λ p. nat_cmp p.number n) ps r → IfOk r (λ i. IsAt (index_numbers ps) n i)
 found-by_search ps n (Ok i) l h =
     let d : IndexEntry = record { number = 0; slot = 0 } in
     let size = length-map ps (λ (p : IndexEntry). p.number) in
@@ -174,7 +199,8 @@ found-by_search ps n (Ok i) l h =
 found-by_search ps n (Err i) l h = tt
 
 -- sorted index entries have first the numbers below n, then n, then those above it, as the binary search requires
-searchable : (ps : List IndexEntry) (n : ℕ) → IsSortedIndex ps → IsNonDecreasingBy (λ (p : IndexEntry). ordering_index (nat_cmp p.number n)) ps
+searchable : (ps : List IndexEntry) (n : ℕ) → IsSortedIndex ps
+    → IsNonDecreasingBy (λ (p : IndexEntry). ordering_index (nat_cmp p.number n)) ps
 searchable ps n s = searchable_from_sorted nat_cmp_total (λ (p : IndexEntry). p.number) ps n (λ k d low h.
     let ns = index_numbers ps in
     let size : length ns ≡ length ps = length-map ps (λ (p : IndexEntry). p.number) in
@@ -182,7 +208,9 @@ searchable ps n s = searchable_from_sorted nat_cmp_total (λ (p : IndexEntry). p
     let up = Less-from_sorted nat_cmp ns k (k + 1) d.number s (omega arith) (omega arith) in
     ap is_lt (λ i. nat_cmp (sym (at (k + 1) h) i) (sym (at k (omega arith)) i)) ∙ ap is_lt (nat_cmp_total.antisymm (get_or ns (k + 1) d.number) (get_or ns k d.number)) ∙ ap (λ r. is_lt (ordering_reverse r)) up)
 
-pub missing-by_search : (ps : List IndexEntry) (n : ℕ) (r : Result ℕ ℕ) → IsSortedIndex ps → IsSearchInRange r (length ps) → IsBinarySearchResult (λ p. nat_cmp p.number n) ps r → IfErr r (λ i. BelongsAt (index_numbers ps) n i)
+pub missing-by_search : (ps : List IndexEntry) (n : ℕ) (r : Result ℕ ℕ) → IsSortedIndex ps
+    → IsSearchInRange r (length ps) → IsBinarySearchResult (λ p. nat_cmp p.number n) ps r
+    → IfErr r (λ i. BelongsAt (index_numbers ps) n i)
 missing-by_search ps n (Ok i) s l h = tt
 missing-by_search ps n (Err i) s l h =
     let d : IndexEntry = record { number = 0; slot = 0 } in
@@ -195,7 +223,8 @@ missing-by_search ps n (Err i) s l h =
       after = λ k m w. let more = ranked (get_or ps k d).number n Greater (sym (parts.1 k d m (omega (arith, w, size)))) in let same = at k (omega (arith, w, size)) in omega (arith, more, same);
     }
 
-pub BelongsAt-above : (ps : List IndexEntry) (p : IndexEntry) (n : ℕ) → IsSortedIndex ps → slice_get ps (length ps - 1) ≡ Some p → p.number < n → BelongsAt (index_numbers ps) n (length ps)
+pub BelongsAt-above : (ps : List IndexEntry) (p : IndexEntry) (n : ℕ) → IsSortedIndex ps
+    → slice_get ps (length ps - 1) ≡ Some p → p.number < n → BelongsAt (index_numbers ps) n (length ps)
 BelongsAt-above ps p n s is above =
     record {
       within = omega (arith, size);
@@ -216,7 +245,9 @@ BelongsAt-above ps p n s is above =
     some = slice_get_within ps last p is
 
     end : get_or ns last 0 ≡ p.number
-    end = get_or-map (λ (p : IndexEntry). p.number) ps last p 0 some ∙ ap (λ (q : IndexEntry). q.number) (get_or_from_slice_get ps last p p is)
+    end =
+        get_or-map (λ (p : IndexEntry). p.number) ps last p 0 some
+        ∙ ap (λ (q : IndexEntry). q.number) (get_or_from_slice_get ps last p p is)
 
     by_order : (k : ℕ) → (k ≡ last) ⊎ ((k < last) ⊎ (last < k)) → k < length ps → get_or ns k 0 < n
     by_order k (inl e) m = let same : get_or ns k 0 ≡ p.number = ap (λ i. get_or ns i 0) e ∙ end in omega (arith, same, above)

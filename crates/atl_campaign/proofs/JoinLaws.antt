@@ -45,16 +45,23 @@ use Rattle.atl_campaign.proofs.TotalLaws.{total-with_unit}
 total_after_join : (x n : ℕ) (b p q : ℤ) → pos x ≡ b → pos n ≡ p +ℤ q → pos (x + n) ≡ (b +ℤ p) +ℤ q
 total_after_join x n b p q h g = omega (arith, ints)
 
-no_item_is_booked : (w : WorldValue) (word : ℕ) (c : CampaignValue) (i : ℕ) → (2 + i == 0) ≡ false → (2 + i == 1) ≡ false → pos (unit_amount (Item i) (first_unit w word c).holding) ≡ booked_for (Item i) Money (pos w.rules.start_money) +ℤ booked_for (Item i) People (pos 1)
+no_item_is_booked : (w : WorldValue) (word : ℕ) (c : CampaignValue) (i : ℕ) → (2 + i == 0) ≡ false
+    → (2 + i == 1) ≡ false
+    → pos (unit_amount (Item i) (first_unit w word c).holding)
+    ≡ booked_for (Item i) Money (pos w.rules.start_money) +ℤ booked_for (Item i) People (pos 1)
 no_item_is_booked w word c i a b =
-    ap (λ o. pos (unwrap_or o 0)) (get-empty nat_cmp i) ∙ sym (ap (λ q. cond q (pos w.rules.start_money) (pos 0) +ℤ cond (2 + i == 1) (pos 1) (pos 0)) a ∙ ap (λ q. pos 0 +ℤ cond q (pos 1) (pos 0)) b)
+    ap (λ o. pos (unwrap_or o 0)) (get-empty nat_cmp i)
+    ∙ sym (ap (λ q. cond q (pos w.rules.start_money) (pos 0) +ℤ cond (2 + i == 1) (pos 1) (pos 0)) a ∙ ap (λ q. pos 0 +ℤ cond q (pos 1) (pos 0)) b)
 
-held_booked : (w : WorldValue) (word : ℕ) (c : CampaignValue) (t : Thing) → pos (unit_amount t (first_unit w word c).holding) ≡ booked_for t Money (pos w.rules.start_money) +ℤ booked_for t People (pos 1)
+held_booked : (w : WorldValue) (word : ℕ) (c : CampaignValue) (t : Thing)
+    → pos (unit_amount t (first_unit w word c).holding)
+    ≡ booked_for t Money (pos w.rules.start_money) +ℤ booked_for t People (pos 1)
 held_booked w word c Money = omega (arith, ints)
 held_booked w word c People = refl
 held_booked w word c (Item i) = no_item_is_booked w word c i (grind (arith, nat_tests)) (grind (arith, nat_tests))
 
-pub joined-balances : (w : WorldValue) (name pass : List ℕ) (word : ℕ) (c : CampaignValue) → get c.units c.next_unit ≡ None → Balances c → Balances (after_join w name pass word c)
+pub joined-balances : (w : WorldValue) (name pass : List ℕ) (word : ℕ) (c : CampaignValue)
+    → get c.units c.next_unit ≡ None → Balances c → Balances (after_join w name pass word c)
 unfolding after_join total
 joined-balances w name pass word c free h t =
     let one = after_booking c.books Joining Money (pos w.rules.start_money) in
@@ -68,7 +75,8 @@ amounts_small : (w : WorldValue) (c : CampaignValue) → AreInRange w c → amou
 amounts_small w c numbers = omega (arith, numbers.month, numbers.few_factions)
 
 -- the money and the people booked under Joining in a sound campaign are from -2^62 - 1 to 2^62 (LeavesRoomForJoining)
-pub joining_small : (w : WorldValue) (c : CampaignValue) → IsSound w c → LeavesRoomForJoining (amount_in c.books Joining Money) × LeavesRoomForJoining (amount_in c.books Joining People)
+pub joining_small : (w : WorldValue) (c : CampaignValue) → IsSound w c
+    → LeavesRoomForJoining (amount_in c.books Joining Money) × LeavesRoomForJoining (amount_in c.books Joining People)
 joining_small w c sound =
     let small = amounts_small w c sound.steady.numbers in
     (LeavesRoomForJoining-within _ _ (sound.amounts Joining Money) small, LeavesRoomForJoining-within _ _ (sound.amounts Joining People) small)
@@ -80,24 +88,30 @@ len_new m k v h = len-insert nat_cmp_total m k v ∙ ap (λ o. cond (is_some o) 
 
 -- for room_to_join: f factions and u units are below their limits, and the next unit number n is at most last_unit, if
 -- the test for a full campaign fails
-counts_below_limits : (f u n : ℕ) → ((nat_le last_faction f || nat_le most_units u) || nat_lt last_unit n) ≡ false → (f < last_faction) × (u < most_units) × (n ≤ last_unit)
+counts_below_limits : (f u n : ℕ) → ((nat_le last_faction f || nat_le most_units u) || nat_lt last_unit n) ≡ false
+    → (f < last_faction) × (u < most_units) × (n ≤ last_unit)
 counts_below_limits f u n h = (grind (arith, nat_tests), grind (arith, nat_tests), grind (arith, nat_tests))
 
-pub room_to_join : (c : CampaignValue) → is_full c ≡ false → (len c.factions < last_faction) × (len c.units < most_units) × (c.next_unit ≤ last_unit)
+pub room_to_join : (c : CampaignValue) → is_full c ≡ false
+    → (len c.factions < last_faction) × (len c.units < most_units) × (c.next_unit ≤ last_unit)
 room_to_join c h = counts_below_limits (len c.factions) (len c.units) c.next_unit h
 
-still_free : {V : Type 0} (m : FinMap nat_cmp V) (n k : ℕ) (v : V) → ((q : ℕ) → n ≤ q → get m q ≡ None) → k < n → (q : ℕ) → n ≤ q → get (insert m k v) q ≡ None
+still_free : {V : Type 0} (m : FinMap nat_cmp V) (n k : ℕ) (v : V) → ((q : ℕ) → n ≤ q → get m q ≡ None) → k < n
+    → (q : ℕ) → n ≤ q → get (insert m k v) q ≡ None
 still_free m n k v free below q h = get-insert_other m k q v (λ same. omega arith) ∙ free q h
 
-still_numbered : {V : Type 0} (m : FinMap nat_cmp V) (n : ℕ) (v : V) → IsNumbered m n → IsNumbered (insert m n v) (n + 1)
+still_numbered : {V : Type 0} (m : FinMap nat_cmp V) (n : ℕ) (v : V) → IsNumbered m n
+    → IsNumbered (insert m n v) (n + 1)
 still_numbered m n v old = record {
   first = get-insert_other m n 0 v (λ same. omega (arith, old.count)) ∙ old.first;
   count = ap (λ k. k + 1) (old.count ∙ sym (len_new m n v (old.free n (omega arith))));
   free = still_free m (n + 1) n v (λ q l. old.free q (omega arith)) (omega arith);
 }
 
-pub still_there : {V : Type 0} (m : FinMap nat_cmp V) (k q : ℕ) (v x : V) → get m k ≡ None → get m q ≡ Some x → get (insert m k v) q ≡ Some x
-still_there m k q v x free is = get-insert_other m k q v (λ same. none_some x (sym free ∙ ap (get m) (sym same) ∙ is)) ∙ is
+pub still_there : {V : Type 0} (m : FinMap nat_cmp V) (k q : ℕ) (v x : V) → get m k ≡ None → get m q ≡ Some x
+    → get (insert m k v) q ≡ Some x
+still_there m k q v x free is =
+    get-insert_other m k q v (λ same. none_some x (sym free ∙ ap (get m) (sym same) ∙ is)) ∙ is
 
 other_key : {V : Type 0} (m : FinMap nat_cmp V) (k n : ℕ) (v : V) → get m k ≡ None → get m n ≡ Some v → (k == n) ≡ false
 other_key m k n v free is = let apart : k ≢ n = λ same. none_some v (sym free ∙ ap (get m) same ∙ is) in grind (arith, nat_tests)
@@ -106,9 +120,12 @@ other_key m k n v free is = let apart : k ≢ n = λ same. none_some v (sym free
 
 some_put : {P : Type 0} (n : ℕ) (xs : List ℕ) → put_number n xs ≡ [] → P
 unfolding put_number
-some_put n xs e = absurd (omega (arith, ap length e, length-append (take (first_not_below n xs) xs) (n ∷ drop (first_not_below n xs) xs)))
+some_put n xs e =
+    absurd
+    (omega (arith, ap length e, length-append (take (first_not_below n xs) xs) (n ∷ drop (first_not_below n xs) xs)))
 
-name_is_free : (c : CampaignValue) (name : List ℕ) → name_taken c name ≡ false → Every (λ n f. f.joined_as ≢ name) c.factions
+name_is_free : (c : CampaignValue) (name : List ℕ) → name_taken c name ≡ false
+    → Every (λ n f. f.joined_as ≢ name) c.factions
 name_is_free c name h n f is same =
     let differs = every-from_none (λ (g : Faction). pointwise nat_eq g.joined_as name) c.factions h n f is in
     let equal = (bytes_eq-Decides f.joined_as name).1 same in
@@ -127,7 +144,8 @@ module _ (w : WorldValue) (name pass : List ℕ) (word : ℕ) (c : CampaignValue
   abbrev units : FinMap nat_cmp Unit
   units = insert c.units c.next_unit unit
 
-  joined-numbers : is_full c ≡ false → IsWorld w → AreNumbered c → AreInRange w c → AreInRange w (after_join w name pass word c)
+  joined-numbers : is_full c ≡ false → IsWorld w → AreNumbered c → AreInRange w c
+      → AreInRange w (after_join w name pass word c)
   unfolding after_join
   joined-numbers full world next old =
       let r = room_to_join c full in
@@ -147,14 +165,17 @@ module _ (w : WorldValue) (name pass : List ℕ) (word : ℕ) (c : CampaignValue
         books = AreBooks-after_booking (thing_count w) one Joining People (pos 1) (AreBooks-after_booking (thing_count w) c.books Joining Money (pos w.rules.start_money) old.books (omega arith)) (omega arith);
       }
 
-  joined-names : is_full c ≡ false → name_taken c name ≡ false → IsTrue (name_ok name) → IsTrue (pass_ok pass) → AreNamed c → AreNamed (after_join w name pass word c)
+  joined-names : is_full c ≡ false → name_taken c name ≡ false → IsTrue (name_ok name) → IsTrue (pass_ok pass)
+      → AreNamed c → AreNamed (after_join w name pass word c)
   unfolding after_join
   joined-names full free named passes old =
       let own = name_is_free c name free in
       record {
         pass = old.pass;
         factions = every-insert (λ n f. IsTrue (name_ok f.joined_as) × IsTrue (name_ok f.name) × IsTrue (pass_ok f.pass)) c.factions c.next_faction member (named, named, passes) old.factions;
-        joined = every-insert (λ n f. Every (λ m g. f.joined_as ≡ g.joined_as → n ≡ m) factions) c.factions c.next_faction member
+        joined =
+            every-insert (λ n f. Every (λ m g. f.joined_as ≡ g.joined_as → n ≡ m) factions) c.factions c.next_faction
+            member
             (every-insert (λ m g. name ≡ g.joined_as → c.next_faction ≡ m) c.factions c.next_faction member (λ _. refl) (λ m g is same. absurd (own m g is (sym same))))
             (λ n f is. every-insert (λ m g. f.joined_as ≡ g.joined_as → n ≡ m) c.factions c.next_faction member (λ same. absurd (own n f is same)) (old.joined n f is));
         units = every-insert (λ n u. IsTrue (name_ok u.holding.name)) c.units c.next_unit unit (unit_name_ok c.next_unit (room_to_join c full).2) old.units;
@@ -162,7 +183,8 @@ module _ (w : WorldValue) (name pass : List ℕ) (word : ℕ) (c : CampaignValue
       }
 
   home_there : IsWorld w → (p : RegionPlan) × (get w.regions (home_of w word) ≡ Some p) × (is_land w.terrains p ≡ true)
-  home_there world = passes-listed (is_land w.terrains) w.regions (word % length (land_of w)) 0 (omega (arith, world.some_land))
+  home_there world =
+      passes-listed (is_land w.terrains) w.regions (word % length (land_of w)) 0 (omega (arith, world.some_land))
 
   joined-known : IsWorld w → AreKnown w c → AreKnown w (after_join w name pass word c)
   unfolding after_join
@@ -198,7 +220,9 @@ module _ (w : WorldValue) (name pass : List ℕ) (word : ℕ) (c : CampaignValue
 
   joined-days : AreDays c → AreDays (after_join w name pass word c)
   unfolding after_join
-  joined-days old = every-insert (λ n u. Every (λ s days. (1 ≤ days) × (days ≤ most_days * u.holding.men)) u.holding.days) c.units c.next_unit unit (every-empty (λ s days. (1 ≤ days) × (days ≤ most_days * 1))) old
+  joined-days old =
+      every-insert (λ n u. Every (λ s days. (1 ≤ days) × (days ≤ most_days * u.holding.men)) u.holding.days) c.units
+      c.next_unit unit (every-empty (λ s days. (1 ≤ days) × (days ≤ most_days * 1))) old
 
   module _ (next : AreNumbered c) where
     free_faction : get c.factions c.next_faction ≡ None
@@ -207,12 +231,17 @@ module _ (w : WorldValue) (name pass : List ℕ) (word : ℕ) (c : CampaignValue
     free_unit : get c.units c.next_unit ≡ None
     free_unit = next.units c.next_unit (omega arith)
 
-    same_units : (n : ℕ) (f : Faction) → get c.factions n ≡ Some f → numbers_of_faction n units ≡ numbers_of_faction n c.units
-    same_units n f is = numbers_where-insert_other (λ (u : Unit). u.faction == n) c.units c.next_unit unit free_unit (other_key c.factions c.next_faction n f free_faction is)
+    same_units : (n : ℕ) (f : Faction) → get c.factions n ≡ Some f
+        → numbers_of_faction n units ≡ numbers_of_faction n c.units
+    same_units n f is =
+        numbers_where-insert_other (λ (u : Unit). u.faction == n) c.units c.next_unit unit free_unit
+        (other_key c.factions c.next_faction n f free_faction is)
 
     joined-gone : GoneHaveNone c → GoneHaveNone (after_join w name pass word c)
     unfolding after_join
-    joined-gone old = every-insert (λ n f. f.gone ≡ true → numbers_of_faction n units ≡ []) c.factions c.next_faction member (λ e. absurd (false≢true e)) (λ n f is gone. same_units n f is ∙ old n f is gone)
+    joined-gone old =
+        every-insert (λ n f. f.gone ≡ true → numbers_of_faction n units ≡ []) c.factions c.next_faction member
+        (λ e. absurd (false≢true e)) (λ n f is gone. same_units n f is ∙ old n f is gone)
 
     own_unit : numbers_of_faction c.next_faction units ≡ [] → false ≡ true
     own_unit none =
@@ -221,7 +250,9 @@ module _ (w : WorldValue) (name pass : List ℕ) (word : ℕ) (c : CampaignValue
 
     joined-none : UnitlessAreGone c → UnitlessAreGone (after_join w name pass word c)
     unfolding after_join
-    joined-none old = every-insert (λ n f. numbers_of_faction n units ≡ [] → f.gone ≡ true) c.factions c.next_faction member own_unit (λ n f is none. old n f is (sym (same_units n f is) ∙ none))
+    joined-none old =
+        every-insert (λ n f. numbers_of_faction n units ≡ [] → f.gone ≡ true) c.factions c.next_faction member own_unit
+        (λ n f is none. old n f is (sym (same_units n f is) ∙ none))
 
     joined-owners : AreOwned c → AreOwned (after_join w name pass word c)
     unfolding after_join
@@ -246,7 +277,10 @@ module _ (w : WorldValue) (name pass : List ℕ) (word : ℕ) (c : CampaignValue
 
   joined-guarded : AreOfOneFaction guards c → AreOfOneFaction guards (after_join w name pass word c)
   unfolding after_join
-  joined-guarded old = every-insert (λ n u. Every (λ m v. guards u ≡ true → guards v ≡ true → u.region ≡ v.region → u.faction ≡ v.faction) units) c.units c.next_unit unit (λ m v is e. absurd (true≢false (sym e)))
+  joined-guarded old =
+      every-insert
+      (λ n u. Every (λ m v. guards u ≡ true → guards v ≡ true → u.region ≡ v.region → u.faction ≡ v.faction) units)
+      c.units c.next_unit unit (λ m v is e. absurd (true≢false (sym e)))
       (λ n u is. every-insert (λ m v. guards u ≡ true → guards v ≡ true → u.region ≡ v.region → u.faction ≡ v.faction) c.units c.next_unit unit (λ _ e. absurd (true≢false (sym e))) (old n u is))
 
   joined-men : HaveMen c → HaveMen (after_join w name pass word c)

@@ -12,18 +12,22 @@ use Rattle.std.proofs.lemmas.Bool.{cases_order}
 use Rattle.std.proofs.lemmas.List.{get_or_default}
 use Rattle.std.proofs.lemmas.Map.Keys.{sorted_from_all_adjacent}
 
-pub rest_at : {K : Type 0} (keys : List K) (i : ℕ) (d : K) → i < length keys → drop i keys ≡ get_or keys i d ∷ drop (i + 1) keys
+pub rest_at : {K : Type 0} (keys : List K) (i : ℕ) (d : K) → i < length keys
+    → drop i keys ≡ get_or keys i d ∷ drop (i + 1) keys
 rest_at keys i d h = rw add-one (drop-cons keys i d h)
 
-pub next_of : {K : Type 0} (keys : List K) (i : ℕ) (x : K) → i < length keys → x ≡ get_or keys i x → drop i keys ≡ x ∷ drop (i + 1) keys
+pub next_of : {K : Type 0} (keys : List K) (i : ℕ) (x : K) → i < length keys → x ≡ get_or keys i x
+    → drop i keys ≡ x ∷ drop (i + 1) keys
 next_of keys i x h is = rest_at keys i x h ∙ ap (λ y. y ∷ drop (i + 1) keys) (sym is)
 
 module _ {A B : Type 0} (f : A → B) (e : B → B → Bool) where
-  each_map : (x : A) (xs : List A) → AllByRecursion (λ y. e (f x) (f y) ≡ false) xs → AllByRecursion (λ y. e (f x) y ≡ false) (map f xs)
+  each_map : (x : A) (xs : List A) → AllByRecursion (λ y. e (f x) (f y) ≡ false) xs
+      → AllByRecursion (λ y. e (f x) y ≡ false) (map f xs)
   each_map x [] h = tt
   each_map x (y ∷ xs) h = (h.0, each_map x xs h.1)
 
-  each_of_map : (x : A) (xs : List A) → AllByRecursion (λ y. e (f x) y ≡ false) (map f xs) → AllByRecursion (λ y. e (f x) (f y) ≡ false) xs
+  each_of_map : (x : A) (xs : List A) → AllByRecursion (λ y. e (f x) y ≡ false) (map f xs)
+      → AllByRecursion (λ y. e (f x) (f y) ≡ false) xs
   each_of_map x [] h = tt
   each_of_map x (y ∷ xs) h = (h.0, each_of_map x xs h.1)
 
@@ -38,7 +42,8 @@ module _ {A B : Type 0} (f : A → B) (e : B → B → Bool) where
   IsDistinct-of_map (x ∷ xs) h = (each_of_map x xs h.0, IsDistinct-of_map xs h.1)
 
 -- an Ok result that decides whether P holds also decides whether Q holds, if P and Q follow from each other
-pub IfOk-decided : {E P Q : Type 0} (r : Result Bool E) → (P → Q) → (Q → P) → IfOk r (λ yes. Decides yes P) → IfOk r (λ yes. Decides yes Q)
+pub IfOk-decided : {E P Q : Type 0} (r : Result Bool E) → (P → Q) → (Q → P) → IfOk r (λ yes. Decides yes P)
+    → IfOk r (λ yes. Decides yes Q)
 IfOk-decided (Ok answer) there back h = (λ e. there (h.0 e), λ q. h.1 (back q))
 IfOk-decided (Err x) there back h = tt
 
@@ -52,7 +57,8 @@ module _ {K : Type 0} {R : K → K → Ordering} (o : IsTotalOrder R) where
   rises [] i most steps = tt
   rises (x ∷ xs) i most steps = sorted_from_all_adjacent o (x ∷ xs) x (λ k l. steps x k (omega (arith, l, most)))
 
-  pub rises_more : (ks : List K) (i : ℕ) (x y : K) → 1 ≤ i → i < length ks → x ≡ get_or ks (i - 1) x → y ≡ get_or ks i y → R x y ≡ Less → RisesTo i ks → RisesTo (i + 1) ks
+  pub rises_more : (ks : List K) (i : ℕ) (x y : K) → 1 ≤ i → i < length ks → x ≡ get_or ks (i - 1) x → y ≡ get_or ks i y
+      → R x y ≡ Less → RisesTo i ks → RisesTo (i + 1) ks
   rises_more ks i x y some within x_is y_is above steps d k l = by_order (cases_order (k + 1) i)
     where
       last : k + 1 ≡ i → R (get_or ks k d) (get_or ks (k + 1) d) ≡ Less

@@ -54,7 +54,8 @@ module _ (w : WorldValue) (c : CampaignValue) (n : ℕ) (u : Unit) (is : get c.u
     abbrev after : CampaignValue
     after = reduced structures
 
-    every_owned : (P : ℕ → Structure → Type 0) → ((k o : ℕ) (y : Structure) → P k y → P k (owned_by o y)) → Every P c.structures → Every P structures
+    every_owned : (P : ℕ → Structure → Type 0) → ((k o : ℕ) (y : Structure) → P k y → P k (owned_by o y))
+        → Every P c.structures → Every P structures
     every_owned P free old k x there = let (y, o, was, same) = re.back k x there in subst (P k) same (free k o y (old k y was))
 
     none_kept : (k : ℕ) → get c.structures k ≡ None → get structures k ≡ None
@@ -160,7 +161,8 @@ module _ (w : WorldValue) (c : CampaignValue) (n : ℕ) (u : Unit) (is : get c.u
         let one : Some v ≡ Some u = sym at ∙ ap (get c.units) own ∙ is in
         sym (ap (λ o. structure_in o u) one) ∙ inside
 
-    still_owned : (k : ℕ) (x : Structure) (structures : FinMap nat_cmp Structure) → get c.structures k ≡ Some x → x.owner ≢ n → IsOwned (reduced structures) k x
+    still_owned : (k : ℕ) (x : Structure) (structures : FinMap nat_cmp Structure) → get c.structures k ≡ Some x
+        → x.owner ≢ n → IsOwned (reduced structures) k x
     still_owned k x structures there apart =
         let o = old k x there in
         record {
@@ -192,7 +194,9 @@ module _ (w : WorldValue) (c : CampaignValue) (n : ℕ) (u : Unit) (is : get c.u
             owner_in None d = d.owner
 
         not_owner : (k : ℕ) (x : Structure) → get c.structures k ≡ Some x → x.owner ≡ n → ⊥
-        not_owner k x there own = owner_test (get c.structures u.structure) x (ap (get c.structures) (owns_own k x there own) ∙ there) own free
+        not_owner k x there own =
+            owner_test (get c.structures u.structure) x (ap (get c.structures) (owns_own k x there own) ∙ there) own
+            free
 
     -- for a unit that owns the structure that it is inside
     module _ (mine : Structure) (here : get c.structures u.structure ≡ Some mine) (some_place : u.structure ≢ 0) where
@@ -237,11 +241,14 @@ module _ (w : WorldValue) (c : CampaignValue) (n : ℕ) (u : Unit) (is : get c.u
         count = same_len c.structures u.structure mine (owned_by next mine) here;
         back = every-insert (λ k x. (y : Structure) × (o : ℕ) × (get c.structures k ≡ Some y) × (owned_by o y ≡ x)) c.structures u.structure (owned_by next mine) (mine, next, here, refl) (λ k x there. (x, x.owner, there, refl));
         forth = λ k y there. new_owner k y there;
-        owned = every-insert_other (λ k x. IsOwned (reduced handed_on) k x) c.structures u.structure (owned_by next mine) heir_owns
+        owned =
+            every-insert_other (λ k x. IsOwned (reduced handed_on) k x) c.structures u.structure (owned_by next mine)
+            heir_owns
             (λ k x apart there. still_owned k x handed_on there (λ own. apart (sym (owns_own k x there own))));
       }
         where
-          new_owner : (k : ℕ) (y : Structure) → get c.structures k ≡ Some y → (o : ℕ) × (get handed_on k ≡ Some (owned_by o y))
+          new_owner : (k : ℕ) (y : Structure) → get c.structures k ≡ Some y
+              → (o : ℕ) × (get handed_on k ≡ Some (owned_by o y))
           new_owner k y there =
               elim (nat_cmp k u.structure) as (λ o. nat_cmp k u.structure ≡ o → (p : ℕ) × (get handed_on k ≡ Some (owned_by p y))) [
                 | Less ↦ λ o. (y.owner, get-insert_other c.structures u.structure k (owned_by next mine) (λ same. let l = ranked k u.structure Less (sym o) in absurd (omega arith)) ∙ there)
@@ -268,15 +275,18 @@ module _ (w : WorldValue) (c : CampaignValue) (n : ℕ) (u : Unit) (is : get c.u
       low : Every (λ k v. 1 ≤ k) c.units
       low k v there = (old.numbers.units k v there).0
 
-      by_test : (s : Structure) → get c.structures u.structure ≡ Some s → (b : Bool) → is_owned_by (get c.structures u.structure) n ≡ b
+      by_test : (s : Structure) → get c.structures u.structure ≡ Some s → (b : Bool)
+          → is_owned_by (get c.structures u.structure) n ≡ b
           → IsSteady w (if b then with_owner gone_from u.structure (heir c u.structure n) else gone_from)
       by_test s here true t =
           subst (λ (m : FinMap nat_cmp Structure). IsSteady w (reduced m)) (sym (changed-known (owned_by (heir c u.structure n)) c.structures u.structure s here))
           (steady_left (insert c.structures u.structure (owned_by (heir c u.structure n) s)) (as_handed_on old.owners low s here (is_no_zero c.structures c.next_structure old.next.structures u.structure s here)) old)
       by_test s here false t = steady_left c.structures (AreReowned-unchanged old.owners low t) old
 
-      by_owner : (o : Option Structure) → get c.structures u.structure ≡ o → IsSteady w (if is_owned_by o n then with_owner gone_from u.structure (heir c u.structure n) else gone_from)
-      by_owner None here = steady_left c.structures (AreReowned-unchanged old.owners low (ap (λ o. is_owned_by o n) here)) old
+      by_owner : (o : Option Structure) → get c.structures u.structure ≡ o
+          → IsSteady w (if is_owned_by o n then with_owner gone_from u.structure (heir c u.structure n) else gone_from)
+      by_owner None here =
+          steady_left c.structures (AreReowned-unchanged old.owners low (ap (λ o. is_owned_by o n) here)) old
       by_owner (Some s) here = by_test s here (is_owned_by (Some s) n) (ap (λ o. is_owned_by o n) here)
 
   pub steady-without : IsSteady w c → IsSteady w (without_unit c n)
@@ -285,12 +295,15 @@ module _ (w : WorldValue) (c : CampaignValue) (n : ℕ) (u : Unit) (is : get c.u
   pub total-without : (t : Thing) → total (without_unit c n) t + unit_amount t u.holding ≡ total c t
   unfolding total
   total-without t =
-      ap (λ (d : CampaignValue). total d t + unit_amount t u.holding) without-known ∙ by_test (is_owned_by (get c.structures u.structure) n)
+      ap (λ (d : CampaignValue). total d t + unit_amount t u.holding) without-known
+      ∙ by_test (is_owned_by (get c.structures u.structure) n)
     where
       regrouped : (a b s h : ℕ) → a + h ≡ b → (a + s) + h ≡ b + s
       regrouped a b s h e = omega arith
 
-      by_test : (b : Bool) → total (if b then with_owner gone_from u.structure (heir c u.structure n) else gone_from) t + unit_amount t u.holding ≡ total c t
+      by_test : (b : Bool)
+          → total (if b then with_owner gone_from u.structure (heir c u.structure n) else gone_from) t + unit_amount t u.holding
+          ≡ total c t
       by_test true = regrouped _ _ _ _ (sum_over-remove c.units n (λ (x : Unit). unit_amount t x.holding) u is)
       by_test false = regrouped _ _ _ _ (sum_over-remove c.units n (λ (x : Unit). unit_amount t x.holding) u is)
 
@@ -307,13 +320,17 @@ module _ (w : WorldValue) (c : CampaignValue) (n : ℕ) (u : Unit) (is : get c.u
   pub only_reduced : IsOnlyReduced (without_unit c n)
   only_reduced = subst IsOnlyReduced (sym without-known) (by_test (is_owned_by (get c.structures u.structure) n))
     where
-      by_test : (b : Bool) → IsOnlyReduced (if b then with_owner gone_from u.structure (heir c u.structure n) else gone_from)
-      by_test true = record { units = refl; factions = refl; regions = refl; books = refl; month = refl; reports = refl }
-      by_test false = record { units = refl; factions = refl; regions = refl; books = refl; month = refl; reports = refl }
+      by_test : (b : Bool)
+          → IsOnlyReduced (if b then with_owner gone_from u.structure (heir c u.structure n) else gone_from)
+      by_test true =
+          record { units = refl; factions = refl; regions = refl; books = refl; month = refl; reports = refl }
+      by_test false =
+          record { units = refl; factions = refl; regions = refl; books = refl; month = refl; reports = refl }
 
 -- ---- what is marked
 
-pub marks-structure : (f : Structure → Structure) (c : MarkedCampaign) (n : ℕ) → MarksChanges c (record { value = structure_changed f c.value n; marks = mark_structure c n })
+pub marks-structure : (f : Structure → Structure) (c : MarkedCampaign) (n : ℕ)
+    → MarksChanges c (record { value = structure_changed f c.value n; marks = mark_structure c n })
 marks-structure f c n =
     let after : FinMap nat_cmp Structure → Option Structure → MarkedCampaign = λ m o. record { value = record c.value { structures = m }; marks = record c.marks { structures = marked_with c.marks.structures n o } } in
     holds_of_changed (λ m o. MarksChanges c (after m o)) f c.value.structures n (marks-refl c) (λ v is.
@@ -325,7 +342,8 @@ marks-structure f c n =
 pub marks-after_handover : (c : MarkedCampaign) (s from to : ℕ) → MarksChanges c (handed_marked c s from to)
 marks-after_handover c s from to = by_test (is_owned_by (get c.value.structures s) from)
   where
-    by_test : (b : Bool) → MarksChanges c (if b then record { value = with_owner c.value s to; marks = mark_structure c s } else c)
+    by_test : (b : Bool)
+        → MarksChanges c (if b then record { value = with_owner c.value s to; marks = mark_structure c s } else c)
     by_test true = marks-structure (owned_by to) c s
     by_test false = marks-refl c
 
@@ -340,11 +358,14 @@ marks-taken c n = by_unit (get c.value.units n) refl
 
 marks_gone : (c : MarkedCampaign) (n : ℕ) (o : Option Unit) → MarksChanges c (gone_marked_at c n o)
 marks_gone c n None = marks-refl c
-marks_gone c n (Some u) = marks-trans c (taken_marked c n) (gone_marked_at c n (Some u)) (marks-taken c n) (marks-after_handover (taken_marked c n) u.structure n (heir c.value u.structure n))
+marks_gone c n (Some u) =
+    marks-trans c (taken_marked c n) (gone_marked_at c n (Some u)) (marks-taken c n)
+    (marks-after_handover (taken_marked c n) u.structure n (heir c.value u.structure n))
 
 -- all that changes from campaign c to d is marked (MarksChanges), if d is c without unit n, with the marks that
 -- gone_marked gives
-pub marks-without : (c d : MarkedCampaign) (n : ℕ) → d.value ≡ without_unit c.value n → d.marks ≡ (gone_marked c n).marks → MarksChanges c d
+pub marks-without : (c d : MarkedCampaign) (n : ℕ) → d.value ≡ without_unit c.value n
+    → d.marks ≡ (gone_marked c n).marks → MarksChanges c d
 unfolding gone_marked
 marks-without c d n what marks =
     let all = marks_gone c n (get c.value.units n) in

@@ -25,14 +25,18 @@ with_region_marked regions marks n = record marks { numbers = marked_with marks.
 within-none : AreStocksWithin set.empty set.empty empty
 within-none = record { stocks_within = λ q e. e; items_within = nothing }
   where
-    nothing : (q : ℕ) → is_some (get {X = FinMap nat_cmp (Prim.Unit {0})} {R = nat_cmp} empty q) ≡ true → set.contains {R = nat_cmp} set.empty q ≡ true
+    nothing : (q : ℕ) → is_some (get {X = FinMap nat_cmp (Prim.Unit {0})} {R = nat_cmp} empty q) ≡ true
+        → set.contains {R = nat_cmp} set.empty q ≡ true
     nothing q e = absurd (false≢true (sym (ap is_some (get-empty nat_cmp q)) ∙ e))
 
 pub AreRegions-none : AreRegions empty (nothing_marked 0) (nothing_marked 0) (nothing_marked 0) empty
-AreRegions-none = record { within = within-none; rows_fit = Room-empty Region; markets_fit = Room-empty Region; stocks_fit = Room-empty Region }
+AreRegions-none =
+    record { within = within-none; rows_fit = Room-empty Region; markets_fit = Room-empty Region; stocks_fit = Room-empty Region }
 
-pub AreRegions-of : (regions : FinMap nat_cmp Region) → AreRegions regions (nothing_marked (len regions)) (nothing_marked (len regions)) (nothing_marked (len regions)) empty
-AreRegions-of regions = record { within = within-none; rows_fit = Room-of regions; markets_fit = Room-of regions; stocks_fit = Room-of regions }
+pub AreRegions-of : (regions : FinMap nat_cmp Region)
+    → AreRegions regions (nothing_marked (len regions)) (nothing_marked (len regions)) (nothing_marked (len regions)) empty
+AreRegions-of regions =
+    record { within = within-none; rows_fit = Room-of regions; markets_fit = Room-of regions; stocks_fit = Room-of regions }
 
 module _ (regions : FinMap nat_cmp Region) (rows markets stocks : RoomySet) (items : MarkedThings) (h : AreRegions regions rows markets stocks items) where
   pub AreRegions-without_marks : AreRegions regions (cleared rows) (cleared markets) (cleared stocks) empty
@@ -44,12 +48,14 @@ module _ (regions : FinMap nat_cmp Region) (rows markets stocks : RoomySet) (ite
   }
 
   pub AreRegions-row : (n : ℕ) → AreRegions regions (with_region_marked regions rows n) markets stocks items
-  AreRegions-row n = record { within = h.within; rows_fit = Room-put regions rows.numbers rows.room n (get regions n) refl h.rows_fit; markets_fit = h.markets_fit; stocks_fit = h.stocks_fit }
+  AreRegions-row n =
+      record { within = h.within; rows_fit = Room-put regions rows.numbers rows.room n (get regions n) refl h.rows_fit; markets_fit = h.markets_fit; stocks_fit = h.stocks_fit }
 
   module _ (n : ℕ) (r : Region) (is : get regions n ≡ Some r) where
     -- once one stock of a region, and so the region, is marked, there is still room for all marks, and still no stock
     -- is marked without its region (AreRegions)
-    pub AreRegions-item : (group : FinMap nat_cmp (Prim.Unit {0})) → AreRegions regions rows (with_region_marked regions markets n) stocks (insert items n group)
+    pub AreRegions-item : (group : FinMap nat_cmp (Prim.Unit {0}))
+        → AreRegions regions rows (with_region_marked regions markets n) stocks (insert items n group)
     AreRegions-item group = record {
       within = subst (λ o. AreStocksWithin (marked_with markets.numbers n o) stocks.numbers (insert items n group)) (sym is) (record {
         stocks_within = within_more _ markets.numbers n h.within.stocks_within;
@@ -71,7 +77,8 @@ module _ (regions : FinMap nat_cmp Region) (rows markets stocks : RoomySet) (ite
       stocks_fit = Room-put regions stocks.numbers stocks.room n (get regions n) refl h.stocks_fit;
     }
 
-  pub AreRegions-over : (n : ℕ) (r s : Region) → get regions n ≡ Some r → AreRegions (insert regions n s) rows markets stocks items
+  pub AreRegions-over : (n : ℕ) (r s : Region) → get regions n ≡ Some r
+      → AreRegions (insert regions n s) rows markets stocks items
   AreRegions-over n r s is = record {
     within = h.within;
     rows_fit = Room-over regions rows.numbers rows.room n s (ap is_some is) h.rows_fit;

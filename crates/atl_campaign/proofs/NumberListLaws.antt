@@ -52,7 +52,8 @@ module _ {V : Type 0} (p : V → Bool) where
   foremost n ns false h = cc
 
   -- if the numbers of the entries that pass are on the list ks, they are on each list ns that has all numbers of ks
-  all_further : (ks ns : List ℕ) → ((k : ℕ) → IsListed k ks → IsListed k ns) → (es : List (ℕ × V)) → EachEntry (λ n v. p v ≡ true → IsListed n ks) es → EachEntry (λ n v. p v ≡ true → IsListed n ns) es
+  all_further : (ks ns : List ℕ) → ((k : ℕ) → IsListed k ks → IsListed k ns) → (es : List (ℕ × V))
+      → EachEntry (λ n v. p v ≡ true → IsListed n ks) es → EachEntry (λ n v. p v ≡ true → IsListed n ns) es
   all_further ks ns more [] h = tt
   all_further ks ns more (e ∷ es) h = (λ t. more e.0 (h.0 t), all_further ks ns more es h.1)
 
@@ -67,7 +68,8 @@ module _ {V : Type 0} (p : V → Bool) where
   pub passing_listed : (m : FinMap nat_cmp V) → Every (λ n v. p v ≡ true → IsListed n (numbers_where p m)) m
   passing_listed m = every-from_each (λ n v. p v ≡ true → IsListed n (numbers_where p m)) m (each_listed (entries m))
 
-  pub listed_passing : (m : FinMap nat_cmp V) (k : ℕ) → IsListed k (numbers_where p m) → (v : V) × (get m k ≡ Some v) × (p v ≡ true)
+  pub listed_passing : (m : FinMap nat_cmp V) (k : ℕ) → IsListed k (numbers_where p m)
+      → (v : V) × (get m k ≡ Some v) × (p v ≡ true)
   listed_passing m k h =
       let (i, l, at) = place_in k 0 (numbers_where p m) h in
       let (v, is, t) = passes-listed p m i 0 l in
@@ -84,4 +86,6 @@ module _ {V : Type 0} (p : V → Bool) where
   true_not_false b t f = cc
 
   pub nothing_listed : (m : FinMap nat_cmp V) → Every (λ n v. p v ≡ false) m → numbers_where p m ≡ []
-  nothing_listed m none = none_listed (numbers_where p m) (λ k h. let (v, is, t) = listed_passing m k h in true_not_false (p v) t (none k v is))
+  nothing_listed m none =
+      none_listed (numbers_where p m)
+      (λ k h. let (v, is, t) = listed_passing m k h in true_not_false (p v) t (none k v is))

@@ -25,7 +25,8 @@ record EndsInDigit (ds : List ℕ) : Type 0 where
 
 all_name_bytes : (ds : List ℕ) → EndsInDigit ds → list_all is_name_byte ds ≡ true
 all_name_bytes ds e =
-    ap (list_all is_name_byte) e.is ∙ list_all-append is_name_byte e.front (e.last ∷ []) ∙ both_true e.digits (both_true (digit_ok e.last e.least e.most) refl)
+    ap (list_all is_name_byte) e.is ∙ list_all-append is_name_byte e.front (e.last ∷ [])
+    ∙ both_true e.digits (both_true (digit_ok e.last e.least e.most) refl)
 
 decimal_ends : (n : ℕ) → n < 2 ^ 64 → EndsInDigit (decimal n)
 decimal_ends n h = decimal_by_steps (λ _ ds. EndsInDigit ds) one more n h
@@ -34,7 +35,8 @@ decimal_ends n h = decimal_by_steps (λ _ ds. EndsInDigit ds) one more n h
     one n h = record { front = []; last = 48 + n; is = refl; digits = refl; least = omega arith; most = omega arith }
 
     more : (n : ℕ) (ds : List ℕ) → 10 ≤ n → EndsInDigit ds → EndsInDigit (ds ++ (48 + n % 10) ∷ [])
-    more n ds h e = record { front = ds; last = 48 + n % 10; is = refl; digits = all_name_bytes ds e; least = omega arith; most = omega arith }
+    more n ds h e =
+        record { front = ds; last = 48 + n % 10; is = refl; digits = all_name_bytes ds e; least = omega arith; most = omega arith }
 
 length_is_short : (bs : List ℕ) → 1 ≤ length bs → length bs ≤ 40 → has_allowed_length bs ≡ true
 length_is_short bs h k = grind (arith, nat_tests)
@@ -66,4 +68,5 @@ module _ (word : List ℕ) (front : IsNamePrefix word) where
       (list_all-append is_name_byte word (decimal n) ∙ both_true front.bytes (all_name_bytes (decimal n) e))
 
 pub unit_name_ok : (n : ℕ) → n ≤ last_unit → name_ok (codes "Unit " ++ decimal n) ≡ true
-unit_name_ok n h = numbered_name_ok (codes "Unit ") (record { bytes = refl; begins = refl; some = lit≤ tt; few = lit≤ tt }) n h
+unit_name_ok n h =
+    numbered_name_ok (codes "Unit ") (record { bytes = refl; begins = refl; some = lit≤ tt; few = lit≤ tt }) n h

@@ -15,7 +15,9 @@ abbrev with_units_marked : MarkedCampaign → ℕ → FinMap nat_cmp Unit → Op
 with_units_marked c n units o = record { value = record c.value { units = units }; marks = whole_marked c.marks n o }
 
 pub taken_none : (c : MarkedCampaign) (n : ℕ) → get c.value.units n ≡ None → c ≡ taken_marked c n
-taken_none c n none = sym (ap (λ m. with_units_marked c n m (get c.value.units n)) (remove_none c.value.units n none) ∙ ap (with_units_marked c n c.value.units) none)
+taken_none c n none =
+    sym
+    (ap (λ m. with_units_marked c n m (get c.value.units n)) (remove_none c.value.units n none) ∙ ap (with_units_marked c n c.value.units) none)
 
 -- ---- what becomes of the campaign, but for its marks
 
@@ -24,13 +26,20 @@ by_test true c d = refl
 by_test false c d = refl
 
 -- handing a structure on with its mark (`handed_marked`) does to the campaign's value what `after_handover` does
-pub after_handover-what : (c : MarkedCampaign) (s from to : ℕ) → (handed_marked c s from to).value ≡ after_handover c.value s from to
-after_handover-what c s from to = by_test (is_owned_by (get c.value.structures s) from) c (record { value = with_owner c.value s to; marks = mark_structure c s })
+pub after_handover-what : (c : MarkedCampaign) (s from to : ℕ)
+    → (handed_marked c s from to).value ≡ after_handover c.value s from to
+after_handover-what c s from to =
+    by_test (is_owned_by (get c.value.structures s) from) c
+    (record { value = with_owner c.value s to; marks = mark_structure c s })
 
-value-handed_twice : (c : MarkedCampaign) (s n next t : ℕ) → (handed_marked (handed_marked c s n next) t 0 n).value ≡ after_handover (after_handover c.value s n next) t 0 n
-value-handed_twice c s n next t = after_handover-what (handed_marked c s n next) t 0 n ∙ ap (λ d. after_handover d t 0 n) (after_handover-what c s n next)
+value-handed_twice : (c : MarkedCampaign) (s n next t : ℕ)
+    → (handed_marked (handed_marked c s n next) t 0 n).value ≡ after_handover (after_handover c.value s n next) t 0 n
+value-handed_twice c s n next t =
+    after_handover-what (handed_marked c s n next) t 0 n
+    ∙ ap (λ d. after_handover d t 0 n) (after_handover-what c s n next)
 
-place_at : (c : MarkedCampaign) (n r s : ℕ) (o : Option Unit) → (place_marked_at c n r s o).value ≡ with_place_at c.value n r s o
+place_at : (c : MarkedCampaign) (n r s : ℕ) (o : Option Unit)
+    → (place_marked_at c n r s o).value ≡ with_place_at c.value n r s o
 place_at c n r s None = refl
 place_at c n r s (Some u) =
     by_test (u.structure == s) (handed_marked (handed_marked (put_marked c n r s) u.structure n (heir c.value u.structure n)) s 0 n) (put_marked c n r s)
@@ -55,21 +64,30 @@ unfolding place_marked
 place_none c n r s none = sym (ap (place_marked_at c n r s) none)
 
 -- moving a unit that stays in its structure only sets where it is (`put_marked`), and no structure gets another owner
-pub place_stays : (c : MarkedCampaign) (n r s : ℕ) (u : Unit) → get c.value.units n ≡ Some u → (u.structure == s) ≡ true → put_marked c n r s ≡ place_marked c n r s
+pub place_stays : (c : MarkedCampaign) (n r s : ℕ) (u : Unit) → get c.value.units n ≡ Some u → (u.structure == s) ≡ true
+    → put_marked c n r s ≡ place_marked c n r s
 unfolding place_marked
-place_stays c n r s u is same = sym (ap (place_marked_at c n r s) is ∙ ap (λ b. if b then put_marked c n r s else handed_marked (handed_marked (put_marked c n r s) u.structure n (heir c.value u.structure n)) s 0 n) same)
+place_stays c n r s u is same =
+    sym
+    (ap (place_marked_at c n r s) is ∙ ap (λ b. if b then put_marked c n r s else handed_marked (handed_marked (put_marked c n r s) u.structure n (heir c.value u.structure n)) s 0 n) same)
 
 -- moving a unit to another structure hands on the one that it leaves, if it owns that, and gives it the one that it
 -- enters, if nobody owns that
-pub place_leaves : (c : MarkedCampaign) (n r s : ℕ) (u : Unit) → get c.value.units n ≡ Some u → (u.structure == s) ≡ false → handed_marked (handed_marked (put_marked c n r s) u.structure n (heir c.value u.structure n)) s 0 n ≡ place_marked c n r s
+pub place_leaves : (c : MarkedCampaign) (n r s : ℕ) (u : Unit) → get c.value.units n ≡ Some u
+    → (u.structure == s) ≡ false
+    → handed_marked (handed_marked (put_marked c n r s) u.structure n (heir c.value u.structure n)) s 0 n
+    ≡ place_marked c n r s
 unfolding place_marked
-place_leaves c n r s u is same = sym (ap (place_marked_at c n r s) is ∙ ap (λ b. if b then put_marked c n r s else handed_marked (handed_marked (put_marked c n r s) u.structure n (heir c.value u.structure n)) s 0 n) same)
+place_leaves c n r s u is same =
+    sym
+    (ap (place_marked_at c n r s) is ∙ ap (λ b. if b then put_marked c n r s else handed_marked (handed_marked (put_marked c n r s) u.structure n (heir c.value u.structure n)) s 0 n) same)
 
 pub gone_none : (c : MarkedCampaign) (n : ℕ) → get c.value.units n ≡ None → c ≡ gone_marked c n
 unfolding gone_marked
 gone_none c n none = sym (ap (gone_marked_at c n) none)
 
 -- removing a unit that is there takes it out, and hands a structure that it owned to the next owner
-pub gone_some : (c : MarkedCampaign) (n : ℕ) (u : Unit) → get c.value.units n ≡ Some u → handed_marked (taken_marked c n) u.structure n (heir c.value u.structure n) ≡ gone_marked c n
+pub gone_some : (c : MarkedCampaign) (n : ℕ) (u : Unit) → get c.value.units n ≡ Some u
+    → handed_marked (taken_marked c n) u.structure n (heir c.value u.structure n) ≡ gone_marked c n
 unfolding gone_marked
 gone_some c n u is = sym (ap (gone_marked_at c n) is)

@@ -10,14 +10,16 @@ use Rattle.atl_campaign.specs.Campaign.{MarkedCampaign, with_month, with_report,
 use Rattle.atl_campaign.proofs.CoverLaws.{Mail, Reports, Row, PartStaysMarked, KeepsUnmarked, unmarked_differs_from_put, part_by_part, put_stays}
 use Rattle.atl_records.proofs.EveryLaws.{get-insert_other}
 
-pub marks-month : (c : MarkedCampaign) (n : ℕ) → MarksChanges c (record { value = with_month c.value n; marks = mark_campaign_row c })
+pub marks-month : (c : MarkedCampaign) (n : ℕ)
+    → MarksChanges c (record { value = with_month c.value n; marks = mark_campaign_row c })
 marks-month c n =
     let next : MarkedCampaign = record { value = with_month c.value n; marks = mark_campaign_row c } in
     part_by_part c next
     (λ p. elim p as (PartStaysMarked c.marks next.marks) [ Row ↦ λ k h. refl | _ ↦ λ k h. h ])
     (λ p. elim p as (KeepsUnmarked next.marks c.value next.value) [ Row ↦ λ k free. absurd (true≢false free) | _ ↦ λ k free. refl ])
 
-pub marks-report : (c : MarkedCampaign) (n : ℕ) (text : List ℕ) → MarksChanges c (record { value = with_report c.value n text; marks = mark_report c n })
+pub marks-report : (c : MarkedCampaign) (n : ℕ) (text : List ℕ)
+    → MarksChanges c (record { value = with_report c.value n text; marks = mark_report c n })
 marks-report c n text =
     let next : MarkedCampaign = record { value = with_report c.value n text; marks = mark_report c n } in
     part_by_part c next
@@ -28,7 +30,10 @@ marks-report c n text =
 
 module _ (marks : FinSet nat_cmp) (mail : FinMap nat_cmp (List ℕ)) where
   either : (k : ℕ) → contains (union marks (from_list (keys mail))) k ≡ (contains marks k || contains_key mail k)
-  either k = contains-union nat_cmp_total marks (from_list (keys mail)) k ∙ ap (λ b. contains marks k || b) (contains-from_list nat_cmp_total (keys mail) k ∙ sym (contains_key-keys mail k))
+  either k =
+      contains-union nat_cmp_total marks (from_list (keys mail)) k
+      ∙ ap (λ b. contains marks k || b)
+      (contains-from_list nat_cmp_total (keys mail) k ∙ sym (contains_key-keys mail k))
 
   all_stay : StaysMarked marks (union marks (from_list (keys mail)))
   all_stay k h = either k ∙ ap (λ b. b || contains_key mail k) h
@@ -39,9 +44,12 @@ module _ (marks : FinSet nat_cmp) (mail : FinMap nat_cmp (List ℕ)) where
   none_there false b (Some text) is free = absurd (true≢false (sym is ∙ free))
 
   all_gone : SameBut (union marks (from_list (keys mail))) mail empty
-  all_gone k free = get-empty nat_cmp k ∙ none_there (contains marks k) (contains_key mail k) (get mail k) refl (sym (either k) ∙ free)
+  all_gone k free =
+      get-empty nat_cmp k
+      ∙ none_there (contains marks k) (contains_key mail k) (get mail k) refl (sym (either k) ∙ free)
 
-pub marks-no_mail : (c : MarkedCampaign) → MarksChanges c (record { value = without_mail c.value; marks = mark_all_mail c })
+pub marks-no_mail : (c : MarkedCampaign)
+    → MarksChanges c (record { value = without_mail c.value; marks = mark_all_mail c })
 marks-no_mail c =
     let next : MarkedCampaign = record { value = without_mail c.value; marks = mark_all_mail c } in
     part_by_part c next

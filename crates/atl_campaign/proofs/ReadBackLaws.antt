@@ -29,13 +29,16 @@ use Rattle.atl_world.proofs.EntryOrderLaws.{less_by_comparison}
 
 -- ---- facts of each row, in another order
 
-pub each_permuted : {R : Type 0} (P : R → Type 0) (xs ys : List R) → IsPermutation xs ys → AllByRecursion P xs → AllByRecursion P ys
+pub each_permuted : {R : Type 0} (P : R → Type 0) (xs ys : List R) → IsPermutation xs ys → AllByRecursion P xs
+    → AllByRecursion P ys
 each_permuted P xs ys h all = recursion_from_All P ys (All-permutation P xs ys h (All-from_recursion P xs all))
 
-pub each_back : {R : Type 0} (P : R → Type 0) (xs ys : List R) → IsPermutation xs ys → AllByRecursion P ys → AllByRecursion P xs
+pub each_back : {R : Type 0} (P : R → Type 0) (xs ys : List R) → IsPermutation xs ys → AllByRecursion P ys
+    → AllByRecursion P xs
 each_back P xs ys h = each_permuted P ys xs (IsPermutation-sym xs ys h)
 
-pub all_pass : {R : Type 0} (p : R → Bool) (P : R → Type 0) → ((r : R) → P r → p r ≡ true) → (rows : List R) → AllByRecursion P rows → list_all p rows ≡ true
+pub all_pass : {R : Type 0} (p : R → Bool) (P : R → Type 0) → ((r : R) → P r → p r ≡ true) → (rows : List R)
+    → AllByRecursion P rows → list_all p rows ≡ true
 all_pass p P good [] h = refl
 all_pass p P good (r ∷ rows) h = ap (λ b. b && list_all p rows) (good r h.0) ∙ all_pass p P good rows h.1
 
@@ -49,7 +52,8 @@ written_fits_u32 n h = ap pos (sym (written_is_read n h))
 
 -- ---- maps
 
-pub equal_by_values : {V : Type 0} (m k : FinMap nat_cmp V) → Every (λ n v. get k n ≡ Some v) m → Every (λ n v. get m n ≡ Some v) k → m ≡ k
+pub equal_by_values : {V : Type 0} (m k : FinMap nat_cmp V) → Every (λ n v. get k n ≡ Some v) m
+    → Every (λ n v. get m n ≡ Some v) k → m ≡ k
 equal_by_values {V} m k there back = same_map nat_cmp_total nat_cmp-IsAntisymmetric m k (λ n.
     elim (get m n) as (λ o. get m n ≡ o → get m n ≡ get k n) [
       | Some v ↦ λ is. is ∙ sym (there n v is)
@@ -60,44 +64,56 @@ equal_by_values {V} m k there back = same_map nat_cmp_total nat_cmp-IsAntisymmet
     ] refl)
 
 module _ {R V : Type 0} (number : R → ℕ) (value : R → V) where
-  put_from_each : (P : ℕ → V → Type 0) (rows : List R) (m : FinMap nat_cmp V) → AllByRecursion (λ r. P (number r) (value r)) rows → Every P m → Every P (put_rows number value rows m)
+  put_from_each : (P : ℕ → V → Type 0) (rows : List R) (m : FinMap nat_cmp V)
+      → AllByRecursion (λ r. P (number r) (value r)) rows → Every P m → Every P (put_rows number value rows m)
   put_from_each P [] m all old = old
   put_from_each P (r ∷ rows) m all old = put_from_each P rows _ all.1 (every-insert P m (number r) (value r) all.0 old)
 
-  pub every_by : (P : ℕ → V → Type 0) (rows : List R) → AllByRecursion (λ r. P (number r) (value r)) rows → Every P (by_number number value rows)
+  pub every_by : (P : ℕ → V → Type 0) (rows : List R) → AllByRecursion (λ r. P (number r) (value r)) rows
+      → Every P (by_number number value rows)
   every_by P rows all = put_from_each P rows _ all (every-empty P)
 
-  pub by_number_is : (m : FinMap nat_cmp V) (rows : List R) → AllByRecursion (λ r. get m (number r) ≡ Some (value r)) rows → Every (λ n v. get (by_number number value rows) n ≡ Some v) m → by_number number value rows ≡ m
-  by_number_is m rows there back = equal_by_values (by_number number value rows) m (every_by (λ n v. get m n ≡ Some v) rows there) back
+  pub by_number_is : (m : FinMap nat_cmp V) (rows : List R)
+      → AllByRecursion (λ r. get m (number r) ≡ Some (value r)) rows
+      → Every (λ n v. get (by_number number value rows) n ≡ Some v) m → by_number number value rows ≡ m
+  by_number_is m rows there back =
+      equal_by_values (by_number number value rows) m (every_by (λ n v. get m n ≡ Some v) rows there) back
 
 -- ---- a row for each entry
 
 module _ {V R : Type 0} (row : ℕ → V → R) where
-  rows_each : (P : R → Type 0) (es : List (ℕ × V)) → EachEntry (λ n v. P (row n v)) es → AllByRecursion P (rows_by row es)
+  rows_each : (P : R → Type 0) (es : List (ℕ × V)) → EachEntry (λ n v. P (row n v)) es
+      → AllByRecursion P (rows_by row es)
   rows_each P [] h = tt
   rows_each P (e ∷ es) h = (h.0, rows_each P es h.1)
 
-  each_row : (P : R → Type 0) (es : List (ℕ × V)) → AllByRecursion P (rows_by row es) → EachEntry (λ n v. P (row n v)) es
+  each_row : (P : R → Type 0) (es : List (ℕ × V)) → AllByRecursion P (rows_by row es)
+      → EachEntry (λ n v. P (row n v)) es
   each_row P [] h = tt
   each_row P (e ∷ es) h = (h.0, each_row P es h.1)
 
-  pub rows_every : (P : R → Type 0) (m : FinMap nat_cmp V) → Every (λ n v. P (row n v)) m → AllByRecursion P (rows_by row (entries m))
+  pub rows_every : (P : R → Type 0) (m : FinMap nat_cmp V) → Every (λ n v. P (row n v)) m
+      → AllByRecursion P (rows_by row (entries m))
   rows_every P m h = rows_each P (entries m) (each-from_every (λ n v. P (row n v)) m h)
 
-  pub every_row : (P : R → Type 0) (m : FinMap nat_cmp V) → AllByRecursion P (rows_by row (entries m)) → Every (λ n v. P (row n v)) m
+  pub every_row : (P : R → Type 0) (m : FinMap nat_cmp V) → AllByRecursion P (rows_by row (entries m))
+      → Every (λ n v. P (row n v)) m
   every_row P m h = every-from_each (λ n v. P (row n v)) m (each_row P (entries m) h)
 
   count : (es : List (ℕ × V)) → length (rows_by row es) ≡ length es
   count [] = refl
   count (e ∷ es) = ap suc (count es)
 
-  pub count_rows : (m : FinMap nat_cmp V) (rows : List R) → IsPermutation (rows_by row (entries m)) rows → length rows ≡ len m
+  pub count_rows : (m : FinMap nat_cmp V) (rows : List R) → IsPermutation (rows_by row (entries m)) rows
+      → length rows ≡ len m
   count_rows m rows h = length_permutation (rows_by row (entries m)) rows h ∙ count (entries m) ∙ sym (len-entries m)
 
-  pub rows_so : (P : R → Type 0) (m : FinMap nat_cmp V) (rows : List R) → IsPermutation (rows_by row (entries m)) rows → Every (λ n v. P (row n v)) m → AllByRecursion P rows
+  pub rows_so : (P : R → Type 0) (m : FinMap nat_cmp V) (rows : List R) → IsPermutation (rows_by row (entries m)) rows
+      → Every (λ n v. P (row n v)) m → AllByRecursion P rows
   rows_so P m rows h every = each_permuted P (rows_by row (entries m)) rows h (rows_every P m every)
 
-  pub rows_pass : (p : R → Bool) (m : FinMap nat_cmp V) (rows : List R) → IsPermutation (rows_by row (entries m)) rows → Every (λ n v. p (row n v) ≡ true) m → list_all p rows ≡ true
+  pub rows_pass : (p : R → Bool) (m : FinMap nat_cmp V) (rows : List R) → IsPermutation (rows_by row (entries m)) rows
+      → Every (λ n v. p (row n v) ≡ true) m → list_all p rows ≡ true
   rows_pass p m rows h every = all_pass p (λ r. p r ≡ true) (λ r e. e) rows (rows_so (λ r. p r ≡ true) m rows h every)
 
   module _ (number : R → ℕ) (value : R → V) where
@@ -106,7 +122,8 @@ module _ {V R : Type 0} (row : ℕ → V → R) where
     ReadsBack n v = (number (row n v) ≡ n) × (value (row n v) ≡ v)
 
     -- rows of a map, in any order, make that map, if each is read back, and no two are read with the same number
-    pub map_back : (m : FinMap nat_cmp V) (rows : List R) → IsPermutation (rows_by row (entries m)) rows → Every ReadsBack m → HaveDistinctNumbers number rows → by_number number value rows ≡ m
+    pub map_back : (m : FinMap nat_cmp V) (rows : List R) → IsPermutation (rows_by row (entries m)) rows
+        → Every ReadsBack m → HaveDistinctNumbers number rows → by_number number value rows ≡ m
     map_back m rows h same apart =
         by_number_is number value m rows (rows_so (λ r. get m (number r) ≡ Some (value r)) m rows h (λ n v is. let both = same n v is in ap (get m) both.0 ∙ is ∙ ap (λ x. Some x) (sym both.1)))
         (λ n v is.
@@ -143,17 +160,21 @@ same_key a b h =
     }
 
 pub apart_keys : (a b : Key) → ¬ (SameKey a b) → is_same_key a b ≡ false
-apart_keys a b h = elim (is_same_key a b) as (λ t. is_same_key a b ≡ t → is_same_key a b ≡ false) [ true ↦ λ e. absurd (h (same_key a b e)) | false ↦ λ e. e ] refl
+apart_keys a b h =
+    elim (is_same_key a b) as (λ t. is_same_key a b ≡ t → is_same_key a b ≡ false)
+    [ true ↦ λ e. absurd (h (same_key a b e)) | false ↦ λ e. e ] refl
 
 pub pos_is_injective : (m n : ℕ) → pos m ≡ pos n → m ≡ n
 pos_is_injective m n e = cc
 
 pub apart_numbers : (m n : ℕ) → m < n → is_same_key (one_key (pos m)) (one_key (pos n)) ≡ false
-apart_numbers m n l = apart_keys (one_key (pos m)) (one_key (pos n)) (λ k. let e = pos_is_injective m n k.first in omega arith)
+apart_numbers m n l =
+    apart_keys (one_key (pos m)) (one_key (pos n)) (λ k. let e = pos_is_injective m n k.first in omega arith)
 
 -- ---- rows that are listed one after another
 
-pub each_appended : {A : Type 0} (P : A → Type 0) (xs ys : List A) → AllByRecursion P (xs ++ ys) → AllByRecursion P xs × AllByRecursion P ys
+pub each_appended : {A : Type 0} (P : A → Type 0) (xs ys : List A) → AllByRecursion P (xs ++ ys)
+    → AllByRecursion P xs × AllByRecursion P ys
 each_appended P [] ys h = (tt, h)
 each_appended P (x ∷ xs) ys h = let rest = each_appended P xs ys h.1 in ((h.0, rest.0), rest.1)
 
@@ -163,7 +184,8 @@ InOrder Before [] = ⊤
 InOrder Before (x ∷ xs) = AllByRecursion (Before x) xs × InOrder Before xs
 
 module _ {A : Type 0} (e : A → A → Bool) where
-  pub append_apart : (xs ys : List A) → IsDistinct e xs → IsDistinct e ys → AllByRecursion (λ x. AllByRecursion (λ y. e x y ≡ false) ys) xs → IsDistinct e (xs ++ ys)
+  pub append_apart : (xs ys : List A) → IsDistinct e xs → IsDistinct e ys
+      → AllByRecursion (λ x. AllByRecursion (λ y. e x y ≡ false) ys) xs → IsDistinct e (xs ++ ys)
   unfolding IsDistinct
   append_apart [] ys d f h = f
   append_apart (x ∷ xs) ys d f h = (all_append (λ y. e x y ≡ false) xs ys d.0 h.0, append_apart xs ys d.1 f h.1)
@@ -172,15 +194,18 @@ module _ {A : Type 0} (e : A → A → Bool) where
   module _ {X : Type 0} (f : X → List A) (Before : X → X → Type 0) (Own : X → A → Type 0) (apart : (x y : X) (a b : A) → Before x y → Own x a → Own y b → e a b ≡ false) (own : (x : X) → AllByRecursion (Own x) (f x)) (one : (x : X) → IsDistinct e (f x)) where
     -- for all_against: e is false of row a, which belongs to x (Own), and of each row that f makes of the elements xs,
     -- which come after x (Before)
-    against : (x : X) (a : A) (xs : List X) → Own x a → AllByRecursion (Before x) xs → AllByRecursion (λ b. e a b ≡ false) (flat_map f xs)
+    against : (x : X) (a : A) (xs : List X) → Own x a → AllByRecursion (Before x) xs
+        → AllByRecursion (λ b. e a b ≡ false) (flat_map f xs)
     against x a [] mine h = tt
-    against x a (y ∷ xs) mine h = all_append (λ b. e a b ≡ false) (f y) (flat_map f xs) (these (f y) (own y)) (against x a xs mine h.1)
+    against x a (y ∷ xs) mine h =
+        all_append (λ b. e a b ≡ false) (f y) (flat_map f xs) (these (f y) (own y)) (against x a xs mine h.1)
       where
         these : (bs : List A) → AllByRecursion (Own y) bs → AllByRecursion (λ b. e a b ≡ false) bs
         these [] all = tt
         these (b ∷ bs) all = (apart x y a b h.0 mine all.0, these bs all.1)
 
-    all_against : (x : X) (xs : List X) (rows : List A) → AllByRecursion (Own x) rows → AllByRecursion (Before x) xs → AllByRecursion (λ a. AllByRecursion (λ b. e a b ≡ false) (flat_map f xs)) rows
+    all_against : (x : X) (xs : List X) (rows : List A) → AllByRecursion (Own x) rows → AllByRecursion (Before x) xs
+        → AllByRecursion (λ a. AllByRecursion (λ b. e a b ≡ false) (flat_map f xs)) rows
     all_against x xs [] mine h = tt
     all_against x xs (a ∷ rows) mine h = (against x a xs mine.0 h, all_against x xs rows mine.1 h)
 
@@ -189,7 +214,8 @@ module _ {A : Type 0} (e : A → A → Bool) where
     pub flat_apart : (xs : List X) → InOrder Before xs → IsDistinct e (flat_map f xs)
     unfolding IsDistinct
     flat_apart [] h = tt
-    flat_apart (x ∷ xs) h = append_apart (f x) (flat_map f xs) (one x) (flat_apart xs h.1) (all_against x xs (f x) (own x) h.0)
+    flat_apart (x ∷ xs) h =
+        append_apart (f x) (flat_map f xs) (one x) (flat_apart xs h.1) (all_against x xs (f x) (own x) h.0)
 
 -- ---- entries rise
 
@@ -209,7 +235,8 @@ pub entries_rise : {V : Type 0} (m : FinMap nat_cmp V) → Rise (entries m)
 entries_rise m = rise_sorted (entries m) (sorted m)
 
 module _ {V R : Type 0} (row : ℕ → V → R) (e : R → R → Bool) (apart : (n k : ℕ) (v u : V) → n < k → e (row n v) (row k u) ≡ false) where
-  others : (n : ℕ) (v : V) (es : List (ℕ × V)) → AllByRecursion (λ f. n < f.0) es → AllByRecursion (λ r. e (row n v) r ≡ false) (rows_by row es)
+  others : (n : ℕ) (v : V) (es : List (ℕ × V)) → AllByRecursion (λ f. n < f.0) es
+      → AllByRecursion (λ r. e (row n v) r ≡ false) (rows_by row es)
   others n v [] h = tt
   others n v (f ∷ es) h = (apart n f.0 v f.1 h.0, others n v es h.1)
 
@@ -223,7 +250,11 @@ module _ {V R : Type 0} (row : ℕ → V → R) (e : R → R → Bool) (apart : 
 -- ---- keys in another order
 
 same_symm : (a b : Key) → is_same_key a b ≡ is_same_key b a
-same_symm = (eq_by_cmp_equiv (then_total (then_total (on_total (λ (t : Key). t.0) int_cmp_total) (on_total (λ (t : Key). t.1) int_cmp_total)) (on_total (λ (t : Key). t.2) int_cmp_total))).symm
+same_symm =
+    (eq_by_cmp_equiv (then_total (then_total (on_total (λ (t : Key). t.0) int_cmp_total) (on_total (λ (t : Key). t.1) int_cmp_total)) (on_total (λ (t : Key). t.2) int_cmp_total))).symm
 
-pub keys_permuted : {R : Type 0} (key : R → Key) (xs ys : List R) → IsPermutation xs ys → IsDistinct (λ a b. is_same_key (key a) (key b)) xs → HaveDistinctKeys key ys
-keys_permuted key xs ys h d = IsDistinct-map key is_same_key ys (IsDistinct-IsPermutation (λ a b. is_same_key (key a) (key b)) (λ a b. same_symm (key a) (key b)) xs ys h d)
+pub keys_permuted : {R : Type 0} (key : R → Key) (xs ys : List R) → IsPermutation xs ys
+    → IsDistinct (λ a b. is_same_key (key a) (key b)) xs → HaveDistinctKeys key ys
+keys_permuted key xs ys h d =
+    IsDistinct-map key is_same_key ys
+    (IsDistinct-IsPermutation (λ a b. is_same_key (key a) (key b)) (λ a b. same_symm (key a) (key b)) xs ys h d)

@@ -88,19 +88,23 @@ module _ {V : Type 0} where
 
   pub get-insert_same : (m : FinMap nat_cmp V) (k : ℕ) (v : V) → get (insert m k v) k ≡ Some v
   get-insert_same m k v =
-      get-insert nat_cmp_total m k v k ∙ elim (nat_cmp k k) as (λ o. nat_cmp k k ≡ o → cond (is_eq o) (Some v) (get m k) ≡ Some v) [
+      get-insert nat_cmp_total m k v k
+      ∙ elim (nat_cmp k k) as (λ o. nat_cmp k k ≡ o → cond (is_eq o) (Some v) (get m k) ≡ Some v) [
         | Less ↦ λ o. let l = ranked k k Less (sym o) in absurd (omega arith)
         | Equal ↦ λ _. refl
         | Greater ↦ λ o. let l = ranked k k Greater (sym o) in absurd (omega arith)
       ] refl
 
-  pub changed-known : (f : V → V) (m : FinMap nat_cmp V) (n : ℕ) (v : V) → get m n ≡ Some v → with_changed_value f m n ≡ insert m n (f v)
+  pub changed-known : (f : V → V) (m : FinMap nat_cmp V) (n : ℕ) (v : V) → get m n ≡ Some v
+      → with_changed_value f m n ≡ insert m n (f v)
   changed-known f m n v is = ap (with_changed_option f m n) is
 
-pub IsRegion-peasants : {w : WorldValue} {n : ℕ} (r : Region) (peasants : ℕ) → peasants ≤ most_amount → IsRegion w n r → IsRegion w n (record r { peasants = peasants })
+pub IsRegion-peasants : {w : WorldValue} {n : ℕ} (r : Region) (peasants : ℕ) → peasants ≤ most_amount → IsRegion w n r
+    → IsRegion w n (record r { peasants = peasants })
 IsRegion-peasants r peasants few old = record { peasants = few; money = old.money; stocks = old.stocks }
 
-pub IsRegion-money : {w : WorldValue} {n : ℕ} (r : Region) (money : ℕ) → money ≤ most_amount → IsRegion w n r → IsRegion w n (record r { money = money })
+pub IsRegion-money : {w : WorldValue} {n : ℕ} (r : Region) (money : ℕ) → money ≤ most_amount → IsRegion w n r
+    → IsRegion w n (record r { money = money })
 IsRegion-money r money few old = record { peasants = old.peasants; money = few; stocks = old.stocks }
 
 module _ (f : Region → Region) (c : CampaignValue) (n : ℕ) (r : Region) (is : get c.regions n ≡ Some r) where
@@ -108,7 +112,8 @@ module _ (f : Region → Region) (c : CampaignValue) (n : ℕ) (r : Region) (is 
   region-changed = ap (λ m. get m n) (changed-known f c.regions n r is) ∙ get-insert_same c.regions n (f r)
 
   -- the campaign stays steady when f changes region n, if f r is in range (IsRegion), with stocks of its markets only
-  pub steady-region : (w : WorldValue) → IsRegion w n (f r) → AreOfMarkets w n (f r).stocks → IsSteady w c → IsSteady w (region_changed f c n)
+  pub steady-region : (w : WorldValue) → IsRegion w n (f r) → AreOfMarkets w n (f r).stocks → IsSteady w c
+      → IsSteady w (region_changed f c n)
   steady-region w within marketed old =
       subst (λ (m : FinMap nat_cmp Region). IsSteady w (record c { regions = m })) (sym (changed-known f c.regions n r is))
       (stocked-steady w c (insert c.regions n (f r)) c.books (same_len c.regions n r (f r) is)
@@ -120,7 +125,8 @@ module _ (f : Region → Region) (c : CampaignValue) (n : ℕ) (r : Region) (is 
   regrouped u a b p q h = omega arith
 
   -- changing region n changes the total of each thing by what the region then has more or less of it
-  pub total-region : (t : Thing) → total (region_changed f c n) t + region_amount t r ≡ total c t + region_amount t (f r)
+  pub total-region : (t : Thing)
+      → total (region_changed f c n) t + region_amount t r ≡ total c t + region_amount t (f r)
   unfolding total
   total-region t =
       let units = sum_over (λ (u : Unit). unit_amount t u.holding) c.units in
@@ -130,15 +136,18 @@ module _ (f : Region → Region) (c : CampaignValue) (n : ℕ) (r : Region) (is 
 
 -- ---- the books
 
-pub steady-amount : (w : WorldValue) (c : CampaignValue) (e : BooksEntry) (t : Thing) (n : ℤ) → thing_index t < thing_count w → IsSteady w c → IsSteady w (with_booking c e t n)
+pub steady-amount : (w : WorldValue) (c : CampaignValue) (e : BooksEntry) (t : Thing) (n : ℤ)
+    → thing_index t < thing_count w → IsSteady w c → IsSteady w (with_booking c e t n)
 steady-amount w c e t n there old =
     stocked-steady w c c.regions (after_booking c.books e t n) refl (λ k. (λ h. h, λ h. h)) old.numbers.regions old.known.markets (AreBooks-after_booking (thing_count w) c.books e t n old.numbers.books there) old
 
-pub total-booking : (c : CampaignValue) (e : BooksEntry) (u t : Thing) (n : ℤ) → total (with_booking c e u n) t ≡ total c t
+pub total-booking : (c : CampaignValue) (e : BooksEntry) (u t : Thing) (n : ℤ)
+    → total (with_booking c e u n) t ≡ total c t
 unfolding total
 total-booking c e u t n = refl
 
-pub booking-other_amount : (books : BooksValue) (e f : BooksEntry) (t u : Thing) (n : ℤ) → amount_number e t ≢ amount_number f u → amount_in (after_booking books f u n) e t ≡ amount_in books e t
+pub booking-other_amount : (books : BooksValue) (e f : BooksEntry) (t u : Thing) (n : ℤ)
+    → amount_number e t ≢ amount_number f u → amount_in (after_booking books f u n) e t ≡ amount_in books e t
 booking-other_amount books e f t u n apart =
     elim (cases_account (e, t) (f, u)) [
       | inl same ↦ absurd (apart (ap (λ (a : Account). amount_number a.0 a.1) same))

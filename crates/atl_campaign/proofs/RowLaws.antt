@@ -16,14 +16,17 @@ pos_is_injective e = cc
 
 -- for rows of which `shown` gives the amount that `row` made them with
 module _ {R : Type 0} (shown : R → ℤ) (row : ℕ → ℕ → R) (shows : (thing amount : ℕ) → shown (row thing amount) ≡ pos amount) where
-  pub amount_rows_one : (thing amount : ℕ) (es : List (ℕ × ℕ)) → amount ≢ 0 → amount_rows shown row ((thing, amount) ∷ es) ≡ row thing amount ∷ amount_rows shown row es
+  pub amount_rows_one : (thing amount : ℕ) (es : List (ℕ × ℕ)) → amount ≢ 0
+      → amount_rows shown row ((thing, amount) ∷ es) ≡ row thing amount ∷ amount_rows shown row es
   amount_rows_one thing amount es h =
       ap (λ b. cond (not b) (row thing amount ∷ amount_rows shown row es) (amount_rows shown row es)) (ap is_zero (shows thing amount) ∙ nonzero_fails_is_zero (pos amount) (λ e. h (pos_is_injective e)))
 
-pub sort_rows_one : (n sort thing amount : ℕ) (es : List (ℕ × ℕ)) → amount ≢ 0 → rows_of_sort n sort ((thing, amount) ∷ es) ≡ has_row n sort thing amount ∷ rows_of_sort n sort es
+pub sort_rows_one : (n sort thing amount : ℕ) (es : List (ℕ × ℕ)) → amount ≢ 0
+    → rows_of_sort n sort ((thing, amount) ∷ es) ≡ has_row n sort thing amount ∷ rows_of_sort n sort es
 sort_rows_one n sort = amount_rows_one (λ r. r.amount) (has_row n sort) (λ i a. refl)
 
-pub rows_under-append : (books : BooksValue) (some others : List Account) → rows_under books (some ++ others) ≡ rows_under books some ++ rows_under books others
+pub rows_under-append : (books : BooksValue) (some others : List Account)
+    → rows_under books (some ++ others) ≡ rows_under books some ++ rows_under books others
 rows_under-append books [] others = refl
 rows_under-append books (a ∷ some) others =
     let z = amount_in books a.0 a.1 in
@@ -34,26 +37,44 @@ rows_under-append books (a ∷ some) others =
       | false ↦ ap (λ rows. books_row a.0 a.1 z ∷ rows) (rows_under-append books some others)
     ]
 
-rows_under_one : (books : BooksValue) (a : Account) → rows_under books (a ∷ []) ≡ cond (not (is_zero (amount_in books a.0 a.1))) (books_row a.0 a.1 (amount_in books a.0 a.1) ∷ []) []
-rows_under_one books a = elim (is_zero (amount_in books a.0 a.1)) as (λ b. amounts_rows (cond (not b) ((a, amount_in books a.0 a.1) ∷ []) []) ≡ cond (not b) (books_row a.0 a.1 (amount_in books a.0 a.1) ∷ []) []) [ true ↦ refl | false ↦ refl ]
+rows_under_one : (books : BooksValue) (a : Account)
+    → rows_under books (a ∷ [])
+    ≡ cond (not (is_zero (amount_in books a.0 a.1))) (books_row a.0 a.1 (amount_in books a.0 a.1) ∷ []) []
+rows_under_one books a =
+    elim (is_zero (amount_in books a.0 a.1)) as
+    (λ b. amounts_rows (cond (not b) ((a, amount_in books a.0 a.1) ∷ []) []) ≡ cond (not b) (books_row a.0 a.1 (amount_in books a.0 a.1) ∷ []) [])
+    [ true ↦ refl | false ↦ refl ]
 
-more_under : (books : BooksValue) (entry : BooksEntry) (n : ℕ) → rows_under books (accounts_under (n + 1) entry) ≡ rows_under books (accounts_under n entry) ++ rows_under books ((entry, thing_at n) ∷ [])
-more_under books entry n = ap (rows_under books) (map-range_with_len_more (λ i. (entry, thing_at i)) 0 n n (omega arith)) ∙ rows_under-append books (accounts_under n entry) ((entry, thing_at n) ∷ [])
+more_under : (books : BooksValue) (entry : BooksEntry) (n : ℕ)
+    → rows_under books (accounts_under (n + 1) entry)
+    ≡ rows_under books (accounts_under n entry) ++ rows_under books ((entry, thing_at n) ∷ [])
+more_under books entry n =
+    ap (rows_under books) (map-range_with_len_more (λ i. (entry, thing_at i)) 0 n n (omega arith))
+    ∙ rows_under-append books (accounts_under n entry) ((entry, thing_at n) ∷ [])
 
-pub rows_under-some : (books : BooksValue) (entry : BooksEntry) (n : ℕ) → amount_in books entry (thing_at n) ≢ pos 0 → rows_under books (accounts_under (n + 1) entry) ≡ rows_under books (accounts_under n entry) ++ books_row entry (thing_at n) (amount_in books entry (thing_at n)) ∷ []
+pub rows_under-some : (books : BooksValue) (entry : BooksEntry) (n : ℕ) → amount_in books entry (thing_at n) ≢ pos 0
+    → rows_under books (accounts_under (n + 1) entry)
+    ≡ rows_under books (accounts_under n entry) ++ books_row entry (thing_at n) (amount_in books entry (thing_at n)) ∷ []
 rows_under-some books entry n h =
     let z = amount_in books entry (thing_at n) in
-    more_under books entry n ∙ ap (λ rows. rows_under books (accounts_under n entry) ++ rows) (rows_under_one books (entry, thing_at n) ∙ ap (λ b. cond (not b) (books_row entry (thing_at n) z ∷ []) []) (nonzero_fails_is_zero z h))
+    more_under books entry n
+    ∙ ap (λ rows. rows_under books (accounts_under n entry) ++ rows) (rows_under_one books (entry, thing_at n) ∙ ap (λ b. cond (not b) (books_row entry (thing_at n) z ∷ []) []) (nonzero_fails_is_zero z h))
 
-pub rows_under-none : (books : BooksValue) (entry : BooksEntry) (n : ℕ) → amount_in books entry (thing_at n) ≡ pos 0 → rows_under books (accounts_under (n + 1) entry) ≡ rows_under books (accounts_under n entry)
+pub rows_under-none : (books : BooksValue) (entry : BooksEntry) (n : ℕ) → amount_in books entry (thing_at n) ≡ pos 0
+    → rows_under books (accounts_under (n + 1) entry) ≡ rows_under books (accounts_under n entry)
 rows_under-none books entry n h =
-    more_under books entry n ∙ ap (λ rows. rows_under books (accounts_under n entry) ++ rows) (rows_under_one books (entry, thing_at n) ∙ ap (λ z. cond (not (is_zero z)) (books_row entry (thing_at n) z ∷ []) []) h) ∙ append-nil (rows_under books (accounts_under n entry))
+    more_under books entry n
+    ∙ ap (λ rows. rows_under books (accounts_under n entry) ++ rows) (rows_under_one books (entry, thing_at n) ∙ ap (λ z. cond (not (is_zero z)) (books_row entry (thing_at n) z ∷ []) []) h)
+    ∙ append-nil (rows_under books (accounts_under n entry))
 
 -- the rows of the books written so far, and those of the entries to come, still are `all` together once the rows of the
 -- next entry are written
-pub entry_added : (books : BooksValue) (things : ℕ) (x : BooksEntry) (now rest : List BooksEntry) (before after all : List StoredBooks) → now ≡ x ∷ rest → after ≡ before ++ rows_under books (accounts_under things x)
-    → before ++ rows_under books (flat_map (accounts_under things) now) ≡ all → after ++ rows_under books (flat_map (accounts_under things) rest) ≡ all
+pub entry_added : (books : BooksValue) (things : ℕ) (x : BooksEntry) (now rest : List BooksEntry) (before after all : List StoredBooks)
+    → now ≡ x ∷ rest → after ≡ before ++ rows_under books (accounts_under things x)
+    → before ++ rows_under books (flat_map (accounts_under things) now) ≡ all
+    → after ++ rows_under books (flat_map (accounts_under things) rest) ≡ all
 entry_added books things x now rest before after all next is so_far =
     let of = λ (es : List BooksEntry). rows_under books (flat_map (accounts_under things) es) in
-    ap (λ rows. rows ++ of rest) is ∙ append_assoc before (rows_under books (accounts_under things x)) (of rest) ∙ ap (λ rows. before ++ rows) (sym (rows_under-append books (accounts_under things x) (flat_map (accounts_under things) rest)))
+    ap (λ rows. rows ++ of rest) is ∙ append_assoc before (rows_under books (accounts_under things x)) (of rest)
+    ∙ ap (λ rows. before ++ rows) (sym (rows_under-append books (accounts_under things x) (flat_map (accounts_under things) rest)))
     ∙ ap (λ es. before ++ of es) (sym next) ∙ so_far

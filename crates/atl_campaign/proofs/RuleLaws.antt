@@ -18,7 +18,8 @@ use Rattle.atl_records.specs.Every.{Every, HasValue, EachEntry}
 use Rattle.atl_campaign.specs.Good.{IsNumbered}
 use Rattle.atl_records.proofs.EveryLaws.{none_some, every-from_each, each-from_every}
 
-pub Decides-there : {V : Type 0} (m : FinMap nat_cmp V) (n : ℕ) (b : Bool) → b ≡ is_some (get m n) → Decides b (HasValue m n)
+pub Decides-there : {V : Type 0} (m : FinMap nat_cmp V) (n : ℕ) (b : Bool) → b ≡ is_some (get m n)
+    → Decides b (HasValue m n)
 Decides-there {V} m n b is = (λ e. found (get m n) (sym is ∙ e), λ there. is ∙ ap is_some there.1)
   where
     found : (o : Option V) → is_some o ≡ true → (v : V) × (o ≡ Some v)
@@ -32,16 +33,20 @@ copied_some (Some v) = refl
 -- ---- whether all entries are so, by `all` over them
 
 module _ {V : Type 0} (P : ℕ → V → Type 0) where
-  each_at : (es : List (ℕ × V)) (k : ℕ) (d : ℕ × V) → EachEntry P es → k < length es → P (get_or es k d).0 (get_or es k d).1
+  each_at : (es : List (ℕ × V)) (k : ℕ) (d : ℕ × V) → EachEntry P es → k < length es
+      → P (get_or es k d).0 (get_or es k d).1
   each_at [] k d each inside = absurd (omega (arith, inside))
   each_at (e ∷ es) zero d each inside = each.0
   each_at (e ∷ es) (suc k) d each inside = each_at es k d each.1 (omega (arith, inside))
 
   at_each : (es : List (ℕ × V)) → AllWithin (λ e. P e.0 e.1) es 0 (length es) → EachEntry P es
   at_each [] within = tt
-  at_each (e ∷ es) within = (within 0 e (omega arith) (omega arith), at_each es (λ k d least inside. within (suc k) d (omega arith) (omega (arith, inside))))
+  at_each (e ∷ es) within =
+      (within 0 e (omega arith) (omega arith), at_each es (λ k d least inside. within (suc k) d (omega arith) (omega (arith, inside))))
 
-  answered : (es : List (ℕ × V)) (r : Bool) → MatchBool r (AllWithin (λ e. P e.0 e.1) es 0 (length es)) ((k : ℕ) × (k < length es) × HoldsAt (λ e. ¬ (P e.0 e.1)) es k) → Decides r (EachEntry P es)
+  answered : (es : List (ℕ × V)) (r : Bool)
+      → MatchBool r (AllWithin (λ e. P e.0 e.1) es 0 (length es)) ((k : ℕ) × (k < length es) × HoldsAt (λ e. ¬ (P e.0 e.1)) es k)
+      → Decides r (EachEntry P es)
   answered es true within = (λ _. at_each es within, λ _. refl)
   answered es false found = (
     λ e. absurd (false≢true e),
@@ -54,17 +59,25 @@ module _ {V : Type 0} (P : ℕ → V → Type 0) where
   module _ {F : Type 0} {g : Mut F ((ℕ × Bor V) × Unit {0}) Bool} {s : List (ℕ × V)} (u : List (ℕ × V)) (f : F) (r : Bool)
       (ran : (xs : List (ℕ × Bor V)) × (o : Option (ℕ × Bor V)) × (j : F) × YieldsThen (YieldsFirstBy shown (λ t. t)) s xs o u × FoldsTo (λ p x q. Called g p (x, tt) true q) f xs j × MatchOption o (r ≡ true) (λ x. (r ≡ false) × ((h : F) × Called g j (x, tt) false h))) where
     -- the answer of `all` over borrowed entries decides whether P holds of each (EachEntry), if the closure decides P
-    pub each_by_all : (es : List (ℕ × V)) → s ≡ es → ((x : ℕ × Bor V) (q : F) → Called g f (x, tt) true q → (q ≡ f) × P x.0 x.1.now) → ((x : ℕ × Bor V) (q : F) → Called g f (x, tt) false q → ¬ (P x.0 x.1.now)) → Decides r (EachEntry P es)
-    each_by_all es is holds fails = answered es r (cases_from_all u f r (λ e. P e.0 e.1) (λ e. ¬ (P e.0 e.1)) ran (YieldsList-from_first shown (λ t. t) es is) holds fails)
+    pub each_by_all : (es : List (ℕ × V)) → s ≡ es
+        → ((x : ℕ × Bor V) (q : F) → Called g f (x, tt) true q → (q ≡ f) × P x.0 x.1.now)
+        → ((x : ℕ × Bor V) (q : F) → Called g f (x, tt) false q → ¬ (P x.0 x.1.now)) → Decides r (EachEntry P es)
+    each_by_all es is holds fails =
+        answered es r
+        (cases_from_all u f r (λ e. P e.0 e.1) (λ e. ¬ (P e.0 e.1)) ran (YieldsList-from_first shown (λ t. t) es is) holds fails)
 
     -- the answer of `all` over a map's entries decides whether P holds of each (Every), if the closure decides P
-    pub every_by_all : (m : FinMap nat_cmp V) → s ≡ entries m → ((x : ℕ × Bor V) (q : F) → Called g f (x, tt) true q → (q ≡ f) × P x.0 x.1.now) → ((x : ℕ × Bor V) (q : F) → Called g f (x, tt) false q → ¬ (P x.0 x.1.now)) → Decides r (Every P m)
-    every_by_all m is holds fails = Decides-like r (every-from_each P m) (each-from_every P m) (each_by_all (entries m) is holds fails)
+    pub every_by_all : (m : FinMap nat_cmp V) → s ≡ entries m
+        → ((x : ℕ × Bor V) (q : F) → Called g f (x, tt) true q → (q ≡ f) × P x.0 x.1.now)
+        → ((x : ℕ × Bor V) (q : F) → Called g f (x, tt) false q → ¬ (P x.0 x.1.now)) → Decides r (Every P m)
+    every_by_all m is holds fails =
+        Decides-like r (every-from_each P m) (each-from_every P m) (each_by_all (entries m) is holds fails)
 
 -- ---- the numbers that come next
 
 pub free_from : {V : Type 0} (m : FinMap nat_cmp V) (n : ℕ) → ¬ (HasValue m n) → get m n ≡ None
-free_from {V} m n none = elim (get m n) as (λ o. get m n ≡ o → o ≡ None) [ None ↦ λ _. refl | Some v ↦ λ is. absurd (none (v, is)) ] refl
+free_from {V} m n none =
+    elim (get m n) as (λ o. get m n ≡ o → o ≡ None) [ None ↦ λ _. refl | Some v ↦ λ is. absurd (none (v, is)) ] refl
 
 module _ {V : Type 0} (m : FinMap nat_cmp V) (next : ℕ) where
   -- a number n of the map is at least `least`, and below `next`; its value v does not matter
@@ -94,4 +107,5 @@ module _ {V : Type 0} (m : FinMap nat_cmp V) (next : ℕ) where
       }
 
   pub each_numbered : IsNumbered m next → EachEntry (Between 1) (entries m)
-  each_numbered is = each-from_every (Between 1) m (λ n v there. (from_one n v is.first there, before n v is.free there))
+  each_numbered is =
+      each-from_every (Between 1) m (λ n v there. (from_one n v is.first there, before n v is.free there))

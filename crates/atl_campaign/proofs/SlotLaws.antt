@@ -37,59 +37,72 @@ module _ {V : Type 0} where
   value_in_slot s (Some k) = slab.get s k
 
   -- with an entry of n put in front of `rest`, looking up q gives that entry's value if q is n, else what `rest` gives
-  find_entry_step : (n q : ℕ) (o : Option V) (rest : List (ℕ × V)) → is_some o ≡ true → find nat_cmp q (slot_entry_at n o rest) ≡ cond (eq_by_cmp nat_cmp q n) o (find nat_cmp q rest)
+  find_entry_step : (n q : ℕ) (o : Option V) (rest : List (ℕ × V)) → is_some o ≡ true
+      → find nat_cmp q (slot_entry_at n o rest) ≡ cond (eq_by_cmp nat_cmp q n) o (find nat_cmp q rest)
   find_entry_step n q None rest h = absurd (false≢true h)
   find_entry_step n q (Some v) rest h = refl
 
-  value_in_slot_cond : (b : Bool) (s : slab.Slab V) (k : ℕ) (o : Option ℕ) → cond b (slab.get s k) (value_in_slot s o) ≡ value_in_slot s (cond b (Some k) o)
+  value_in_slot_cond : (b : Bool) (s : slab.Slab V) (k : ℕ) (o : Option ℕ)
+      → cond b (slab.get s k) (value_in_slot s o) ≡ value_in_slot s (cond b (Some k) o)
   value_in_slot_cond true s k o = refl
   value_in_slot_cond false s k o = refl
 
   -- a look-up of a number among the entries with values gives the value in the slot that the index entries have for it
-  find_slot_entry : (s : slab.Slab V) (q : ℕ) (es : List (ℕ × ℕ)) → AreInUse es s → find nat_cmp q (slot_entries es s) ≡ value_in_slot s (find nat_cmp q es)
+  find_slot_entry : (s : slab.Slab V) (q : ℕ) (es : List (ℕ × ℕ)) → AreInUse es s
+      → find nat_cmp q (slot_entries es s) ≡ value_in_slot s (find nat_cmp q es)
   find_slot_entry s q [] h = refl
   find_slot_entry s q (e ∷ es) h =
-      find_entry_step e.0 q (slab.get s e.1) (slot_entries es s) h.0 ∙ ap (cond (eq_by_cmp nat_cmp q e.0) (slab.get s e.1)) (find_slot_entry s q es h.1)
+      find_entry_step e.0 q (slab.get s e.1) (slot_entries es s) h.0
+      ∙ ap (cond (eq_by_cmp nat_cmp q e.0) (slab.get s e.1)) (find_slot_entry s q es h.1)
       ∙ value_in_slot_cond (eq_by_cmp nat_cmp q e.0) s e.1 (find nat_cmp q es)
 
   pub all_in_use : (i : FinMap nat_cmp ℕ) (s : slab.Slab V) → HaveOwnSlots i s → AreInUse (entries i) s
   all_in_use i s held = each-from_every (λ n k. is_some (slab.get s k) ≡ true) i held.in_use
 
   -- where each number has its own slot, the map of values has under a number the value in the number's slot
-  pub get_values : (i : FinMap nat_cmp ℕ) (s : slab.Slab V) → HaveOwnSlots i s → (q : ℕ) → get (values_of i s) q ≡ value_in_slot s (get i q)
+  pub get_values : (i : FinMap nat_cmp ℕ) (s : slab.Slab V) → HaveOwnSlots i s → (q : ℕ)
+      → get (values_of i s) q ≡ value_in_slot s (get i q)
   get_values i s held q =
       get-from_entries nat_cmp_total (slot_entries (entries i) s) q
       ∙ find_slot_entry s q (entries i) (all_in_use i s held)
       ∙ ap (value_in_slot s) (sym (get-entries i q))
 
-  pub value_under : (i : FinMap nat_cmp ℕ) (s : slab.Slab V) (m : FinMap nat_cmp V) (n : ℕ) (o : Option ℕ) → HaveOwnSlots i s → values_of i s ≡ m → o ≡ get i n → value_in_slot s o ≡ get m n
+  pub value_under : (i : FinMap nat_cmp ℕ) (s : slab.Slab V) (m : FinMap nat_cmp V) (n : ℕ) (o : Option ℕ)
+      → HaveOwnSlots i s → values_of i s ≡ m → o ≡ get i n → value_in_slot s o ≡ get m n
   value_under i s m n o held is there = ap (value_in_slot s) there ∙ sym (get_values i s held n) ∙ ap (λ v. get v n) is
 
   empty_slot : (o : Option V) → is_some o ≡ true → o ≡ None → ⊥
   empty_slot None h e = false≢true h
   empty_slot (Some x) h e = some_none x e
 
-  leads_nowhere : (i : FinMap nat_cmp ℕ) (s : slab.Slab V) (n : ℕ) (o : Option ℕ) → get i n ≡ o → HaveOwnSlots i s → value_in_slot s o ≡ None → o ≡ None
+  leads_nowhere : (i : FinMap nat_cmp ℕ) (s : slab.Slab V) (n : ℕ) (o : Option ℕ) → get i n ≡ o → HaveOwnSlots i s
+      → value_in_slot s o ≡ None → o ≡ None
   leads_nowhere i s n None e held h = refl
   leads_nowhere i s n (Some k) e held h = absurd (empty_slot (slab.get s k) (held.in_use n k e) h)
 
-  pub unindexed : (i : FinMap nat_cmp ℕ) (s : slab.Slab V) (n : ℕ) → HaveOwnSlots i s → get (values_of i s) n ≡ None → get i n ≡ None
+  pub unindexed : (i : FinMap nat_cmp ℕ) (s : slab.Slab V) (n : ℕ) → HaveOwnSlots i s → get (values_of i s) n ≡ None
+      → get i n ≡ None
   unindexed i s n held h = leads_nowhere i s n (get i n) refl held (sym (get_values i s held n) ∙ h)
 
   vacant_slot : (s : slab.Slab V) (j k : ℕ) → j ≡ k → slab.get s k ≡ None → is_some (slab.get s j) ≡ true → ⊥
   vacant_slot s j k same vacant h = false≢true (sym (ap is_some (ap (slab.get s) same ∙ vacant)) ∙ h)
 
-  slot_entries_same : (es : List (ℕ × ℕ)) (s t : slab.Slab V) → slab.SameValues s t → slot_entries es t ≡ slot_entries es s
+  slot_entries_same : (es : List (ℕ × ℕ)) (s t : slab.Slab V) → slab.SameValues s t
+      → slot_entries es t ≡ slot_entries es s
   slot_entries_same [] s t same = refl
-  slot_entries_same (e ∷ es) s t same = ap (λ o. slot_entry_at e.0 o (slot_entries es t)) (same e.1) ∙ ap (slot_entry_at e.0 (slab.get s e.1)) (slot_entries_same es s t same)
+  slot_entries_same (e ∷ es) s t same =
+      ap (λ o. slot_entry_at e.0 o (slot_entries es t)) (same e.1)
+      ∙ ap (slot_entry_at e.0 (slab.get s e.1)) (slot_entries_same es s t same)
 
-  kept : (s t : slab.Slab V) (k : ℕ) (x : Option V) (o : Option ℕ) → slab.Updates s t k x → ((j : ℕ) → o ≡ Some j → j ≢ k) → value_in_slot t o ≡ value_in_slot s o
+  kept : (s t : slab.Slab V) (k : ℕ) (x : Option V) (o : Option ℕ) → slab.Updates s t k x
+      → ((j : ℕ) → o ≡ Some j → j ≢ k) → value_in_slot t o ≡ value_in_slot s o
   kept s t k x None u h = refl
   kept s t k x (Some j) u h = u.others j (h j refl)
 
   -- ---- a value changed in its slot
 
-  pub HaveOwnSlots-changed : (i : FinMap nat_cmp ℕ) (s t : slab.Slab V) (k : ℕ) (x : V) → slab.Updates s t k (Some x) → HaveOwnSlots i s → HaveOwnSlots i t
+  pub HaveOwnSlots-changed : (i : FinMap nat_cmp ℕ) (s t : slab.Slab V) (k : ℕ) (x : V) → slab.Updates s t k (Some x)
+      → HaveOwnSlots i s → HaveOwnSlots i t
   HaveOwnSlots-changed i s t k x u held = record {
     in_use = λ n j h. elim (cases_eq j k) [
       | inl same ↦ ap (λ m. is_some (slab.get t m)) same ∙ ap is_some u.changed
@@ -98,7 +111,8 @@ module _ {V : Type 0} where
     by_one = held.by_one;
   }
 
-  pub values_changed : (i : FinMap nat_cmp ℕ) (s t : slab.Slab V) (n k : ℕ) (x : V) → slab.Updates s t k (Some x) → HaveOwnSlots i s → get i n ≡ Some k → values_of i t ≡ insert (values_of i s) n x
+  pub values_changed : (i : FinMap nat_cmp ℕ) (s t : slab.Slab V) (n k : ℕ) (x : V) → slab.Updates s t k (Some x)
+      → HaveOwnSlots i s → get i n ≡ Some k → values_of i t ≡ insert (values_of i s) n x
   values_changed i s t n k x u held is = same_map nat_cmp_total nat_cmp-IsAntisymmetric _ _ (λ q.
       get_values i t (HaveOwnSlots-changed i s t k x u held) q
       ∙ by_equality q n (λ b. value_in_slot t (get i q) ≡ cond b (Some x) (value_in_slot s (get i q)))
@@ -108,7 +122,8 @@ module _ {V : Type 0} where
 
   -- ---- a value put in
 
-  pub HaveOwnSlots-added : (i : FinMap nat_cmp ℕ) (s t : slab.Slab V) (n k : ℕ) (x : V) → slab.Updates s t k (Some x) → slab.get s k ≡ None → HaveOwnSlots i s → HaveOwnSlots (insert i n k) t
+  pub HaveOwnSlots-added : (i : FinMap nat_cmp ℕ) (s t : slab.Slab V) (n k : ℕ) (x : V) → slab.Updates s t k (Some x)
+      → slab.get s k ≡ None → HaveOwnSlots i s → HaveOwnSlots (insert i n k) t
   HaveOwnSlots-added i s t n k x u vacant held = record {
     in_use = λ m j h. by_equality m n (λ b. cond b (Some k) (get i m) ≡ Some j → is_some (slab.get t j) ≡ true)
         (λ same e. ap (λ m. is_some (slab.get t m)) (same_some e refl) ∙ ap is_some u.changed)
@@ -128,9 +143,11 @@ module _ {V : Type 0} where
 
   -- once a value is put into a vacant slot to which a number then leads, the map of values has it under this number,
   -- and is otherwise the same
-  pub values_added : (i : FinMap nat_cmp ℕ) (s t : slab.Slab V) (n k : ℕ) (x : V) → slab.Updates s t k (Some x) → slab.get s k ≡ None → HaveOwnSlots i s → values_of (insert i n k) t ≡ insert (values_of i s) n x
+  pub values_added : (i : FinMap nat_cmp ℕ) (s t : slab.Slab V) (n k : ℕ) (x : V) → slab.Updates s t k (Some x)
+      → slab.get s k ≡ None → HaveOwnSlots i s → values_of (insert i n k) t ≡ insert (values_of i s) n x
   values_added i s t n k x u vacant held = same_map nat_cmp_total nat_cmp-IsAntisymmetric _ _ (λ q.
-      get_values (insert i n k) t (HaveOwnSlots-added i s t n k x u vacant held) q ∙ ap (value_in_slot t) (get-insert nat_cmp_total i n k q)
+      get_values (insert i n k) t (HaveOwnSlots-added i s t n k x u vacant held) q
+      ∙ ap (value_in_slot t) (get-insert nat_cmp_total i n k q)
       ∙ by_equality q n (λ b. value_in_slot t (cond b (Some k) (get i q)) ≡ cond b (Some x) (value_in_slot s (get i q)))
       (λ same. u.changed)
       (λ apart. kept s t k (Some x) (get i q) u (λ j h same. vacant_slot s j k same vacant (held.in_use q j h)))
@@ -138,7 +155,8 @@ module _ {V : Type 0} where
 
   -- ---- a value taken out
 
-  pub HaveOwnSlots-removed : (i : FinMap nat_cmp ℕ) (s t : slab.Slab V) (n k : ℕ) → slab.Updates s t k None → get i n ≡ Some k → HaveOwnSlots i s → HaveOwnSlots (remove i n) t
+  pub HaveOwnSlots-removed : (i : FinMap nat_cmp ℕ) (s t : slab.Slab V) (n k : ℕ) → slab.Updates s t k None
+      → get i n ≡ Some k → HaveOwnSlots i s → HaveOwnSlots (remove i n) t
   HaveOwnSlots-removed i s t n k u is held = record {
     in_use = λ m j h. by_equality m n (λ b. cond b None (get i m) ≡ Some j → is_some (slab.get t j) ≡ true)
         (λ same e. some_none j (sym e))
@@ -153,9 +171,11 @@ module _ {V : Type 0} where
         (sym (get-remove nat_cmp_total i n a) ∙ h);
   }
 
-  pub values_removed : (i : FinMap nat_cmp ℕ) (s t : slab.Slab V) (n k : ℕ) → slab.Updates s t k None → get i n ≡ Some k → HaveOwnSlots i s → values_of (remove i n) t ≡ remove (values_of i s) n
+  pub values_removed : (i : FinMap nat_cmp ℕ) (s t : slab.Slab V) (n k : ℕ) → slab.Updates s t k None → get i n ≡ Some k
+      → HaveOwnSlots i s → values_of (remove i n) t ≡ remove (values_of i s) n
   values_removed i s t n k u is held = same_map nat_cmp_total nat_cmp-IsAntisymmetric _ _ (λ q.
-      get_values (remove i n) t (HaveOwnSlots-removed i s t n k u is held) q ∙ ap (value_in_slot t) (get-remove nat_cmp_total i n q)
+      get_values (remove i n) t (HaveOwnSlots-removed i s t n k u is held) q
+      ∙ ap (value_in_slot t) (get-remove nat_cmp_total i n q)
       ∙ by_equality q n (λ b. value_in_slot t (cond b None (get i q)) ≡ cond b None (value_in_slot s (get i q)))
       (λ same. refl)
       (λ apart. kept s t k None (get i q) u (λ j h same. apart (held.by_one q n k (h ∙ ap Some same) is)))
@@ -164,10 +184,13 @@ module _ {V : Type 0} where
   pub nothing_changed : (i : FinMap nat_cmp ℕ) (s t : slab.Slab V) → slab.SameValues s t → values_of i t ≡ values_of i s
   nothing_changed i s t same = ap from_entries (slot_entries_same (entries i) s t same)
 
-  pub HaveOwnSlots-same : (i : FinMap nat_cmp ℕ) (s t : slab.Slab V) → slab.SameValues s t → HaveOwnSlots i s → HaveOwnSlots i t
-  HaveOwnSlots-same i s t same held = record { in_use = λ n k h. ap is_some (same k) ∙ held.in_use n k h; by_one = held.by_one }
+  pub HaveOwnSlots-same : (i : FinMap nat_cmp ℕ) (s t : slab.Slab V) → slab.SameValues s t → HaveOwnSlots i s
+      → HaveOwnSlots i t
+  HaveOwnSlots-same i s t same held =
+      record { in_use = λ n k h. ap is_some (same k) ∙ held.in_use n k h; by_one = held.by_one }
 
-  pub put_back : (s t r : slab.Slab V) (k : ℕ) (x : V) → slab.get s k ≡ None → slab.Updates s t k (Some x) → slab.Updates t r k None → slab.SameValues s r
+  pub put_back : (s t r : slab.Slab V) (k : ℕ) (x : V) → slab.get s k ≡ None → slab.Updates s t k (Some x)
+      → slab.Updates t r k None → slab.SameValues s r
   put_back s t r k x vacant u v j = elim (cases_eq j k) [
     | inl same ↦ ap (slab.get r) same ∙ v.changed ∙ sym (ap (slab.get s) same ∙ vacant)
     | inr apart ↦ v.others j apart ∙ u.others j apart
@@ -179,8 +202,10 @@ module _ {V : Type 0} where
     | inr l ↦ absurd (false≢true (sym (ap is_some (get_or_past s.slots k None l)) ∙ h))
   ]
 
-  pub written : (s : slab.Slab V) (k : ℕ) (x : V) → is_some (slab.get s k) ≡ true → slab.Updates s (slab.with_value s k x) k (Some x)
-  written s k x h = record { changed = get_or-set_same s.slots k (Some x) None (inside s k h); others = λ j ne. get_or-set_other s.slots k j (Some x) None ne }
+  pub written : (s : slab.Slab V) (k : ℕ) (x : V) → is_some (slab.get s k) ≡ true
+      → slab.Updates s (slab.with_value s k x) k (Some x)
+  written s k x h =
+      record { changed = get_or-set_same s.slots k (Some x) None (inside s k h); others = λ j ne. get_or-set_other s.slots k j (Some x) None ne }
 
 pub no_values : {V : Type 0} (s : slab.Slab V) → values_of empty s ≡ empty
 no_values s = rw (entries-empty {X = ℕ}) refl
@@ -193,7 +218,8 @@ HaveOwnSlots-empty s = record {
 
 -- ---- the arena's invariant: as many slots are in use as there are numbers that lead to one
 module _ {V : Type 0} where
-  pub len_written : (s : slab.Slab V) (k : ℕ) (w : V) → is_some (slab.get s k) ≡ true → slab.slab_len (slab.with_value s k w) ≡ slab.slab_len s
+  pub len_written : (s : slab.Slab V) (k : ℕ) (w : V) → is_some (slab.get s k) ≡ true
+      → slab.slab_len (slab.with_value s k w) ≡ slab.slab_len s
   len_written s k w h =
       let change = sum_by-set (λ (o : Option V). cond (is_some o) 1 0) s.slots k (Some w) None (inside s k h) in
       let counts : Bool → ℕ = λ b. cond b 1 0 in
@@ -202,41 +228,52 @@ module _ {V : Type 0} where
 
   -- once a new number leads to a slot that was vacant, each number still has a slot of its own, and no other slot is in
   -- use (IsArena)
-  pub IsArena-added : (i : FinMap nat_cmp ℕ) (s t : slab.Slab V) (n k : ℕ) (x : V) → slab.Updates s t k (Some x) → slab.get s k ≡ None → slab.slab_len t ≡ slab.slab_len s + 1 → get i n ≡ None → IsArena i s → IsArena (insert i n k) t
+  pub IsArena-added : (i : FinMap nat_cmp ℕ) (s t : slab.Slab V) (n k : ℕ) (x : V) → slab.Updates s t k (Some x)
+      → slab.get s k ≡ None → slab.slab_len t ≡ slab.slab_len s + 1 → get i n ≡ None → IsArena i s
+      → IsArena (insert i n k) t
   IsArena-added i s t n k x u vacant more fresh held =
       let same = held.none_idle in
       let size : len (insert i n k) ≡ len i + 1 = len-insert nat_cmp_total i n k ∙ ap (λ o. cond (is_some o) (len i) (len i + 1)) fresh in
       record { slots_used = HaveOwnSlots-added i s t n k x u vacant held.slots_used; none_idle = omega (arith, same, size, more) }
 
-  pub IsArena-removed : (i : FinMap nat_cmp ℕ) (s t : slab.Slab V) (n k : ℕ) → slab.Updates s t k None → slab.slab_len t + 1 ≡ slab.slab_len s → get i n ≡ Some k → IsArena i s → IsArena (remove i n) t
+  pub IsArena-removed : (i : FinMap nat_cmp ℕ) (s t : slab.Slab V) (n k : ℕ) → slab.Updates s t k None
+      → slab.slab_len t + 1 ≡ slab.slab_len s → get i n ≡ Some k → IsArena i s → IsArena (remove i n) t
   IsArena-removed i s t n k u less is held =
       let same = held.none_idle in
       let size : len (remove i n) ≡ len i - 1 = len-remove nat_cmp_total i n ∙ ap (λ o. cond (is_some o) (len i - 1) (len i)) is in
       record { slots_used = HaveOwnSlots-removed i s t n k u is held.slots_used; none_idle = omega (arith, same, size, less) }
 
-  pub IsArena-changed : (i : FinMap nat_cmp ℕ) (s : slab.Slab V) (k : ℕ) (w : V) → is_some (slab.get s k) ≡ true → IsArena i s → IsArena i (slab.with_value s k w)
-  IsArena-changed i s k w used held = record { slots_used = HaveOwnSlots-changed i s (slab.with_value s k w) k w (written s k w used) held.slots_used; none_idle = len_written s k w used ∙ held.none_idle }
+  pub IsArena-changed : (i : FinMap nat_cmp ℕ) (s : slab.Slab V) (k : ℕ) (w : V) → is_some (slab.get s k) ≡ true
+      → IsArena i s → IsArena i (slab.with_value s k w)
+  IsArena-changed i s k w used held =
+      record { slots_used = HaveOwnSlots-changed i s (slab.with_value s k w) k w (written s k w used) held.slots_used; none_idle = len_written s k w used ∙ held.none_idle }
 
   -- an index and a slab s that are an arena (IsArena) stay one with slab t in place of s, if t has the same values, and
   -- as many slots in use
-  pub IsArena-same : (i : FinMap nat_cmp ℕ) (s t : slab.Slab V) → slab.SameValues s t → slab.slab_len t ≡ slab.slab_len s → IsArena i s → IsArena i t
-  IsArena-same i s t same as_many held = record { slots_used = HaveOwnSlots-same i s t same held.slots_used; none_idle = as_many ∙ held.none_idle }
+  pub IsArena-same : (i : FinMap nat_cmp ℕ) (s t : slab.Slab V) → slab.SameValues s t
+      → slab.slab_len t ≡ slab.slab_len s → IsArena i s → IsArena i t
+  IsArena-same i s t same as_many held =
+      record { slots_used = HaveOwnSlots-same i s t same held.slots_used; none_idle = as_many ∙ held.none_idle }
 
   pub IsArena-empty : (s : slab.Slab V) → s.slots ≡ [] → IsArena empty s
-  IsArena-empty s none = record { slots_used = HaveOwnSlots-empty s; none_idle = ap (count_by is_some) none ∙ sym (len-empty nat_cmp ℕ) }
+  IsArena-empty s none =
+      record { slots_used = HaveOwnSlots-empty s; none_idle = ap (count_by is_some) none ∙ sym (len-empty nat_cmp ℕ) }
 
 pub on_err : {A E P : Type 0} (r : Result A E) → P → OnErr r P
 on_err (Ok a) p = tt
 on_err (Err e) p = p
 
-pub lent_same : {N W D E : Type 0} (n : N) (F G : W → D) → ((w : W) → F w ≡ G w) → ◌≡◌ {A = (N × (W → D)) ⊎ E} (inl (n, F)) (inl (n, G))
+pub lent_same : {N W D E : Type 0} (n : N) (F G : W → D) → ((w : W) → F w ≡ G w)
+    → ◌≡◌ {A = (N × (W → D)) ⊎ E} (inl (n, F)) (inl (n, G))
 lent_same n F G h j = inl (n, λ w. h w j)
 
 -- ---- sorted by number
 
-less_than_each_key : {V : Type 0} (k : ℕ) (es : List (ℕ × V)) → below_all nat_cmp k es ≡ true → AllByRecursion (λ n. nat_cmp k n ≡ Less) (keys_of es)
+less_than_each_key : {V : Type 0} (k : ℕ) (es : List (ℕ × V)) → below_all nat_cmp k es ≡ true
+    → AllByRecursion (λ n. nat_cmp k n ≡ Less) (keys_of es)
 less_than_each_key k [] h = tt
-less_than_each_key k (e ∷ es) h = (is_less (nat_cmp k e.0) (and_parts _ _ h).0, less_than_each_key k es (and_parts _ _ h).1)
+less_than_each_key k (e ∷ es) h =
+    (is_less (nat_cmp k e.0) (and_parts _ _ h).0, less_than_each_key k es (and_parts _ _ h).1)
 
 pub keys_rise : {V : Type 0} (es : List (ℕ × V)) → is_sorted nat_cmp es ≡ true → IsStrictlySortedBy nat_cmp (keys_of es)
 unfolding IsStrictlySortedBy
@@ -244,19 +281,24 @@ keys_rise [] h = tt
 keys_rise (e ∷ es) h = (less_than_each_key e.0 es (and_parts _ _ h).0, keys_rise es (and_parts _ _ h).1)
 
 module _ {V : Type 0} (s : slab.Slab V) where
-  key_step : (n : ℕ) (o : Option V) (rest : List (ℕ × V)) → is_some o ≡ true → keys_of (slot_entry_at n o rest) ≡ n ∷ keys_of rest
+  key_step : (n : ℕ) (o : Option V) (rest : List (ℕ × V)) → is_some o ≡ true
+      → keys_of (slot_entry_at n o rest) ≡ n ∷ keys_of rest
   key_step n None rest h = absurd (false≢true h)
   key_step n (Some v) rest h = refl
 
   keys_of_slot_entries : (es : List (ℕ × ℕ)) → AreInUse es s → keys_of (slot_entries es s) ≡ keys_of es
   keys_of_slot_entries [] h = refl
-  keys_of_slot_entries (e ∷ es) h = key_step e.0 (slab.get s e.1) (slot_entries es s) h.0 ∙ ap (λ ns. e.0 ∷ ns) (keys_of_slot_entries es h.1)
+  keys_of_slot_entries (e ∷ es) h =
+      key_step e.0 (slab.get s e.1) (slot_entries es s) h.0 ∙ ap (λ ns. e.0 ∷ ns) (keys_of_slot_entries es h.1)
 
   pub entries_values : (i : FinMap nat_cmp ℕ) → HaveOwnSlots i s → entries (values_of i s) ≡ slot_entries (entries i) s
-  entries_values i held = entries_of (slot_entries (entries i) s) (rw (keys_of_slot_entries (entries i) (all_in_use i s held)) (keys_rise (entries i) (sorted i)))
+  entries_values i held =
+      entries_of (slot_entries (entries i) s)
+      (rw (keys_of_slot_entries (entries i) (all_in_use i s held)) (keys_rise (entries i) (sorted i)))
 
   pub len_values : (i : FinMap nat_cmp ℕ) → HaveOwnSlots i s → len (values_of i s) ≡ len i
   len_values i held =
       len-entries (values_of i s) ∙ ap length (entries_values i held)
-      ∙ sym (length-map (slot_entries (entries i) s) (λ (e : ℕ × V). e.0)) ∙ ap length (keys_of_slot_entries (entries i) (all_in_use i s held)) ∙ length-map (entries i) (λ (e : ℕ × ℕ). e.0)
+      ∙ sym (length-map (slot_entries (entries i) s) (λ (e : ℕ × V). e.0))
+      ∙ ap length (keys_of_slot_entries (entries i) (all_in_use i s held)) ∙ length-map (entries i) (λ (e : ℕ × ℕ). e.0)
       ∙ sym (len-entries i)

@@ -24,15 +24,19 @@ less_by_transitivity : (a b n : ℕ) → a ≤ b → nat_lt b n ≡ true → nat
 less_by_transitivity a b n le h = grind (arith, nat_tests)
 
 pub sorted_is_partitioned : (n : ℕ) (xs : List ℕ) → IsSorted xs → IsPartitionedBy (λ y. nat_lt y n) xs
-sorted_is_partitioned n xs h i j d le l e = less_by_transitivity (get_or xs i d) (get_or xs j d) n (rises xs i j d h le l) e
+sorted_is_partitioned n xs h i j d le l e =
+    less_by_transitivity (get_or xs i d) (get_or xs j d) n (rises xs i j d h le l) e
 
 -- ---- a number put in
 
-put_least : (x n : ℕ) (xs : List ℕ) → x ≤ n → AllByRecursion (λ y. x ≤ y) xs → AllByRecursion (λ y. x ≤ y) (put_number n xs)
+put_least : (x n : ℕ) (xs : List ℕ) → x ≤ n → AllByRecursion (λ y. x ≤ y) xs
+    → AllByRecursion (λ y. x ≤ y) (put_number n xs)
 put_least x n [] le h = subst (AllByRecursion (λ y. x ≤ y)) (sym (put_number-nil n)) (le, tt)
-put_least x n (y ∷ xs) le h = subst (AllByRecursion (λ y. x ≤ y)) (sym (put_number-cons n y xs)) (either (put_least x n xs le h.1) (nat_le n y))
+put_least x n (y ∷ xs) le h =
+    subst (AllByRecursion (λ y. x ≤ y)) (sym (put_number-cons n y xs)) (either (put_least x n xs le h.1) (nat_le n y))
   where
-    either : AllByRecursion (λ y. x ≤ y) (put_number n xs) → (b : Bool) → AllByRecursion (λ y. x ≤ y) (cond b (n ∷ y ∷ xs) (y ∷ put_number n xs))
+    either : AllByRecursion (λ y. x ≤ y) (put_number n xs) → (b : Bool)
+        → AllByRecursion (λ y. x ≤ y) (cond b (n ∷ y ∷ xs) (y ∷ put_number n xs))
     either rest true = (le, h)
     either rest false = (h.0, rest)
 
@@ -41,9 +45,11 @@ lower_all n x xs le h = each_follows (λ y. x ≤ y) (λ y. n ≤ y) (λ y l. om
 
 pub IsSorted-put : (n : ℕ) (xs : List ℕ) → IsSorted xs → IsSorted (put_number n xs)
 IsSorted-put n [] h = subst IsSorted (sym (put_number-nil n)) (tt, tt)
-IsSorted-put n (x ∷ xs) h = subst IsSorted (sym (put_number-cons n x xs)) (either (IsSorted-put n xs h.1) (nat_le n x) refl)
+IsSorted-put n (x ∷ xs) h =
+    subst IsSorted (sym (put_number-cons n x xs)) (either (IsSorted-put n xs h.1) (nat_le n x) refl)
   where
-    either : IsSorted (put_number n xs) → (b : Bool) → nat_le n x ≡ b → IsSorted (cond b (n ∷ x ∷ xs) (x ∷ put_number n xs))
+    either : IsSorted (put_number n xs) → (b : Bool) → nat_le n x ≡ b
+        → IsSorted (cond b (n ∷ x ∷ xs) (x ∷ put_number n xs))
     either rest true e = let le : n ≤ x = grind (arith, nat_tests) in ((le, lower_all n x xs le h.0), h)
     either rest false e = let le : x ≤ n = grind (arith, nat_tests) in (put_least x n xs le h.0, rest)
 
@@ -51,15 +57,18 @@ IsSorted-put n (x ∷ xs) h = subst IsSorted (sym (put_number-cons n x xs)) (eit
 
 take_least : (x n : ℕ) (xs : List ℕ) → AllByRecursion (λ y. x ≤ y) xs → AllByRecursion (λ y. x ≤ y) (take_number n xs)
 take_least x n [] h = subst (AllByRecursion (λ y. x ≤ y)) (sym (take_number-nil n)) tt
-take_least x n (y ∷ xs) h = subst (AllByRecursion (λ y. x ≤ y)) (sym (take_number-cons n y xs)) (either (take_least x n xs h.1) (nat_le n y))
+take_least x n (y ∷ xs) h =
+    subst (AllByRecursion (λ y. x ≤ y)) (sym (take_number-cons n y xs)) (either (take_least x n xs h.1) (nat_le n y))
   where
-    either : AllByRecursion (λ y. x ≤ y) (take_number n xs) → (b : Bool) → AllByRecursion (λ y. x ≤ y) (cond b xs (y ∷ take_number n xs))
+    either : AllByRecursion (λ y. x ≤ y) (take_number n xs) → (b : Bool)
+        → AllByRecursion (λ y. x ≤ y) (cond b xs (y ∷ take_number n xs))
     either rest true = h.1
     either rest false = (h.0, rest)
 
 pub IsSorted-take : (n : ℕ) (xs : List ℕ) → IsSorted xs → IsSorted (take_number n xs)
 IsSorted-take n [] h = subst IsSorted (sym (take_number-nil n)) tt
-IsSorted-take n (x ∷ xs) h = subst IsSorted (sym (take_number-cons n x xs)) (either (IsSorted-take n xs h.1) (nat_le n x))
+IsSorted-take n (x ∷ xs) h =
+    subst IsSorted (sym (take_number-cons n x xs)) (either (IsSorted-take n xs h.1) (nat_le n x))
   where
     either : IsSorted (take_number n xs) → (b : Bool) → IsSorted (cond b xs (x ∷ take_number n xs))
     either rest true = h.1

@@ -26,16 +26,21 @@ module _ (w : WorldValue) (n : ℕ) (r : Region) (item amount : ℕ) where
     stocks = every_amount (λ i x. (1 ≤ x) × (x ≤ stock_limit w n i)) r.stocks item amount (λ some. (some, few)) old.stocks;
   }
 
-  pub AreOfMarkets-stock : IsSome (market_of w n item) → AreOfMarkets w n r.stocks → AreOfMarkets w n (restocked r item amount).stocks
+  pub AreOfMarkets-stock : IsSome (market_of w n item) → AreOfMarkets w n r.stocks
+      → AreOfMarkets w n (restocked r item amount).stocks
   AreOfMarkets-stock there old = every_amount (λ i x. IsSome (market_of w n i)) r.stocks item amount (λ _. there) old
 
 module _ (c : CampaignValue) (n item amount : ℕ) (r : Region) (is : get c.regions n ≡ Some r) where
-  pub steady-stock : (w : WorldValue) → IsSome (market_of w n item) → amount ≤ stock_limit w n item → IsSteady w c → IsSteady w (with_stock c n item amount)
+  pub steady-stock : (w : WorldValue) → IsSome (market_of w n item) → amount ≤ stock_limit w n item → IsSteady w c
+      → IsSteady w (with_stock c n item amount)
   steady-stock w there few old =
       steady-region (λ q. restocked q item amount) c n r is w (IsRegion-stock w n r item amount few (old.numbers.regions n r is)) (AreOfMarkets-stock w n r item amount there (old.known.markets n r is)) old
 
-  pub total-stock : total (with_stock c n item amount) (Item item) + amount_of r.stocks item ≡ total c (Item item) + amount
-  total-stock = total-region (λ q. restocked q item amount) c n r is (Item item) ∙ ap (λ k. total c (Item item) + k) (set_same r.stocks item amount)
+  pub total-stock : total (with_stock c n item amount) (Item item) + amount_of r.stocks item
+      ≡ total c (Item item) + amount
+  total-stock =
+      total-region (λ q. restocked q item amount) c n r is (Item item)
+      ∙ ap (λ k. total c (Item item) + k) (set_same r.stocks item amount)
 
   alone : (a b k : ℕ) → a + k ≡ b + k → a ≡ b
   alone a b k e = omega (arith, e)

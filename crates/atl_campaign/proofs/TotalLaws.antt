@@ -13,7 +13,8 @@ use Rattle.atl_campaign.specs.Totals.{total}
 sum_is_regrouped : (a b n : ℕ) → (a + n) + b ≡ (a + b) + n
 sum_is_regrouped a b n = omega arith
 
-pub total-with_unit : (c : CampaignValue) (n : ℕ) (u : Unit) (t : Thing) → get c.units n ≡ None → total (with_unit c n u) t ≡ total c t + unit_amount t u.holding
+pub total-with_unit : (c : CampaignValue) (n : ℕ) (u : Unit) (t : Thing) → get c.units n ≡ None
+    → total (with_unit c n u) t ≡ total c t + unit_amount t u.holding
 unfolding total
 total-with_unit c n u t fresh =
     ap (λ k. k + sum_over (λ (r : Region). region_amount t r) c.regions) (sum_over-insert_new (λ (v : Unit). unit_amount t v.holding) c.units n u fresh)

@@ -27,25 +27,36 @@ or_keeps_implication true c d h e = refl
 or_keeps_implication false c d h e = h e
 
 -- for within_things: if o being Some implies d, `cond b (Some v) o` being Some implies `b || d`
-either_there : {V : Type 0} (b : Bool) (v : V) (o : Option V) (d : Bool) → (is_some o ≡ true → d ≡ true) → is_some (cond b (Some v) o) ≡ true → (b || d) ≡ true
+either_there : {V : Type 0} (b : Bool) (v : V) (o : Option V) (d : Bool) → (is_some o ≡ true → d ≡ true)
+    → is_some (cond b (Some v) o) ≡ true → (b || d) ≡ true
 either_there true v o d h e = refl
 either_there false v o d h e = h e
 
-pub within_both : (g r : set.FinSet nat_cmp) (n : ℕ) → ((q : ℕ) → set.contains g q ≡ true → set.contains r q ≡ true) → (q : ℕ) → set.contains (set.insert g n) q ≡ true → set.contains (set.insert r n) q ≡ true
+pub within_both : (g r : set.FinSet nat_cmp) (n : ℕ) → ((q : ℕ) → set.contains g q ≡ true → set.contains r q ≡ true)
+    → (q : ℕ) → set.contains (set.insert g n) q ≡ true → set.contains (set.insert r n) q ≡ true
 within_both g r n h q e =
-    set.contains-insert nat_cmp_total r n q ∙ or_keeps_implication (eq_by_cmp nat_cmp q n) (set.contains g q) (set.contains r q) (h q) (sym (set.contains-insert nat_cmp_total g n q) ∙ e)
+    set.contains-insert nat_cmp_total r n q
+    ∙ or_keeps_implication (eq_by_cmp nat_cmp q n) (set.contains g q) (set.contains r q) (h q) (sym (set.contains-insert nat_cmp_total g n q) ∙ e)
 
-pub within_more : (marked : ℕ → Bool) (r : set.FinSet nat_cmp) (n : ℕ) → ((q : ℕ) → marked q ≡ true → set.contains r q ≡ true) → (q : ℕ) → marked q ≡ true → set.contains (set.insert r n) q ≡ true
-within_more marked r n h q e = set.contains-insert nat_cmp_total r n q ∙ or_right (eq_by_cmp nat_cmp q n) (set.contains r q) (h q e)
+pub within_more : (marked : ℕ → Bool) (r : set.FinSet nat_cmp) (n : ℕ)
+    → ((q : ℕ) → marked q ≡ true → set.contains r q ≡ true) → (q : ℕ) → marked q ≡ true
+    → set.contains (set.insert r n) q ≡ true
+within_more marked r n h q e =
+    set.contains-insert nat_cmp_total r n q ∙ or_right (eq_by_cmp nat_cmp q n) (set.contains r q) (h q e)
 
-pub within_things : {V : Type 0} (g : FinMap nat_cmp V) (r : set.FinSet nat_cmp) (n : ℕ) (v : V) → ((q : ℕ) → is_some (get g q) ≡ true → set.contains r q ≡ true) → (q : ℕ) → is_some (get (insert g n v) q) ≡ true → set.contains (set.insert r n) q ≡ true
+pub within_things : {V : Type 0} (g : FinMap nat_cmp V) (r : set.FinSet nat_cmp) (n : ℕ) (v : V)
+    → ((q : ℕ) → is_some (get g q) ≡ true → set.contains r q ≡ true) → (q : ℕ) → is_some (get (insert g n v) q) ≡ true
+    → set.contains (set.insert r n) q ≡ true
 within_things g r n v h q e =
-    set.contains-insert nat_cmp_total r n q ∙ either_there (eq_by_cmp nat_cmp q n) v (get g q) (set.contains r q) (h q) (sym (ap is_some (get-insert nat_cmp_total g n v q)) ∙ e)
+    set.contains-insert nat_cmp_total r n q
+    ∙ either_there (eq_by_cmp nat_cmp q n) v (get g q) (set.contains r q) (h q) (sym (ap is_some (get-insert nat_cmp_total g n v q)) ∙ e)
 
 within-none : AreUnitPartsWithin set.empty set.empty set.empty empty empty
-within-none = record { rows_within = λ q e. e; goods_within = λ q e. e; items_within = nothing; skills_within = nothing }
+within-none =
+    record { rows_within = λ q e. e; goods_within = λ q e. e; items_within = nothing; skills_within = nothing }
   where
-    nothing : (q : ℕ) → is_some (get {X = FinMap nat_cmp (Prim.Unit {0})} {R = nat_cmp} empty q) ≡ true → set.contains {R = nat_cmp} set.empty q ≡ true
+    nothing : (q : ℕ) → is_some (get {X = FinMap nat_cmp (Prim.Unit {0})} {R = nat_cmp} empty q) ≡ true
+        → set.contains {R = nat_cmp} set.empty q ≡ true
     nothing q e = absurd (false≢true (sym (ap is_some (get-empty nat_cmp q)) ∙ e))
 
 module _ (marks rows goods : set.FinSet nat_cmp) (items skills : MarkedThings) (n : ℕ) (h : AreUnitPartsWithin marks rows goods items skills) where
@@ -65,7 +76,8 @@ module _ (marks rows goods : set.FinSet nat_cmp) (items skills : MarkedThings) (
     skills_within = within_more _ marks n h.skills_within;
   }
 
-  within-item : (group : FinMap nat_cmp (Prim.Unit {0})) → AreUnitPartsWithin (set.insert marks n) rows goods (insert items n group) skills
+  within-item : (group : FinMap nat_cmp (Prim.Unit {0}))
+      → AreUnitPartsWithin (set.insert marks n) rows goods (insert items n group) skills
   within-item group = record {
     rows_within = within_more _ marks n h.rows_within;
     goods_within = within_more _ marks n h.goods_within;
@@ -73,7 +85,8 @@ module _ (marks rows goods : set.FinSet nat_cmp) (items skills : MarkedThings) (
     skills_within = within_more _ marks n h.skills_within;
   }
 
-  within-skill : (group : FinMap nat_cmp (Prim.Unit {0})) → AreUnitPartsWithin (set.insert marks n) rows goods items (insert skills n group)
+  within-skill : (group : FinMap nat_cmp (Prim.Unit {0}))
+      → AreUnitPartsWithin (set.insert marks n) rows goods items (insert skills n group)
   within-skill group = record {
     rows_within = within_more _ marks n h.rows_within;
     goods_within = within_more _ marks n h.goods_within;
@@ -93,10 +106,13 @@ abbrev nothing_marked : ℕ → RoomySet
 nothing_marked room = record { numbers = set.empty; room = room }
 
 pub AreUnits-none : AreUnits empty (nothing_marked 0) (nothing_marked 0) (nothing_marked 0) empty empty
-AreUnits-none = record { within = within-none; marks_fit = Room-empty Unit; rows_fit = Room-empty Unit; goods_fit = Room-empty Unit }
+AreUnits-none =
+    record { within = within-none; marks_fit = Room-empty Unit; rows_fit = Room-empty Unit; goods_fit = Room-empty Unit }
 
-pub AreUnits-of : (units : FinMap nat_cmp Unit) → AreUnits units (nothing_marked (len units)) (nothing_marked (len units)) (nothing_marked (len units)) empty empty
-AreUnits-of units = record { within = within-none; marks_fit = Room-of units; rows_fit = Room-of units; goods_fit = Room-of units }
+pub AreUnits-of : (units : FinMap nat_cmp Unit)
+    → AreUnits units (nothing_marked (len units)) (nothing_marked (len units)) (nothing_marked (len units)) empty empty
+AreUnits-of units =
+    record { within = within-none; marks_fit = Room-of units; rows_fit = Room-of units; goods_fit = Room-of units }
 
 module _ (units : FinMap nat_cmp Unit) (marks rows goods : RoomySet) (items skills : MarkedThings) where
   -- before a change, there is room for all marks of units, and each unit with a marked part is marked (AreUnits)
@@ -113,7 +129,8 @@ module _ (units : FinMap nat_cmp Unit) (marks rows goods : RoomySet) (items skil
 
   -- once a lent unit is replaced, and marked with its row and its goods, there is still room for all marks, and still
   -- no part of a unit is marked without the unit (AreUnits)
-  pub AreUnits-lent : (n : ℕ) (u w : Unit) → get units n ≡ Some u → Before → AreUnits (insert units n w) (with_number_marked marks n) (with_number_marked rows n) (with_number_marked goods n) items skills
+  pub AreUnits-lent : (n : ℕ) (u w : Unit) → get units n ≡ Some u → Before
+      → AreUnits (insert units n w) (with_number_marked marks n) (with_number_marked rows n) (with_number_marked goods n) items skills
   AreUnits-lent n u w is h = record {
     within = within-whole marks.numbers rows.numbers goods.numbers items skills n h.within;
     marks_fit = Room-lent units marks.numbers marks.room n (Some u) w is refl h.marks_fit;
@@ -121,7 +138,8 @@ module _ (units : FinMap nat_cmp Unit) (marks rows goods : RoomySet) (items skil
     goods_fit = Room-lent units goods.numbers goods.room n (Some u) w is refl h.goods_fit;
   }
 
-  pub AreUnits-row : (n : ℕ) (u w : Unit) → get units n ≡ Some u → Before → AreUnits (insert units n w) (with_number_marked marks n) (with_number_marked rows n) goods items skills
+  pub AreUnits-row : (n : ℕ) (u w : Unit) → get units n ≡ Some u → Before
+      → AreUnits (insert units n w) (with_number_marked marks n) (with_number_marked rows n) goods items skills
   AreUnits-row n u w is h = record {
     within = within-row marks.numbers rows.numbers goods.numbers items skills n h.within;
     marks_fit = Room-lent units marks.numbers marks.room n (Some u) w is refl h.marks_fit;
@@ -129,7 +147,8 @@ module _ (units : FinMap nat_cmp Unit) (marks rows goods : RoomySet) (items skil
     goods_fit = Room-over units goods.numbers goods.room n w (ap is_some is) h.goods_fit;
   }
 
-  pub AreUnits-item : (n : ℕ) (u w : Unit) (group : FinMap nat_cmp (Prim.Unit {0})) → get units n ≡ Some u → Before → AreUnits (insert units n w) (with_number_marked marks n) rows goods (insert items n group) skills
+  pub AreUnits-item : (n : ℕ) (u w : Unit) (group : FinMap nat_cmp (Prim.Unit {0})) → get units n ≡ Some u → Before
+      → AreUnits (insert units n w) (with_number_marked marks n) rows goods (insert items n group) skills
   AreUnits-item n u w group is h = record {
     within = within-item marks.numbers rows.numbers goods.numbers items skills n h.within group;
     marks_fit = Room-lent units marks.numbers marks.room n (Some u) w is refl h.marks_fit;
@@ -137,7 +156,8 @@ module _ (units : FinMap nat_cmp Unit) (marks rows goods : RoomySet) (items skil
     goods_fit = Room-over units goods.numbers goods.room n w (ap is_some is) h.goods_fit;
   }
 
-  pub AreUnits-skill : (n : ℕ) (u w : Unit) (group : FinMap nat_cmp (Prim.Unit {0})) → get units n ≡ Some u → Before → AreUnits (insert units n w) (with_number_marked marks n) rows goods items (insert skills n group)
+  pub AreUnits-skill : (n : ℕ) (u w : Unit) (group : FinMap nat_cmp (Prim.Unit {0})) → get units n ≡ Some u → Before
+      → AreUnits (insert units n w) (with_number_marked marks n) rows goods items (insert skills n group)
   AreUnits-skill n u w group is h = record {
     within = within-skill marks.numbers rows.numbers goods.numbers items skills n h.within group;
     marks_fit = Room-lent units marks.numbers marks.room n (Some u) w is refl h.marks_fit;
@@ -145,7 +165,8 @@ module _ (units : FinMap nat_cmp Unit) (marks rows goods : RoomySet) (items skil
     goods_fit = Room-over units goods.numbers goods.room n w (ap is_some is) h.goods_fit;
   }
 
-  gone_at : (n : ℕ) (o : Option Unit) → get units n ≡ o → is_some o ≡ true → Before → AreUnits (remove units n) (with_number_marked marks n) (with_number_marked rows n) (with_number_marked goods n) items skills
+  gone_at : (n : ℕ) (o : Option Unit) → get units n ≡ o → is_some o ≡ true → Before
+      → AreUnits (remove units n) (with_number_marked marks n) (with_number_marked rows n) (with_number_marked goods n) items skills
   gone_at n None is there h = absurd (false≢true there)
   gone_at n (Some u) is there h = record {
     within = within-whole marks.numbers rows.numbers goods.numbers items skills n h.within;
@@ -154,7 +175,8 @@ module _ (units : FinMap nat_cmp Unit) (marks rows goods : RoomySet) (items skil
     goods_fit = Room-without units goods.numbers goods.room n (Some u) is h.goods_fit;
   }
 
-  pub AreUnits-gone : (n : ℕ) → is_some (get units n) ≡ true → Before → AreUnits (remove units n) (with_number_marked marks n) (with_number_marked rows n) (with_number_marked goods n) items skills
+  pub AreUnits-gone : (n : ℕ) → is_some (get units n) ≡ true → Before
+      → AreUnits (remove units n) (with_number_marked marks n) (with_number_marked rows n) (with_number_marked goods n) items skills
   AreUnits-gone n there h = gone_at n (get units n) refl there h
 
 -- ---- a unit that is new
@@ -164,19 +186,25 @@ pub record IsWider (units : FinMap nat_cmp Unit) (marks more : RoomySet) : Type 
   pub same : more.numbers ≡ marks.numbers
   pub room : set.len marks.numbers + (len units + 1) ≤ more.room
 
-room_inserted : (units : FinMap nat_cmp Unit) (marks more : RoomySet) (n : ℕ) (w : Unit) → IsWider units marks more → set.len more.numbers + len (insert units n w) ≤ more.room
+room_inserted : (units : FinMap nat_cmp Unit) (marks more : RoomySet) (n : ℕ) (w : Unit) → IsWider units marks more
+    → set.len more.numbers + len (insert units n w) ≤ more.room
 room_inserted units marks more n w h = let l = insert_adds_at_most_one units n w in let as_many = ap set.len h.same in omega (arith, h.room, l, as_many)
 
-pub fits-new : (units : FinMap nat_cmp Unit) (marks more : RoomySet) (n : ℕ) (w : Unit) → IsWider units marks more → set.len (set.insert more.numbers n) ≤ more.room
+pub fits-new : (units : FinMap nat_cmp Unit) (marks more : RoomySet) (n : ℕ) (w : Unit) → IsWider units marks more
+    → set.len (set.insert more.numbers n) ≤ more.room
 fits-new units marks more n w h = fits-inserted units more.numbers more.room n w (room_inserted units marks more n w h)
 
-HasRoom-added : (units : FinMap nat_cmp Unit) (marks more : RoomySet) (n : ℕ) (w : Unit) → IsWider units marks more → HasRoomForMarks (insert units n w) (with_number_marked more n)
-HasRoom-added units marks more n w h = Room-inserted units more.numbers more.room n w (room_inserted units marks more n w h)
+HasRoom-added : (units : FinMap nat_cmp Unit) (marks more : RoomySet) (n : ℕ) (w : Unit) → IsWider units marks more
+    → HasRoomForMarks (insert units n w) (with_number_marked more n)
+HasRoom-added units marks more n w h =
+    Room-inserted units more.numbers more.room n w (room_inserted units marks more n w h)
 
 -- the units' invariant (AreUnits) still holds once a new unit is added, and marked in dirty sets with room for one unit
 -- more (IsWider)
-pub AreUnits-added : (units : FinMap nat_cmp Unit) (marks rows goods marks2 rows2 goods2 : RoomySet) (items skills : MarkedThings) (n : ℕ) (w : Unit) → IsWider units marks marks2 → IsWider units rows rows2 → IsWider units goods goods2
-    → AreUnits units marks rows goods items skills → AreUnits (insert units n w) (with_number_marked marks2 n) (with_number_marked rows2 n) (with_number_marked goods2 n) items skills
+pub AreUnits-added : (units : FinMap nat_cmp Unit) (marks rows goods marks2 rows2 goods2 : RoomySet) (items skills : MarkedThings) (n : ℕ) (w : Unit)
+    → IsWider units marks marks2 → IsWider units rows rows2 → IsWider units goods goods2
+    → AreUnits units marks rows goods items skills
+    → AreUnits (insert units n w) (with_number_marked marks2 n) (with_number_marked rows2 n) (with_number_marked goods2 n) items skills
 AreUnits-added units marks rows goods marks2 rows2 goods2 items skills n w wider wider2 wider3 h = record {
   within = rw (wider.same, wider2.same, wider3.same) (within-whole marks.numbers rows.numbers goods.numbers items skills n h.within);
   marks_fit = HasRoom-added units marks marks2 n w wider;
@@ -194,7 +222,8 @@ module _ (r : Roster) (n item amount : ℕ) where
   abbrev after : FinMap nat_cmp Unit → Option Unit → Roster
   after units o = record r { values = units; marks = marked_with r.marks n o; items = thing_marked r.items n item o }
 
-  pub with_item_again : (u : Unit) → get r.values n ≡ Some u → has_amount u.holding.items item amount ≡ true → with_item_at with_other r n item amount ≡ r
+  pub with_item_again : (u : Unit) → get r.values n ≡ Some u → has_amount u.holding.items item amount ≡ true
+      → with_item_at with_other r n item amount ≡ r
   with_item_again u is has =
       let same : with_other u ≡ u = ap (λ items. record u { holding = record u.holding { items = items } }) (set_again u.holding.items item amount has) in
       ap (λ o. after (with_changed_option with_other r.values n o) (unit_if_other_amount item amount o)) is

@@ -29,13 +29,15 @@ module _ (f : ℕ → ℕ) where
   each_some [] = tt
   each_some (n ∷ ns) = for_zero_or_more (each_some ns) (f n == 0) refl
     where
-      for_zero_or_more : EachEntry IsAmountFor (listed ns) → (b : Bool) → (f n == 0) ≡ b → EachEntry IsAmountFor (cond (not b) ((n, f n) ∷ listed ns) (listed ns))
+      for_zero_or_more : EachEntry IsAmountFor (listed ns) → (b : Bool) → (f n == 0) ≡ b
+          → EachEntry IsAmountFor (cond (not b) ((n, f n) ∷ listed ns) (listed ns))
       for_zero_or_more rest true is = rest
       for_zero_or_more rest false is = ((at_least_one (f n) is, refl), rest)
 
   pub each_said : (ns : List ℕ) → Every IsAmountFor (amounts_for f ns)
   unfolding amounts_for
-  each_said ns n amount is = found_of IsAmountFor (listed ns) n amount (each_some ns) (sym (get-from_entries nat_cmp_total (listed ns) n) ∙ is)
+  each_said ns n amount is =
+      found_of IsAmountFor (listed ns) n amount (each_some ns) (sym (get-from_entries nat_cmp_total (listed ns) n) ∙ is)
 
   -- the amount that the entries `listed` have for a number; 0 where they have none
   abbrev found : ℕ → List ℕ → ℕ
@@ -52,25 +54,36 @@ module _ (f : ℕ → ℕ) where
       same_choice true none = refl
       same_choice false none = none
 
-      for_longer_list : found q ns ≡ cond (is_among q ns) (f q) 0 → (b k : Bool) → (f n == 0) ≡ b → eq_by_cmp nat_cmp q n ≡ k → unwrap_or (find nat_cmp q (cond (not b) ((n, f n) ∷ listed ns) (listed ns))) 0 ≡ cond (k || is_among q ns) (f q) 0
-      for_longer_list rest true true none same = rest ∙ same_choice (is_among q ns) (sym (ap f (same_key q n same) ∙ is_equal (f n) 0 none))
+      for_longer_list : found q ns ≡ cond (is_among q ns) (f q) 0 → (b k : Bool) → (f n == 0) ≡ b
+          → eq_by_cmp nat_cmp q n ≡ k
+          → unwrap_or (find nat_cmp q (cond (not b) ((n, f n) ∷ listed ns) (listed ns))) 0
+          ≡ cond (k || is_among q ns) (f q) 0
+      for_longer_list rest true true none same =
+          rest ∙ same_choice (is_among q ns) (sym (ap f (same_key q n same) ∙ is_equal (f n) 0 none))
       for_longer_list rest true false none other = rest
-      for_longer_list rest false true some same = ap (λ k. unwrap_or (cond k (Some (f n)) (find nat_cmp q (listed ns))) 0) same ∙ ap f (sym (same_key q n same))
-      for_longer_list rest false false some other = ap (λ k. unwrap_or (cond k (Some (f n)) (find nat_cmp q (listed ns))) 0) other ∙ rest
+      for_longer_list rest false true some same =
+          ap (λ k. unwrap_or (cond k (Some (f n)) (find nat_cmp q (listed ns))) 0) same ∙ ap f (sym (same_key q n same))
+      for_longer_list rest false false some other =
+          ap (λ k. unwrap_or (cond k (Some (f n)) (find nat_cmp q (listed ns))) 0) other ∙ rest
 
   -- each number has in the map of `amounts_for` the amount that f gives it, if f gives 0 to each number outside of the
   -- list
-  pub as_said : (ns : List ℕ) (q : ℕ) → (list_any (eq_by_cmp nat_cmp q) ns ≡ false → f q ≡ 0) → amount_of (amounts_for f ns) q ≡ f q
+  pub as_said : (ns : List ℕ) (q : ℕ) → (list_any (eq_by_cmp nat_cmp q) ns ≡ false → f q ≡ 0)
+      → amount_of (amounts_for f ns) q ≡ f q
   unfolding amounts_for
-  as_said ns q others = ap (λ (o : Option ℕ). unwrap_or o 0) (get-from_entries nat_cmp_total (listed ns) q) ∙ found_said q ns ∙ for_listed_or_not (is_among q ns) refl
+  as_said ns q others =
+      ap (λ (o : Option ℕ). unwrap_or o 0) (get-from_entries nat_cmp_total (listed ns) q) ∙ found_said q ns
+      ∙ for_listed_or_not (is_among q ns) refl
     where
       for_listed_or_not : (b : Bool) → is_among q ns ≡ b → cond b (f q) 0 ≡ f q
       for_listed_or_not true is = refl
       for_listed_or_not false is = sym (others is)
 
 -- two maps with the same amount of each number are equal, if each amount that they list is at least 1
-pub same_amounts : (m o : FinMap nat_cmp ℕ) → Every (λ n amount. 1 ≤ amount) m → Every (λ n amount. 1 ≤ amount) o → ((n : ℕ) → amount_of m n ≡ amount_of o n) → m ≡ o
-same_amounts m o some also same = same_map nat_cmp_total nat_cmp-IsAntisymmetric m o (λ n. by_options n (get m n) (get o n) refl refl (same n))
+pub same_amounts : (m o : FinMap nat_cmp ℕ) → Every (λ n amount. 1 ≤ amount) m → Every (λ n amount. 1 ≤ amount) o
+    → ((n : ℕ) → amount_of m n ≡ amount_of o n) → m ≡ o
+same_amounts m o some also same =
+    same_map nat_cmp_total nat_cmp-IsAntisymmetric m o (λ n. by_options n (get m n) (get o n) refl refl (same n))
   where
     by_options : (n : ℕ) (a b : Option ℕ) → get m n ≡ a → get o n ≡ b → unwrap_or a 0 ≡ unwrap_or b 0 → a ≡ b
     by_options n None None one two e = refl

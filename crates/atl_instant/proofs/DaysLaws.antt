@@ -28,7 +28,8 @@ module _ (days : FinMap nat_cmp ℕ) (f : ℕ → ℕ → ℕ) (s : ℕ) where
 
   -- if each entry has the days that `days` has of its skill: once the entries are set, skill s has f of its days where
   -- it is among them, and else what it had
-  set_among : (es : List (ℕ × ℕ)) (left : FinMap nat_cmp ℕ) → EachEntry (λ k v. amount_of days k ≡ v) es → amount_of (set_all left es) s ≡ cond (is_among es) (f s (amount_of days s)) (amount_of left s)
+  set_among : (es : List (ℕ × ℕ)) (left : FinMap nat_cmp ℕ) → EachEntry (λ k v. amount_of days k ≡ v) es
+      → amount_of (set_all left es) s ≡ cond (is_among es) (f s (amount_of days s)) (amount_of left s)
   set_among [] left each = refl
   set_among ((k, v) ∷ es) left (one, each) =
       set_among es (with_amount_of left k (f k v)) each
@@ -39,7 +40,9 @@ module _ (days : FinMap nat_cmp ℕ) (f : ℕ → ℕ → ℕ) (s : ℕ) where
       choice_of_same true x = refl
       choice_of_same false x = refl
 
-      by_key : (b : Bool) → eq_by_cmp nat_cmp s k ≡ b → cond (is_among es) (f s (amount_of days s)) (cond b (f k v) (amount_of left s)) ≡ cond (b || is_among es) (f s (amount_of days s)) (amount_of left s)
+      by_key : (b : Bool) → eq_by_cmp nat_cmp s k ≡ b
+          → cond (is_among es) (f s (amount_of days s)) (cond b (f k v) (amount_of left s))
+          ≡ cond (b || is_among es) (f s (amount_of days s)) (amount_of left s)
       by_key true is =
           let same : s ≡ k = compared_equal_is_equal k s is in
           let here : f k v ≡ f s (amount_of days s) = ap (f k) (sym one) ∙ ap (λ j. f j (amount_of days j)) (sym same) in
@@ -48,13 +51,15 @@ module _ (days : FinMap nat_cmp ℕ) (f : ℕ → ℕ → ℕ) (s : ℕ) where
 
   -- After each skill that the map `days` lists is set to f of its days, skill s has f of its days in `days`. If `days`
   -- has 0 of it, s must have f of 0 before.
-  pub set_each : (left : FinMap nat_cmp ℕ) → (amount_of days s ≡ 0 → amount_of left s ≡ f s 0) → amount_of (set_all left (entries days)) s ≡ f s (amount_of days s)
+  pub set_each : (left : FinMap nat_cmp ℕ) → (amount_of days s ≡ 0 → amount_of left s ≡ f s 0)
+      → amount_of (set_all left (entries days)) s ≡ f s (amount_of days s)
   set_each left others =
       set_among (entries days) left (each-from_every (λ k v. amount_of days k ≡ v) days (λ k v there. ap (λ (o : Option ℕ). unwrap_or o 0) there))
       ∙ ap (λ b. cond b (f s (amount_of days s)) (amount_of left s)) (sym (contains_key-keys days s))
       ∙ by_option (get days s) refl
     where
-      by_option : (o : Option ℕ) → get days s ≡ o → cond (is_some o) (f s (amount_of days s)) (amount_of left s) ≡ f s (amount_of days s)
+      by_option : (o : Option ℕ) → get days s ≡ o
+          → cond (is_some o) (f s (amount_of days s)) (amount_of left s) ≡ f s (amount_of days s)
       by_option (Some d) there = refl
       by_option None there =
           let none : amount_of days s ≡ 0 = ap (λ (o : Option ℕ). unwrap_or o 0) there in
@@ -70,7 +75,8 @@ with_days_mapped : (f : ℕ → ℕ → ℕ) (es : List (ℕ × ℕ)) (all : Fin
 with_days_mapped f [] all = refl
 with_days_mapped f (e ∷ es) all = with_days_mapped f es (with_amount_of all e.0 (f e.0 e.1))
 
-none_listed : (days : FinMap nat_cmp ℕ) (s : ℕ) → list_any (eq_by_cmp nat_cmp s) (keys days) ≡ false → amount_of days s ≡ 0
+none_listed : (days : FinMap nat_cmp ℕ) (s : ℕ) → list_any (eq_by_cmp nat_cmp s) (keys days) ≡ false
+    → amount_of days s ≡ 0
 none_listed days s none = by_option (get days s) (contains_key-keys days s ∙ none)
   where
     by_option : (o : Option ℕ) → is_some o ≡ false → unwrap_or o 0 ≡ 0
@@ -97,13 +103,17 @@ days_go_with_men n other h s = record {
       none_come (amount_of h.days s) (going_of n other s) (none_listed h.days s apart.0) (none_go n other s (none_listed other.days s apart.1)));
 }
 
-no_zeros_after_setting : (f : ℕ → ℕ → ℕ) (es : List (ℕ × ℕ)) (left : FinMap nat_cmp ℕ) → Every (λ s d. 1 ≤ d) left → Every (λ s d. 1 ≤ d) (fold (λ (m : FinMap nat_cmp ℕ) (e : ℕ × ℕ). with_amount_of m e.0 (f e.0 e.1)) left es)
+no_zeros_after_setting : (f : ℕ → ℕ → ℕ) (es : List (ℕ × ℕ)) (left : FinMap nat_cmp ℕ) → Every (λ s d. 1 ≤ d) left
+    → Every (λ s d. 1 ≤ d) (fold (λ (m : FinMap nat_cmp ℕ) (e : ℕ × ℕ). with_amount_of m e.0 (f e.0 e.1)) left es)
 no_zeros_after_setting f [] left old = old
-no_zeros_after_setting f (e ∷ es) left old = no_zeros_after_setting f es (with_amount_of left e.0 (f e.0 e.1)) (every_amount (λ s d. 1 ≤ d) left e.0 (f e.0 e.1) (λ some. some) old)
+no_zeros_after_setting f (e ∷ es) left old =
+    no_zeros_after_setting f es (with_amount_of left e.0 (f e.0 e.1))
+    (every_amount (λ s d. 1 ≤ d) left e.0 (f e.0 e.1) (λ some. some) old)
 
 -- Setting each skill of `days` to f of its days in the map `had` gives the map `said`. For this `said` has f of the
 -- days of every skill, and `had` has it already where `days` has 0. Neither `had` nor `said` lists a skill with 0 days.
-setting_gives_map : (days had said : FinMap nat_cmp ℕ) (f : ℕ → ℕ → ℕ) → Every (λ s d. 1 ≤ d) had → Every (λ s d. 1 ≤ d) said
+setting_gives_map : (days had said : FinMap nat_cmp ℕ) (f : ℕ → ℕ → ℕ) → Every (λ s d. 1 ≤ d) had
+    → Every (λ s d. 1 ≤ d) said
     → ((s : ℕ) → amount_of days s ≡ 0 → amount_of had s ≡ f s 0) → ((s : ℕ) → f s (amount_of days s) ≡ amount_of said s)
     → with_days had (map (λ e. (e.0, f e.0 e.1)) (entries days)) ≡ said
 setting_gives_map days had said f some some_said others each =
@@ -126,7 +136,8 @@ days_staying n men k d = d - days_going n men d
 
 -- the holding that the code sets for the sender of n men is that of the definition (`after_sending`), if the sender
 -- lists no skill with 0 days
-pub sender_holding_is : (n : ℕ) (h : HoldingValue) → Every (λ s d. 1 ≤ d) h.days → record h { men = h.men - n; days = with_days h.days (left_list n h.men h.days) } ≡ after_sending n h
+pub sender_holding_is : (n : ℕ) (h : HoldingValue) → Every (λ s d. 1 ≤ d) h.days
+    → record h { men = h.men - n; days = with_days h.days (left_list n h.men h.days) } ≡ after_sending n h
 sender_holding_is n h had =
     ap (λ (m : FinMap nat_cmp ℕ). record h { men = h.men - n; days = m })
     (setting_gives_map h.days h.days (after_sending n h).days (days_staying n h.men) had
@@ -141,7 +152,9 @@ raised_days n men had k d = amount_of had k + days_going n men d
 
 -- the holding that the code sets for the receiver of n men is that of the definition (`after_receiving`), if the
 -- receiver lists no skill with 0 days
-pub receiver_holding_is : (n : ℕ) (other h : HoldingValue) → Every (λ s d. 1 ≤ d) h.days → record h { men = h.men + n; days = with_days h.days (raised_list n other.men other.days h.days) } ≡ after_receiving n other h
+pub receiver_holding_is : (n : ℕ) (other h : HoldingValue) → Every (λ s d. 1 ≤ d) h.days
+    → record h { men = h.men + n; days = with_days h.days (raised_list n other.men other.days h.days) }
+    ≡ after_receiving n other h
 receiver_holding_is n other h had =
     ap (λ (m : FinMap nat_cmp ℕ). record h { men = h.men + n; days = m })
     (setting_gives_map other.days h.days (after_receiving n other h).days (raised_days n other.men h.days) had

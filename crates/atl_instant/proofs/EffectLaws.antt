@@ -54,7 +54,8 @@ pub record OrderKeeps (holds : Condition) (fit : Type 0) (w : WorldValue) (c : C
 
 module _ {holds : Condition} {fit : Type 0} (w : WorldValue) (c : CampaignValue) (n f : ℕ) where
   -- an order that changes no unit but n, and keeps `holds` and the books (`StepsWell`), keeps what `OrderKeeps` says
-  pub keeps_others : (d : CampaignValue) → (holds w c → fit → StepsWell holds nothing_remaining w c d) → ((k : ℕ) → k ≢ n → get d.units k ≡ get c.units k) → OrderKeeps holds fit w c n f d
+  pub keeps_others : (d : CampaignValue) → (holds w c → fit → StepsWell holds nothing_remaining w c d)
+      → ((k : ℕ) → k ≢ n → get d.units k ≡ get c.units k) → OrderKeeps holds fit w c n f d
   keeps_others d well stay = record {
     well = well;
     others = λ k v there apart. record { unit = v; there = stay k apart ∙ there; is_unaffected = record { better = no_worse v; men = λ other. refl } };
@@ -63,20 +64,25 @@ module _ {holds : Condition} {fit : Type 0} (w : WorldValue) (c : CampaignValue)
   pub keeps_all : OrderKeeps holds fit w c n f c
   keeps_all = keeps_others c (λ h fits. well_same w c h) (λ k apart. refl)
 
-  -- an order, with a fault or without, keeps `holds`, the books and the other units (`OrderKeeps`), if its effect without a
-  -- fault does
-  pub keeps_unless : (fault : Option EventFault) (d : CampaignValue) (o : Outcome) → (fault ≡ None → OrderKeeps holds fit w c n f d) → OrderKeeps holds fit w c n f (unless c fault (d, o)).0
+  -- an order, with a fault or without, keeps `holds`, the books and the other units (`OrderKeeps`), if its effect
+  -- without a fault does
+  pub keeps_unless : (fault : Option EventFault) (d : CampaignValue) (o : Outcome)
+      → (fault ≡ None → OrderKeeps holds fit w c n f d) → OrderKeeps holds fit w c n f (unless c fault (d, o)).0
   keeps_unless (Some fault) d o keeps = keeps_all
   keeps_unless None d o keeps = keeps refl
 
--- the effect of each order for a unit of its writer's faction keeps `holds`, the books and the other units (`OrderKeeps`)
+-- the effect of each order for a unit of its writer's faction keeps `holds`, the books and the other units
+-- (`OrderKeeps`)
 abbrev pub StepKeeps : Condition → OrderMeaning → Type 0
-StepKeeps holds step = (w : WorldValue) (a : Aliases) (c : CampaignValue) (t : Task) (x : Unit) → IsUnitOf c t x → IfSome (step w a t) (λ effect. OrderKeeps holds (AreOperandsOf w t.order_value.operands) w c t.unit x.faction (effect c x).0)
+StepKeeps holds step =
+    (w : WorldValue) (a : Aliases) (c : CampaignValue) (t : Task) (x : Unit) → IsUnitOf c t x → IfSome (step w a t)
+    (λ effect. OrderKeeps holds (AreOperandsOf w t.order_value.operands) w c t.unit x.faction (effect c x).0)
 
--- a phase is orderly (`IsOrderly`), if the effect of each order keeps `holds`, the books and the other units (`OrderKeeps`),
--- and the phase passes over a unit's own order that doesn't affect the unit
+-- a phase is orderly (`IsOrderly`), if the effect of each order keeps `holds`, the books and the other units
+-- (`OrderKeeps`), and the phase passes over a unit's own order that doesn't affect the unit
 pub orderly_by : {holds : Condition} {step : OrderMeaning} {affects : Affects} → StepKeeps holds step
-    → ((w : WorldValue) (a : Aliases) (t : Task) (n f : ℕ) → IsOwnOrder t n f → (affects t n f → ⊥) → step w a t ≡ None) → IsOrderly step holds nothing_remaining moves_nothing affects IsNoWorse
+    → ((w : WorldValue) (a : Aliases) (t : Task) (n f : ℕ) → IsOwnOrder t n f → (affects t n f → ⊥) → step w a t ≡ None)
+    → IsOrderly step holds nothing_remaining moves_nothing affects IsNoWorse
 orderly_by {holds} {step} keeps passed = record {
   well = λ w a c t x h fit own. IfSome_then (step w a t) (keeps w a c t x own) (λ effect kept. kept.well h fit.operands);
   unaffected_is_relation = no_worse_is_relation;
@@ -84,8 +90,11 @@ orderly_by {holds} {step} keeps passed = record {
   bounded = λ w c h e t. omega arith;
 }
   where
-    by_step : (w : WorldValue) (c : CampaignValue) (t : Task) (x : Unit) → IsUnitOf c t x → (n : ℕ) (u : Unit) → get c.units n ≡ Some u
-        → (o : Option OrderEffect) → IfSome o (λ effect. OrderKeeps holds (AreOperandsOf w t.order_value.operands) w c t.unit x.faction (effect c x).0) → (IsOwnOrder t n u.faction → o ≡ None) → IfSome o (λ effect. IsStillThere IsNoWorse (effect c x).0 n u)
+    by_step : (w : WorldValue) (c : CampaignValue) (t : Task) (x : Unit) → IsUnitOf c t x → (n : ℕ) (u : Unit)
+        → get c.units n ≡ Some u
+        → (o : Option OrderEffect)
+        → IfSome o (λ effect. OrderKeeps holds (AreOperandsOf w t.order_value.operands) w c t.unit x.faction (effect c x).0)
+        → (IsOwnOrder t n u.faction → o ≡ None) → IfSome o (λ effect. IsStillThere IsNoWorse (effect c x).0 n u)
     by_step w c t x own n u there None kept passes = tt
     by_step w c t x own n u there (Some effect) kept passes =
         let one = kept.others n u there (other_unit c t x n u own there (λ mine. let none : Some effect ≡ None = passes mine in cc)) in
@@ -115,7 +124,8 @@ module _ (c : CampaignValue) (from to : ℕ) (u v : Unit) (h k : HoldingValue) (
 
   -- setting first what the giver holds (x, which is h) and then what the receiver holds (y, which is k) makes the
   -- campaign `moved`
-  pub moved_is : (d e : CampaignValue) (x y : HoldingValue) → x ≡ h → y ≡ k → d ≡ with_holding_at c from x (Some u) → (get d.units to ≡ Some v → e ≡ with_holding_at d to y (Some v)) → e ≡ (if to == from then c else moved)
+  pub moved_is : (d e : CampaignValue) (x y : HoldingValue) → x ≡ h → y ≡ k → d ≡ with_holding_at c from x (Some u)
+      → (get d.units to ≡ Some v → e ≡ with_holding_at d to y (Some v)) → e ≡ (if to == from then c else moved)
   moved_is d e x y x_is y_is first second =
       let other : (to == from) ≡ false = grind (arith, nat_tests) in
       let made : d ≡ between = first ∙ ap (λ z. with_holding_at c from z (Some u)) x_is in
@@ -136,12 +146,15 @@ module _ (c : CampaignValue) (from to : ℕ) (u v : Unit) (h k : HoldingValue) (
 
   -- A move from giver to receiver keeps the campaign early, its month and its balance (`StepsWell`). For this both may
   -- hold what they then hold, and neither has its guard flag newly set. Together they must hold as much as before.
-  pub steps-moved : (w : WorldValue) → MayHave w h → (h.guard ≡ true → u.holding.guard ≡ true) → MayHave w k → (k.guard ≡ true → v.holding.guard ≡ true) → BothHold → IsEarly w c → StepsWell IsEarly nothing_remaining w c moved
+  pub steps-moved : (w : WorldValue) → MayHave w h → (h.guard ≡ true → u.holding.guard ≡ true) → MayHave w k
+      → (k.guard ≡ true → v.holding.guard ≡ true) → BothHold → IsEarly w c
+      → StepsWell IsEarly nothing_remaining w c moved
   steps-moved w less less_flag more more_flag both early =
       unbooked_well w c moved (early-having w between to v k receiver_still more more_flag (early-having w c from u h giver less less_flag early))
       (same_month_by refl) refl (total-moved w both)
 
-  pub others-moved : (f : ℕ) → IsLeftAlone f v (record v { holding = k }) → (n : ℕ) (x : Unit) → get c.units n ≡ Some x → n ≢ from → IsStillThere (IsLeftAlone f) moved n x
+  pub others-moved : (f : ℕ) → IsLeftAlone f v (record v { holding = k }) → (n : ℕ) (x : Unit) → get c.units n ≡ Some x
+      → n ≢ from → IsStillThere (IsLeftAlone f) moved n x
   others-moved f is_unaffected n x there other = elim (cases_eq n to) [
     | inl same ↦
         let one : Some v ≡ Some x = sym receiver ∙ ap (get c.units) (sym same) ∙ there in
@@ -153,15 +166,18 @@ module _ (c : CampaignValue) (from to : ℕ) (u v : Unit) (h k : HoldingValue) (
 
 -- P holds of the campaign after an order that moves something from unit `from` to `to`, if P holds of the campaign
 -- before. Where no fault applies and `from` isn't `to`, P must also hold of the campaign after the move.
-pub moved_cases : (P : CampaignValue → Type 0) (c : CampaignValue) (from to : ℕ) (u v : Unit) (h k : HoldingValue) (fault : Bool → Option EventFault) (o : Outcome) → P c
+pub moved_cases : (P : CampaignValue → Type 0) (c : CampaignValue) (from to : ℕ) (u v : Unit) (h k : HoldingValue) (fault : Bool → Option EventFault) (o : Outcome)
+    → P c
     → (to ≢ from → fault false ≡ None → P (with_holding_at (with_holding_at c from h (Some u)) to k (Some v)))
     → P (unless c (fault (to == from)) (if to == from then c else with_holding_at (with_holding_at c from h (Some u)) to k (Some v), o)).0
 moved_cases P c from to u v h k fault o same move = by_test (to == from) refl
   where
-    by_fault : (b : Bool) → (to == from) ≡ b → (x : Option EventFault) → fault b ≡ x → P (unless c x (if b then c else with_holding_at (with_holding_at c from h (Some u)) to k (Some v), o)).0
+    by_fault : (b : Bool) → (to == from) ≡ b → (x : Option EventFault) → fault b ≡ x
+        → P (unless c x (if b then c else with_holding_at (with_holding_at c from h (Some u)) to k (Some v), o)).0
     by_fault b is (Some x) none = same
     by_fault true is None none = same
     by_fault false is None none = let apart : to ≢ from = grind (arith, nat_tests) in move apart none
 
-    by_test : (b : Bool) → (to == from) ≡ b → P (unless c (fault b) (if b then c else with_holding_at (with_holding_at c from h (Some u)) to k (Some v), o)).0
+    by_test : (b : Bool) → (to == from) ≡ b
+        → P (unless c (fault b) (if b then c else with_holding_at (with_holding_at c from h (Some u)) to k (Some v), o)).0
     by_test b is = by_fault b is (fault b) refl

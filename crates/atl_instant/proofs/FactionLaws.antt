@@ -24,7 +24,8 @@ module _ (c : CampaignValue) (n : ℕ) (x : Faction) (name : List ℕ) (is : get
   shown = record c { factions = factions }
 
   none_kept : (k : ℕ) → get c.factions k ≡ None → get factions k ≡ None
-  none_kept k none = get-insert_other c.factions n k renamed (λ same. none_some x (sym none ∙ ap (get c.factions) same ∙ is)) ∙ none
+  none_kept k none =
+      get-insert_other c.factions n k renamed (λ same. none_some x (sym none ∙ ap (get c.factions) same ∙ is)) ∙ none
 
   there : (k : ℕ) → HasValue c.factions k → HasValue factions k
   there k h = there-insert c.factions n k renamed h
@@ -98,14 +99,16 @@ module _ (c : CampaignValue) (n : ℕ) (x : Faction) (name : List ℕ) (is : get
   shown_is = ap (λ m. record c { factions = m }) (changed-known (λ f. record f { name = name }) c.factions n x is)
 
   -- a campaign stays steady when a faction shows another name that follows the name rule
-  pub steady-faction_name : (w : WorldValue) → IsTrue (name_ok name) → IsSteady w c → IsSteady w (with_faction_name c n name)
+  pub steady-faction_name : (w : WorldValue) → IsTrue (name_ok name) → IsSteady w c
+      → IsSteady w (with_faction_name c n name)
   steady-faction_name w named old = subst (IsSteady w) (sym shown_is) (steady_shown w named old)
 
   pub count-faction_name : len (with_faction_name c n name).factions ≡ len c.factions
   count-faction_name = ap (λ (d : CampaignValue). len d.factions) shown_is ∙ same_count
 
   was_there : (k : ℕ) → HasValue factions k → HasValue c.factions k
-  was_there k (f, here) = every-insert (λ k f. HasValue c.factions k) c.factions n renamed (x, is) (λ k f here. (f, here)) k f here
+  was_there k (f, here) =
+      every-insert (λ k f. HasValue c.factions k) c.factions n renamed (x, is) (λ k f here. (f, here)) k f here
 
   pub known-faction_name : (k : ℕ) → HasValue (with_faction_name c n name).factions k → HasValue c.factions k
   known-faction_name k h = was_there k (subst (λ (d : CampaignValue). HasValue d.factions k) shown_is h)

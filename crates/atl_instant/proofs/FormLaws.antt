@@ -53,7 +53,8 @@ use Rattle.atl_instant.specs.declared.form.Forming.{Forming}
 below_limits : (u n : ℕ) → (nat_le most_units u || nat_lt last_unit n) ≡ false → (u < most_units) × (n ≤ last_unit)
 below_limits u n h = (grind (arith, nat_tests), grind (arith, nat_tests))
 
-pub unit_limits_not_reached : (c : CampaignValue) → is_unit_limit c ≡ false → (len c.units < most_units) × (c.next_unit ≤ last_unit)
+pub unit_limits_not_reached : (c : CampaignValue) → is_unit_limit c ≡ false
+    → (len c.units < most_units) × (c.next_unit ≤ last_unit)
 unit_limits_not_reached c h = below_limits (len c.units) c.next_unit h
 
 module _ (w : WorldValue) (c : CampaignValue) (p : ℕ) (u : Unit) (is : get c.units p ≡ Some u) (early : IsEarly w c) where
@@ -178,7 +179,9 @@ module _ (w : WorldValue) (c : CampaignValue) (p : ℕ) (u : Unit) (is : get c.u
 
   same_total : (t : Thing) → total begun t ≡ total c t
   unfolding total
-  same_total t = none_more (total begun t) (total c t) (unit_amount t child.holding) (total-with_unit c c.next_unit child t free) (nothing_held t)
+  same_total t =
+      none_more (total begun t) (total c t) (unit_amount t child.holding) (total-with_unit c c.next_unit child t free)
+      (nothing_held t)
 
   -- if the unit limit isn't reached, forming a unit keeps an early campaign early,
   -- in its month and with balanced books (`StepsWell`)
@@ -190,7 +193,8 @@ module _ (w : WorldValue) (c : CampaignValue) (p : ℕ) (u : Unit) (is : get c.u
 
 -- ---- what is marked
 
-pub marks-begun : (c : MarkedCampaign) (u : Unit) → MarksChanges c (record { value = with_unit_begun c.value u; marks = mark_unit_begun c })
+pub marks-begun : (c : MarkedCampaign) (u : Unit)
+    → MarksChanges c (record { value = with_unit_begun c.value u; marks = mark_unit_begun c })
 marks-begun c u =
     let n = c.value.next_unit in
     let mid : MarkedCampaign = record { value = with_unit c.value n u; marks = mark_unit_added c n } in
@@ -208,7 +212,8 @@ module _ (w : WorldValue) (c : CampaignValue) (early : IsEarly w c) where
   free_number = early.steady.next.units c.next_unit (omega arith)
 
   module _ (f n : ℕ) where
-    formed_is : (u : Unit) → get c.units n ≡ Some u → u.faction ≡ f → with_formed_unit c f n ≡ with_unit_begun c (new_unit c.next_unit u.faction u.region u.structure)
+    formed_is : (u : Unit) → get c.units n ≡ Some u → u.faction ≡ f
+        → with_formed_unit c f n ≡ with_unit_begun c (new_unit c.next_unit u.faction u.region u.structure)
     formed_is u is own =
         ap (λ g. with_unit_begun c (new_unit c.next_unit g (region_of c n) (structure_of_unit c n))) (sym own)
         ∙ ap (λ (o : Option Unit). with_unit_begun c (new_unit c.next_unit u.faction (option_map_or (λ x. x.region) o 0) (option_map_or (λ x. x.structure) o 0))) is
@@ -221,8 +226,11 @@ module _ (w : WorldValue) (c : CampaignValue) (early : IsEarly w c) where
     same_fine : IsEarlyAndKeepsUnits c
     same_fine = (well_same w c early, λ k v there. there)
 
-    formed_fine : (u : Unit) → get c.units n ≡ Some u → (u.faction ≡ f) → is_unit_limit c ≡ false → IsEarlyAndKeepsUnits (with_formed_unit c f n)
-    formed_fine u is own limit = subst IsEarlyAndKeepsUnits (sym (formed_is u is own)) (begun_well w c n u is early limit, begun_stays w c n u is early)
+    formed_fine : (u : Unit) → get c.units n ≡ Some u → (u.faction ≡ f) → is_unit_limit c ≡ false
+        → IsEarlyAndKeepsUnits (with_formed_unit c f n)
+    formed_fine u is own limit =
+        subst IsEarlyAndKeepsUnits (sym (formed_is u is own))
+        (begun_well w c n u is early limit, begun_stays w c n u is early)
 
     by_limit : (u : Unit) → get c.units n ≡ Some u → (a b : Bool) → is_of_faction f (Some u) ≡ a → is_unit_limit c ≡ b
         → IsEarlyAndKeepsUnits (unless c (first_fault ((not a, NotYours) ∷ (b, UnitLimit) ∷ [])) (with_formed_unit c f n, Done c.next_unit)).0
@@ -230,7 +238,8 @@ module _ (w : WorldValue) (c : CampaignValue) (early : IsEarly w c) where
     by_limit u is true true own limit = same_fine
     by_limit u is true false own limit = formed_fine u is (is_equal u.faction f own) limit
 
-    by_unit : (o : Option Unit) → get c.units n ≡ o → IsEarlyAndKeepsUnits (unless c (first_fault ((not (is_of_faction f o), NotYours) ∷ (is_unit_limit c, UnitLimit) ∷ [])) (with_formed_unit c f n, Done c.next_unit)).0
+    by_unit : (o : Option Unit) → get c.units n ≡ o
+        → IsEarlyAndKeepsUnits (unless c (first_fault ((not (is_of_faction f o), NotYours) ∷ (is_unit_limit c, UnitLimit) ∷ [])) (with_formed_unit c f n, Done c.next_unit)).0
     by_unit None is = same_fine
     by_unit (Some u) is = by_limit u is (is_of_faction f (Some u)) (is_unit_limit c) refl refl
 
@@ -240,16 +249,20 @@ module _ (w : WorldValue) (c : CampaignValue) (early : IsEarly w c) where
   pub order_well : (m : MonthValue) (o : Forming) → StepsWell IsEarly nothing_remaining w c (form_by_copy (c, m) o).0
   order_well m o = (form_fine o.faction o.unit).0
 
-  pub order_stays : (m : MonthValue) (o : Forming) → Every (λ k v. get (form_by_copy (c, m) o).0.units k ≡ Some v) c.units
+  pub order_stays : (m : MonthValue) (o : Forming)
+      → Every (λ k v. get (form_by_copy (c, m) o).0.units k ≡ Some v) c.units
   order_stays m o = (form_fine o.faction o.unit).1
 
 -- ---- orders apart from the month
 
 -- copies of orders of FORM, carried out one after another, make what the orders themselves make
-pub formed_by_copy : (p : CampaignValue × MonthValue) (ts : List Task) → fold form_by_copy p (map forming_of ts) ≡ fold form_order p ts
+pub formed_by_copy : (p : CampaignValue × MonthValue) (ts : List Task)
+    → fold form_by_copy p (map forming_of ts) ≡ fold form_order p ts
 formed_by_copy p [] = refl
 formed_by_copy p (t ∷ ts) = formed_by_copy (form_order p t) ts
 
-pub all_formed : (w : WorldValue) (c : CampaignValue) (m : MonthValue) → fold form_by_copy (c, m) (map forming_of (orders_of is_forming ByFaction m.aliases m.readings)) ≡ form_meaning w c m
+pub all_formed : (w : WorldValue) (c : CampaignValue) (m : MonthValue)
+    → fold form_by_copy (c, m) (map forming_of (orders_of is_forming ByFaction m.aliases m.readings))
+    ≡ form_meaning w c m
 unfolding form_meaning
 all_formed w c m = formed_by_copy (c, m) (orders_of is_forming ByFaction m.aliases m.readings)

@@ -60,7 +60,8 @@ IsKnown w (Item i) = i < length w.items
 
 -- a unit may have (`MayHave`) any amount of the gift up to `holding_limit`, if the gift is of the world, and the unit
 -- may have what it holds
-pub may_have_of : (w : WorldValue) (h : HoldingValue) (gift : Gift) (amount : ℕ) → IsKnown w gift → amount ≤ holding_limit → MayHave w h → MayHave w (with_held_of gift h amount)
+pub may_have_of : (w : WorldValue) (h : HoldingValue) (gift : Gift) (amount : ℕ) → IsKnown w gift
+    → amount ≤ holding_limit → MayHave w h → MayHave w (with_held_of gift h amount)
 may_have_of w h Money amount known most may = record {
   limits = record { men = may.limits.men; money = most; items = may.limits.items };
   name = may.name;
@@ -76,12 +77,15 @@ may_have_of w h (Item i) amount known most may = record {
   days = may.days;
 }
 
-gift_leaves_flag_and_men : (gift : Gift) (h : HoldingValue) (amount : ℕ) → ((with_held_of gift h amount).guard ≡ h.guard) × ((with_held_of gift h amount).men ≡ h.men)
+gift_leaves_flag_and_men : (gift : Gift) (h : HoldingValue) (amount : ℕ)
+    → ((with_held_of gift h amount).guard ≡ h.guard) × ((with_held_of gift h amount).men ≡ h.men)
 gift_leaves_flag_and_men Money h amount = (refl, refl)
 gift_leaves_flag_and_men (Item i) h amount = (refl, refl)
 
 -- giver and receiver together hold as much of each thing after a gift as before, if the giver has what it gives
-pub gift_keeps_sum : (gift : Gift) (n : ℕ) (h k : HoldingValue) → n ≤ held_of gift h → (t : Thing) → unit_amount t (with_held_of gift h (held_of gift h - n)) + unit_amount t (with_held_of gift k (held_of gift k + n)) ≡ unit_amount t h + unit_amount t k
+pub gift_keeps_sum : (gift : Gift) (n : ℕ) (h k : HoldingValue) → n ≤ held_of gift h → (t : Thing)
+    → unit_amount t (with_held_of gift h (held_of gift h - n)) + unit_amount t (with_held_of gift k (held_of gift k + n))
+    ≡ unit_amount t h + unit_amount t k
 gift_keeps_sum Money n h k l things.Money = omega (arith, l)
 gift_keeps_sum Money n h k l things.People = refl
 gift_keeps_sum Money n h k l (things.Item j) = refl
@@ -92,28 +96,44 @@ gift_keeps_sum (Item i) n h k l (things.Item j) =
     let b = amount_of k.items i in
     let less = amount_after_setting h.items i (a - n) j in
     let more = amount_after_setting k.items i (b + n) j in
-    ap (λ x. x + amount_of (with_amount_of k.items i (b + n)) j) less ∙ ap (λ x. cond (eq_by_cmp nat_cmp j i) (a - n) (amount_of h.items j) + x) more ∙ by_test (eq_by_cmp nat_cmp j i) refl
+    ap (λ x. x + amount_of (with_amount_of k.items i (b + n)) j) less
+    ∙ ap (λ x. cond (eq_by_cmp nat_cmp j i) (a - n) (amount_of h.items j) + x) more
+    ∙ by_test (eq_by_cmp nat_cmp j i) refl
   where
     sum : (a b n : ℕ) → n ≤ a → (a - n) + (b + n) ≡ a + b
     sum a b n l = omega arith
 
-    by_test : (q : Bool) → eq_by_cmp nat_cmp j i ≡ q → cond q (amount_of h.items i - n) (amount_of h.items j) + cond q (amount_of k.items i + n) (amount_of k.items j) ≡ amount_of h.items j + amount_of k.items j
-    by_test true is = sum (amount_of h.items i) (amount_of k.items i) n l ∙ ap (λ x. amount_of h.items x + amount_of k.items x) (sym (compared_equal_is_equal i j is))
+    by_test : (q : Bool) → eq_by_cmp nat_cmp j i ≡ q
+        → cond q (amount_of h.items i - n) (amount_of h.items j) + cond q (amount_of k.items i + n) (amount_of k.items j)
+        ≡ amount_of h.items j + amount_of k.items j
+    by_test true is =
+        sum (amount_of h.items i) (amount_of k.items i) n l
+        ∙ ap (λ x. amount_of h.items x + amount_of k.items x) (sym (compared_equal_is_equal i j is))
     by_test false is = refl
 
-pub gift_receiver_no_worse : (gift : Gift) (n : ℕ) (v : Unit) → IsNoWorse v (record v { holding = with_held_of gift v.holding (held_of gift v.holding + n) })
-gift_receiver_no_worse Money n v = record { faction = refl; region = refl; structure = refl; name = refl; guard = refl; men = omega arith; money = omega arith; items = λ i. omega arith; days = λ s. omega arith }
-gift_receiver_no_worse (Item i) n v = record { faction = refl; region = refl; structure = refl; name = refl; guard = refl; men = omega arith; money = omega arith; items = λ j. more j; days = λ s. omega arith }
+pub gift_receiver_no_worse : (gift : Gift) (n : ℕ) (v : Unit)
+    → IsNoWorse v (record v { holding = with_held_of gift v.holding (held_of gift v.holding + n) })
+gift_receiver_no_worse Money n v =
+    record { faction = refl; region = refl; structure = refl; name = refl; guard = refl; men = omega arith; money = omega arith; items = λ i. omega arith; days = λ s. omega arith }
+gift_receiver_no_worse (Item i) n v =
+    record { faction = refl; region = refl; structure = refl; name = refl; guard = refl; men = omega arith; money = omega arith; items = λ j. more j; days = λ s. omega arith }
   where
     here : (x y n : ℕ) → x ≡ y → x ≤ y + n
     here x y n is = omega arith
 
-    by_test : (j : ℕ) (q : Bool) → eq_by_cmp nat_cmp j i ≡ q → amount_of v.holding.items j ≤ cond q (amount_of v.holding.items i + n) (amount_of v.holding.items j)
-    by_test j true is = here (amount_of v.holding.items j) (amount_of v.holding.items i) n (ap (amount_of v.holding.items) (compared_equal_is_equal i j is))
+    by_test : (j : ℕ) (q : Bool) → eq_by_cmp nat_cmp j i ≡ q
+        → amount_of v.holding.items j ≤ cond q (amount_of v.holding.items i + n) (amount_of v.holding.items j)
+    by_test j true is =
+        here (amount_of v.holding.items j) (amount_of v.holding.items i) n
+        (ap (amount_of v.holding.items) (compared_equal_is_equal i j is))
     by_test j false is = omega arith
 
-    more : (j : ℕ) → amount_of v.holding.items j ≤ amount_of (with_amount_of v.holding.items i (amount_of v.holding.items i + n)) j
-    more j = subst (λ x. amount_of v.holding.items j ≤ x) (sym (amount_after_setting v.holding.items i (amount_of v.holding.items i + n) j)) (by_test j (eq_by_cmp nat_cmp j i) refl)
+    more : (j : ℕ)
+        → amount_of v.holding.items j ≤ amount_of (with_amount_of v.holding.items i (amount_of v.holding.items i + n)) j
+    more j =
+        subst (λ x. amount_of v.holding.items j ≤ x)
+        (sym (amount_after_setting v.holding.items i (amount_of v.holding.items i + n) j))
+        (by_test j (eq_by_cmp nat_cmp j i) refl)
 
 -- ---- one order
 
@@ -139,7 +159,8 @@ module _ {fit : Type 0} (w : WorldValue) (c : CampaignValue) (from to : ℕ) (gi
   unfolding give
   gift_kept = by_receiver (get c.units to) refl
     where
-      by_receiver : (o : Option Unit) → get c.units to ≡ o → OrderKeeps IsEarly fit w c from u.faction (give_to c from to gift n u o).0
+      by_receiver : (o : Option Unit) → get c.units to ≡ o
+          → OrderKeeps IsEarly fit w c from u.faction (give_to c from to gift n u o).0
       by_receiver None is = keeps_all w c from u.faction
       by_receiver (Some v) receiver =
           moved_cases (OrderKeeps IsEarly fit w c from u.faction) c from to u v (with_held_of gift u.holding (held_of gift u.holding - n)) (with_held_of gift v.holding (held_of gift v.holding + n))
@@ -150,9 +171,12 @@ module _ {fit : Type 0} (w : WorldValue) (c : CampaignValue) (from to : ℕ) (gi
 pub give_keeps : StepKeeps IsEarly give_step
 give_keeps w a c t x own = by_operands t.order_value.operands
   where
-    by_operands : (o : OperandsValue) → IfSome (give_effect a t.faction t.unit o) (λ effect. OrderKeeps IsEarly (AreOperandsOf w o) w c t.unit x.faction (effect c x).0)
-    by_operands (operands.UnitAndGoods to n item) = gift_kept w c t.unit (unit_of a t.faction to) (Item item) n x own.there (λ fit. fit.2)
-    by_operands (operands.UnitAndNumber to n) = gift_kept w c t.unit (unit_of a t.faction to) Money n x own.there (λ fit. tt)
+    by_operands : (o : OperandsValue)
+        → IfSome (give_effect a t.faction t.unit o) (λ effect. OrderKeeps IsEarly (AreOperandsOf w o) w c t.unit x.faction (effect c x).0)
+    by_operands (operands.UnitAndGoods to n item) =
+        gift_kept w c t.unit (unit_of a t.faction to) (Item item) n x own.there (λ fit. fit.2)
+    by_operands (operands.UnitAndNumber to n) =
+        gift_kept w c t.unit (unit_of a t.faction to) Money n x own.there (λ fit. tt)
     by_operands other = tt
 
 -- GIVE and PAY keep an early campaign early and book nothing, and a unit is no worse off unless its own faction wrote

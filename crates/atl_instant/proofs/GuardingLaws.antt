@@ -47,13 +47,15 @@ each_fails_test : (p : ℕ → Bool) (ns : List ℕ) → list_any p ns ≡ false
 each_fails_test p [] is k listed = absurd listed
 each_fails_test p (n ∷ ns) is k listed = by_test (p n) refl is (λ e h. each_fails_test p ns e k h) listed
   where
-    by_test : (b : Bool) → p n ≡ b → (b || list_any p ns) ≡ false → (list_any p ns ≡ false → IsListed k ns → p k ≡ false) → IsListed k (n ∷ ns) → p k ≡ false
+    by_test : (b : Bool) → p n ≡ b → (b || list_any p ns) ≡ false
+        → (list_any p ns ≡ false → IsListed k ns → p k ≡ false) → IsListed k (n ∷ ns) → p k ≡ false
     by_test true t e rest h = cc
     by_test false t e rest (inl same) = ap p same ∙ t
     by_test false t e rest (inr h) = rest e h
 
 -- if no faction but the given one guards a region, each unit that guards the region is of the given faction
-pub own_guards : (c : CampaignValue) (region faction : ℕ) → is_guarded_against c region faction ≡ false → Every (λ m v. guards v ≡ true → v.region ≡ region → v.faction ≡ faction) c.units
+pub own_guards : (c : CampaignValue) (region faction : ℕ) → is_guarded_against c region faction ≡ false
+    → Every (λ m v. guards v ≡ true → v.region ≡ region → v.faction ≡ faction) c.units
 own_guards c region faction none m v there guarding here =
     let inside : (v.region == region) ≡ true = grind (arith, nat_tests) in
     let listed = passing_listed (λ (x : Unit). x.region == region) c.units m v there inside in
@@ -78,7 +80,9 @@ module _ (w : WorldValue) (c : CampaignValue) (n : ℕ) (u : Unit) (is : get c.u
       record { limits = record { men = may.limits.men; money = may.limits.money; items = may.limits.items }; name = ok; items = may.items; skills = may.skills; days = may.days }
 
   pub total-labelled : (t : Thing) → total (with_holding_at c n labelled (Some u)) t ≡ total c t
-  total-labelled t = equal_by_sums (total (with_holding_at c n labelled (Some u)) t) (total c t) (unit_amount t u.holding) (unit_amount t labelled) (total-new_holding w c n u labelled is t) (held_same t)
+  total-labelled t =
+      equal_by_sums (total (with_holding_at c n labelled (Some u)) t) (total c t) (unit_amount t u.holding)
+      (unit_amount t labelled) (total-new_holding w c n u labelled is t) (held_same t)
     where
       held_same : (s : Thing) → unit_amount s labelled ≡ unit_amount s u.holding
       held_same Money = refl
@@ -91,7 +95,8 @@ module _ (w : WorldValue) (c : CampaignValue) (n : ℕ) (u : Unit) (is : get c.u
 -- ---- the campaign after the flag is set
 
 -- if GUARD 1 has no fault for a unit, the unit has men, and no other faction guards its region
-pub can_guard : (c : CampaignValue) (u : Unit) → guard_fault c u ≡ None → (is_guarded_against c u.region u.faction ≡ false) × (nat_lt 0 u.holding.men ≡ true)
+pub can_guard : (c : CampaignValue) (u : Unit) → guard_fault c u ≡ None
+    → (is_guarded_against c u.region u.faction ≡ false) × (nat_lt 0 u.holding.men ≡ true)
 can_guard c u none =
     let one = none_fits (u.holding.men == 0) NoMen ((is_guarded_against c u.region u.faction, Guarded) ∷ []) none in
     let two = none_fits (is_guarded_against c u.region u.faction) Guarded [] one.1 in
@@ -113,7 +118,8 @@ module _ (c : CampaignValue) (n : ℕ) (u : Unit) (is : get c.units n ≡ Some u
   abbrev Agree : Unit → Unit → Type 0
   Agree x y = guards x ≡ true → guards y ≡ true → x.region ≡ y.region → x.faction ≡ y.faction
 
-  guards_kept : is_guarded_against c u.region u.faction ≡ false → AreOfOneFaction guards c → AreOfOneFaction guards flagged
+  guards_kept : is_guarded_against c u.region u.faction ≡ false → AreOfOneFaction guards c
+      → AreOfOneFaction guards flagged
   guards_kept none old =
       let own = own_guards c u.region u.faction none in
       every-insert (λ k x. Every (λ m y. Agree x y) flagged.units) c.units n guarding
@@ -125,19 +131,22 @@ module _ (c : CampaignValue) (n : ℕ) (u : Unit) (is : get c.units n ≡ Some u
 
   -- setting the guard flag keeps a steady campaign steady, in its month and with balanced books (`StepsWell`),
   -- if no other faction guards the region
-  flag_steps_well : (w : WorldValue) → is_guarded_against c u.region u.faction ≡ false → IsSteady w c → StepsWell IsSteady nothing_remaining w c (with_guard c n true)
+  flag_steps_well : (w : WorldValue) → is_guarded_against c u.region u.faction ≡ false → IsSteady w c
+      → StepsWell IsSteady nothing_remaining w c (with_guard c n true)
   flag_steps_well w none steady =
       let may = may_label w c n u is u.holding.name true (steady.names.units n u is) steady in
       subst (StepsWell IsSteady nothing_remaining w c) (sym flagged_is)
       (stays_well IsSteady w c flagged (steady-having w c n u guarding.holding is may (guards_kept none steady.guarded) steady) (same_month_by refl) refl (total-labelled w c n u is u.holding.name true))
 
-pub flag_marks : (c d : MarkedCampaign) (n : ℕ) (flag : Bool) → d.value ≡ with_guard c.value n flag → d.marks ≡ mark_unit_row c n → MarksChanges c d
+pub flag_marks : (c d : MarkedCampaign) (n : ℕ) (flag : Bool) → d.value ≡ with_guard c.value n flag
+    → d.marks ≡ mark_unit_row c n → MarksChanges c d
 flag_marks c d n flag what marks =
     marks_by c d (record { value = with_guard c.value n flag; marks = mark_unit_row c n }) what marks (marks-unit_row (λ u. record u { holding = record u.holding { guard = flag } }) (λ u. refl) c n)
 
 -- ---- one order
 
-guard_kept : {fit : Type 0} (w : WorldValue) (c : CampaignValue) (n : ℕ) (u : Unit) → get c.units n ≡ Some u → OrderKeeps IsSteady fit w c n u.faction (guard n c u).0
+guard_kept : {fit : Type 0} (w : WorldValue) (c : CampaignValue) (n : ℕ) (u : Unit) → get c.units n ≡ Some u
+    → OrderKeeps IsSteady fit w c n u.faction (guard n c u).0
 unfolding guard
 guard_kept w c n u is =
     keeps_unless w c n u.faction (guard_fault c u) (with_guard c n true) (Done 0) (λ none.
@@ -148,14 +157,16 @@ guard_kept w c n u is =
 pub guard_keeps : StepKeeps IsSteady guard_step
 guard_keeps w a c t x own = by_operands t.order_value.operands
   where
-    by_operands : (o : OperandsValue) → IfSome (guard_effect t.unit o) (λ effect. OrderKeeps IsSteady (AreOperandsOf w o) w c t.unit x.faction (effect c x).0)
+    by_operands : (o : OperandsValue)
+        → IfSome (guard_effect t.unit o) (λ effect. OrderKeeps IsSteady (AreOperandsOf w o) w c t.unit x.faction (effect c x).0)
     by_operands (operands.Flag true) = guard_kept w c t.unit x own.there
     by_operands other = tt
 
 -- GUARD 1 keeps a steady campaign steady and books nothing, and a unit is no worse off unless its own faction wrote
 -- GUARD 1 for it
 pub guard_orderly : IsOrderly guard_step IsSteady nothing_remaining moves_nothing guard_affects IsNoWorse
-guard_orderly = orderly_by guard_keeps (λ w a t n f own other. passed t.unit t.order_value.operands (λ sets. other (own, sets)))
+guard_orderly =
+    orderly_by guard_keeps (λ w a t n f own other. passed t.unit t.order_value.operands (λ sets. other (own, sets)))
   where
     passed : (n : ℕ) (o : OperandsValue) → (o ≡ operands.Flag true → ⊥) → guard_effect n o ≡ None
     passed n (operands.Flag true) other = absurd (other refl)

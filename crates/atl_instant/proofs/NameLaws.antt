@@ -41,7 +41,9 @@ module _ (fit : Type 0) (w : WorldValue) (c : CampaignValue) (n : ℕ) (u : Unit
 
   -- ---- the unit's name and its flag
 
-  label_well : (name : List ℕ) (flag : Bool) → IsTrue (name_ok name) → (flag ≡ true → u.holding.guard ≡ true) → IsEarly w c → (d : CampaignValue) → d ≡ with_holding_at c n (labelled w c n u is name flag) (Some u) → StepsWell IsEarly nothing_remaining w c d
+  label_well : (name : List ℕ) (flag : Bool) → IsTrue (name_ok name) → (flag ≡ true → u.holding.guard ≡ true)
+      → IsEarly w c → (d : CampaignValue) → d ≡ with_holding_at c n (labelled w c n u is name flag) (Some u)
+      → StepsWell IsEarly nothing_remaining w c d
   label_well name flag ok old early d made =
       let h = labelled w c n u is name flag in
       subst (StepsWell IsEarly nothing_remaining w c) (sym made)
@@ -61,7 +63,8 @@ module _ (fit : Type 0) (w : WorldValue) (c : CampaignValue) (n : ℕ) (u : Unit
 
   -- ---- the names of its faction and of a structure
 
-  faction_named : (name : List ℕ) → (fit → IsTrue (name_ok name)) → KeepsOthersByName (with_faction_name c u.faction name)
+  faction_named : (name : List ℕ) → (fit → IsTrue (name_ok name))
+      → KeepsOthersByName (with_faction_name c u.faction name)
   faction_named name ok =
       keeps_others w c n u.faction (with_faction_name c u.faction name) (λ early fits.
       let (x, there) = (early.steady.known.units n u is).faction in
@@ -73,7 +76,8 @@ module _ (fit : Type 0) (w : WorldValue) (c : CampaignValue) (n : ℕ) (u : Unit
   abbrev titled : List ℕ → Structure → Structure
   titled name s = record s { name = name }
 
-  structure_well : (k : ℕ) (name : List ℕ) → IsTrue (name_ok name) → IsEarly w c → StepsWell IsEarly nothing_remaining w c (with_structure_name c k name)
+  structure_well : (k : ℕ) (name : List ℕ) → IsTrue (name_ok name) → IsEarly w c
+      → StepsWell IsEarly nothing_remaining w c (with_structure_name c k name)
   structure_well k name ok early =
       unbooked_well w c (with_structure_name c k name)
       (early-relabelled w c n u is _ (at_number (titled name) c.structures k) (get-changed (titled name) c.structures k) (len-changed (titled name) c.structures k)
@@ -88,14 +92,16 @@ module _ (fit : Type 0) (w : WorldValue) (c : CampaignValue) (n : ℕ) (u : Unit
       owned q y true o = record { owned = o.owned; ownerless = o.ownerless }
       owned q y false o = o
 
-  structure_named : (k : ℕ) (ship : Bool) (name : List ℕ) → (fit → IsTrue (name_ok name)) → KeepsOthersByName (structure_name_result w c n k ship name).0
+  structure_named : (k : ℕ) (ship : Bool) (name : List ℕ) → (fit → IsTrue (name_ok name))
+      → KeepsOthersByName (structure_name_result w c n k ship name).0
   structure_named k ship name ok =
       keeps_unless w c n u.faction (structure_fault w n ship (get c.structures k)) (with_structure_name c k name) (Done 0) (λ none.
       keeps_others w c n u.faction (with_structure_name c k name) (λ early fits. structure_well k name (ok fits) early) (λ j apart. refl))
 
   -- ---- an order
 
-  named : (what : NameKind) (name : List ℕ) → (fit → IsTrue (name_ok name)) → KeepsOthersByName (name_result w c n u.faction u.structure what name).0
+  named : (what : NameKind) (name : List ℕ) → (fit → IsTrue (name_ok name))
+      → KeepsOthersByName (name_result w c n u.faction u.structure what name).0
   named kinds.Unit name ok = unit_named name ok
   named kinds.Faction name ok = faction_named name ok
   named kinds.Building name ok = structure_named u.structure false name ok
@@ -104,19 +110,24 @@ module _ (fit : Type 0) (w : WorldValue) (c : CampaignValue) (n : ℕ) (u : Unit
 pub name_keeps : StepKeeps IsEarly name_step
 name_keeps w a c t x own = by_operands t.order_value.operands
   where
-    by_operands : (o : OperandsValue) → IfSome (name_effect w t.unit o) (λ effect. OrderKeeps IsEarly (AreOperandsOf w o) w c t.unit x.faction (effect c x).0)
-    by_operands (operands.Name what name) = named (AreOperandsOf w (operands.Name what name)) w c t.unit x own.there what name (λ fit. fit)
+    by_operands : (o : OperandsValue)
+        → IfSome (name_effect w t.unit o) (λ effect. OrderKeeps IsEarly (AreOperandsOf w o) w c t.unit x.faction (effect c x).0)
+    by_operands (operands.Name what name) =
+        named (AreOperandsOf w (operands.Name what name)) w c t.unit x own.there what name (λ fit. fit)
     by_operands (operands.Flag false) = flag_cleared (AreOperandsOf w (operands.Flag false)) w c t.unit x own.there
     by_operands other = tt
 
 -- NAME and GUARD 0 keep an early campaign early and book nothing, and a unit is no worse off unless its own faction
 -- wrote one of these orders for it (`IsOrderly`)
 pub name_orderly : IsOrderly name_step IsEarly nothing_remaining moves_nothing name_affects IsNoWorse
-name_orderly = orderly_by name_keeps (λ w a t n f own other. passes_over_guard w t.unit t.order_value.operands (λ names. other (own, names)))
+name_orderly =
+    orderly_by name_keeps
+    (λ w a t n f own other. passes_over_guard w t.unit t.order_value.operands (λ names. other (own, names)))
   where
     -- for `name_orderly`: the phase passes over GUARD 1, given as an order for which other operands than those of GUARD
     -- 1 are impossible
-    passes_over_guard : (w : WorldValue) (n : ℕ) (o : OperandsValue) → (o ≢ operands.Flag true → ⊥) → name_effect w n o ≡ None
+    passes_over_guard : (w : WorldValue) (n : ℕ) (o : OperandsValue) → (o ≢ operands.Flag true → ⊥)
+        → name_effect w n o ≡ None
     passes_over_guard w n (operands.Name what name) other = absurd (other (λ same. cc))
     passes_over_guard w n (operands.Flag false) other = absurd (other (λ same. cc))
     passes_over_guard w n o other = refl

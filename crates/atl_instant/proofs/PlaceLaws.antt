@@ -56,7 +56,8 @@ module _ (fit : Type 0) (w : WorldValue) (c : CampaignValue) (n : ℕ) (u : Unit
 
   -- ---- ENTER
 
-  entered_by : (s : ℕ) (o : Option Structure) → get c.structures s ≡ o → (b : Bool) → (u.structure == s) ≡ b → not (is_structure_in u.region o) ≡ false → KeepsOthersByPlace (if b then c else with_place c n u.region s)
+  entered_by : (s : ℕ) (o : Option Structure) → get c.structures s ≡ o → (b : Bool) → (u.structure == s) ≡ b
+      → not (is_structure_in u.region o) ≡ false → KeepsOthersByPlace (if b then c else with_place c n u.region s)
   entered_by s None there b same near = absurd (true≢false near)
   entered_by s (Some x) there true same near = keeps_all w c n u.faction
   entered_by s (Some x) there false same near =
@@ -75,11 +76,14 @@ module _ (fit : Type 0) (w : WorldValue) (c : CampaignValue) (n : ℕ) (u : Unit
 
   -- if the structure that unit `to` is inside (0 where there is no such unit) is that of unit n, and isn't 0, unit
   -- `to` is there, and inside the same structure
-  inside_to : (to : ℕ) (o : Option Unit) → get c.units to ≡ o → option_map_or (λ (x : Unit). x.structure) o 0 ≡ u.structure → u.structure ≢ 0 → (v : Unit) × (get c.units to ≡ Some v) × (v.structure ≡ u.structure)
+  inside_to : (to : ℕ) (o : Option Unit) → get c.units to ≡ o
+      → option_map_or (λ (x : Unit). x.structure) o 0 ≡ u.structure → u.structure ≢ 0
+      → (v : Unit) × (get c.units to ≡ Some v) × (v.structure ≡ u.structure)
   inside_to to None there same some = absurd (some (sym same))
   inside_to to (Some v) there same some = (v, there, same)
 
-  owner_well : (to : ℕ) → u.structure ≢ 0 → structure_of_unit c to ≡ u.structure → IsEarly w c → StepsWell IsEarly nothing_remaining w c (with_owner c u.structure to)
+  owner_well : (to : ℕ) → u.structure ≢ 0 → structure_of_unit c to ≡ u.structure → IsEarly w c
+      → StepsWell IsEarly nothing_remaining w c (with_owner c u.structure to)
   owner_well to some near early =
       unbooked_well w c (with_owner c u.structure to)
       (early-relabelled w c n u is _ (at_number (owned_by to) c.structures u.structure) (get-changed (owned_by to) c.structures u.structure) (len-changed (owned_by to) c.structures u.structure)
@@ -90,7 +94,8 @@ module _ (fit : Type 0) (w : WorldValue) (c : CampaignValue) (n : ℕ) (u : Unit
       relabelled y true = record { kind = refl; region = refl; done = refl; name = λ old. old }
       relabelled y false = record { kind = refl; region = refl; done = refl; name = λ old. old }
 
-      owned : (q : ℕ) (y : Structure) (b : Bool) → (q == u.structure) ≡ b → IsOwned c q y → IsOwned c q (if b then owned_by to y else y)
+      owned : (q : ℕ) (y : Structure) (b : Bool) → (q == u.structure) ≡ b → IsOwned c q y
+          → IsOwned c q (if b then owned_by to y else y)
       owned q y true here old =
           let (v, there, within) = inside_to to (get c.units to) refl near some in
           record {
@@ -115,10 +120,12 @@ module _ (fit : Type 0) (w : WorldValue) (c : CampaignValue) (n : ℕ) (u : Unit
 pub place_keeps : StepKeeps IsEarly place_step
 place_keeps w a c t x own = by_operands t.order_value.operands
   where
-    by_operands : (o : OperandsValue) → IfSome (place_effect w a t.faction t.unit o) (λ effect. OrderKeeps IsEarly (AreOperandsOf w o) w c t.unit x.faction (effect c x).0)
+    by_operands : (o : OperandsValue)
+        → IfSome (place_effect w a t.faction t.unit o) (λ effect. OrderKeeps IsEarly (AreOperandsOf w o) w c t.unit x.faction (effect c x).0)
     by_operands operands.Nothing = left (AreOperandsOf w operands.Nothing) w c t.unit x own.there
     by_operands (operands.Number s) = entered (AreOperandsOf w (operands.Number s)) w c t.unit x own.there s
-    by_operands (operands.Unit to) = promoted (AreOperandsOf w (operands.Unit to)) w c t.unit x own.there (unit_of a t.faction to)
+    by_operands (operands.Unit to) =
+        promoted (AreOperandsOf w (operands.Unit to)) w c t.unit x own.there (unit_of a t.faction to)
     by_operands other = tt
 
 -- LEAVE, ENTER and PROMOTE keep an early campaign early and book nothing, and a unit is no worse off unless its own

@@ -87,7 +87,8 @@ same_thing (Item i) (Item j) e = let same : i ≡ j = omega (arith, e) in ap Ite
 
 -- booking an amount of thing t as gone moves thing s only within `loss_bound`: by at most this amount if s is t, under
 -- the entry of its loss alone
-loss_within_bound : (amount : ℕ) (t : Thing) (e : BooksEntry) (s : Thing) → moves_only amount (loss_entry t) t e s ≤ loss_bound e s (amount_as_thing s t amount)
+loss_within_bound : (amount : ℕ) (t : Thing) (e : BooksEntry) (s : Thing)
+    → moves_only amount (loss_entry t) t e s ≤ loss_bound e s (amount_as_thing s t amount)
 loss_within_bound amount t e s = by_number (amount_number e s == amount_number (loss_entry t) t) refl
   where
     at_place : (b d : Bool) → b ≡ true → d ≡ true → amount ≤ cond b (cond d amount 0) 0
@@ -95,7 +96,8 @@ loss_within_bound amount t e s = by_number (amount_number e s == amount_number (
     at_place true false f g = cc
     at_place false d f g = cc
 
-    by_number : (b : Bool) → (amount_number e s == amount_number (loss_entry t) t) ≡ b → (if b then amount else 0) ≤ loss_bound e s (amount_as_thing s t amount)
+    by_number : (b : Bool) → (amount_number e s == amount_number (loss_entry t) t) ≡ b
+        → (if b then amount else 0) ≤ loss_bound e s (amount_as_thing s t amount)
     by_number true is =
         let same : entry_count * thing_index s + entry_index e ≡ entry_count * thing_index t + entry_index (loss_entry t) = grind (arith, nat_tests) in
         let small = entry_small e in
@@ -106,7 +108,8 @@ loss_within_bound amount t e s = by_number (amount_number e s == amount_number (
         at_place (entry_index e == entry_index (loss_entry s)) (thing_index s == thing_index t) (let f : (entry_index e == entry_index (loss_entry s)) ≡ true = grind (arith, nat_tests) in f) (let g : (thing_index s == thing_index t) ≡ true = grind (arith, nat_tests) in g)
     by_number false is = omega arith
 
-under_sum : (e : BooksEntry) (s : Thing) (x y m n : ℕ) → x ≤ loss_bound e s m → y ≤ loss_bound e s n → x + y ≤ loss_bound e s (m + n)
+under_sum : (e : BooksEntry) (s : Thing) (x y m n : ℕ) → x ≤ loss_bound e s m → y ≤ loss_bound e s n
+    → x + y ≤ loss_bound e s (m + n)
 under_sum e s x y m n = by_test (entry_index e == entry_index (loss_entry s))
   where
     by_test : (b : Bool) → x ≤ (if b then m else 0) → y ≤ (if b then n else 0) → x + y ≤ (if b then m + n else 0)
@@ -120,9 +123,12 @@ abbrev pub held_in_items : List (ℕ × ℕ) → Thing → ℕ
 held_in_items [] s = 0
 held_in_items (e ∷ es) s = amount_as_thing s (Item e.0) e.1 + held_in_items es s
 
-items_within : (es : List (ℕ × ℕ)) (e : BooksEntry) (s : Thing) → items_bound es e s ≤ loss_bound e s (held_in_items es s)
+items_within : (es : List (ℕ × ℕ)) (e : BooksEntry) (s : Thing)
+    → items_bound es e s ≤ loss_bound e s (held_in_items es s)
 items_within [] e s = omega arith
-items_within (x ∷ xs) e s = under_sum e s (moves_only x.1 Lost (Item x.0) e s) (items_bound xs e s) (amount_as_thing s (Item x.0) x.1) (held_in_items xs s) (loss_within_bound x.1 (Item x.0) e s) (items_within xs e s)
+items_within (x ∷ xs) e s =
+    under_sum e s (moves_only x.1 Lost (Item x.0) e s) (items_bound xs e s) (amount_as_thing s (Item x.0) x.1)
+    (held_in_items xs s) (loss_within_bound x.1 (Item x.0) e s) (items_within xs e s)
 
 other_item_adds_nothing : (b : Bool) (x y : ℕ) → b ≡ false → cond b x 0 + y ≡ y
 other_item_adds_nothing true x y e = cc
@@ -130,13 +136,20 @@ other_item_adds_nothing false x y e = omega arith
 
 pub no_money : (es : List (ℕ × ℕ)) → held_in_items es Money ≡ 0
 no_money [] = refl
-no_money (e ∷ es) = other_item_adds_nothing (0 == 2 + e.0) e.1 (held_in_items es Money) (let apart : (0 == 2 + e.0) ≡ false = grind (arith, nat_tests) in apart) ∙ no_money es
+no_money (e ∷ es) =
+    other_item_adds_nothing (0 == 2 + e.0) e.1 (held_in_items es Money)
+    (let apart : (0 == 2 + e.0) ≡ false = grind (arith, nat_tests) in apart)
+    ∙ no_money es
 
 pub no_people : (es : List (ℕ × ℕ)) → held_in_items es People ≡ 0
 no_people [] = refl
-no_people (e ∷ es) = other_item_adds_nothing (1 == 2 + e.0) e.1 (held_in_items es People) (let apart : (1 == 2 + e.0) ≡ false = grind (arith, nat_tests) in apart) ∙ no_people es
+no_people (e ∷ es) =
+    other_item_adds_nothing (1 == 2 + e.0) e.1 (held_in_items es People)
+    (let apart : (1 == 2 + e.0) ≡ false = grind (arith, nat_tests) in apart)
+    ∙ no_people es
 
-pub list_amount_is_found : (j : ℕ) (es : List (ℕ × ℕ)) → is_sorted nat_cmp es ≡ true → held_in_items es (Item j) ≡ unwrap_or (find nat_cmp j es) 0
+pub list_amount_is_found : (j : ℕ) (es : List (ℕ × ℕ)) → is_sorted nat_cmp es ≡ true
+    → held_in_items es (Item j) ≡ unwrap_or (find nat_cmp j es) 0
 list_amount_is_found j [] s = refl
 list_amount_is_found j (e ∷ es) s =
     let rest = list_amount_is_found j es (and_parts _ _ s).1 in
@@ -156,11 +169,13 @@ list_amount_is_found j (e ∷ es) s =
 -- ---- what is booked of all that is held
 
 abbrev held_of_thing : HoldingValue → Thing → ℕ
-held_of_thing h s = amount_as_thing s People h.men + (amount_as_thing s Money h.money + held_in_items (entries h.items) s)
+held_of_thing h s =
+    amount_as_thing s People h.men + (amount_as_thing s Money h.money + held_in_items (entries h.items) s)
 
 -- the bound on the books for booking as gone all that a unit has
 abbrev pub held_moves : HoldingValue → BookBound
-held_moves h = both_move (moves_only h.men Left People) (both_move (moves_only h.money Lost Money) (items_bound (entries h.items)))
+held_moves h =
+    both_move (moves_only h.men Left People) (both_move (moves_only h.money Lost Money) (items_bound (entries h.items)))
 
 held_is_unit_amount : (h : HoldingValue) (s : Thing) → held_of_thing h s ≡ unit_amount s h
 held_is_unit_amount h Money = sum h.money (held_in_items (entries h.items) Money) (no_money (entries h.items))
@@ -173,7 +188,8 @@ held_is_unit_amount h People = sum h.men (held_in_items (entries h.items) People
     sum m n e = omega (arith, e)
 held_is_unit_amount h (Item j) =
     sum (2 + j == 1) (2 + j == 0) h.men h.money (held_in_items (entries h.items) (Item j)) (let t : (2 + j == 1) ≡ false = grind (arith, nat_tests) in t) (let t : (2 + j == 0) ≡ false = grind (arith, nat_tests) in t)
-    ∙ list_amount_is_found j (entries h.items) (sorted h.items) ∙ ap (λ (o : Option ℕ). unwrap_or o 0) (sym (get-entries h.items j))
+    ∙ list_amount_is_found j (entries h.items) (sorted h.items)
+    ∙ ap (λ (o : Option ℕ). unwrap_or o 0) (sym (get-entries h.items j))
   where
     sum : (b d : Bool) (m n k : ℕ) → b ≡ false → d ≡ false → cond b m 0 + (cond d n 0 + k) ≡ k
     sum false false m n k e f = omega arith
@@ -200,7 +216,8 @@ pub record BooksAsGone (w : WorldValue) (gone : Thing → ℕ) (book_bound : Boo
 
 -- two steps that book something as gone, each within a bound (`BooksAsGone`), book together the sum of both, within the
 -- sum of the bounds
-books_twice : {o p : Thing → ℕ} {i j : BookBound} (w : WorldValue) (a b c : CampaignValue) → BooksAsGone w o i a b → BooksAsGone w p j b c → BooksAsGone w (λ s. o s + p s) (both_move i j) a c
+books_twice : {o p : Thing → ℕ} {i j : BookBound} (w : WorldValue) (a b c : CampaignValue) → BooksAsGone w o i a b
+    → BooksAsGone w p j b c → BooksAsGone w (λ s. o s + p s) (both_move i j) a c
 books_twice {o} {p} {i} {j} w a b c one two = record {
   steady = two.steady;
   sum_falls = λ s. grouped (booked a.books s) (booked b.books s) (booked c.books s) (o s) (p s) (one.sum_falls s) (two.sum_falls s);
@@ -213,7 +230,9 @@ books_twice {o} {p} {i} {j} w a b c one two = record {
 
 -- Booking an amount of a thing as gone lowers what the books have of it by that amount, and changes nothing else
 -- (`BooksAsGone`). For this the thing is of the world, and the campaign is steady. It stays steady.
-pub books_one : (w : WorldValue) (c : CampaignValue) (t : Thing) (amount : ℕ) → thing_index t < thing_count w → IsSteady w c → BooksAsGone w (λ s. amount_as_thing s t amount) (moves_only amount (loss_entry t) t) c (with_loss c t amount)
+pub books_one : (w : WorldValue) (c : CampaignValue) (t : Thing) (amount : ℕ) → thing_index t < thing_count w
+    → IsSteady w c
+    → BooksAsGone w (λ s. amount_as_thing s t amount) (moves_only amount (loss_entry t) t) c (with_loss c t amount)
 books_one w c t amount inside steady = record {
   steady = steady-amount w c (loss_entry t) t (neg_ℤ (pos amount)) inside steady;
   sum_falls = λ s.
@@ -227,21 +246,22 @@ books_one w c t amount inside steady = record {
     less z true a = omega (arith, ints)
     less z false a = omega (arith, ints)
 
-books_items : (w : WorldValue) (c : CampaignValue) (es : List (ℕ × ℕ)) → EachEntry (λ i a. i < length w.items) es → IsSteady w c → BooksAsGone w (held_in_items es) (items_bound es) c (fold with_item_loss c es)
+books_items : (w : WorldValue) (c : CampaignValue) (es : List (ℕ × ℕ)) → EachEntry (λ i a. i < length w.items) es
+    → IsSteady w c → BooksAsGone w (held_in_items es) (items_bound es) c (fold with_item_loss c es)
 books_items w c [] known steady = record {
   steady = steady;
   sum_falls = λ s. plus_zero (booked c.books s);
   near = λ e s. near_same 0 (amount_in c.books e s);
   same = refl;
 }
-
 books_items w c ((i, a) ∷ es) known steady =
     let one = books_one w c (Item i) a (omega (arith, known.0)) steady in
     books_twice w c (with_item_loss c (i, a)) (fold with_item_loss (with_item_loss c (i, a)) es) one (books_items w (with_item_loss c (i, a)) es known.1 one.steady)
 
 -- Booking all that a unit has as gone lowers what the books have of each thing by what the unit has of it, and changes
 -- nothing else (`BooksAsGone`). For this its items are of the world, and the campaign is steady. It stays steady.
-pub books_all : (w : WorldValue) (c : CampaignValue) (h : HoldingValue) → Every (λ i a. i < length w.items) h.items → IsSteady w c → BooksAsGone w (held_of_thing h) (held_moves h) c (with_all_losses c h)
+pub books_all : (w : WorldValue) (c : CampaignValue) (h : HoldingValue) → Every (λ i a. i < length w.items) h.items
+    → IsSteady w c → BooksAsGone w (held_of_thing h) (held_moves h) c (with_all_losses c h)
 books_all w c h known steady =
     let men = with_loss c People h.men in
     let money = with_loss men Money h.money in
@@ -252,12 +272,15 @@ books_all w c h known steady =
 
 -- ---- what the code books, and marks
 
-pub gone_marks : (c d : MarkedCampaign) (t : Thing) (amount : ℕ) → d.value ≡ with_loss c.value t amount → d.marks ≡ mark_amount c (loss_entry t) t → MarksChanges c d
+pub gone_marks : (c d : MarkedCampaign) (t : Thing) (amount : ℕ) → d.value ≡ with_loss c.value t amount
+    → d.marks ≡ mark_amount c (loss_entry t) t → MarksChanges c d
 gone_marks c d t amount what marks =
     let all = marks-amount c (loss_entry t) t (neg_ℤ (pos amount)) in
     rw (what, marks) (record { stay = all.stay; covers = all.covers })
 
-pub room_for_loss : (t : Thing) (amount : ℕ) (next : BookBound) (c : CampaignValue) → HaveRoom (both_move (moves_only amount (loss_entry t) t) next) c → HasRoom amount (amount_in c.books (loss_entry t) t)
+pub room_for_loss : (t : Thing) (amount : ℕ) (next : BookBound) (c : CampaignValue)
+    → HaveRoom (both_move (moves_only amount (loss_entry t) t) next) c
+    → HasRoom amount (amount_in c.books (loss_entry t) t)
 room_for_loss t amount next c room =
     amount_room_for_less amount (moves_only amount (loss_entry t) t (loss_entry t) t + next (loss_entry t) t) (amount_in c.books (loss_entry t) t)
     (at_least (amount_number (loss_entry t) t == amount_number (loss_entry t) t) (next (loss_entry t) t) (same_number (amount_number (loss_entry t) t))) (room (loss_entry t) t)
@@ -266,27 +289,38 @@ room_for_loss t amount next c room =
     at_least true m t = omega arith
     at_least false m t = cc
 
-pub room_after_loss : (t : Thing) (amount : ℕ) (next : BookBound) (c : CampaignValue) → HaveRoom (both_move (moves_only amount (loss_entry t) t) next) c → HaveRoom next (with_loss c t amount)
-room_after_loss t amount next c room = booked-room c.books (loss_entry t) t (neg_ℤ (pos amount)) amount (within-neg amount amount (omega arith)) next room
+pub room_after_loss : (t : Thing) (amount : ℕ) (next : BookBound) (c : CampaignValue)
+    → HaveRoom (both_move (moves_only amount (loss_entry t) t) next) c → HaveRoom next (with_loss c t amount)
+room_after_loss t amount next c room =
+    booked-room c.books (loss_entry t) t (neg_ℤ (pos amount)) amount (within-neg amount amount (omega arith)) next room
 
-pub room_for_item_and_later : (xs : List (ℕ × ℕ)) (i : ℕ) (c : CampaignValue) → i < length xs → HaveRoom (items_bound (drop i xs)) c
+pub room_for_item_and_later : (xs : List (ℕ × ℕ)) (i : ℕ) (c : CampaignValue) → i < length xs
+    → HaveRoom (items_bound (drop i xs)) c
     → HaveRoom (items_bound (get_or xs i (0, 0) ∷ drop (i + 1) xs)) c
 room_for_item_and_later xs i c inside room = subst (λ l. HaveRoom (items_bound l) c) (drop_more xs i (0, 0) inside) room
 
-pub room_for_item : (xs : List (ℕ × ℕ)) (i : ℕ) (c : CampaignValue) → i < length xs → HaveRoom (items_bound (drop i xs)) c
+pub room_for_item : (xs : List (ℕ × ℕ)) (i : ℕ) (c : CampaignValue) → i < length xs
+    → HaveRoom (items_bound (drop i xs)) c
     → HasRoom (get_or xs i (0, 0)).1 (amount_in c.books Lost (Item (get_or xs i (0, 0)).0))
 room_for_item xs i c inside room = let x : ℕ × ℕ = get_or xs i (0, 0) in room_for_loss (Item x.0) x.1 (items_bound (drop (i + 1) xs)) c (room_for_item_and_later xs i c inside room)
 
-pub known_ahead : (w : WorldValue) (xs : List (ℕ × ℕ)) (i : ℕ) → i < length xs → EachEntry (λ j a. j < length w.items) (drop i xs)
+pub known_ahead : (w : WorldValue) (xs : List (ℕ × ℕ)) (i : ℕ) → i < length xs
+    → EachEntry (λ j a. j < length w.items) (drop i xs)
     → EachEntry (λ j a. j < length w.items) (get_or xs i (0, 0) ∷ drop (i + 1) xs)
 known_ahead w xs i inside known = subst (EachEntry (λ j a. j < length w.items)) (drop_more xs i (0, 0) inside) known
 
-pub known_held : (w : WorldValue) (c : CampaignValue) (n : ℕ) (u : Unit) → get c.units n ≡ Some u → IsSteady w c → EachEntry (λ j a. j < length w.items) (entries u.holding.items)
-known_held w c n u is steady = each-from_every (λ j a. j < length w.items) u.holding.items (steady.known.units n u is).items
+pub known_held : (w : WorldValue) (c : CampaignValue) (n : ℕ) (u : Unit) → get c.units n ≡ Some u → IsSteady w c
+    → EachEntry (λ j a. j < length w.items) (entries u.holding.items)
+known_held w c n u is steady =
+    each-from_every (λ j a. j < length w.items) u.holding.items (steady.known.units n u is).items
 
 -- books with room for what all units may lose (`quit_remaining`) have room for all that one unit has
-pub held_room : (c : CampaignValue) (n : ℕ) (u : Unit) → get c.units n ≡ Some u → HaveRoom (quit_remaining c) c → HaveRoom (held_moves u.holding) c
-held_room c n u is room = room_less (held_moves u.holding) (quit_remaining c) c (λ e t. within (held_moves u.holding e t) (loss_under e t u.holding) (sum_over (λ (x : Unit). loss_under e t x.holding) (remove c.units n)) (quit_remaining c e t) (moves_what_leaves u.holding e t) (sum_over-remove c.units n (λ (x : Unit). loss_under e t x.holding) u is)) room
+pub held_room : (c : CampaignValue) (n : ℕ) (u : Unit) → get c.units n ≡ Some u → HaveRoom (quit_remaining c) c
+    → HaveRoom (held_moves u.holding) c
+held_room c n u is room =
+    room_less (held_moves u.holding) (quit_remaining c) c
+    (λ e t. within (held_moves u.holding e t) (loss_under e t u.holding) (sum_over (λ (x : Unit). loss_under e t x.holding) (remove c.units n)) (quit_remaining c e t) (moves_what_leaves u.holding e t) (sum_over-remove c.units n (λ (x : Unit). loss_under e t x.holding) u is))
+    room
   where
     within : (a b s r : ℕ) → a ≤ b → s + b ≡ r → a ≤ r
     within a b s r l e = omega (arith, l, e)
@@ -294,7 +328,8 @@ held_room c n u is room = room_less (held_moves u.holding) (quit_remaining c) c 
 -- ---- a unit that leaves
 
 -- other books in a campaign leave its total of each thing as it is, since the total counts no books
-books_leave_total : (c : CampaignValue) (books : BooksValue) (t : Thing) → total (record c { books = books }) t ≡ total c t
+books_leave_total : (c : CampaignValue) (books : BooksValue) (t : Thing)
+    → total (record c { books = books }) t ≡ total c t
 unfolding total
 books_leave_total c books t = refl
 
@@ -313,7 +348,8 @@ module _ (w : WorldValue) (c : CampaignValue) (n : ℕ) (u : Unit) (is : get c.u
   there = ap (λ (s : CampaignValue). get s.units n) all_is_booked.same ∙ is
 
   pub units_left : after_leave.units ≡ remove c.units n
-  units_left = (only_reduced w booked_off n u there).units ∙ ap (λ (s : CampaignValue). remove s.units n) all_is_booked.same
+  units_left =
+      (only_reduced w booked_off n u there).units ∙ ap (λ (s : CampaignValue). remove s.units n) all_is_booked.same
 
   balanced : Balances c → Balances after_leave
   balanced old t =
@@ -324,11 +360,13 @@ module _ (w : WorldValue) (c : CampaignValue) (n : ℕ) (u : Unit) (is : get c.u
     where
       -- For `balanced`: the total a after the unit left is the books' sum y of the thing. Before, the total (b, d) and
       -- the books (z) were equal, and both fell by what the unit held (h, o).
-      total_stays_booked : (a h b d o : ℕ) (z y : ℤ) → a + h ≡ b → b ≡ d → o ≡ h → pos d ≡ z → z ≡ y +ℤ pos o → pos a ≡ y
+      total_stays_booked : (a h b d o : ℕ) (z y : ℤ) → a + h ≡ b → b ≡ d → o ≡ h → pos d ≡ z → z ≡ y +ℤ pos o
+          → pos a ≡ y
       total_stays_booked a h b d o z y e f g k l = omega (arith, ints, e, f, g, k, l)
 
   -- no amount of the books moves further than its remaining bound falls as the unit leaves
-  uses_bound : (e : BooksEntry) (t : Thing) → UsesBound (quit_remaining c e t) (quit_remaining after_leave e t) (amount_in c.books e t) (amount_in after_leave.books e t)
+  uses_bound : (e : BooksEntry) (t : Thing)
+      → UsesBound (quit_remaining c e t) (quit_remaining after_leave e t) (amount_in c.books e t) (amount_in after_leave.books e t)
   uses_bound e t =
       let only = only_reduced w booked_off n u there in
       let reserves : quit_remaining after_leave e t + loss_under e t u.holding ≡ quit_remaining c e t =
@@ -354,7 +392,8 @@ module _ (w : WorldValue) (c : CampaignValue) (n : ℕ) (u : Unit) (is : get c.u
 
 -- after unit n left with all that it has, a steady campaign stays steady,
 -- in its month and with balanced books (`StepsWell`)
-pub left_well : (w : WorldValue) (c : CampaignValue) (n : ℕ) → IsSteady w c → StepsWell IsSteady quit_remaining w c (after_leaving c n)
+pub left_well : (w : WorldValue) (c : CampaignValue) (n : ℕ) → IsSteady w c
+    → StepsWell IsSteady quit_remaining w c (after_leaving c n)
 unfolding after_leaving
 left_well w c n steady = by_unit (get c.units n) refl
   where
@@ -380,36 +419,48 @@ leaving_keeps_others c n k apart = by_unit (get c.units n)
   where
     by_unit : (o : Option Unit) → get (without_leaver c n o).units k ≡ get c.units k
     by_unit None = refl
-    by_unit (Some u) = removal_keeps_others (with_all_losses c u.holding) n k apart ∙ ap (λ (m : FinMap nat_cmp Unit). get m k) (item_losses_keep_units _ (entries u.holding.items))
+    by_unit (Some u) =
+        removal_keeps_others (with_all_losses c u.holding) n k apart
+        ∙ ap (λ (m : FinMap nat_cmp Unit). get m k) (item_losses_keep_units _ (entries u.holding.items))
 
 -- ---- all units of a faction
 
-pub all_left_well : (w : WorldValue) (c : CampaignValue) (ns : List ℕ) → IsSteady w c → StepsWell IsSteady quit_remaining w c (fold after_leaving c ns)
+pub all_left_well : (w : WorldValue) (c : CampaignValue) (ns : List ℕ) → IsSteady w c
+    → StepsWell IsSteady quit_remaining w c (fold after_leaving c ns)
 all_left_well w c [] steady = well_same w c steady
 all_left_well w c (n ∷ ns) steady =
     let one = left_well w c n steady in
     well_twice w c (after_leaving c n) (fold after_leaving (after_leaving c n) ns) one (all_left_well w (after_leaving c n) ns one.holds_still)
 
-pub all_leaving_keep_others : (c : CampaignValue) (ns : List ℕ) (k : ℕ) → ((n : ℕ) → IsListed n ns → k ≢ n) → get (fold after_leaving c ns).units k ≡ get c.units k
+pub all_leaving_keep_others : (c : CampaignValue) (ns : List ℕ) (k : ℕ) → ((n : ℕ) → IsListed n ns → k ≢ n)
+    → get (fold after_leaving c ns).units k ≡ get c.units k
 all_leaving_keep_others c [] k apart = refl
-all_leaving_keep_others c (n ∷ ns) k apart = all_leaving_keep_others (after_leaving c n) ns k (λ m listed. apart m (inr listed)) ∙ leaving_keeps_others c n k (apart n (inl refl))
+all_leaving_keep_others c (n ∷ ns) k apart =
+    all_leaving_keep_others (after_leaving c n) ns k (λ m listed. apart m (inr listed))
+    ∙ leaving_keeps_others c n k (apart n (inl refl))
 
 -- ---- one order
 
 -- P holds of the campaign after an order of QUIT, if P holds of the campaign before. Where the order has the number of
 -- the unit's faction, P must also hold of the campaign after this faction's units left.
-pub quit_cases : (P : CampaignValue → Type 0) (c : CampaignValue) (number : ℕ) (u : Unit) → P c → (number ≡ u.faction → P (fold after_leaving c (numbers_of_faction u.faction c.units))) → P (quit number c u).0
+pub quit_cases : (P : CampaignValue → Type 0) (c : CampaignValue) (number : ℕ) (u : Unit) → P c
+    → (number ≡ u.faction → P (fold after_leaving c (numbers_of_faction u.faction c.units))) → P (quit number c u).0
 unfolding quit
 quit_cases P c number u same leave = by_fault (quit_fault number u) refl
   where
-    by_fault : (f : Option EventFault) → quit_fault number u ≡ f → P (unless c f (fold after_leaving c (numbers_of_faction u.faction c.units), Done 0)).0
+    by_fault : (f : Option EventFault) → quit_fault number u ≡ f
+        → P (unless c f (fold after_leaving c (numbers_of_faction u.faction c.units), Done 0)).0
     by_fault (Some fault) e = same
     by_fault None e = leave (not_apart number u.faction (none_fits (not (number == u.faction)) WrongNumber [] e).0)
 
-pub quit_well : (w : WorldValue) (c : CampaignValue) (number : ℕ) (u : Unit) → IsSteady w c → StepsWell IsSteady quit_remaining w c (quit number c u).0
-quit_well w c number u steady = quit_cases (λ d. StepsWell IsSteady quit_remaining w c d) c number u (well_same w c steady) (λ own. all_left_well w c (numbers_of_faction u.faction c.units) steady)
+pub quit_well : (w : WorldValue) (c : CampaignValue) (number : ℕ) (u : Unit) → IsSteady w c
+    → StepsWell IsSteady quit_remaining w c (quit number c u).0
+quit_well w c number u steady =
+    quit_cases (λ d. StepsWell IsSteady quit_remaining w c d) c number u (well_same w c steady)
+    (λ own. all_left_well w c (numbers_of_faction u.faction c.units) steady)
 
-pub quit_stays : (c : CampaignValue) (number : ℕ) (u : Unit) (k : ℕ) (x : Unit) → get c.units k ≡ Some x → (number ≡ u.faction → u.faction ≢ x.faction) → get (quit number c u).0.units k ≡ Some x
+pub quit_stays : (c : CampaignValue) (number : ℕ) (u : Unit) (k : ℕ) (x : Unit) → get c.units k ≡ Some x
+    → (number ≡ u.faction → u.faction ≢ x.faction) → get (quit number c u).0.units k ≡ Some x
 quit_stays c number u k x here other =
     quit_cases (λ d. get d.units k ≡ Some x) c number u here (λ own. all_leaving_keep_others c (numbers_of_faction u.faction c.units) k (λ m listed. stays (other own) m listed) ∙ here)
   where
@@ -424,15 +475,19 @@ quit_stays c number u k x here other =
 -- ---- the phase
 
 -- in a steady campaign all that QUIT may still book (`quit_remaining`) is within the bound of the phase (`quit_moves`)
-remaining_within : (w : WorldValue) (c : CampaignValue) → IsSteady w c → (e : BooksEntry) (t : Thing) → quit_remaining c e t ≤ quit_moves e t
+remaining_within : (w : WorldValue) (c : CampaignValue) → IsSteady w c → (e : BooksEntry) (t : Thing)
+    → quit_remaining c e t ≤ quit_moves e t
 remaining_within w c steady e t = by_test (entry_index e == entry_index (loss_entry t))
   where
     none : (s n : ℕ) → s ≤ n * 0 → s ≤ 0
     none s n l = omega (arith, l)
 
-    by_test : (b : Bool) → sum_over (λ (u : Unit). if b then unit_amount t u.holding else 0) c.units ≤ (if b then most_moved else 0)
+    by_test : (b : Bool)
+        → sum_over (λ (u : Unit). if b then unit_amount t u.holding else 0) c.units ≤ (if b then most_moved else 0)
     by_test true = all_held_within w c steady t
-    by_test false = none (sum_over (λ (u : Unit). 0) c.units) (length (entries c.units)) (sum_within (λ (u : Unit). 0) 0 (entries c.units) (each-from_every (λ n u. 0 ≤ 0) c.units (λ n u is. omega arith)))
+    by_test false =
+        none (sum_over (λ (u : Unit). 0) c.units) (length (entries c.units))
+        (sum_within (λ (u : Unit). 0) 0 (entries c.units) (each-from_every (λ n u. 0 ≤ 0) c.units (λ n u is. omega arith)))
 
 -- QUIT keeps a steady campaign steady and in balance, books no more than the leaving units had, and leaves a unit whose
 -- faction doesn't quit no worse off (`IsOrderly`)
@@ -444,11 +499,14 @@ quit_orderly = record {
   bounded = remaining_within;
 }
   where
-    well : (w : WorldValue) (c : CampaignValue) (x : Unit) → IsSteady w c → (s : OperandsValue) → IfSome (quit_effect s) (λ effect. StepsWell IsSteady quit_remaining w c (effect c x).0)
+    well : (w : WorldValue) (c : CampaignValue) (x : Unit) → IsSteady w c → (s : OperandsValue)
+        → IfSome (quit_effect s) (λ effect. StepsWell IsSteady quit_remaining w c (effect c x).0)
     well w c x steady (operands.Number number) = quit_well w c number x steady
     well w c x steady other = tt
 
-    is_unaffected : (w : WorldValue) (c : CampaignValue) (t : Task) (x : Unit) → IsSteady w c → IsUnitOf c t x → (n : ℕ) (u : Unit) → get c.units n ≡ Some u → (s : OperandsValue) → ((t.faction ≡ u.faction) × (s ≡ operands.Number u.faction) → ⊥)
+    is_unaffected : (w : WorldValue) (c : CampaignValue) (t : Task) (x : Unit) → IsSteady w c → IsUnitOf c t x
+        → (n : ℕ) (u : Unit) → get c.units n ≡ Some u → (s : OperandsValue)
+        → ((t.faction ≡ u.faction) × (s ≡ operands.Number u.faction) → ⊥)
         → IfSome (quit_effect s) (λ effect. IsStillThere IsNoWorse (effect c x).0 n u)
     is_unaffected w c t x steady own n u here (operands.Number number) other =
         record { unit = u; there = quit_stays c number x n u here (λ says same. other (sym own.faction ∙ same, ap operands.Number (says ∙ same))); is_unaffected = no_worse u }
@@ -468,12 +526,18 @@ leaving_adds_no_unit w c n steady = by_unit (get c.units n) refl
     by_unit (Some x) is =
         subst (λ (m : FinMap nat_cmp Unit). Every (λ k u. get c.units k ≡ Some u) m) (sym (units_left w c n x is steady)) (every-remove c.units n (λ k u. get c.units k ≡ Some u) (λ k u there. there))
 
-all_leaving_add_no_unit : (w : WorldValue) (c : CampaignValue) (ns : List ℕ) → IsSteady w c → HasAllUnitsOf c (fold after_leaving c ns)
+all_leaving_add_no_unit : (w : WorldValue) (c : CampaignValue) (ns : List ℕ) → IsSteady w c
+    → HasAllUnitsOf c (fold after_leaving c ns)
 all_leaving_add_no_unit w c [] steady k u there = there
-all_leaving_add_no_unit w c (n ∷ ns) steady k u there = leaving_adds_no_unit w c n steady k u (all_leaving_add_no_unit w (after_leaving c n) ns (left_well w c n steady).holds_still k u there)
+all_leaving_add_no_unit w c (n ∷ ns) steady k u there =
+    leaving_adds_no_unit w c n steady k u
+    (all_leaving_add_no_unit w (after_leaving c n) ns (left_well w c n steady).holds_still k u there)
 
-quit_adds_no_unit : (w : WorldValue) (c : CampaignValue) (number : ℕ) (x : Unit) → IsSteady w c → HasAllUnitsOf c (quit number c x).0
-quit_adds_no_unit w c number x steady = quit_cases (HasAllUnitsOf c) c number x (λ k u there. there) (λ own. all_leaving_add_no_unit w c (numbers_of_faction x.faction c.units) steady)
+quit_adds_no_unit : (w : WorldValue) (c : CampaignValue) (number : ℕ) (x : Unit) → IsSteady w c
+    → HasAllUnitsOf c (quit number c x).0
+quit_adds_no_unit w c number x steady =
+    quit_cases (HasAllUnitsOf c) c number x (λ k u there. there)
+    (λ own. all_leaving_add_no_unit w c (numbers_of_faction x.faction c.units) steady)
 
 is_own_unit : (c : CampaignValue) (t : Task) (x : Unit) → IsUnitOf c t x → is_own c t ≡ true
 is_own_unit c t x own = ap (is_of_faction t.faction) own.there ∙ eq-eqb x.faction t.faction own.faction
@@ -493,7 +557,8 @@ abbrev OwnSince : CampaignValue → Condition
 OwnSince begun w c = IsSteady w c × ((t : Task) → is_own c t ≡ true → is_own begun t ≡ true)
 
 module _ (begun : CampaignValue) where
-  since_well : (w : WorldValue) (c : CampaignValue) (x : Unit) → OwnSince begun w c → (s : OperandsValue) → IfSome (quit_effect s) (λ effect. StepsWell (OwnSince begun) quit_remaining w c (effect c x).0)
+  since_well : (w : WorldValue) (c : CampaignValue) (x : Unit) → OwnSince begun w c → (s : OperandsValue)
+      → IfSome (quit_effect s) (λ effect. StepsWell (OwnSince begun) quit_remaining w c (effect c x).0)
   since_well w c x since (operands.Number number) =
       let well = quit_well w c number x since.0 in
       record {
@@ -516,7 +581,8 @@ module _ (begun : CampaignValue) where
   }
 
 -- a unit is no worse off after the phase, unless its faction quits (`quit_keeps`), if the campaign is steady
-pub quit_leaves_others : (w : WorldValue) (c : CampaignValue) (m : MonthValue) → IsSteady w c → AreFit w m.readings → quit_keeps w m c (quit_meaning w c m).0
+pub quit_leaves_others : (w : WorldValue) (c : CampaignValue) (m : MonthValue) → IsSteady w c → AreFit w m.readings
+    → quit_keeps w m c (quit_meaning w c m).0
 unfolding meaning_by_orders
 quit_leaves_others w c m steady fit =
     orders_leave_others quit_step (since_orderly c) w c m (orders_of is_quitting ByUnit m.aliases m.readings) (steady, λ t own. own) (orders_fit w m.aliases m.readings fit is_quitting)

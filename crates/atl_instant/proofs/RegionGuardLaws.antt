@@ -37,10 +37,12 @@ module _ (c : CampaignValue) where
 
     -- the map keeps the faction of a region when a unit is noted,
     -- if the unit is of that faction or doesn't guard the region
-    one_stays : (m : GuardMap) (u : Unit) → IsOwn u → get m region ≡ Some faction → get (with_guard_of m u) region ≡ Some faction
+    one_stays : (m : GuardMap) (u : Unit) → IsOwn u → get m region ≡ Some faction
+        → get (with_guard_of m u) region ≡ Some faction
     one_stays m u own at = by_test (guards u) own
       where
-        by_test : (b : Bool) → (b ≡ true → u.region ≡ region → u.faction ≡ faction) → get (if b then insert m u.region u.faction else m) region ≡ Some faction
+        by_test : (b : Bool) → (b ≡ true → u.region ≡ region → u.faction ≡ faction)
+            → get (if b then insert m u.region u.faction else m) region ≡ Some faction
         by_test true own =
             elim (cases_eq u.region region) [
               | inl same ↦ ap (get (insert m u.region u.faction)) (sym same) ∙ get-insert_same m u.region u.faction ∙ ap Some (own refl same)
@@ -48,15 +50,19 @@ module _ (c : CampaignValue) where
             ]
         by_test false own = at
 
-    all_stay : (m : GuardMap) (es : List (ℕ × Unit)) → EachEntry (λ n u. IsOwn u) es → get m region ≡ Some faction → get (with_guards_of m es) region ≡ Some faction
+    all_stay : (m : GuardMap) (es : List (ℕ × Unit)) → EachEntry (λ n u. IsOwn u) es → get m region ≡ Some faction
+        → get (with_guards_of m es) region ≡ Some faction
     all_stay m [] own at = at
     all_stay m (e ∷ es) own at = all_stay (with_guard_of m e.1) es own.1 (one_stays m e.1 own.0 at)
 
     -- if a unit of the faction that the map has for the region guards there, this is still so once a unit is noted
-    held_more : (m : GuardMap) (n : ℕ) (u : Unit) → get c.units n ≡ Some u → (get m region ≡ Some faction → Held region faction) → get (with_guard_of m u) region ≡ Some faction → Held region faction
+    held_more : (m : GuardMap) (n : ℕ) (u : Unit) → get c.units n ≡ Some u
+        → (get m region ≡ Some faction → Held region faction) → get (with_guard_of m u) region ≡ Some faction
+        → Held region faction
     held_more m n u is old = by_test (guards u) refl
       where
-        by_test : (b : Bool) → guards u ≡ b → get (if b then insert m u.region u.faction else m) region ≡ Some faction → Held region faction
+        by_test : (b : Bool) → guards u ≡ b → get (if b then insert m u.region u.faction else m) region ≡ Some faction
+            → Held region faction
         by_test true on at =
             elim (cases_eq u.region region) [
               | inl same ↦
@@ -66,21 +72,25 @@ module _ (c : CampaignValue) where
             ]
         by_test false on at = old at
 
-  held_of : (m : GuardMap) (es : List (ℕ × Unit)) → AreUnits es → ((r f : ℕ) → get m r ≡ Some f → Held r f) → (r f : ℕ) → get (with_guards_of m es) r ≡ Some f → Held r f
+  held_of : (m : GuardMap) (es : List (ℕ × Unit)) → AreUnits es → ((r f : ℕ) → get m r ≡ Some f → Held r f) → (r f : ℕ)
+      → get (with_guards_of m es) r ≡ Some f → Held r f
   held_of m [] are old = old
   held_of m (e ∷ es) are old = held_of (with_guard_of m e.1) es are.1 (λ r f. held_more r f m e.0 e.1 are.0 (old r f))
 
   module _ (one : AreOfOneFaction guards c) where
-    own_of : (n : ℕ) (u : Unit) → get c.units n ≡ Some u → guards u ≡ true → (es : List (ℕ × Unit)) → AreUnits es → EachEntry (λ k v. IsOwn u.region u.faction v) es
+    own_of : (n : ℕ) (u : Unit) → get c.units n ≡ Some u → guards u ≡ true → (es : List (ℕ × Unit)) → AreUnits es
+        → EachEntry (λ k v. IsOwn u.region u.faction v) es
     own_of n u is on [] are = tt
     own_of n u is on (e ∷ es) are = (λ also same. one e.0 e.1 are.0 n u is also on same, own_of n u is on es are.1)
 
-    noted_of : (m : GuardMap) (es : List (ℕ × Unit)) → AreUnits es → EachEntry (λ n u. guards u ≡ true → get (with_guards_of m es) u.region ≡ Some u.faction) es
+    noted_of : (m : GuardMap) (es : List (ℕ × Unit)) → AreUnits es
+        → EachEntry (λ n u. guards u ≡ true → get (with_guards_of m es) u.region ≡ Some u.faction) es
     noted_of m [] are = tt
     noted_of m (e ∷ es) are =
         (λ on. all_stay e.1.region e.1.faction (with_guard_of m e.1) es (own_of e.0 e.1 are.0 on es are.1) (by_test (guards e.1) on), noted_of (with_guard_of m e.1) es are.1)
       where
-        by_test : (b : Bool) → b ≡ true → get (if b then insert m e.1.region e.1.faction else m) e.1.region ≡ Some e.1.faction
+        by_test : (b : Bool) → b ≡ true
+            → get (if b then insert m e.1.region e.1.faction else m) e.1.region ≡ Some e.1.faction
         by_test true on = get-insert_same m e.1.region e.1.faction
         by_test false on = cc
 
@@ -107,7 +117,8 @@ any_listed p (n ∷ ns) k (inr rest) t = passes_later (p n) (any_listed p ns k r
 
 list_any_false : (p : ℕ → Bool) (ns : List ℕ) → ((k : ℕ) → IsListed k ns → p k ≡ false) → list_any p ns ≡ false
 list_any_false p [] none = refl
-list_any_false p (n ∷ ns) none = ap (λ b. b || list_any p ns) (none n (inl refl)) ∙ list_any_false p ns (λ k listed. none k (inr listed))
+list_any_false p (n ∷ ns) none =
+    ap (λ b. b || list_any p ns) (none n (inl refl)) ∙ list_any_false p ns (λ k listed. none k (inr listed))
 
 module _ (c : CampaignValue) (m : GuardMap) (are : AreRegionGuards c m) (region faction : ℕ) where
   abbrev against : ℕ → Bool
@@ -116,10 +127,14 @@ module _ (c : CampaignValue) (m : GuardMap) (are : AreRegionGuards c m) (region 
   abbrev is_here : Unit → Bool
   is_here u = u.region == region
 
-  all_own : ((u : Unit) → u.region ≡ region → get m u.region ≡ Some u.faction → u.faction ≡ faction) → is_guarded_against c region faction ≡ false
-  all_own own = list_any_false against (numbers_in_region region c.units) (λ k listed. let (u, is, here) = listed_passing is_here c.units k listed in ap (guards_against faction) is ∙ by_test u (guards u) (are.noted k u is) (is_equal u.region region here))
+  all_own : ((u : Unit) → u.region ≡ region → get m u.region ≡ Some u.faction → u.faction ≡ faction)
+      → is_guarded_against c region faction ≡ false
+  all_own own =
+      list_any_false against (numbers_in_region region c.units)
+      (λ k listed. let (u, is, here) = listed_passing is_here c.units k listed in ap (guards_against faction) is ∙ by_test u (guards u) (are.noted k u is) (is_equal u.region region here))
     where
-      by_test : (u : Unit) (b : Bool) → (b ≡ true → get m u.region ≡ Some u.faction) → u.region ≡ region → (b && not (u.faction == faction)) ≡ false
+      by_test : (u : Unit) (b : Bool) → (b ≡ true → get m u.region ≡ Some u.faction) → u.region ≡ region
+          → (b && not (u.faction == faction)) ≡ false
       by_test u true noted here = ap (λ f. not (f == faction)) (own u here (noted refl)) ∙ ap not (equal_itself faction)
       by_test u false noted here = refl
 
@@ -127,7 +142,8 @@ module _ (c : CampaignValue) (m : GuardMap) (are : AreRegionGuards c m) (region 
   pub map_agrees : has_other_guard faction (get m region) ≡ is_guarded_against c region faction
   map_agrees = by_holder (get m region) refl
     where
-      other_holder : (holder : ℕ) → get m region ≡ Some holder → (b : Bool) → (holder == faction) ≡ b → not b ≡ is_guarded_against c region faction
+      other_holder : (holder : ℕ) → get m region ≡ Some holder → (b : Bool) → (holder == faction) ≡ b
+          → not b ≡ is_guarded_against c region faction
       other_holder holder at true same =
           sym (all_own (λ u here noted. same_Some _ _ (sym noted ∙ ap (get m) here ∙ at) ∙ is_equal holder faction same))
       other_holder holder at false apart =
@@ -142,7 +158,8 @@ module _ (c : CampaignValue) (m : GuardMap) (are : AreRegionGuards c m) (region 
 
 -- the fault that the code finds by the map, for a unit that would begin to guard, is that of the definition
 -- (`guard_fault`)
-pub found_fault_is : (c : CampaignValue) (m : GuardMap) → AreRegionGuards c m → (u : Unit) (few held : Bool) → (u.holding.men == 0) ≡ few → has_other_guard u.faction (get m u.region) ≡ held
+pub found_fault_is : (c : CampaignValue) (m : GuardMap) → AreRegionGuards c m → (u : Unit) (few held : Bool)
+    → (u.holding.men == 0) ≡ few → has_other_guard u.faction (get m u.region) ≡ held
     → first_fault ((few, NoMen) ∷ (held, Guarded) ∷ []) ≡ guard_fault c u
 found_fault_is c m are u few held few_is held_is =
     ap (λ b. first_fault ((b, NoMen) ∷ (held, Guarded) ∷ [])) (sym few_is)
@@ -154,7 +171,8 @@ module _ (c : CampaignValue) (m : GuardMap) (n : ℕ) (u : Unit) (is : get c.uni
   abbrev set_now : GuardMap
   set_now = insert m u.region u.faction
 
-  set_noted : is_guarded_against c u.region u.faction ≡ false → Every (λ k v. guards v ≡ true → get set_now v.region ≡ Some v.faction) (flagged c n u is).units
+  set_noted : is_guarded_against c u.region u.faction ≡ false
+      → Every (λ k v. guards v ≡ true → get set_now v.region ≡ Some v.faction) (flagged c n u is).units
   set_noted none =
       every-insert (λ k v. guards v ≡ true → get set_now v.region ≡ Some v.faction) c.units n (guarding c n u is) (λ on. get-insert_same m u.region u.faction) (λ k v there on. by_region k v there on)
     where
@@ -178,5 +196,8 @@ module _ (c : CampaignValue) (m : GuardMap) (n : ℕ) (u : Unit) (is : get c.uni
 
   -- After a unit with men began to guard a region that no other faction guards, the map with its faction set for the
   -- region has exactly the factions that guard (`AreRegionGuards`).
-  pub holders_set : is_guarded_against c u.region u.faction ≡ false → nat_lt 0 u.holding.men ≡ true → AreRegionGuards (with_guard c n true) set_now
-  holders_set none men = subst (λ d. AreRegionGuards d set_now) (sym (flagged_is c n u is)) (record { noted = set_noted none; held = set_held men })
+  pub holders_set : is_guarded_against c u.region u.faction ≡ false → nat_lt 0 u.holding.men ≡ true
+      → AreRegionGuards (with_guard c n true) set_now
+  holders_set none men =
+      subst (λ d. AreRegionGuards d set_now) (sym (flagged_is c n u is))
+      (record { noted = set_noted none; held = set_held men })

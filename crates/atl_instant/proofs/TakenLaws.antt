@@ -33,7 +33,8 @@ place_takes : TakesThose place_step is_placing all_orders
 place_takes w a t of_phase fit = by_verb t.order_value.verb t.order_value.operands of_phase fit.shape
   where
     -- operands of the shape of the verb have an effect
-    by_verb : (v : Verb) (o : OperandsValue) → is_placing v ≡ true → Fits v o → is_some (place_effect w a t.faction t.unit o) ≡ true
+    by_verb : (v : Verb) (o : OperandsValue) → is_placing v ≡ true → Fits v o
+        → is_some (place_effect w a t.faction t.unit o) ≡ true
     by_verb verbs.Leave operands.Nothing of_phase fits = refl
     by_verb verbs.Leave o of_phase fits = cc
     by_verb verbs.Enter (operands.Number s) of_phase fits = refl
@@ -53,7 +54,8 @@ give_takes : TakesThose give_step is_giving all_orders
 give_takes w a t of_phase fit = by_verb t.order_value.verb t.order_value.operands of_phase fit.shape
   where
     -- operands of the shape of the verb have an effect
-    by_verb : (v : Verb) (o : OperandsValue) → is_giving v ≡ true → Fits v o → is_some (give_effect a t.faction t.unit o) ≡ true
+    by_verb : (v : Verb) (o : OperandsValue) → is_giving v ≡ true → Fits v o
+        → is_some (give_effect a t.faction t.unit o) ≡ true
     by_verb verbs.Give (operands.UnitAndGoods to n item) of_phase fits = refl
     by_verb verbs.Give o of_phase fits = cc
     by_verb verbs.Pay (operands.UnitAndNumber to n) of_phase fits = refl
@@ -71,7 +73,8 @@ transfer_takes : TakesThose transfer_step is_transferring all_orders
 transfer_takes w a t of_phase fit = by_verb t.order_value.verb t.order_value.operands of_phase fit.shape
   where
     -- operands of the shape of the verb have an effect
-    by_verb : (v : Verb) (o : OperandsValue) → is_transferring v ≡ true → Fits v o → is_some (transfer_effect a t.faction t.unit o) ≡ true
+    by_verb : (v : Verb) (o : OperandsValue) → is_transferring v ≡ true → Fits v o
+        → is_some (transfer_effect a t.faction t.unit o) ≡ true
     by_verb verbs.Transfer (operands.UnitAndNumber to n) of_phase fits = refl
     by_verb verbs.Transfer o of_phase fits = cc
     by_verb v o of_phase fits = cc
@@ -113,7 +116,8 @@ name_takes : TakesThose name_step is_naming (λ t. names t.order_value.verb t.or
 name_takes w a t of_phase fit = by_verb t.order_value.verb t.order_value.operands of_phase fit.shape
   where
     -- operands of the shape of the verb have an effect, unless they are those of GUARD 1
-    by_verb : (v : Verb) (o : OperandsValue) → is_naming v ≡ true → Fits v o → is_some (name_effect w t.unit o) ≡ names v o
+    by_verb : (v : Verb) (o : OperandsValue) → is_naming v ≡ true → Fits v o
+        → is_some (name_effect w t.unit o) ≡ names v o
     by_verb verbs.Name (operands.Name what name) of_phase fits = refl
     by_verb verbs.Name o of_phase fits = cc
     by_verb verbs.Guard (operands.Flag false) of_phase fits = refl
@@ -152,7 +156,8 @@ form_shape verbs.Form o of_phase fits = fits
 form_shape v o of_phase fits = cc
 
 -- the phase of FORM gives an event to each order of FORM, read with the aliases as the phase begins
-pub form_gives : (w : WorldValue) (c : CampaignValue) (m : MonthValue) (readings : FinMap nat_cmp Reading) → m.readings ≡ readings → AreFit w readings → (t : Task) (there : IsInMailing m.aliases readings t)
+pub form_gives : (w : WorldValue) (c : CampaignValue) (m : MonthValue) (readings : FinMap nat_cmp Reading)
+    → m.readings ≡ readings → AreFit w readings → (t : Task) (there : IsInMailing m.aliases readings t)
     → reports_at t.faction t.line (form_meaning w c m).1 ≡ reports_at t.faction t.line m ++ report_if (is_forming t.order_value.verb && order_counts (tasks_of m.aliases t.faction there.reading) t) t
 unfolding form_meaning
 form_gives w c m readings er fit t there =
@@ -162,6 +167,8 @@ form_gives w c m readings er fit t there =
     ∙ ap (λ rs. reports_at t.faction t.line m ++ rs) (report_in_phase w m m.aliases readings refl er fit t there is_forming ByFaction)
 
 -- the phase of FORM keeps the mailings
-pub form_keeps_readings : (w : WorldValue) (c : CampaignValue) (m : MonthValue) → (form_meaning w c m).1.readings ≡ m.readings
+pub form_keeps_readings : (w : WorldValue) (c : CampaignValue) (m : MonthValue)
+    → (form_meaning w c m).1.readings ≡ m.readings
 unfolding form_meaning
-form_keeps_readings w c m = fold_keeps (λ x. x.readings) form_order (λ p u. refl) (orders_of is_forming ByFaction m.aliases m.readings) (c, m)
+form_keeps_readings w c m =
+    fold_keeps (λ x. x.readings) form_order (λ p u. refl) (orders_of is_forming ByFaction m.aliases m.readings) (c, m)

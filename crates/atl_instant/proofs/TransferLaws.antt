@@ -60,7 +60,8 @@ can_send n u v is =
 
 -- ---- days
 
-pub days_within : (all : FinMap nat_cmp ℕ) (most skill : ℕ) → Every (λ s days. (1 ≤ days) × (days ≤ most)) all → amount_of all skill ≤ most
+pub days_within : (all : FinMap nat_cmp ℕ) (most skill : ℕ) → Every (λ s days. (1 ≤ days) × (days ≤ most)) all
+    → amount_of all skill ≤ most
 days_within all most skill each = by_option (get all skill) refl
   where
     by_option : (o : Option ℕ) → get all skill ≡ o → unwrap_or o 0 ≤ most
@@ -69,7 +70,8 @@ days_within all most skill each = by_option (get all skill) refl
 
 -- if men have at most 450 days each, the days that go with n of them are at most 450 for each of the n
 pub going_most : (n men days : ℕ) → days ≤ most_days * men → days_going n men days ≤ most_days * n
-going_most n men days most = div-le_of_le-mul men (subst (λ x. days * n ≤ x) (turned most_days men n) (mul-le-mul_right n most))
+going_most n men days most =
+    div-le_of_le-mul men (subst (λ x. days * n ≤ x) (turned most_days men n) (mul-le-mul_right n most))
   where
     turned : (k m l : ℕ) → (k * m) * l ≡ m * (k * l)
     turned k m l = grind arith
@@ -98,7 +100,8 @@ rest_within k s n d some most = elim (cases_lt (k * s) d) [
     scaled y few = rw (turned k s n y, mul-add y s n) (sum (y * s) ((k * n) * s) (y * n) (mul-le-mul_right s few))
 
 -- if men have at most 450 days each, the days that stay when n of them go are at most 450 for each who stays
-pub staying_days_within : (n men days : ℕ) → n ≤ men → 1 ≤ days → days ≤ most_days * men → days - days_going n men days ≤ most_days * (men - n)
+pub staying_days_within : (n men days : ℕ) → n ≤ men → 1 ≤ days → days ≤ most_days * men
+    → days - days_going n men days ≤ most_days * (men - n)
 staying_days_within n men days fewer some most =
     let whole : (men - n) + n ≡ men = omega arith in
     let men_there : 0 < men = some_men men days some most in
@@ -120,7 +123,8 @@ days_may : (w : WorldValue) (h : HoldingValue) (s : ℕ) → MayHave w h → amo
 days_may w h s may = days_within h.days (most_days * h.men) s may.days
 
 -- a unit may have (`MayHave`) what it holds after n of its men went, if it may have what it holds before
-pub may_have_fewer : (w : WorldValue) (n : ℕ) (h : HoldingValue) → n ≤ h.men → MayHave w h → MayHave w (after_sending n h)
+pub may_have_fewer : (w : WorldValue) (n : ℕ) (h : HoldingValue) → n ≤ h.men → MayHave w h
+    → MayHave w (after_sending n h)
 may_have_fewer w n h fewer may = record {
   limits = record { men = omega (arith, may.limits.men); money = may.limits.money; items = may.limits.items };
   name = may.name;
@@ -136,7 +140,8 @@ may_have_fewer w n h fewer may = record {
 
 -- a unit may have (`MayHave`) what it holds after n men of another unit came, if both may have what they hold before,
 -- and there is room for the men
-pub may_have_more : (w : WorldValue) (n : ℕ) (other h : HoldingValue) → h.men + n ≤ men_limit → MayHave w other → MayHave w h → MayHave w (after_receiving n other h)
+pub may_have_more : (w : WorldValue) (n : ℕ) (other h : HoldingValue) → h.men + n ≤ men_limit → MayHave w other
+    → MayHave w h → MayHave w (after_receiving n other h)
 may_have_more w n other h room from may = record {
   limits = record { men = room; money = may.limits.money; items = may.limits.items };
   name = may.name;
@@ -153,7 +158,8 @@ may_have_more w n other h room from may = record {
       | inr l ↦ inr (omega (arith, l, is, some))
     ]
 
-    came : (s : ℕ) → 1 ≤ going_of n other s → (b : Bool) → (amount_of other.days s == 0) ≡ b → 1 ≤ amount_of other.days s
+    came : (s : ℕ) → 1 ≤ going_of n other s → (b : Bool) → (amount_of other.days s == 0) ≡ b
+        → 1 ≤ amount_of other.days s
     came s some true none = let zero = none_go n other s (is_equal (amount_of other.days s) 0 none) in absurd (omega (arith, some, zero))
     came s some false there = grind (arith, nat_tests)
 
@@ -165,14 +171,16 @@ may_have_more w n other h room from may = record {
     sum_of_days_within k m n a b f g = rw (mul-add k m n) (omega (arith, f, g))
 
 -- sender and receiver together hold as much of each thing after n men went as before, if the sender had n men
-pub transfer_keeps_sum : (n : ℕ) (h k : HoldingValue) → n ≤ h.men → (t : Thing) → unit_amount t (after_sending n h) + unit_amount t (after_receiving n h k) ≡ unit_amount t h + unit_amount t k
+pub transfer_keeps_sum : (n : ℕ) (h k : HoldingValue) → n ≤ h.men → (t : Thing)
+    → unit_amount t (after_sending n h) + unit_amount t (after_receiving n h k) ≡ unit_amount t h + unit_amount t k
 transfer_keeps_sum n h k l things.Money = refl
 transfer_keeps_sum n h k l things.People = omega (arith, l)
 transfer_keeps_sum n h k l (things.Item i) = refl
 
 -- ---- no worse off
 
-pub men_receiver_no_worse : (n : ℕ) (other : HoldingValue) (v : Unit) → IsNoWorse v (record v { holding = after_receiving n other v.holding })
+pub men_receiver_no_worse : (n : ℕ) (other : HoldingValue) (v : Unit)
+    → IsNoWorse v (record v { holding = after_receiving n other v.holding })
 men_receiver_no_worse n other v = record {
   faction = refl;
   region = refl;
@@ -204,7 +212,8 @@ module _ {fit : Type 0} (w : WorldValue) (c : CampaignValue) (from to n : ℕ) (
   unfolding transfer
   transfer_kept = by_receiver (get c.units to) refl
     where
-      by_receiver : (o : Option Unit) → get c.units to ≡ o → OrderKeeps IsEarly fit w c from u.faction (transfer_to c from to n u o).0
+      by_receiver : (o : Option Unit) → get c.units to ≡ o
+          → OrderKeeps IsEarly fit w c from u.faction (transfer_to c from to n u o).0
       by_receiver None is = keeps_all w c from u.faction
       by_receiver (Some v) receiver =
           moved_cases (OrderKeeps IsEarly fit w c from u.faction) c from to u v (after_sending n u.holding) (after_receiving n u.holding v.holding)
@@ -215,7 +224,8 @@ module _ {fit : Type 0} (w : WorldValue) (c : CampaignValue) (from to n : ℕ) (
 pub transfer_keeps : StepKeeps IsEarly transfer_step
 transfer_keeps w a c t x own = by_operands t.order_value.operands
   where
-    by_operands : (o : OperandsValue) → IfSome (transfer_effect a t.faction t.unit o) (λ effect. OrderKeeps IsEarly (AreOperandsOf w o) w c t.unit x.faction (effect c x).0)
+    by_operands : (o : OperandsValue)
+        → IfSome (transfer_effect a t.faction t.unit o) (λ effect. OrderKeeps IsEarly (AreOperandsOf w o) w c t.unit x.faction (effect c x).0)
     by_operands (operands.UnitAndNumber to n) = transfer_kept w c t.unit (unit_of a t.faction to) n x own.there
     by_operands other = tt
 

@@ -32,9 +32,11 @@ form_readings : (p : CampaignValue × MonthValue) (ts : List Task) → (fold for
 form_readings p [] = refl
 form_readings p (t ∷ ts) = form_readings (form_order p t) ts
 
-form_starves_none : (p : CampaignValue × MonthValue) (ts : List Task) (n : ℕ) → starved_in (fold form_order p ts).1.events n ≡ starved_in p.1.events n
+form_starves_none : (p : CampaignValue × MonthValue) (ts : List Task) (n : ℕ)
+    → starved_in (fold form_order p ts).1.events n ≡ starved_in p.1.events n
 form_starves_none p [] n = refl
-form_starves_none p (t ∷ ts) n = form_starves_none (form_order p t) ts n ∙ order_event_starves_none p.1.events t (form_by p.0 t.faction t.unit).1 n
+form_starves_none p (t ∷ ts) n =
+    form_starves_none (form_order p t) ts n ∙ order_event_starves_none p.1.events t (form_by p.0 t.faction t.unit).1 n
 
 pub form_leaves : LeavesUnmailed form_meaning form_keeps
 unfolding form_meaning
@@ -48,19 +50,29 @@ form_leaves =
 -- ---- the phases that book nothing
 
 pub name_leaves : PhaseLeavesUnmailed name_spec
-name_leaves = carried_leaves name_step is_naming (leaves_men IsEarly name_step name_keeps) (unmailed_keep_items {affects = name_affects} is_naming (λ t n f h. own_faction t n f h.0) items_of_no_worse)
+name_leaves =
+    carried_leaves name_step is_naming (leaves_men IsEarly name_step name_keeps)
+    (unmailed_keep_items {affects = name_affects} is_naming (λ t n f h. own_faction t n f h.0) items_of_no_worse)
 
 pub place_leaves : PhaseLeavesUnmailed place_spec
-place_leaves = carried_leaves place_step is_placing (leaves_men IsEarly place_step place_keeps) (unmailed_keep_items is_placing own_faction items_of_no_worse)
+place_leaves =
+    carried_leaves place_step is_placing (leaves_men IsEarly place_step place_keeps)
+    (unmailed_keep_items is_placing own_faction items_of_no_worse)
 
 pub give_leaves : PhaseLeavesUnmailed give_spec
-give_leaves = carried_leaves give_step is_giving (leaves_men IsEarly give_step give_keeps) (unmailed_keep_items is_giving own_faction items_of_no_worse)
+give_leaves =
+    carried_leaves give_step is_giving (leaves_men IsEarly give_step give_keeps)
+    (unmailed_keep_items is_giving own_faction items_of_no_worse)
 
 pub transfer_leaves : PhaseLeavesUnmailed transfer_spec
-transfer_leaves = carried_leaves transfer_step is_transferring (leaves_men IsEarly transfer_step transfer_keeps) (unmailed_keep_items is_transferring own_faction items_of_no_worse)
+transfer_leaves =
+    carried_leaves transfer_step is_transferring (leaves_men IsEarly transfer_step transfer_keeps)
+    (unmailed_keep_items is_transferring own_faction items_of_no_worse)
 
 pub guard_leaves : PhaseLeavesUnmailed guard_spec
-guard_leaves = carried_leaves guard_step is_guarding (leaves_men IsSteady guard_step guard_keeps) (unmailed_keep_items {affects = guard_affects} is_guarding (λ t n f h. own_faction t n f h.0) items_of_no_worse)
+guard_leaves =
+    carried_leaves guard_step is_guarding (leaves_men IsSteady guard_step guard_keeps)
+    (unmailed_keep_items {affects = guard_affects} is_guarding (λ t n f h. own_faction t n f h.0) items_of_no_worse)
 
 -- ---- QUIT
 
@@ -76,4 +88,6 @@ quit_leaves_men w a c t x own = by_operands t.order_value.operands
     by_operands o = tt
 
 pub quit_leaves : LeavesUnmailed quit_meaning quit_keeps
-quit_leaves = carried_leaves quit_step is_quitting quit_leaves_men (λ w c d m. unmailed_keep_items {affects = QuitsByOwnUnit c} is_quitting (λ t n f h. h.faction) items_of_no_worse w c d m)
+quit_leaves =
+    carried_leaves quit_step is_quitting quit_leaves_men
+    (λ w c d m. unmailed_keep_items {affects = QuitsByOwnUnit c} is_quitting (λ t n f h. h.faction) items_of_no_worse w c d m)

@@ -43,10 +43,12 @@ module _ (w : WorldValue) where
     mine = λ d e u is (q, around). ap (λ (s : CampaignValue). get s.units e.0) (taxed_is w d e u q is around) ∙ get-insert_same d.units e.0 (paid_unit d e.0 u e.1);
     others = λ d e u is (q, around) k apart. ap (λ (s : CampaignValue). get s.units k) (taxed_is w d e u q is around) ∙ others_stay d e.0 u e.1 is k apart;
     region = λ d e u q is around.
-        ap (λ (s : CampaignValue). get s.regions u.region) (taxed_is w d e u q is around) ∙ ap (λ m. get m u.region) (changed-known (with_share_taken q e.1) d.regions u.region q around)
+        ap (λ (s : CampaignValue). get s.regions u.region) (taxed_is w d e u q is around)
+        ∙ ap (λ m. get m u.region) (changed-known (with_share_taken q e.1) d.regions u.region q around)
         ∙ get-insert_same d.regions u.region (with_share_taken q e.1 q);
     regions = λ d e u is (q, around) k apart.
-        ap (λ (s : CampaignValue). get s.regions k) (taxed_is w d e u q is around) ∙ ap (λ m. get m k) (changed-known (with_share_taken q e.1) d.regions u.region q around)
+        ap (λ (s : CampaignValue). get s.regions k) (taxed_is w d e u q is around)
+        ∙ ap (λ m. get m k) (changed-known (with_share_taken q e.1) d.regions u.region q around)
         ∙ get-insert_other d.regions u.region k (with_share_taken q e.1 q) apart;
     nothing = λ q. ap (λ m. record q { money = m }) (less_none q.money);
     twice = λ q s t. ap (λ m. record q { money = m }) (less_both q.money s t);
@@ -66,10 +68,12 @@ module _ (w : WorldValue) where
         ap (λ (s : CampaignValue). get s.units e.0) (recruited_is w d e u q is around) ∙ get-insert_same d.units e.0 (record u { holding = with_paid_recruits u.holding e.1 (e.1 * w.rules.recruit_price) });
     others = λ d e u is here k apart. recruited_others w d e k apart;
     region = λ d e u q is around.
-        ap (λ (s : CampaignValue). get s.regions u.region) (recruited_is w d e u q is around) ∙ ap (λ m. get m u.region) (changed-known (with_fewer_peasants q e.1) d.regions u.region q around)
+        ap (λ (s : CampaignValue). get s.regions u.region) (recruited_is w d e u q is around)
+        ∙ ap (λ m. get m u.region) (changed-known (with_fewer_peasants q e.1) d.regions u.region q around)
         ∙ get-insert_same d.regions u.region (with_fewer_peasants q e.1 q);
     regions = λ d e u is (q, around) k apart.
-        ap (λ (s : CampaignValue). get s.regions k) (recruited_is w d e u q is around) ∙ ap (λ m. get m k) (changed-known (with_fewer_peasants q e.1) d.regions u.region q around)
+        ap (λ (s : CampaignValue). get s.regions k) (recruited_is w d e u q is around)
+        ∙ ap (λ m. get m k) (changed-known (with_fewer_peasants q e.1) d.regions u.region q around)
         ∙ get-insert_other d.regions u.region k (with_fewer_peasants q e.1 q) apart;
     nothing = λ q. ap (λ p. record q { peasants = p }) (less_none q.peasants);
     twice = λ q s t. ap (λ p. record q { peasants = p }) (less_both q.peasants s t);
@@ -120,17 +124,24 @@ module _ (asked : FinMap nat_cmp ℕ) (w : WorldValue) where
 
   -- a unit that is there has, after its production, more of the item that it made and less of the raw items
   -- (`unit_after_production`)
-  produced_unit : (d : CampaignValue) (e : ℕ × ℕ) (u : Unit) → get d.units e.0 ≡ Some u → get (after_production asked w d e).units e.0 ≡ Some (unit_after_production w u e.1 (get asked e.0))
+  produced_unit : (d : CampaignValue) (e : ℕ × ℕ) (u : Unit) → get d.units e.0 ≡ Some u
+      → get (after_production asked w d e).units e.0 ≡ Some (unit_after_production w u e.1 (get asked e.0))
   unfolding after_production
   produced_unit d e u is = by_item (numbered_item w (get asked e.0))
     where
-      by_raw : (i amount : ℕ) (o : Option ℕ) → get (with_made (with_raw_used d e.0 amount o) e.0 i e.1).units e.0 ≡ Some (record u { holding = with_pieces_added (with_raw_taken u.holding o amount) i e.1 })
+      by_raw : (i amount : ℕ) (o : Option ℕ)
+          → get (with_made (with_raw_used d e.0 amount o) e.0 i e.1).units e.0
+          ≡ Some (record u { holding = with_pieces_added (with_raw_taken u.holding o amount) i e.1 })
       by_raw i amount None = made_unit w d e.0 i e.1 u is
-      by_raw i amount (Some r) = made_unit w (with_used d e.0 r amount) e.0 i e.1 (record u { holding = with_raw_taken u.holding (Some r) amount }) (used_unit w d e.0 r amount u is)
+      by_raw i amount (Some r) =
+          made_unit w (with_used d e.0 r amount) e.0 i e.1
+          (record u { holding = with_raw_taken u.holding (Some r) amount }) (used_unit w d e.0 r amount u is)
 
       -- after its production the unit has more of the world's item `o` that its order names, and less of the raw items
       -- (`maker_of`); without such an item the unit is as it was
-      by_item : (o : Option (ℕ × Item)) → get (option_map_or (λ f. with_item_made d e.0 e.1 f.0 f.1) o d).units e.0 ≡ Some (option_map_or (λ f. maker_of u e.1 f.0 f.1) o u)
+      by_item : (o : Option (ℕ × Item))
+          → get (option_map_or (λ f. with_item_made d e.0 e.1 f.0 f.1) o d).units e.0
+          ≡ Some (option_map_or (λ f. maker_of u e.1 f.0 f.1) o u)
       by_item None = is
       by_item (Some (i, x)) = by_raw i (e.1 * x.raw_count) x.raw
 

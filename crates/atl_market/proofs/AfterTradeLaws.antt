@@ -41,11 +41,13 @@ use Rattle.atl_market.proofs.WantLaws.{given_is_named}
 
 -- a unit's holding with the result of a trade is the holding that the definition gives (`with_trade`), whatever the
 -- stock is
-trade_is : (trade : Trade) (h : HoldingValue) (stock share : ℕ) (m : Market) → with_trade_result h m.item (trade_result_of trade h stock share m) ≡ with_trade trade h share m
+trade_is : (trade : Trade) (h : HoldingValue) (stock share : ℕ) (m : Market)
+    → with_trade_result h m.item (trade_result_of trade h stock share m) ≡ with_trade trade h share m
 trade_is Sell h stock share m = refl
 trade_is Buy h stock share m = refl
 
-stock_traded : (trade : Trade) (h : HoldingValue) (stock share : ℕ) (m : Market) → (trade_result_of trade h stock share m).stock ≡ stock_after trade stock share
+stock_traded : (trade : Trade) (h : HoldingValue) (stock share : ℕ) (m : Market)
+    → (trade_result_of trade h stock share m).stock ≡ stock_after trade stock share
 stock_traded Sell h stock share m = refl
 stock_traded Buy h stock share m = refl
 
@@ -53,16 +55,22 @@ none_traded : (trade : Trade) (stock : ℕ) → stock_after trade stock 0 ≡ st
 none_traded Sell stock = omega arith
 none_traded Buy stock = omega arith
 
-traded_twice : (trade : Trade) (stock s t : ℕ) → stock_after trade (stock_after trade stock s) t ≡ stock_after trade stock (s + t)
+traded_twice : (trade : Trade) (stock s t : ℕ)
+    → stock_after trade (stock_after trade stock s) t ≡ stock_after trade stock (s + t)
 traded_twice Sell stock s t = omega arith
 traded_twice Buy stock s t = omega arith
 
 module _ (d : CampaignValue) (n : ℕ) (u : Unit) (i : ℕ) (entry : BooksEntry) (deal : TradeResult) (is : get d.units n ≡ Some u) where
-  dealt_units : (with_trade_booked d n u i entry deal).units ≡ insert d.units n (record u { holding = with_trade_result u.holding i deal })
+  dealt_units : (with_trade_booked d n u i entry deal).units
+      ≡ insert d.units n (record u { holding = with_trade_result u.holding i deal })
   dealt_units = ap (λ o. (with_holding_at d n (with_trade_result u.holding i deal) o).units) is
 
-  dealt_regions : (with_trade_booked d n u i entry deal).regions ≡ with_changed_value (λ r. restocked r i deal.stock) d.regions u.region
-  dealt_regions = ap (λ o. with_changed_value (λ r. restocked r i deal.stock) (with_holding_at d n (with_trade_result u.holding i deal) o).regions u.region) is
+  dealt_regions : (with_trade_booked d n u i entry deal).regions
+      ≡ with_changed_value (λ r. restocked r i deal.stock) d.regions u.region
+  dealt_regions =
+      ap
+      (λ o. with_changed_value (λ r. restocked r i deal.stock) (with_holding_at d n (with_trade_result u.holding i deal) o).regions u.region)
+      is
 
 -- ---- one unit trades
 
@@ -71,10 +79,12 @@ module _ (trade : Trade) (items : FinMap nat_cmp ℕ) (w : WorldValue) where
   abbrev trader : ℕ → UnitChange
   trader n u share = trader_of trade u share (market_for w u (get items n))
 
-  unit_traded : (d : CampaignValue) (e : ℕ × ℕ) (u : Unit) → get d.units e.0 ≡ Some u → get (after_trade trade items w d e).units e.0 ≡ Some (trader e.0 u e.1)
+  unit_traded : (d : CampaignValue) (e : ℕ × ℕ) (u : Unit) → get d.units e.0 ≡ Some u
+      → get (after_trade trade items w d e).units e.0 ≡ Some (trader e.0 u e.1)
   unit_traded d e u is = by_market (market_for w u (get items e.0)) refl
     where
-      by_market : (o : Option Market) → market_for w u (get items e.0) ≡ o → get (after_trade trade items w d e).units e.0 ≡ Some (trader_of trade u e.1 o)
+      by_market : (o : Option Market) → market_for w u (get items e.0) ≡ o
+          → get (after_trade trade items w d e).units e.0 ≡ Some (trader_of trade u e.1 o)
       by_market None at = ap (λ (s : CampaignValue). get s.units e.0) (traded_is trade items w d e u is None at) ∙ is
       by_market (Some m) at =
           let stock = stock_of d u.region m.item in
@@ -99,7 +109,8 @@ module _ (trade : Trade) (items : FinMap nat_cmp ℕ) (w : WorldValue) (units : 
   none_drawn true share none = none
   none_drawn false share none = refl
 
-  without_market : market_for w u (get items e.0) ≡ None → e.1 ≡ 0 → (r : ℕ) (q : Region) → get d.regions r ≡ Some q → IsTraded r q
+  without_market : market_for w u (get items e.0) ≡ None → e.1 ≡ 0 → (r : ℕ) (q : Region) → get d.regions r ≡ Some q
+      → IsTraded r q
   without_market at none r q around = record {
     stocks = q.stocks;
     region = ap (λ (s : CampaignValue). get s.regions r) (traded_is trade items w d e u is None at) ∙ around;
@@ -113,23 +124,28 @@ module _ (trade : Trade) (items : FinMap nat_cmp ℕ) (w : WorldValue) (units : 
     abbrev restock : Region → Region
     restock q = restocked q m.item deal.stock
 
-    regions_are : (r : ℕ) → get (after_trade trade items w d e).regions r ≡ get (with_changed_value restock d.regions u.region) r
+    regions_are : (r : ℕ)
+        → get (after_trade trade items w d e).regions r ≡ get (with_changed_value restock d.regions u.region) r
     regions_are r =
         ap (λ (s : CampaignValue). get s.regions r) (traded_is trade items w d e u is (Some m) at)
         ∙ ap (λ k. get k r) (dealt_regions d e.0 u m.item (trade_entry trade) deal is)
 
     -- the unit draws from the pot of its own region and of the market's item, and from no other
     draws : (r i : ℕ) → draws_item units items (r, i) e.0 ≡ (u.region == r && m.item == i)
-    draws r i = ap (λ o. is_in_region r o && asks_for_item i (get items e.0)) there ∙ ap (λ o. u.region == r && asks_for_item i o) says
+    draws r i =
+        ap (λ o. is_in_region r o && asks_for_item i (get items e.0)) there
+        ∙ ap (λ o. u.region == r && asks_for_item i o) says
 
-    undrawn : (r i stock : ℕ) → draws_item units items (r, i) e.0 ≡ false → stock ≡ stock_after trade stock (drawn_here r i)
+    undrawn : (r i stock : ℕ) → draws_item units items (r, i) e.0 ≡ false
+        → stock ≡ stock_after trade stock (drawn_here r i)
     undrawn r i stock other = sym (ap (λ b. stock_after trade stock (cond b e.1 0)) other ∙ none_traded trade stock)
 
     here : (r : ℕ) (q : Region) → r ≡ u.region → get d.regions r ≡ Some q → IsTraded r q
     here r q same around = record {
       stocks = with_amount_of q.stocks m.item deal.stock;
       region =
-          regions_are r ∙ ap (λ k. get (with_changed_value restock d.regions k) r) (sym same) ∙ ap (λ k. get k r) (changed-known restock d.regions r q around)
+          regions_are r ∙ ap (λ k. get (with_changed_value restock d.regions k) r) (sym same)
+          ∙ ap (λ k. get k r) (changed-known restock d.regions r q around)
           ∙ get-insert_same d.regions r (restock q);
       amounts = amounts;
     }
@@ -142,12 +158,16 @@ module _ (trade : Trade) (items : FinMap nat_cmp ℕ) (w : WorldValue) (units : 
             stock_traded trade u.holding (stock_of d u.region m.item) e.1 m
             ∙ ap (λ k. stock_after trade k e.1) (stock_is d u.region q m.item (ap (get d.regions) (sym same) ∙ around))
 
-        amounts : (i : ℕ) → amount_of (with_amount_of q.stocks m.item deal.stock) i ≡ stock_after trade (amount_of q.stocks i) (drawn_here r i)
+        amounts : (i : ℕ)
+            → amount_of (with_amount_of q.stocks m.item deal.stock) i
+            ≡ stock_after trade (amount_of q.stocks i) (drawn_here r i)
         amounts i = elim (cases_eq i m.item) [
           | inl one ↦
               let drawing : draws_item units items (r, i) e.0 ≡ true = mine i ∙ ap (λ k. m.item == k) one ∙ same_number m.item in
-              ap (amount_of (with_amount_of q.stocks m.item deal.stock)) one ∙ set_same q.stocks m.item deal.stock ∙ stock
-              ∙ ap (λ k. stock_after trade (amount_of q.stocks k) e.1) (sym one) ∙ ap (λ b. stock_after trade (amount_of q.stocks i) (cond b e.1 0)) (sym drawing)
+              ap (amount_of (with_amount_of q.stocks m.item deal.stock)) one ∙ set_same q.stocks m.item deal.stock
+              ∙ stock
+              ∙ ap (λ k. stock_after trade (amount_of q.stocks k) e.1) (sym one)
+              ∙ ap (λ b. stock_after trade (amount_of q.stocks i) (cond b e.1 0)) (sym drawing)
           | inr apart ↦
               set_other q.stocks m.item deal.stock i apart
               ∙ undrawn r i (amount_of q.stocks i) (mine i ∙ other_number m.item i (λ one. apart (sym one)))
@@ -162,7 +182,8 @@ module _ (trade : Trade) (items : FinMap nat_cmp ℕ) (w : WorldValue) (units : 
 
   -- the trade of a unit changes each stock by what the unit draws of the item (`IsTraded`), if the share is 0 without a
   -- market
-  region_traded : IsWorld w → (market_for w u (get items e.0) ≡ None → e.1 ≡ 0) → (r : ℕ) (q : Region) → get d.regions r ≡ Some q → IsTraded r q
+  region_traded : IsWorld w → (market_for w u (get items e.0) ≡ None → e.1 ≡ 0) → (r : ℕ) (q : Region)
+      → get d.regions r ≡ Some q → IsTraded r q
   region_traded world none r q around = by_market (market_for w u (get items e.0)) refl
     where
       by_market : (o : Option Market) → market_for w u (get items e.0) ≡ o → IsTraded r q
@@ -177,9 +198,12 @@ module _ (trade : Trade) (items : FinMap nat_cmp ℕ) (w : WorldValue) where
   abbrev step : CampaignValue → ℕ × ℕ → CampaignValue
   step d e = after_trade trade items w d e
 
-  untraded_stays : (d : CampaignValue) (es : List (ℕ × ℕ)) (n : ℕ) → AllByRecursion (λ e. n < e.0) es → get (fold (after_trade trade items w) d es).units n ≡ get d.units n
+  untraded_stays : (d : CampaignValue) (es : List (ℕ × ℕ)) (n : ℕ) → AllByRecursion (λ e. n < e.0) es
+      → get (fold (after_trade trade items w) d es).units n ≡ get d.units n
   untraded_stays d [] n above = refl
-  untraded_stays d (e ∷ es) n above = untraded_stays (step d e) es n above.1 ∙ traded_others trade items w d e n (λ same. absurd (omega (arith, same, above.0)))
+  untraded_stays d (e ∷ es) n above =
+      untraded_stays (step d e) es n above.1
+      ∙ traded_others trade items w d e n (λ same. absurd (omega (arith, same, above.0)))
 
   -- after trades in the order of unit numbers each unit that has a share has changed by it, and any other is as it was
   units_traded : (d : CampaignValue) (es : List (ℕ × ℕ)) → Rise es → (n : ℕ) (u : Unit) → get d.units n ≡ Some u
@@ -202,9 +226,11 @@ module _ (trade : Trade) (items : FinMap nat_cmp ℕ) (w : WorldValue) where
 
     -- After trades in the order of unit numbers each stock has changed by what its region's units traded of the item.
     -- All these units are there, and without a market their share is 0 (`Trades`).
-    regions_traded : IsWorld w → (d : CampaignValue) (es : List (ℕ × ℕ)) → Rise es → AreUntouched c d es → AllByRecursion Trades es → (r : ℕ) (q : Region) → get d.regions r ≡ Some q
+    regions_traded : IsWorld w → (d : CampaignValue) (es : List (ℕ × ℕ)) → Rise es → AreUntouched c d es
+        → AllByRecursion Trades es → (r : ℕ) (q : Region) → get d.regions r ≡ Some q
         → HasNewStocks q (stock_after trade) (λ i. drawn (draws_item c.units items (r, i)) es) (get (fold (after_trade trade items w) d es).regions r)
-    regions_traded world d [] rise same all r q around = record { stocks = q.stocks; region = around; amounts = λ i. sym (none_traded trade (amount_of q.stocks i)) }
+    regions_traded world d [] rise same all r q around =
+        record { stocks = q.stocks; region = around; amounts = λ i. sym (none_traded trade (amount_of q.stocks i)) }
     regions_traded world d (e ∷ es) rise same all r q around =
         let (u, there, none) = all.0 in
         let one = region_traded trade items w c.units d e u (same.0 ∙ there) there world none r q around in
@@ -230,7 +256,8 @@ module _ (trade : Trade) (w : WorldValue) (c : CampaignValue) (os : List Task) w
   none_left share low = omega (arith, low)
 
   -- a share that is at most the unit's want is 0 where the unit's region has no market for its order's item
-  without_share : (n share : ℕ) (u : Unit) (asked : ℕ) (s : Option ℕ) → share ≤ trade_want trade u.holding asked (market_for w u s)
+  without_share : (n share : ℕ) (u : Unit) (asked : ℕ) (s : Option ℕ)
+      → share ≤ trade_want trade u.holding asked (market_for w u s)
       → ((i : ℕ) → s ≡ Some i → get named n ≡ Some i) → market_for w u (get named n) ≡ None → share ≡ 0
   without_share n share u asked None low says at = none_left share low
   without_share n share u asked (Some i) low says at =

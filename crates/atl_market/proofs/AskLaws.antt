@@ -16,7 +16,8 @@ recruit_asks verbs.Recruit (operands.Number n) of_phase fits = refl
 recruit_asks verbs.Recruit o of_phase fits = cc
 recruit_asks v o of_phase fits = cc
 
-pub trade_asks : (trade : Trade) (v : Verb) (o : OperandsValue) → is_trade trade v ≡ true → Fits v o → asks_count o ≡ true
+pub trade_asks : (trade : Trade) (v : Verb) (o : OperandsValue) → is_trade trade v ≡ true → Fits v o
+    → asks_count o ≡ true
 trade_asks Sell verbs.Sell (operands.Goods n i) of_phase fits = refl
 trade_asks Sell verbs.Sell o of_phase fits = cc
 trade_asks Sell v o of_phase fits = cc

@@ -24,7 +24,10 @@ use Rattle.atl_phase.proofs.OrderEffectLaws.{bound_unused_by}
 
 -- A change that leaves what BUILD needs (`CanBuild`), and keeps the month, books, totals and what BUILD may still book,
 -- is one that BUILD may make (`StepsWell`).
-pub unbooked_change_steps_well : (w : WorldValue) (c d : CampaignValue) → CanBuild w d → IsSameMonth c d → d.books ≡ c.books → ((t : Thing) → total d t ≡ total c t) → ((e : BooksEntry) (t : Thing) → build_remaining d e t ≡ build_remaining c e t) → StepsWell CanBuild build_remaining w c d
+pub unbooked_change_steps_well : (w : WorldValue) (c d : CampaignValue) → CanBuild w d → IsSameMonth c d
+    → d.books ≡ c.books → ((t : Thing) → total d t ≡ total c t)
+    → ((e : BooksEntry) (t : Thing) → build_remaining d e t ≡ build_remaining c e t)
+    → StepsWell CanBuild build_remaining w c d
 unbooked_change_steps_well w c d can same books totals reserves = record {
   holds_still = can;
   same_month = same;
@@ -37,15 +40,21 @@ pub first_name_ok : (k : Kind) (number : ℕ) → number ≤ last_unit → IsTru
 first_name_ok k number l = by_sort k.ship
   where
     by_sort : (ship : Bool) → name_ok ((if ship then codes "Ship " else codes "Building ") ++ decimal number) ≡ true
-    by_sort true = numbered_name_ok (codes "Ship ") (record { bytes = refl; begins = refl; some = lit≤ tt; few = lit≤ tt }) number l
-    by_sort false = numbered_name_ok (codes "Building ") (record { bytes = refl; begins = refl; some = lit≤ tt; few = lit≤ tt }) number l
+    by_sort true =
+        numbered_name_ok (codes "Ship ") (record { bytes = refl; begins = refl; some = lit≤ tt; few = lit≤ tt }) number
+        l
+    by_sort false =
+        numbered_name_ok (codes "Building ") (record { bytes = refl; begins = refl; some = lit≤ tt; few = lit≤ tt })
+        number l
 
-pub raised_well : (w : WorldValue) (c : CampaignValue) (s : Structure) (fresh : IsFresh w c s) (room : c.next_structure ≤ most_structures) (can : CanBuild w c) → StepsWell CanBuild build_remaining w c (raised w c s fresh room can.steady)
+pub raised_well : (w : WorldValue) (c : CampaignValue) (s : Structure) (fresh : IsFresh w c s) (room : c.next_structure ≤ most_structures) (can : CanBuild w c)
+    → StepsWell CanBuild build_remaining w c (raised w c s fresh room can.steady)
 raised_well w c s fresh room can =
     unbooked_change_steps_well w c (raised w c s fresh room can.steady) (record { steady = steady_raised w c s fresh room can.steady; kinds = can.kinds })
     (same_month_by refl) refl (total_raised w c s fresh room can.steady) (λ e t. refl)
 
-pub built_well : (w : WorldValue) (c : CampaignValue) (k : ℕ) (s : Structure) (done : ℕ) (is : get c.structures k ≡ Some s) (more : s.done ≤ done) (most : done ≤ size_of w s.kind) (can : CanBuild w c) → StepsWell CanBuild build_remaining w c (built w c k s done is)
+pub built_well : (w : WorldValue) (c : CampaignValue) (k : ℕ) (s : Structure) (done : ℕ) (is : get c.structures k ≡ Some s) (more : s.done ≤ done) (most : done ≤ size_of w s.kind) (can : CanBuild w c)
+    → StepsWell CanBuild build_remaining w c (built w c k s done is)
 built_well w c k s done is more most can =
     unbooked_change_steps_well w c (built w c k s done is) (record { steady = steady_built w c k s done is more most can.steady; kinds = can.kinds })
     (same_month_by refl) refl (total_built w c k s done is more most can.steady) (λ e t. refl)

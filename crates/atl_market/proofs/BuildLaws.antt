@@ -64,12 +64,14 @@ more_than a b is = grind (arith, nat_tests)
 
 -- the next structure's number is at most 10,000, if structures are numbered from 1 without a gap and are fewer than
 -- 10,000
-pub next_within : (c : CampaignValue) → IsNumbered c.structures c.next_structure → len c.structures < most_structures → c.next_structure ≤ most_structures
+pub next_within : (c : CampaignValue) → IsNumbered c.structures c.next_structure → len c.structures < most_structures
+    → c.next_structure ≤ most_structures
 next_within c numbered room = omega (arith, numbered.count, room)
 
 -- No further structure may be begun exactly if the next structure's number is above 10,000, where structures are
 -- numbered from 1 without a gap.
-pub limit_by_next : (c : CampaignValue) → IsNumbered c.structures c.next_structure → nat_lt most_structures c.next_structure ≡ is_structure_limit c
+pub limit_by_next : (c : CampaignValue) → IsNumbered c.structures c.next_structure
+    → nat_lt most_structures c.next_structure ≡ is_structure_limit c
 limit_by_next c numbered = rw numbered.count (by_count most_structures (len c.structures))
   where
     by_count : (most count : ℕ) → nat_lt most (count + 1) ≡ nat_le most count
@@ -85,7 +87,8 @@ pub record CanBegin (w : WorldValue) (c : CampaignValue) (u : Unit) (k : Kind) :
   pub material : 1 ≤ amount_of u.holding.items k.material
   pub room : len c.structures < most_structures
 
-pub can_begin : (w : WorldValue) (c : CampaignValue) (u : Unit) (k : Kind) → begin_fault w c u k ≡ None → CanBegin w c u k
+pub can_begin : (w : WorldValue) (c : CampaignValue) (u : Unit) (k : Kind) → begin_fault w c u k ≡ None
+    → CanBegin w c u k
 can_begin w c u k is =
     let limit = (is_structure_limit c, StructureLimit) ∷ [] in
     let material = (amount_of u.holding.items k.material == 0, NoMaterial) ∷ limit in
@@ -146,7 +149,8 @@ module _ (k : Kind) (h : HoldingValue) (done : ℕ) where
   pub size_missing : size_added k h done ≤ k.size - done
   size_missing = least_within_third (h.men * level_in h k.skill) (amount_of h.items k.material) (k.size - done)
 
-  size_some : 1 ≤ h.men → 1 ≤ level_in h k.skill → 1 ≤ amount_of h.items k.material → done < k.size → 1 ≤ size_added k h done
+  size_some : 1 ≤ h.men → 1 ≤ level_in h k.skill → 1 ≤ amount_of h.items k.material → done < k.size
+      → 1 ≤ size_added k h done
   size_some men level material missing =
       least_is_positive (h.men * level_in h k.skill) (amount_of h.items k.material) (k.size - done) (product_is_positive h.men (level_in h k.skill) men level) material (omega (arith, missing))
 
@@ -173,7 +177,8 @@ module _ (w : WorldValue) (c : CampaignValue) (n kind : ℕ) (u : Unit) (k : Kin
 
   begun_stays : (j : ℕ) → j ≢ n → get (after_start c n kind k u.region size).units j ≡ get c.units j
   begun_stays j apart =
-      ap (λ (d : CampaignValue). get d.units j) begun_is ∙ place_stays (with_new_structure after_use kind k u.region size) n u.region c.next_structure j apart
+      ap (λ (d : CampaignValue). get d.units j) begun_is
+      ∙ place_stays (with_new_structure after_use kind k u.region size) n u.region c.next_structure j apart
       ∙ others_stay w c n k.material size u is j apart
 
   module _ (kind_is : slice_get w.kinds kind ≡ Some k) (can : CanBuild w c) (fit : CanBegin w c u k) where
@@ -231,15 +236,20 @@ module _ (w : WorldValue) (c : CampaignValue) (n : ℕ) (u : Unit) (s : Structur
   on_is : after_building_on c n k.material added u.structure (s.done + added) ≡ further paid
   on_is = ap further (used_is w c n k.material added u is)
 
-  on_stays : (j : ℕ) → j ≢ n → get (after_building_on c n k.material added u.structure (s.done + added)).units j ≡ get c.units j
+  on_stays : (j : ℕ) → j ≢ n
+      → get (after_building_on c n k.material added u.structure (s.done + added)).units j ≡ get c.units j
   on_stays j apart = ap (λ (d : CampaignValue). get d.units j) on_is ∙ others_stay w c n k.material added u is j apart
 
   module _ (there : get c.structures u.structure ≡ Some s) (kind_is : slice_get w.kinds s.kind ≡ Some k) (can : CanBuild w c) (fit : CanGoOn u s k) where
     paid_well : StepsWell CanBuild build_remaining w c paid
-    paid_well = used_for_well w c n k.material added u is (size_held k u.holding s.done) (can.kinds s.kind k kind_is).material can
+    paid_well =
+        used_for_well w c n k.material added u is (size_held k u.holding s.done) (can.kinds s.kind k kind_is).material
+        can
 
     most : s.done + added ≤ size_of w s.kind
-    most = subst (λ x. s.done + added ≤ x) (sym (kind_size w s.kind k kind_is)) (up added s.done k.size (size_missing k u.holding s.done) fit.missing)
+    most =
+        subst (λ x. s.done + added ≤ x) (sym (kind_size w s.kind k kind_is))
+        (up added s.done k.size (size_missing k u.holding s.done) fit.missing)
       where
         up : (a d m : ℕ) → a ≤ m - d → d < m → d + a ≤ m
         up a d m l h = omega (arith, l, h)
@@ -259,7 +269,8 @@ begin_cases : (P : CampaignValue → Type 0) (w : WorldValue) (c : CampaignValue
 unfolding begin
 begin_cases P w c n kind k u same go = by_fault (begin_fault w c u k) refl
   where
-    by_fault : (o : Option EventFault) → begin_fault w c u k ≡ o → P (unless c o (after_start c n kind k u.region (size_added k u.holding 0), Done (size_added k u.holding 0))).0
+    by_fault : (o : Option EventFault) → begin_fault w c u k ≡ o
+        → P (unless c o (after_start c n kind k u.region (size_added k u.holding 0), Done (size_added k u.holding 0))).0
     by_fault (Some fault) e = same
     by_fault None e = go (can_begin w c u k e)
 
@@ -269,7 +280,8 @@ go_on_cases : (P : CampaignValue → Type 0) (w : WorldValue) (c : CampaignValue
 unfolding go_on
 go_on_cases P w c n u same go = by_structure (get c.structures u.structure) refl
   where
-    by_fault : (s : Structure) (k : Kind) → get c.structures u.structure ≡ Some s → slice_get w.kinds s.kind ≡ Some k → (o : Option EventFault) → inside_fault u s k ≡ o
+    by_fault : (s : Structure) (k : Kind) → get c.structures u.structure ≡ Some s → slice_get w.kinds s.kind ≡ Some k
+        → (o : Option EventFault) → inside_fault u s k ≡ o
         → P (unless c o (after_building_on c n k.material (size_added k u.holding s.done) u.structure (s.done + size_added k u.holding s.done), Done (size_added k u.holding s.done))).0
     by_fault s k there kind_is (Some fault) e = same
     by_fault s k there kind_is None e = go s k there kind_is (can_go_on u s k e)
@@ -279,35 +291,50 @@ go_on_cases P w c n u same go = by_structure (get c.structures u.structure) refl
     outside true = same
     outside false = same
 
-    by_kind : (s : Structure) → get c.structures u.structure ≡ Some s → (o : Option Kind) → slice_get w.kinds s.kind ≡ o → P (go_on_at c n u (option_map (λ k. (s, k)) o)).0
+    by_kind : (s : Structure) → get c.structures u.structure ≡ Some s → (o : Option Kind) → slice_get w.kinds s.kind ≡ o
+        → P (go_on_at c n u (option_map (λ k. (s, k)) o)).0
     by_kind s there None kind_is = outside (u.holding.men == 0)
     by_kind s there (Some k) kind_is = by_fault s k there kind_is (inside_fault u s k) refl
 
-    by_structure : (o : Option Structure) → get c.structures u.structure ≡ o → P (go_on_at c n u (option_and_then (with_kind w) o)).0
+    by_structure : (o : Option Structure) → get c.structures u.structure ≡ o
+        → P (go_on_at c n u (option_and_then (with_kind w) o)).0
     by_structure None there = outside (u.holding.men == 0)
     by_structure (Some s) there = by_kind s there (slice_get w.kinds s.kind) refl
 
 module _ (w : WorldValue) (c : CampaignValue) (n : ℕ) (u : Unit) (is : get c.units n ≡ Some u) where
-  begin_well : (kind : ℕ) (k : Kind) → slice_get w.kinds kind ≡ Some k → CanBuild w c → StepsWell CanBuild build_remaining w c (begin w n kind k c u).0
-  begin_well kind k kind_is can = begin_cases (λ d. StepsWell CanBuild build_remaining w c d) w c n kind k u (well_same w c can) (λ fit. begun_well w c n kind u k is kind_is can fit)
+  begin_well : (kind : ℕ) (k : Kind) → slice_get w.kinds kind ≡ Some k → CanBuild w c
+      → StepsWell CanBuild build_remaining w c (begin w n kind k c u).0
+  begin_well kind k kind_is can =
+      begin_cases (λ d. StepsWell CanBuild build_remaining w c d) w c n kind k u (well_same w c can)
+      (λ fit. begun_well w c n kind u k is kind_is can fit)
 
   go_on_well : CanBuild w c → StepsWell CanBuild build_remaining w c (go_on w n c u).0
-  go_on_well can = go_on_cases (λ d. StepsWell CanBuild build_remaining w c d) w c n u (well_same w c can) (λ s k there kind_is fit. on_well w c n u s k is there kind_is can fit)
+  go_on_well can =
+      go_on_cases (λ d. StepsWell CanBuild build_remaining w c d) w c n u (well_same w c can)
+      (λ s k there kind_is fit. on_well w c n u s k is there kind_is can fit)
 
   begin_stays : (kind : ℕ) (k : Kind) (j : ℕ) → j ≢ n → get (begin w n kind k c u).0.units j ≡ get c.units j
-  begin_stays kind k j apart = begin_cases (λ d. get d.units j ≡ get c.units j) w c n kind k u refl (λ fit. begun_stays w c n kind u k is j apart)
+  begin_stays kind k j apart =
+      begin_cases (λ d. get d.units j ≡ get c.units j) w c n kind k u refl
+      (λ fit. begun_stays w c n kind u k is j apart)
 
   go_on_stays : (j : ℕ) → j ≢ n → get (go_on w n c u).0.units j ≡ get c.units j
-  go_on_stays j apart = go_on_cases (λ d. get d.units j ≡ get c.units j) w c n u refl (λ s k there kind_is fit. on_stays w c n u s k is j apart)
+  go_on_stays j apart =
+      go_on_cases (λ d. get d.units j ≡ get c.units j) w c n u refl
+      (λ s k there kind_is fit. on_stays w c n u s k is j apart)
 
 -- ---- what BUILD may still book
 
 -- what BUILD may still book is within the bound of the whole phase: less than 10^14 used of each item (`build_moves`)
-remaining_within : (w : WorldValue) (c : CampaignValue) → CanBuild w c → (e : BooksEntry) (t : Thing) → build_remaining c e t ≤ build_moves e t
+remaining_within : (w : WorldValue) (c : CampaignValue) → CanBuild w c → (e : BooksEntry) (t : Thing)
+    → build_remaining c e t ≤ build_moves e t
 remaining_within w c can e t = by_thing t
   where
-    all_within : (f : HoldingValue → ℕ) (most : ℕ) → ((h : HoldingValue) → IsHolding h → f h ≤ most) → sum_over (λ (u : Unit). f u.holding) c.units ≤ length (entries c.units) * most
-    all_within f most each = sum_within (λ (u : Unit). f u.holding) most (entries c.units) (each-from_every (λ n u. f u.holding ≤ most) c.units (λ n u is. each u.holding (can.steady.numbers.units n u is).1))
+    all_within : (f : HoldingValue → ℕ) (most : ℕ) → ((h : HoldingValue) → IsHolding h → f h ≤ most)
+        → sum_over (λ (u : Unit). f u.holding) c.units ≤ length (entries c.units) * most
+    all_within f most each =
+        sum_within (λ (u : Unit). f u.holding) most (entries c.units)
+        (each-from_every (λ n u. f u.holding ≤ most) c.units (λ n u is. each u.holding (can.steady.numbers.units n u is).1))
 
     few : (s n : ℕ) → s ≤ n * holding_limit → n ≤ most_units → s ≤ most_moved
     few s n l m = omega (arith, l, m)
@@ -316,10 +343,16 @@ remaining_within w c can e t = by_thing t
     nothing s n l = omega (arith, l)
 
     none : sum_over (λ (u : Unit). 0) c.units ≤ 0
-    none = nothing (sum_over (λ (u : Unit). 0) c.units) (length (entries c.units)) (all_within (λ h. 0) 0 (λ h is. omega arith))
+    none =
+        nothing (sum_over (λ (u : Unit). 0) c.units) (length (entries c.units))
+        (all_within (λ h. 0) 0 (λ h is. omega arith))
 
-    by_entry : (i : ℕ) (b : Bool) → sum_over (λ (u : Unit). if b then amount_of u.holding.items i else 0) c.units ≤ (if b then most_moved else 0)
-    by_entry i true = few (sum_over (λ (u : Unit). amount_of u.holding.items i) c.units) (length (entries c.units)) (all_within (λ h. amount_of h.items i) holding_limit (λ h is. amount_within h i is)) (omega (arith, len-entries c.units, can.steady.numbers.few_units))
+    by_entry : (i : ℕ) (b : Bool)
+        → sum_over (λ (u : Unit). if b then amount_of u.holding.items i else 0) c.units ≤ (if b then most_moved else 0)
+    by_entry i true =
+        few (sum_over (λ (u : Unit). amount_of u.holding.items i) c.units) (length (entries c.units))
+        (all_within (λ h. amount_of h.items i) holding_limit (λ h is. amount_within h i is))
+        (omega (arith, len-entries c.units, can.steady.numbers.few_units))
     by_entry i false = none
 
     by_thing : (s : Thing) → build_remaining c e s ≤ build_moves e s
@@ -339,30 +372,39 @@ build_orderly = record {
   bounded = remaining_within;
 }
   where
-    well : (w : WorldValue) (c : CampaignValue) (n : ℕ) (x : Unit) → get c.units n ≡ Some x → CanBuild w c → (s : OperandsValue) → IfSome (build_effect w n s) (λ effect. StepsWell CanBuild build_remaining w c (effect c x).0)
+    well : (w : WorldValue) (c : CampaignValue) (n : ℕ) (x : Unit) → get c.units n ≡ Some x → CanBuild w c
+        → (s : OperandsValue)
+        → IfSome (build_effect w n s) (λ effect. StepsWell CanBuild build_remaining w c (effect c x).0)
     well w c n x is can (operands.Kind (Some kind)) = by_kind (slice_get w.kinds kind) refl
       where
-        by_kind : (o : Option Kind) → slice_get w.kinds kind ≡ o → IfSome (option_map (begin w n kind) o) (λ effect. StepsWell CanBuild build_remaining w c (effect c x).0)
+        by_kind : (o : Option Kind) → slice_get w.kinds kind ≡ o
+            → IfSome (option_map (begin w n kind) o) (λ effect. StepsWell CanBuild build_remaining w c (effect c x).0)
         by_kind None kind_is = tt
         by_kind (Some k) kind_is = begin_well w c n x is kind k kind_is can
     well w c n x is can (operands.Kind None) = go_on_well w c n x is can
     well w c n x is can other = tt
 
-    stays : (w : WorldValue) (c : CampaignValue) (n : ℕ) (x : Unit) → get c.units n ≡ Some x → (j : ℕ) → j ≢ n → (s : OperandsValue) → IfSome (build_effect w n s) (λ effect. get (effect c x).0.units j ≡ get c.units j)
+    stays : (w : WorldValue) (c : CampaignValue) (n : ℕ) (x : Unit) → get c.units n ≡ Some x → (j : ℕ) → j ≢ n
+        → (s : OperandsValue) → IfSome (build_effect w n s) (λ effect. get (effect c x).0.units j ≡ get c.units j)
     stays w c n x is j apart (operands.Kind (Some kind)) = by_kind (slice_get w.kinds kind)
       where
-        by_kind : (o : Option Kind) → IfSome (option_map (begin w n kind) o) (λ effect. get (effect c x).0.units j ≡ get c.units j)
+        by_kind : (o : Option Kind)
+            → IfSome (option_map (begin w n kind) o) (λ effect. get (effect c x).0.units j ≡ get c.units j)
         by_kind None = tt
         by_kind (Some k) = begin_stays w c n x is kind k j apart
     stays w c n x is j apart (operands.Kind None) = go_on_stays w c n x is j apart
     stays w c n x is j apart other = tt
 
-pub leaves_steady : (w : WorldValue) (c d : CampaignValue) → LeavesWell CanBuild build_moves w c d → LeavesWell IsSteady build_moves w c d
-leaves_steady w c d h = record { leaves_it = h.leaves_it.steady; same_month = h.same_month; balances = h.balances; near = h.near }
+pub leaves_steady : (w : WorldValue) (c d : CampaignValue) → LeavesWell CanBuild build_moves w c d
+    → LeavesWell IsSteady build_moves w c d
+leaves_steady w c d h =
+    record { leaves_it = h.leaves_it.steady; same_month = h.same_month; balances = h.balances; near = h.near }
 
 -- a unit can use what it holds of an item (`CanUse`), if the books have room for what all units hold
 -- (`build_remaining`)
-pub can_use : (w : WorldValue) (c : CampaignValue) (n item amount : ℕ) (u : Unit) → get c.units n ≡ Some u → amount ≤ amount_of u.holding.items item → item < length w.items → CanBuild w c → HaveRoom (build_remaining c) c → CanUse w c n item amount
+pub can_use : (w : WorldValue) (c : CampaignValue) (n item amount : ℕ) (u : Unit) → get c.units n ≡ Some u
+    → amount ≤ amount_of u.holding.items item → item < length w.items → CanBuild w c → HaveRoom (build_remaining c) c
+    → CanUse w c n item amount
 can_use w c n item amount u is enough known can room = record {
   unit = u;
   there = is;
@@ -374,8 +416,11 @@ can_use w c n item amount u is enough known can room = record {
 
 -- ---- the code does what is defined
 
-structure_and_kind_found : (w : WorldValue) (c : CampaignValue) (structure : ℕ) (s : Structure) (k : Kind) → get c.structures structure ≡ Some s → slice_get w.kinds s.kind ≡ Some k → structure_and_kind_at w c structure ≡ Some (s, k)
-structure_and_kind_found w c structure s k there kind_is = ap (option_and_then (with_kind w)) there ∙ ap (option_map {U = Structure × Kind} (λ x. (s, x))) kind_is
+structure_and_kind_found : (w : WorldValue) (c : CampaignValue) (structure : ℕ) (s : Structure) (k : Kind)
+    → get c.structures structure ≡ Some s → slice_get w.kinds s.kind ≡ Some k
+    → structure_and_kind_at w c structure ≡ Some (s, k)
+structure_and_kind_found w c structure s k there kind_is =
+    ap (option_and_then (with_kind w)) there ∙ ap (option_map {U = Structure × Kind} (λ x. (s, x))) kind_is
 
 abbrev begun_outcome : CampaignValue → (n kind : ℕ) → Kind → (region size : ℕ) → CampaignValue × Outcome
 begun_outcome c n kind k region size = (after_start c n kind k region size, Done size)
@@ -384,16 +429,20 @@ abbrev continued_outcome : CampaignValue → (n material size structure done : �
 continued_outcome c n material size structure done = (after_building_on c n material size structure done, Done size)
 
 -- where `BUILD kind` has no fault, the campaign and outcome that the code makes are those of its definition (`begin`)
-pub begin_done : (w : WorldValue) (c d : CampaignValue) (f n kind : ℕ) (u : Unit) (k : Kind) (size says : ℕ) → of_faction f (get c.units n) ≡ Some u → begin_fault w c u k ≡ None
-    → d ≡ after_start c n kind k u.region size → says ≡ size → size ≡ size_added k u.holding 0 → (d, Done says) ≡ faction_effect (begin w n kind k) c f n
+pub begin_done : (w : WorldValue) (c d : CampaignValue) (f n kind : ℕ) (u : Unit) (k : Kind) (size says : ℕ)
+    → of_faction f (get c.units n) ≡ Some u → begin_fault w c u k ≡ None
+    → d ≡ after_start c n kind k u.region size → says ≡ size → size ≡ size_added k u.holding 0
+    → (d, Done says) ≡ faction_effect (begin w n kind k) c f n
 unfolding begin
 begin_done w c d f n kind u k size says is none first asked_is size_is =
     let whole = begun_outcome c n kind k u.region (size_added k u.holding 0) in
     let chain : faction_effect (begin w n kind k) c f n ≡ whole = ap (effect_on (begin w n kind k) c) is ∙ ap (λ o. unless c o whole) none in
     rw (first, asked_is, size_is) (sym chain)
 
-pub go_on_done : (w : WorldValue) (c d : CampaignValue) (f n : ℕ) (u : Unit) (s : Structure) (k : Kind) (size says : ℕ) → of_faction f (get c.units n) ≡ Some u → get c.structures u.structure ≡ Some s → slice_get w.kinds s.kind ≡ Some k
-    → inside_fault u s k ≡ None → d ≡ after_building_on c n k.material size u.structure (s.done + size) → says ≡ size → size ≡ size_added k u.holding s.done → (d, Done says) ≡ faction_effect (go_on w n) c f n
+pub go_on_done : (w : WorldValue) (c d : CampaignValue) (f n : ℕ) (u : Unit) (s : Structure) (k : Kind) (size says : ℕ)
+    → of_faction f (get c.units n) ≡ Some u → get c.structures u.structure ≡ Some s → slice_get w.kinds s.kind ≡ Some k
+    → inside_fault u s k ≡ None → d ≡ after_building_on c n k.material size u.structure (s.done + size) → says ≡ size
+    → size ≡ size_added k u.holding s.done → (d, Done says) ≡ faction_effect (go_on w n) c f n
 unfolding go_on
 go_on_done w c d f n u s k size says is there kind_is none first asked_is size_is =
     let added = size_added k u.holding s.done in
@@ -402,8 +451,11 @@ go_on_done w c d f n u s k size says is there kind_is none first asked_is size_i
     rw (first, asked_is, size_is) (sym chain)
 
 -- what is done of a structure after an order of `BUILD` without a fault is at most the greatest size of a kind
-pub done_small : (u : Unit) (s : Structure) (k : Kind) → inside_fault u s k ≡ None → k.size ≤ most_size → s.done + size_added k u.holding s.done ≤ most_size
-done_small u s k none small = up (size_added k u.holding s.done) s.done k.size (size_missing k u.holding s.done) (can_go_on u s k none).missing small
+pub done_small : (u : Unit) (s : Structure) (k : Kind) → inside_fault u s k ≡ None → k.size ≤ most_size
+    → s.done + size_added k u.holding s.done ≤ most_size
+done_small u s k none small =
+    up (size_added k u.holding s.done) s.done k.size (size_missing k u.holding s.done) (can_go_on u s k none).missing
+    small
   where
     up : (a d m : ℕ) → a ≤ m - d → d < m → m ≤ most_size → d + a ≤ most_size
     up a d m l h small = omega (arith, l, h, small)

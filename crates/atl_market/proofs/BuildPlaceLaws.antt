@@ -33,7 +33,9 @@ module _ (w : WorldValue) (c : CampaignValue) (n : ℕ) (u : Unit) (s : ℕ) (is
 
   -- moving a unit into another structure of its region (on water a ship), or on land out of its structure, keeps what
   -- BUILD needs (`CanBuild`)
-  pub place_well : (s ≢ 0 → (x : Structure) × (get c.structures s ≡ Some x) × (x.region ≡ u.region)) → (is_land_at w u.region ≡ false → (x : Structure) × (get c.structures s ≡ Some x) × (is_ship w x ≡ true)) → StepsWell CanBuild build_remaining w c (with_place c n u.region s)
+  pub place_well : (s ≢ 0 → (x : Structure) × (get c.structures s ≡ Some x) × (x.region ≡ u.region))
+      → (is_land_at w u.region ≡ false → (x : Structure) × (get c.structures s ≡ Some x) × (is_ship w x ≡ true))
+      → StepsWell CanBuild build_remaining w c (with_place c n u.region s)
   place_well inside afloat =
       subst (StepsWell CanBuild build_remaining w c) (sym (place_is w c n u s is can.steady apart))
       (unbooked_change_steps_well w c placed (record { steady = placed_steady w c n u s is can.steady apart inside afloat; kinds = can.kinds })

@@ -54,9 +54,11 @@ module _ (draws : Drawers) where
     abbrev pub DrawsItsAmount : List ℕ → ℕ × ℕ → Type 0
     DrawsItsAmount ns e = draws e.0 ≡ true → IsListed e.0 ns × (amount e.0 ≡ e.1)
 
-    listed_above : (n : ℕ) (ns : List ℕ) (es : List (ℕ × ℕ)) → AllByRecursion (λ f. n < f.0) es → AllByRecursion (DrawsItsAmount (n ∷ ns)) es → AllByRecursion (DrawsItsAmount ns) es
+    listed_above : (n : ℕ) (ns : List ℕ) (es : List (ℕ × ℕ)) → AllByRecursion (λ f. n < f.0) es
+        → AllByRecursion (DrawsItsAmount (n ∷ ns)) es → AllByRecursion (DrawsItsAmount ns) es
     listed_above n ns [] above all = tt
-    listed_above n ns (f ∷ es) above all = (λ draws. let (is, same) = all.0 draws in (above_head_is_in_tail f.0 n ns above.0 is, same), listed_above n ns es above.1 all.1)
+    listed_above n ns (f ∷ es) above all =
+        (λ draws. let (is, same) = all.0 draws in (above_head_is_in_tail f.0 n ns above.0 is, same), listed_above n ns es above.1 all.1)
 
     lower : (n k : ℕ) (es : List (ℕ × ℕ)) → n ≤ k → AllByRecursion (λ f. k < f.0) es → AllByRecursion (λ f. n < f.0) es
     lower n k [] low above = tt
@@ -85,9 +87,12 @@ module _ (draws : Drawers) where
     -- if the drawing units of sorted shares are on the sorted list `ns`, with their amounts as shares
     -- (`DrawsItsAmount`), they draw at most the sum of the amounts of `ns`
     abbrev DrawAtMostTheirAmounts : List ℕ → Type 0
-    DrawAtMostTheirAmounts ns = (es : List (ℕ × ℕ)) → IsRisen ns → Rise es → AllByRecursion (DrawsItsAmount ns) es → drawn es ≤ sum (map amount ns)
+    DrawAtMostTheirAmounts ns =
+        (es : List (ℕ × ℕ)) → IsRisen ns → Rise es → AllByRecursion (DrawsItsAmount ns) es → drawn es ≤ sum
+        (map amount ns)
 
-    with_first : (n : ℕ) (ns : List ℕ) → DrawAtMostTheirAmounts ns → (es : List (ℕ × ℕ)) → IsRisen (n ∷ ns) → Rise es → AllByRecursion (DrawsItsAmount (n ∷ ns)) es → drawn es ≤ sum (map amount (n ∷ ns))
+    with_first : (n : ℕ) (ns : List ℕ) → DrawAtMostTheirAmounts ns → (es : List (ℕ × ℕ)) → IsRisen (n ∷ ns) → Rise es
+        → AllByRecursion (DrawsItsAmount (n ∷ ns)) es → drawn es ≤ sum (map amount (n ∷ ns))
     with_first n ns rest [] up rise all = omega arith
     with_first n ns rest (e ∷ es) up rise all =
         let split : sum (map amount (n ∷ ns)) ≡ amount n + sum (map amount ns) = sum_by-cons (λ x. x) (amount n) (map amount ns) in
@@ -122,7 +127,8 @@ pub record DrawnPots (K : Type 0) : Type 0 where
 module _ {K : Type 0} (pots : DrawnPots K) where
   -- in a campaign each pot holds at least the sum of those of the shares whose units draw from it
   abbrev pub HaveEnough : CampaignValue → List (ℕ × ℕ) → Type 0
-  HaveEnough d es = (k : K) (q : Region) → get d.regions (pots.pot_region k) ≡ Some q → drawn (pots.draws k) es ≤ pots.left k q
+  HaveEnough d es =
+      (k : K) (q : Region) → get d.regions (pots.pot_region k) ≡ Some q → drawn (pots.draws k) es ≤ pots.left k q
 
   -- from one campaign to the next the pots from which a unit draws lose its share, and all others keep what they have
   abbrev pub Drains : CampaignValue → ℕ × ℕ → CampaignValue → Type 0
@@ -131,8 +137,11 @@ module _ {K : Type 0} (pots : DrawnPots K) where
       → (q : Region) × (get d.regions (pots.pot_region k) ≡ Some q) × (pots.left k x + cond (pots.draws k e.0) e.1 0 ≡ pots.left k q)
 
   module _ (d : CampaignValue) (e : ℕ × ℕ) (es : List (ℕ × ℕ)) (enough : HaveEnough d (e ∷ es)) where
-    pub first_draws : (k : K) (q : Region) → get d.regions (pots.pot_region k) ≡ Some q → pots.draws k e.0 ≡ true → e.1 ≤ pots.left k q
-    first_draws k q around mine = at_least (pots.left k q) (subst (λ b. cond b e.1 0 + drawn (pots.draws k) es ≤ pots.left k q) mine (enough k q around))
+    pub first_draws : (k : K) (q : Region) → get d.regions (pots.pot_region k) ≡ Some q → pots.draws k e.0 ≡ true
+        → e.1 ≤ pots.left k q
+    first_draws k q around mine =
+        at_least (pots.left k q)
+        (subst (λ b. cond b e.1 0 + drawn (pots.draws k) es ≤ pots.left k q) mine (enough k q around))
       where
         at_least : (all : ℕ) → e.1 + drawn (pots.draws k) es ≤ all → e.1 ≤ all
         at_least all h = omega (arith, h)
@@ -148,7 +157,8 @@ module _ {K : Type 0} (pots : DrawnPots K) where
   module _ (d : CampaignValue) (e : ℕ × ℕ) (after : CampaignValue) where
     -- All pots lose just what a unit draws (`Drains`), if one region alone changes, its pots lose the share where the
     -- unit draws, and the unit draws in no other region.
-    pub region_drains : (r : ℕ) (q : Region) → get d.regions r ≡ Some q → (f : Region → Region) → after.regions ≡ (region_changed f d r).regions
+    pub region_drains : (r : ℕ) (q : Region) → get d.regions r ≡ Some q → (f : Region → Region)
+        → after.regions ≡ (region_changed f d r).regions
         → ((k : K) → pots.pot_region k ≡ r → pots.left k (f q) + cond (pots.draws k e.0) e.1 0 ≡ pots.left k q)
         → ((k : K) → pots.pot_region k ≢ r → pots.draws k e.0 ≡ false) → Drains d e after
     region_drains r q around f changed here others k x found = elim (cases_eq (pots.pot_region k) r) [
@@ -164,7 +174,8 @@ module _ {K : Type 0} (pots : DrawnPots K) where
         put = sym (ap (λ m. get m (pots.pot_region k)) (changed ∙ changed-known f d.regions r q around)) ∙ found
 
     pub nothing_drains : after.regions ≡ d.regions → e.1 ≡ 0 → Drains d e after
-    nothing_drains same none k x found = (x, sym (ap (λ m. get m (pots.pot_region k)) same) ∙ found, ap (λ s. pots.left k x + cond (pots.draws k e.0) s 0) none ∙ neither (pots.draws k e.0) (pots.left k x))
+    nothing_drains same none k x found =
+        (x, sym (ap (λ m. get m (pots.pot_region k)) same) ∙ found, ap (λ s. pots.left k x + cond (pots.draws k e.0) s 0) none ∙ neither (pots.draws k e.0) (pots.left k x))
       where
         neither : (b : Bool) (a : ℕ) → a + cond b 0 0 ≡ a
         neither true a = add-zero a
@@ -182,14 +193,18 @@ module _ (units : FinMap nat_cmp Unit) (left : Region → ℕ) where
   region_pots = record { pot_region = λ r. r; draws = draws_region units; left = λ r q. left q }
 
   module _ (d : CampaignValue) (e : ℕ × ℕ) (u : Unit) (q : Region) (there : get units e.0 ≡ Some u) (around : get d.regions u.region ≡ Some q) where
-    pub one_drains : (after : CampaignValue) (f : Region → Region) → after.regions ≡ (region_changed f d u.region).regions → left (f q) + e.1 ≡ left q → Drains region_pots d e after
+    pub one_drains : (after : CampaignValue) (f : Region → Region)
+        → after.regions ≡ (region_changed f d u.region).regions → left (f q) + e.1 ≡ left q
+        → Drains region_pots d e after
     one_drains after f changed less =
         region_drains region_pots d e after u.region q around f changed
         (λ k same. subst (λ b. left (f q) + cond b e.1 0 ≡ left q) (sym (ap (is_in_region k) there ∙ ap (λ r. u.region == r) same ∙ same_number u.region)) less)
         (λ k apart. ap (is_in_region k) there ∙ other_number u.region k (λ is. apart (sym is)))
 
     pub one_draws : (es : List (ℕ × ℕ)) → HaveEnough region_pots d (e ∷ es) → e.1 ≤ left q
-    one_draws es enough = first_draws region_pots d e es enough u.region q around (ap (is_in_region u.region) there ∙ same_number u.region)
+    one_draws es enough =
+        first_draws region_pots d e es enough u.region q around
+        (ap (is_in_region u.region) there ∙ same_number u.region)
 
 -- The pot of a region is enough for all who draw from it: they get shares of it, which are together at most the pot.
 module _ (pot_of : ℕ → ℕ) (wants : FinMap nat_cmp ℕ) (c : CampaignValue) (r : ℕ) (draws : Drawers) (given : FinMap nat_cmp ℕ) where
@@ -202,7 +217,9 @@ module _ (pot_of : ℕ → ℕ) (wants : FinMap nat_cmp ℕ) (c : CampaignValue)
   -- Each unit with a share in `given` that draws from the pot is in region `r`, and its share is the one that
   -- `pot_shares` gives it.
   abbrev pub DrawShares : Type 0
-  DrawShares = (n share : ℕ) → get given n ≡ Some share → draws n ≡ true → (get (pot_shares pot_of wants c) n ≡ Some share) × (is_in_region r (get c.units n) ≡ true)
+  DrawShares =
+      (n share : ℕ) → get given n ≡ Some share → draws n ≡ true → (get (pot_shares pot_of wants c) n ≡ Some share) ×
+      (is_in_region r (get c.units n) ≡ true)
 
   listed : DrawShares → (n share : ℕ) → get given n ≡ Some share → DrawsItsAmount draws amount takers (n, share)
   listed shared n share found drawing =
@@ -222,8 +239,11 @@ module _ (pot_of : ℕ → ℕ) (wants : FinMap nat_cmp ℕ) (c : CampaignValue)
       least drawing (pot_of r) (sum (wants_in wants c.units r)) (subst (λ s. drawing ≤ s) (gives_each_pot pot_of wants c r there) few)
 
 -- the pot of a region of the campaign is enough for the shares of all units in the region
-pub pot_is_enough : (pot_of : ℕ → ℕ) (wants : FinMap nat_cmp ℕ) (c : CampaignValue) (r : ℕ) → HasValue c.regions r → drawn (draws_region c.units r) (entries (pot_shares pot_of wants c)) ≤ pot_of r
-pot_is_enough pot_of wants c r there = shares_are_enough pot_of wants c r (draws_region c.units r) (pot_shares pot_of wants c) (λ n share is is_at. (is, is_at)) there
+pub pot_is_enough : (pot_of : ℕ → ℕ) (wants : FinMap nat_cmp ℕ) (c : CampaignValue) (r : ℕ) → HasValue c.regions r
+    → drawn (draws_region c.units r) (entries (pot_shares pot_of wants c)) ≤ pot_of r
+pot_is_enough pot_of wants c r there =
+    shares_are_enough pot_of wants c r (draws_region c.units r) (pot_shares pot_of wants c)
+    (λ n share is is_at. (is, is_at)) there
 
 -- ---- units that have not been paid yet are as they were
 
@@ -232,9 +252,12 @@ module _ (c : CampaignValue) where
   abbrev pub AreUntouched : CampaignValue → List (ℕ × ℕ) → Type 0
   AreUntouched d es = AllByRecursion (λ e. get d.units e.0 ≡ get c.units e.0) es
 
-  pub still : (d after : CampaignValue) (n : ℕ) (es : List (ℕ × ℕ)) → ((k : ℕ) → k ≢ n → get after.units k ≡ get d.units k) → AllByRecursion (λ f. n < f.0) es → AreUntouched d es → AreUntouched after es
+  pub still : (d after : CampaignValue) (n : ℕ) (es : List (ℕ × ℕ))
+      → ((k : ℕ) → k ≢ n → get after.units k ≡ get d.units k) → AllByRecursion (λ f. n < f.0) es → AreUntouched d es
+      → AreUntouched after es
   still d after n [] same above all = tt
-  still d after n (f ∷ es) same above all = (same f.0 (λ e. absurd (omega (arith, e, above.0))) ∙ all.0, still d after n es same above.1 all.1)
+  still d after n (f ∷ es) same above all =
+      (same f.0 (λ e. absurd (omega (arith, e, above.0))) ∙ all.0, still d after n es same above.1 all.1)
 
   pub untouched : (es : List (ℕ × ℕ)) → AreUntouched c es
   untouched [] = tt
@@ -252,7 +275,8 @@ pub record SharesArePayable {K : Type 0} (pots : DrawnPots K) (Fits : ℕ × ℕ
   pub enough : HaveEnough pots d es
 
 pub ready_after : {K : Type 0} (pots : DrawnPots K) {Fits : ℕ × ℕ → Type 0} (w : WorldValue) (c d : CampaignValue) (e : ℕ × ℕ) (es : List (ℕ × ℕ)) (after : CampaignValue)
-    → SharesArePayable pots Fits w c d (e ∷ es) → IsEarly w after → ((k : ℕ) → k ≢ e.0 → get after.units k ≡ get d.units k)
+    → SharesArePayable pots Fits w c d (e ∷ es) → IsEarly w after
+    → ((k : ℕ) → k ≢ e.0 → get after.units k ≡ get d.units k)
     → Drains pots d e after → SharesArePayable pots Fits w c after es
 ready_after pots w c d e es after ready early others drains = record {
   early = early;

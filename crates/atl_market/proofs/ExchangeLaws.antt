@@ -29,7 +29,8 @@ use Rattle.atl_phase.proofs.MeaningLaws.{same_month_by}
 pub record KeepsTogether (u : Unit) (q : Region) (f : Region → Region) (more : HoldingValue) (z : ℤ) : Type 0 where
   pub money : pos (more.money + (f q).money) ≡ pos (u.holding.money + q.money) +ℤ z
   pub people : more.men + (f q).peasants ≡ u.holding.men + q.peasants
-  pub items : (i : ℕ) → amount_of more.items i + amount_of (f q).stocks i ≡ amount_of u.holding.items i + amount_of q.stocks i
+  pub items : (i : ℕ)
+      → amount_of more.items i + amount_of (f q).stocks i ≡ amount_of u.holding.items i + amount_of q.stocks i
 
 module _ (w : WorldValue) (c : CampaignValue) (n : ℕ) (u : Unit) (q : Region) (f : Region → Region) (more : HoldingValue) (entry : BooksEntry) (z : ℤ)
     (is : get c.units n ≡ Some u) (around : get c.regions u.region ≡ Some q) where
@@ -45,8 +46,11 @@ module _ (w : WorldValue) (c : CampaignValue) (n : ℕ) (u : Unit) (q : Region) 
 
   -- an exchange after which unit and region together have what they had, plus the money booked (`KeepsTogether`),
   -- changes the total of each thing by what it books
-  total_of : KeepsTogether u q f more z → (t : Thing) → pos (total exchanged t) ≡ pos (total c t) +ℤ booked_for t Money z
-  total_of keeps t = by_thing t (total-booking left entry Money t z) (total-region f supplied u.region q around t) (total-new_holding w c n u more is t)
+  total_of : KeepsTogether u q f more z → (t : Thing)
+      → pos (total exchanged t) ≡ pos (total c t) +ℤ booked_for t Money z
+  total_of keeps t =
+      by_thing t (total-booking left entry Money t z) (total-region f supplied u.region q around t)
+      (total-new_holding w c n u more is t)
     where
       same : (a b d e g h i j : ℕ) → a ≡ b → b + g ≡ d + h → d + i ≡ e + j → j + h ≡ i + g → a ≡ e
       same a b d e g h i j s k l m = omega (arith, s, k, l, m)
@@ -59,8 +63,10 @@ module _ (w : WorldValue) (c : CampaignValue) (n : ℕ) (u : Unit) (q : Region) 
           zero_more : pos x +ℤ pos 0 ≡ pos x
           zero_more = omega (arith, ints)
 
-      by_thing : (t : Thing) → total exchanged t ≡ total left t → total left t + region_amount t q ≡ total supplied t + region_amount t (f q)
-          → total supplied t + unit_amount t u.holding ≡ total c t + unit_amount t more → pos (total exchanged t) ≡ pos (total c t) +ℤ booked_for t Money z
+      by_thing : (t : Thing) → total exchanged t ≡ total left t
+          → total left t + region_amount t q ≡ total supplied t + region_amount t (f q)
+          → total supplied t + unit_amount t u.holding ≡ total c t + unit_amount t more
+          → pos (total exchanged t) ≡ pos (total c t) +ℤ booked_for t Money z
       by_thing Money s a b = omega (arith, ints, s, a, b, keeps.money)
       by_thing People s a b = omega (arith, ints, s, a, b, keeps.people)
       by_thing (Item i) s a b =
@@ -69,7 +75,9 @@ module _ (w : WorldValue) (c : CampaignValue) (n : ℕ) (u : Unit) (q : Region) 
 
   -- An exchange keeps an early campaign early and its books balanced, if it breaks no rule of unit or region and books
   -- at most `limit` money. Unit and region must together have what they had, plus the money booked (`KeepsTogether`).
-  pub exchange_well : (limit : ℕ) → MayHave w more → (more.guard ≡ true → u.holding.guard ≡ true) → (IsSteady w supplied → IsSteady w left) → KeepsTogether u q f more z → IsWithin limit z → IsEarly w c → LeavesWell IsEarly (moves_only limit entry Money) w c exchanged
+  pub exchange_well : (limit : ℕ) → MayHave w more → (more.guard ≡ true → u.holding.guard ≡ true)
+      → (IsSteady w supplied → IsSteady w left) → KeepsTogether u q f more z → IsWithin limit z → IsEarly w c
+      → LeavesWell IsEarly (moves_only limit entry Money) w c exchanged
   exchange_well limit may flag region keeps small early =
       let before = early-having w c n u more is may flag early in
       record {

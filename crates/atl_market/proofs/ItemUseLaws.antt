@@ -36,7 +36,8 @@ use Rattle.atl_market.proofs.ThereLaws.{by_unit, unit_there}
 
 -- for `total_of`: the new total `x` is the old total `t` plus `z`, if amount `a` takes the place of `l`, and `a` is `l`
 -- plus `z`
-total_moves_with_amount : (x y t k a l : ℕ) (z : ℤ) → x ≡ y → y + k ≡ t + a → k ≡ l → pos a ≡ pos l +ℤ z → pos x ≡ pos t +ℤ z
+total_moves_with_amount : (x y t k a l : ℕ) (z : ℤ) → x ≡ y → y + k ≡ t + a → k ≡ l → pos a ≡ pos l +ℤ z
+    → pos x ≡ pos t +ℤ z
 total_moves_with_amount x y t k a l z e f g h = omega (arith, ints, e, f, g, h)
 
 total_stays_with_amount : (x y t k : ℕ) → x ≡ y → y + k ≡ t + k → pos x ≡ pos t +ℤ pos 0
@@ -44,10 +45,13 @@ total_stays_with_amount x y t k e f = omega (arith, ints, e, f)
 
 -- a campaign in which unit `n`, which is `u`, holds `amount` of item `i`
 abbrev pub item_held : CampaignValue → ℕ → Unit → (item amount : ℕ) → CampaignValue
-item_held c n u i amount = with_holding_at c n (record u.holding { items = with_amount_of u.holding.items i amount }) (Some u)
+item_held c n u i amount =
+    with_holding_at c n (record u.holding { items = with_amount_of u.holding.items i amount }) (Some u)
 
-item_is : (c : CampaignValue) (n : ℕ) (u : Unit) (i amount : ℕ) → get c.units n ≡ Some u → with_item c n i amount ≡ item_held c n u i amount
-item_is c n u i amount is = changed_held (λ h. record h { items = with_amount_of h.items i amount }) c (with_item c n i amount) n refl u is
+item_is : (c : CampaignValue) (n : ℕ) (u : Unit) (i amount : ℕ) → get c.units n ≡ Some u
+    → with_item c n i amount ≡ item_held c n u i amount
+item_is c n u i amount is =
+    changed_held (λ h. record h { items = with_amount_of h.items i amount }) c (with_item c n i amount) n refl u is
 
 -- ---- a unit holds another amount of an item, which is booked
 
@@ -72,7 +76,9 @@ module _ (w : WorldValue) (c : CampaignValue) (n : ℕ) (u : Unit) (i amount : �
     after = with_booking with_set e (Item i) z
 
     module _ (change : pos amount ≡ pos (amount_of u.holding.items i) +ℤ z) where
-      by_test : (j : ℕ) (q : Bool) → eq_by_cmp nat_cmp j i ≡ q → (x y t : ℕ) → x ≡ y → y + amount_of u.holding.items j ≡ t + cond q amount (amount_of u.holding.items j) → pos x ≡ pos t +ℤ cond (2 + j == 2 + i) z (pos 0)
+      by_test : (j : ℕ) (q : Bool) → eq_by_cmp nat_cmp j i ≡ q → (x y t : ℕ) → x ≡ y
+          → y + amount_of u.holding.items j ≡ t + cond q amount (amount_of u.holding.items j)
+          → pos x ≡ pos t +ℤ cond (2 + j == 2 + i) z (pos 0)
       by_test j true q x y t a b =
           let j_is : j ≡ i = compared_equal_is_equal i j q in
           let mine : (2 + j == 2 + i) ≡ true = grind (arith, nat_tests) in
@@ -81,21 +87,27 @@ module _ (w : WorldValue) (c : CampaignValue) (n : ℕ) (u : Unit) (i amount : �
       by_test j false q x y t a b =
           let apart : (j == i) ≡ false = unsigned_ties j i ∙ q in
           let other : (2 + j == 2 + i) ≡ false = grind (arith, nat_tests) in
-          total_stays_with_amount x y t (amount_of u.holding.items j) a b ∙ sym (ap (λ p. pos t +ℤ cond p z (pos 0)) other)
+          total_stays_with_amount x y t (amount_of u.holding.items j) a b
+          ∙ sym (ap (λ p. pos t +ℤ cond p z (pos 0)) other)
 
-      total_of : (t : Thing) → total after t ≡ total with_set t → total with_set t + unit_amount t u.holding ≡ total c t + unit_amount t more → pos (total after t) ≡ pos (total c t) +ℤ booked_for t (Item i) z
+      total_of : (t : Thing) → total after t ≡ total with_set t
+          → total with_set t + unit_amount t u.holding ≡ total c t + unit_amount t more
+          → pos (total after t) ≡ pos (total c t) +ℤ booked_for t (Item i) z
       total_of Money a b =
           let other : (0 == 2 + i) ≡ false = grind (arith, nat_tests) in
-          total_stays_with_amount (total after Money) (total with_set Money) (total c Money) u.holding.money a b ∙ sym (ap (λ p. pos (total c Money) +ℤ cond p z (pos 0)) other)
+          total_stays_with_amount (total after Money) (total with_set Money) (total c Money) u.holding.money a b
+          ∙ sym (ap (λ p. pos (total c Money) +ℤ cond p z (pos 0)) other)
       total_of People a b =
           let other : (1 == 2 + i) ≡ false = grind (arith, nat_tests) in
-          total_stays_with_amount (total after People) (total with_set People) (total c People) u.holding.men a b ∙ sym (ap (λ p. pos (total c People) +ℤ cond p z (pos 0)) other)
+          total_stays_with_amount (total after People) (total with_set People) (total c People) u.holding.men a b
+          ∙ sym (ap (λ p. pos (total c People) +ℤ cond p z (pos 0)) other)
       total_of (Item j) a b =
           by_test j (eq_by_cmp nat_cmp j i) refl (total after (Item j)) (total with_set (Item j)) (total c (Item j)) a
           (b ∙ ap (λ k. total c (Item j) + k) (amount_after_setting u.holding.items i amount j))
 
       -- setting a unit's amount of an item, and booking the difference, keeps a campaign steady and its books balanced
-      pub set_well : (limit : ℕ) → i < length w.items → amount ≤ holding_limit → IsWithin limit z → IsSteady w c → LeavesWell IsSteady (moves_only limit e (Item i)) w c after
+      pub set_well : (limit : ℕ) → i < length w.items → amount ≤ holding_limit → IsWithin limit z → IsSteady w c
+          → LeavesWell IsSteady (moves_only limit e (Item i)) w c after
       set_well limit known most small steady =
           let has = may known most (may_have w c n u is steady) in
           record {
@@ -118,56 +130,90 @@ pub put_to : (a k : ℕ) → pos (a + k) ≡ pos a +ℤ pos k
 put_to a k = omega (arith, ints)
 
 module _ (w : WorldValue) (c : CampaignValue) (n i k : ℕ) where
-  pub used_is : (u : Unit) → get c.units n ≡ Some u → with_used c n i k ≡ with_booking (item_held c n u i (amount_of u.holding.items i - k)) entries.Used (Item i) (neg_ℤ (pos k))
-  used_is u is = unit_there c n _ u is ∙ ap (λ d. with_booking d entries.Used (Item i) (neg_ℤ (pos k))) (item_is c n u i (amount_of u.holding.items i - k) is)
+  pub used_is : (u : Unit) → get c.units n ≡ Some u
+      → with_used c n i k
+      ≡ with_booking (item_held c n u i (amount_of u.holding.items i - k)) entries.Used (Item i) (neg_ℤ (pos k))
+  used_is u is =
+      unit_there c n _ u is
+      ∙ ap (λ d. with_booking d entries.Used (Item i) (neg_ℤ (pos k)))
+      (item_is c n u i (amount_of u.holding.items i - k) is)
 
-  pub made_is : (u : Unit) → get c.units n ≡ Some u → with_made c n i k ≡ with_booking (item_held c n u i (amount_of u.holding.items i + k)) entries.Made (Item i) (pos k)
-  made_is u is = unit_there c n _ u is ∙ ap (λ d. with_booking d entries.Made (Item i) (pos k)) (item_is c n u i (amount_of u.holding.items i + k) is)
+  pub made_is : (u : Unit) → get c.units n ≡ Some u
+      → with_made c n i k
+      ≡ with_booking (item_held c n u i (amount_of u.holding.items i + k)) entries.Made (Item i) (pos k)
+  made_is u is =
+      unit_there c n _ u is
+      ∙ ap (λ d. with_booking d entries.Made (Item i) (pos k)) (item_is c n u i (amount_of u.holding.items i + k) is)
 
   held_within : (u : Unit) → get c.units n ≡ Some u → IsSteady w c → amount_of u.holding.items i ≤ holding_limit
   held_within u is steady = amount_within u.holding i (steady.numbers.units n u is).1
 
   -- using at most `limit` of an item that a unit holds keeps the campaign steady and its books balanced, within `limit`
-  pub used_up_to : (limit : ℕ) → k ≤ limit → (u : Unit) → get c.units n ≡ Some u → i < length w.items → k ≤ amount_of u.holding.items i → IsSteady w c → LeavesWell IsSteady (moves_only limit entries.Used (Item i)) w c (with_used c n i k)
+  pub used_up_to : (limit : ℕ) → k ≤ limit → (u : Unit) → get c.units n ≡ Some u → i < length w.items
+      → k ≤ amount_of u.holding.items i → IsSteady w c
+      → LeavesWell IsSteady (moves_only limit entries.Used (Item i)) w c (with_used c n i k)
   used_up_to limit most u there known enough steady =
       let a = amount_of u.holding.items i in
       let within = held_within u there steady in
       subst (λ d. LeavesWell IsSteady (moves_only limit entries.Used (Item i)) w c d) (sym (used_is u there))
       (set_well w c n u i (a - k) there entries.Used (neg_ℤ (pos k)) (taken_off a k enough) limit known (omega (arith, within)) (within-neg k limit most) steady)
 
-  pub used_well : CanUse w c n i k → LeavesWell IsSteady (moves_only holding_limit entries.Used (Item i)) w c (with_used c n i k)
+  pub used_well : CanUse w c n i k
+      → LeavesWell IsSteady (moves_only holding_limit entries.Used (Item i)) w c (with_used c n i k)
   used_well can =
       let within = held_within can.unit can.there can.steady in
       used_up_to holding_limit (omega (arith, within, can.enough)) can.unit can.there can.known can.enough can.steady
 
-  pub made_well : CanMake w c n i k → LeavesWell IsSteady (moves_only holding_limit entries.Made (Item i)) w c (with_made c n i k)
+  pub made_well : CanMake w c n i k
+      → LeavesWell IsSteady (moves_only holding_limit entries.Made (Item i)) w c (with_made c n i k)
   made_well can =
       let u = can.unit in
       let a = amount_of u.holding.items i in
       subst (λ d. LeavesWell IsSteady (moves_only holding_limit entries.Made (Item i)) w c d) (sym (made_is u can.there))
       (set_well w c n u i (a + k) can.there entries.Made (pos k) (put_to a k) holding_limit can.known can.fits (within-pos k holding_limit (omega (arith, can.fits))) can.steady)
 
-  pub used_unit : (u : Unit) → get c.units n ≡ Some u → get (with_used c n i k).units n ≡ Some (record u { holding = record u.holding { items = with_amount_of u.holding.items i (amount_of u.holding.items i - k) } })
-  used_unit u is = ap (λ (d : CampaignValue). get d.units n) (used_is u is) ∙ get-insert_same c.units n (record u { holding = record u.holding { items = with_amount_of u.holding.items i (amount_of u.holding.items i - k) } })
+  pub used_unit : (u : Unit) → get c.units n ≡ Some u
+      → get (with_used c n i k).units n
+      ≡ Some (record u { holding = record u.holding { items = with_amount_of u.holding.items i (amount_of u.holding.items i - k) } })
+  used_unit u is =
+      ap (λ (d : CampaignValue). get d.units n) (used_is u is)
+      ∙ get-insert_same c.units n
+      (record u { holding = record u.holding { items = with_amount_of u.holding.items i (amount_of u.holding.items i - k) } })
 
-  pub made_unit : (u : Unit) → get c.units n ≡ Some u → get (with_made c n i k).units n ≡ Some (record u { holding = record u.holding { items = with_amount_of u.holding.items i (amount_of u.holding.items i + k) } })
-  made_unit u is = ap (λ (d : CampaignValue). get d.units n) (made_is u is) ∙ get-insert_same c.units n (record u { holding = record u.holding { items = with_amount_of u.holding.items i (amount_of u.holding.items i + k) } })
+  pub made_unit : (u : Unit) → get c.units n ≡ Some u
+      → get (with_made c n i k).units n
+      ≡ Some (record u { holding = record u.holding { items = with_amount_of u.holding.items i (amount_of u.holding.items i + k) } })
+  made_unit u is =
+      ap (λ (d : CampaignValue). get d.units n) (made_is u is)
+      ∙ get-insert_same c.units n
+      (record u { holding = record u.holding { items = with_amount_of u.holding.items i (amount_of u.holding.items i + k) } })
 
   item_others : (amount m : ℕ) → m ≢ n → get (with_item c n i amount).units m ≡ get c.units m
-  item_others amount m apart = change_keeps_others (λ u. record u { holding = record u.holding { items = with_amount_of u.holding.items i amount } }) c n m apart
+  item_others amount m apart =
+      change_keeps_others
+      (λ u. record u { holding = record u.holding { items = with_amount_of u.holding.items i amount } }) c n m apart
 
   pub used_others : (m : ℕ) → m ≢ n → get (with_used c n i k).units m ≡ get c.units m
-  used_others m apart = by_unit c n (λ (d : CampaignValue). get d.units m ≡ get c.units m) _ refl (λ u is. item_others (amount_of u.holding.items i - k) m apart)
+  used_others m apart =
+      by_unit c n (λ (d : CampaignValue). get d.units m ≡ get c.units m) _ refl
+      (λ u is. item_others (amount_of u.holding.items i - k) m apart)
 
   pub made_others : (m : ℕ) → m ≢ n → get (with_made c n i k).units m ≡ get c.units m
-  made_others m apart = by_unit c n (λ (d : CampaignValue). get d.units m ≡ get c.units m) _ refl (λ u is. item_others (amount_of u.holding.items i + k) m apart)
+  made_others m apart =
+      by_unit c n (λ (d : CampaignValue). get d.units m ≡ get c.units m) _ refl
+      (λ u is. item_others (amount_of u.holding.items i + k) m apart)
 
-pub no_more : (h : HoldingValue) (r i k : ℕ) → amount_of (with_amount_of h.items r (amount_of h.items r - k)) i ≤ amount_of h.items i
-no_more h r i k = subst (λ a. a ≤ amount_of h.items i) (sym (amount_after_setting h.items r (amount_of h.items r - k) i)) (by_test (eq_by_cmp nat_cmp i r) refl)
+pub no_more : (h : HoldingValue) (r i k : ℕ)
+    → amount_of (with_amount_of h.items r (amount_of h.items r - k)) i ≤ amount_of h.items i
+no_more h r i k =
+    subst (λ a. a ≤ amount_of h.items i) (sym (amount_after_setting h.items r (amount_of h.items r - k) i))
+    (by_test (eq_by_cmp nat_cmp i r) refl)
   where
     less : (a b k : ℕ) → b ≡ a → a - k ≤ b
     less a b k e = omega (arith, e)
 
-    by_test : (q : Bool) → eq_by_cmp nat_cmp i r ≡ q → cond q (amount_of h.items r - k) (amount_of h.items i) ≤ amount_of h.items i
-    by_test true is = less (amount_of h.items r) (amount_of h.items i) k (ap (amount_of h.items) (compared_equal_is_equal r i is))
+    by_test : (q : Bool) → eq_by_cmp nat_cmp i r ≡ q
+        → cond q (amount_of h.items r - k) (amount_of h.items i) ≤ amount_of h.items i
+    by_test true is =
+        less (amount_of h.items r) (amount_of h.items i) k (ap (amount_of h.items) (compared_equal_is_equal r i is))
     by_test false is = omega arith

@@ -23,7 +23,8 @@ module _ (f : ℕ × ℕ → ℕ) where
   abbrev instead : List (ℕ × ℕ) → List (ℕ × ℕ)
   instead es = map (λ e. (e.0, f e)) es
 
-  above_instead : (k : ℕ) (es : List (ℕ × ℕ)) → AllByRecursion (λ e. k < e.0) es → AllByRecursion (λ e. k < e.0) (instead es)
+  above_instead : (k : ℕ) (es : List (ℕ × ℕ)) → AllByRecursion (λ e. k < e.0) es
+      → AllByRecursion (λ e. k < e.0) (instead es)
   above_instead k [] above = tt
   above_instead k (e ∷ es) above = (above.0, above_instead k es above.1)
 
@@ -31,7 +32,8 @@ module _ (f : ℕ × ℕ → ℕ) where
   rise_instead [] rise = tt
   rise_instead (e ∷ es) rise = (above_instead e.0 es rise.0, rise_instead es rise.1)
 
-  found_instead : (es : List (ℕ × ℕ)) (n a : ℕ) → find nat_cmp n (instead es) ≡ Some a → (b : ℕ) × (find nat_cmp n es ≡ Some b) × (a ≡ f (n, b))
+  found_instead : (es : List (ℕ × ℕ)) (n a : ℕ) → find nat_cmp n (instead es) ≡ Some a
+      → (b : ℕ) × (find nat_cmp n es ≡ Some b) × (a ≡ f (n, b))
   found_instead [] n a is = none_some a is
   found_instead (e ∷ es) n a is = elim (cases_eq n e.0) [
     | inl same ↦
@@ -46,8 +48,11 @@ module _ (f : ℕ × ℕ → ℕ) where
 -- ---- what is made
 
 module _ (asked : FinMap nat_cmp ℕ) (w : WorldValue) (c : CampaignValue) (wants : FinMap nat_cmp ℕ) where
-  pub makes_are : with_entries empty (map (λ e. (e.0, amount_made w asked c wants e)) (entries wants)) ≡ made_amounts asked w c wants
-  makes_are = risen_put (instead (amount_made w asked c wants) (entries wants)) (rise_instead (amount_made w asked c wants) (entries wants) (entries_rise wants))
+  pub makes_are : with_entries empty (map (λ e. (e.0, amount_made w asked c wants e)) (entries wants))
+      ≡ made_amounts asked w c wants
+  makes_are =
+      risen_put (instead (amount_made w asked c wants) (entries wants))
+      (rise_instead (amount_made w asked c wants) (entries wants) (entries_rise wants))
 
   least : (n want : ℕ) → get wants n ≡ Some want → amount_made w asked c wants (n, want) ≤ want
   least n want wanted = by_item (takes_raw w (get asked n))

@@ -25,13 +25,16 @@ module _ (c : CampaignValue) (n : ℕ) (u : Unit) (money : ℕ) where
 
   module _ (is : get c.units n ≡ Some u) where
     pub richer_is : with_money c n (u.holding.money + money) ≡ richer
-    richer_is = ap (λ m. record c { units = m }) (changed-known (λ (v : Unit). record v { holding = record v.holding { money = u.holding.money + money } }) c.units n u is)
+    richer_is =
+        ap (λ m. record c { units = m })
+        (changed-known (λ (v : Unit). record v { holding = record v.holding { money = u.holding.money + money } }) c.units n u is)
 
     pub others_stay : (k : ℕ) → k ≢ n → get richer.units k ≡ get c.units k
     others_stay k apart = get-insert_other c.units n k paid_unit apart
 
     paid_no_worse : IsNoWorse u paid_unit
-    paid_no_worse = record { faction = refl; region = refl; structure = refl; name = refl; guard = refl; men = omega arith; money = omega arith; items = λ i. omega arith; days = λ s. omega arith }
+    paid_no_worse =
+        record { faction = refl; region = refl; structure = refl; name = refl; guard = refl; men = omega arith; money = omega arith; items = λ i. omega arith; days = λ s. omega arith }
 
     pub richer_no_worse : AreNoWorse c richer
     richer_no_worse k v there = elim (cases_eq k n) [

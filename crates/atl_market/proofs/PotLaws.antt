@@ -39,7 +39,8 @@ has_value_if_some (Some x) h = (x, refl)
 
 -- ---- what is found under a number
 
-pub found_first : {V : Type 0} (n : ℕ) (es fs : List (ℕ × V)) (s : V) → find nat_cmp n es ≡ Some s → find nat_cmp n (es ++ fs) ≡ Some s
+pub found_first : {V : Type 0} (n : ℕ) (es fs : List (ℕ × V)) (s : V) → find nat_cmp n es ≡ Some s
+    → find nat_cmp n (es ++ fs) ≡ Some s
 found_first n [] fs s h = none_some s h
 found_first n (e ∷ es) fs s h =
     elim (is_eq (nat_cmp n e.0)) as (λ b. cond b (Some e.1) (find nat_cmp n es) ≡ Some s → cond b (Some e.1) (find nat_cmp n (es ++ fs)) ≡ Some s) [
@@ -47,7 +48,8 @@ found_first n (e ∷ es) fs s h =
       | false ↦ found_first n es fs s
     ] h
 
-pub found_later : {V : Type 0} (n : ℕ) (es fs : List (ℕ × V)) → find nat_cmp n es ≡ None → find nat_cmp n (es ++ fs) ≡ find nat_cmp n fs
+pub found_later : {V : Type 0} (n : ℕ) (es fs : List (ℕ × V)) → find nat_cmp n es ≡ None
+    → find nat_cmp n (es ++ fs) ≡ find nat_cmp n fs
 found_later n [] fs h = refl
 found_later n (e ∷ es) fs h =
     elim (is_eq (nat_cmp n e.0)) as (λ b. cond b (Some e.1) (find nat_cmp n es) ≡ None → cond b (Some e.1) (find nat_cmp n (es ++ fs)) ≡ find nat_cmp n fs) [
@@ -55,27 +57,33 @@ found_later n (e ∷ es) fs h =
       | false ↦ found_later n es fs
     ] h
 
-pub found_other : {V : Type 0} (e : ℕ × V) (es : List (ℕ × V)) (n : ℕ) → n ≢ e.0 → find nat_cmp n (e ∷ es) ≡ find nat_cmp n es
-found_other e es n apart = ap (λ b. cond b (Some e.1) (find nat_cmp n es)) (sym (unsigned_ties n e.0) ∙ other_number n e.0 apart)
+pub found_other : {V : Type 0} (e : ℕ × V) (es : List (ℕ × V)) (n : ℕ) → n ≢ e.0
+    → find nat_cmp n (e ∷ es) ≡ find nat_cmp n es
+found_other e es n apart =
+    ap (λ b. cond b (Some e.1) (find nat_cmp n es)) (sym (unsigned_ties n e.0) ∙ other_number n e.0 apart)
 
 -- no two entries have the same number
 abbrev pub IsApart : Entries → Type 0
 IsApart [] = ⊤
 IsApart (e ∷ es) = (find nat_cmp e.0 es ≡ None) × IsApart es
 
-found_tail : (e : ℕ × ℕ) (es : Entries) (n s : ℕ) → IsApart (e ∷ es) → find nat_cmp n es ≡ Some s → find nat_cmp n (e ∷ es) ≡ Some s
+found_tail : (e : ℕ × ℕ) (es : Entries) (n s : ℕ) → IsApart (e ∷ es) → find nat_cmp n es ≡ Some s
+    → find nat_cmp n (e ∷ es) ≡ Some s
 found_tail e es n s apart is = elim (cases_eq n e.0) [
   | inl same ↦ none_some s (sym apart.0 ∙ ap (λ k. find nat_cmp k es) (sym same) ∙ is)
   | inr other ↦ found_other e es n other ∙ is
 ]
 
-pub each_found : (P : ℕ × ℕ → Type 0) (es : Entries) → IsApart es → ((n s : ℕ) → find nat_cmp n es ≡ Some s → P (n, s)) → AllByRecursion P es
+pub each_found : (P : ℕ × ℕ → Type 0) (es : Entries) → IsApart es → ((n s : ℕ) → find nat_cmp n es ≡ Some s → P (n, s))
+    → AllByRecursion P es
 each_found P [] apart h = tt
-each_found P (e ∷ es) apart h = (h e.0 e.1 (first e es), each_found P es apart.1 (λ n s is. h n s (found_tail e es n s apart is)))
+each_found P (e ∷ es) apart h =
+    (h e.0 e.1 (first e es), each_found P es apart.1 (λ n s is. h n s (found_tail e es n s apart is)))
 
 -- ---- entries put into a map in turn
 
-pub others_keep_value : (m : FinMap nat_cmp ℕ) (es : Entries) (n : ℕ) → find nat_cmp n es ≡ None → get (with_entries m es) n ≡ get m n
+pub others_keep_value : (m : FinMap nat_cmp ℕ) (es : Entries) (n : ℕ) → find nat_cmp n es ≡ None
+    → get (with_entries m es) n ≡ get m n
 others_keep_value m [] n h = refl
 others_keep_value m (e ∷ es) n h =
     elim (eq_by_cmp nat_cmp n e.0) as (λ b. get (insert m e.0 e.1) n ≡ cond b (Some e.1) (get m n) → cond b (Some e.1) (find nat_cmp n es) ≡ None → get (with_entries (insert m e.0 e.1) es) n ≡ get m n) [
@@ -94,10 +102,13 @@ module _ (g : ℕ → Option ℕ) where
   abbrev pub AgreeWith : Entries → Type 0
   AgreeWith es = AllByRecursion (λ e. g e.0 ≡ Some e.1) es
 
-  put_here : (m : FinMap nat_cmp ℕ) (e : ℕ × ℕ) (n s : ℕ) → n ≡ e.0 → g e.0 ≡ Some e.1 → g n ≡ Some s → get (insert m e.0 e.1) n ≡ Some s
-  put_here m e n s same says is = ap (get (insert m e.0 e.1)) same ∙ get-insert_same m e.0 e.1 ∙ sym says ∙ ap g (sym same) ∙ is
+  put_here : (m : FinMap nat_cmp ℕ) (e : ℕ × ℕ) (n s : ℕ) → n ≡ e.0 → g e.0 ≡ Some e.1 → g n ≡ Some s
+      → get (insert m e.0 e.1) n ≡ Some s
+  put_here m e n s same says is =
+      ap (get (insert m e.0 e.1)) same ∙ get-insert_same m e.0 e.1 ∙ sym says ∙ ap g (sym same) ∙ is
 
-  agreeing_stays : (m : FinMap nat_cmp ℕ) (es : Entries) (n s : ℕ) → AgreeWith es → g n ≡ Some s → get m n ≡ Some s → get (with_entries m es) n ≡ Some s
+  agreeing_stays : (m : FinMap nat_cmp ℕ) (es : Entries) (n s : ℕ) → AgreeWith es → g n ≡ Some s → get m n ≡ Some s
+      → get (with_entries m es) n ≡ Some s
   agreeing_stays m [] n s says is at = at
   agreeing_stays m (e ∷ es) n s says is at =
       agreeing_stays (insert m e.0 e.1) es n s says.1 is (elim (cases_eq n e.0) [
@@ -105,7 +116,8 @@ module _ (g : ℕ → Option ℕ) where
         | inr apart ↦ get-insert_other m e.0 n e.1 apart ∙ at
       ])
 
-  agreeing_comes : (m : FinMap nat_cmp ℕ) (es : Entries) (n s : ℕ) → AgreeWith es → g n ≡ Some s → is_some (find nat_cmp n es) ≡ true → get (with_entries m es) n ≡ Some s
+  agreeing_comes : (m : FinMap nat_cmp ℕ) (es : Entries) (n s : ℕ) → AgreeWith es → g n ≡ Some s
+      → is_some (find nat_cmp n es) ≡ true → get (with_entries m es) n ≡ Some s
   agreeing_comes m [] n s says is some = absurd (false≢true some)
   agreeing_comes m (e ∷ es) n s says is some = elim (cases_eq n e.0) [
     | inl same ↦ agreeing_stays (insert m e.0 e.1) es n s says.1 is (put_here m e n s same says.0 is)
@@ -113,7 +125,8 @@ module _ (g : ℕ → Option ℕ) where
   ]
 
   -- entries that agree with `g` and have all its numbers, put into the empty map, give each number what `g` has for it
-  pub agreeing_put : (es : Entries) → AgreeWith es → ((n s : ℕ) → g n ≡ Some s → is_some (find nat_cmp n es) ≡ true) → (n : ℕ) → get (with_entries empty es) n ≡ g n
+  pub agreeing_put : (es : Entries) → AgreeWith es → ((n s : ℕ) → g n ≡ Some s → is_some (find nat_cmp n es) ≡ true)
+      → (n : ℕ) → get (with_entries empty es) n ≡ g n
   agreeing_put es says whole n = by_find (find nat_cmp n es) refl
     where
       nothing : find nat_cmp n es ≡ None → (o : Option ℕ) → g n ≡ o → o ≡ None
@@ -129,32 +142,42 @@ module _ (g : ℕ → Option ℕ) where
 -- ---- entries with different numbers
 
 pub found_put : (es : Entries) → IsApart es → (n : ℕ) → get (with_entries empty es) n ≡ find nat_cmp n es
-found_put es apart = agreeing_put (λ n. find nat_cmp n es) es (each_found (λ e. find nat_cmp e.0 es ≡ Some e.1) es apart (λ n s is. is)) (λ n s is. ap is_some is)
+found_put es apart =
+    agreeing_put (λ n. find nat_cmp n es) es (each_found (λ e. find nat_cmp e.0 es ≡ Some e.1) es apart (λ n s is. is))
+    (λ n s is. ap is_some is)
 
 lower_number_not_found : (k : ℕ) (es : Entries) → AllByRecursion (λ e. k < e.0) es → find nat_cmp k es ≡ None
 lower_number_not_found k [] above = refl
-lower_number_not_found k (e ∷ es) above = found_other e es k (λ same. absurd (omega (arith, same, above.0))) ∙ lower_number_not_found k es above.1
+lower_number_not_found k (e ∷ es) above =
+    found_other e es k (λ same. absurd (omega (arith, same, above.0))) ∙ lower_number_not_found k es above.1
 
 rise_apart : (es : Entries) → Rise es → IsApart es
 rise_apart [] rise = tt
 rise_apart (e ∷ es) rise = (lower_number_not_found e.0 es rise.0, rise_apart es rise.1)
 
 pub risen_put : (es : Entries) → Rise es → with_entries empty es ≡ from_entries es
-risen_put es rise = same_map nat_cmp_total nat_cmp-IsAntisymmetric _ _ (λ n. found_put es (rise_apart es rise) n ∙ sym (get-from_entries nat_cmp_total es n))
+risen_put es rise =
+    same_map nat_cmp_total nat_cmp-IsAntisymmetric _ _
+    (λ n. found_put es (rise_apart es rise) n ∙ sym (get-from_entries nat_cmp_total es n))
 
 abbrev or_else : {V : Type 0} → Option V → Option V → Option V
 or_else None old = old
 or_else (Some s) old = Some s
 
 -- after entries were put into a map, a number has the value of its last entry, or else what the map had
-last_put : {V : Type 0} (m : FinMap nat_cmp V) (es : List (ℕ × V)) (n : ℕ) → get (with_entries m es) n ≡ or_else (find nat_cmp n (reverse es)) (get m n)
+last_put : {V : Type 0} (m : FinMap nat_cmp V) (es : List (ℕ × V)) (n : ℕ)
+    → get (with_entries m es) n ≡ or_else (find nat_cmp n (reverse es)) (get m n)
 last_put m [] n = refl
-last_put {V} m (e ∷ es) n = last_put (insert m e.0 e.1) es n ∙ by_find (find nat_cmp n (reverse es)) refl ∙ sym (ap (λ fs. or_else (find nat_cmp n fs) (get m n)) (reverse-append (e ∷ []) es))
+last_put {V} m (e ∷ es) n =
+    last_put (insert m e.0 e.1) es n ∙ by_find (find nat_cmp n (reverse es)) refl
+    ∙ sym (ap (λ fs. or_else (find nat_cmp n fs) (get m n)) (reverse-append (e ∷ []) es))
   where
-    by_find : (o : Option V) → find nat_cmp n (reverse es) ≡ o → or_else o (get (insert m e.0 e.1) n) ≡ or_else (find nat_cmp n (reverse es ++ e ∷ [])) (get m n)
+    by_find : (o : Option V) → find nat_cmp n (reverse es) ≡ o
+        → or_else o (get (insert m e.0 e.1) n) ≡ or_else (find nat_cmp n (reverse es ++ e ∷ [])) (get m n)
     by_find (Some s) is = ap (λ o. or_else o (get m n)) (sym (found_first n (reverse es) (e ∷ []) s is))
     by_find None is =
-        get-insert nat_cmp_total m e.0 e.1 n ∙ by_test (is_eq (nat_cmp n e.0)) ∙ ap (λ o. or_else o (get m n)) (sym (found_later n (reverse es) (e ∷ []) is))
+        get-insert nat_cmp_total m e.0 e.1 n ∙ by_test (is_eq (nat_cmp n e.0))
+        ∙ ap (λ o. or_else o (get m n)) (sym (found_later n (reverse es) (e ∷ []) is))
       where
         by_test : (b : Bool) → cond b (Some e.1) (get m n) ≡ or_else (cond b (Some e.1) None) (get m n)
         by_test true = refl
@@ -171,17 +194,23 @@ put_in_turn {V} es = same_map nat_cmp_total nat_cmp-IsAntisymmetric _ _ (λ n.
 
 -- ---- entries that regions give, where a number gets one share at most
 
-pub found_among : (f : ℕ → Entries) (n : ℕ) (xs : List ℕ) (x : ℕ) → list_any (eq_by_cmp nat_cmp x) xs ≡ true → is_some (find nat_cmp n (f x)) ≡ true → is_some (find nat_cmp n (flat_map f xs)) ≡ true
+pub found_among : (f : ℕ → Entries) (n : ℕ) (xs : List ℕ) (x : ℕ) → list_any (eq_by_cmp nat_cmp x) xs ≡ true
+    → is_some (find nat_cmp n (f x)) ≡ true → is_some (find nat_cmp n (flat_map f xs)) ≡ true
 found_among f n [] x among some = absurd (false≢true among)
-found_among f n (y ∷ xs) x among some = by_first (λ h. found_among f n xs x h some) (find nat_cmp n (f y)) refl (eq_by_cmp nat_cmp x y) refl among
+found_among f n (y ∷ xs) x among some =
+    by_first (λ h. found_among f n xs x h some) (find nat_cmp n (f y)) refl (eq_by_cmp nat_cmp x y) refl among
   where
     by_first : (list_any (eq_by_cmp nat_cmp x) xs ≡ true → is_some (find nat_cmp n (flat_map f xs)) ≡ true)
-        → (o : Option ℕ) → find nat_cmp n (f y) ≡ o → (b : Bool) → eq_by_cmp nat_cmp x y ≡ b → (b || list_any (eq_by_cmp nat_cmp x) xs) ≡ true → is_some (find nat_cmp n (flat_map f (y ∷ xs))) ≡ true
+        → (o : Option ℕ) → find nat_cmp n (f y) ≡ o → (b : Bool) → eq_by_cmp nat_cmp x y ≡ b
+        → (b || list_any (eq_by_cmp nat_cmp x) xs) ≡ true → is_some (find nat_cmp n (flat_map f (y ∷ xs))) ≡ true
     by_first rest (Some s) is b at h = ap is_some (found_first n (f y) (flat_map f xs) s is)
-    by_first rest None is true at h = absurd (false≢true (sym (ap is_some is) ∙ ap (λ z. is_some (find nat_cmp n (f z))) (sym (eqb-true x y (unsigned_ties x y ∙ at))) ∙ some))
+    by_first rest None is true at h =
+        absurd
+        (false≢true (sym (ap is_some is) ∙ ap (λ z. is_some (find nat_cmp n (f z))) (sym (eqb-true x y (unsigned_ties x y ∙ at))) ∙ some))
     by_first rest None is false at h = ap is_some (found_later n (f y) (flat_map f xs) is) ∙ rest h
 
-pub each_flat : {A : Type 0} (P : ℕ × ℕ → Type 0) (f : A → Entries) (xs : List A) → AllByRecursion (λ x. AllByRecursion P (f x)) xs → AllByRecursion P (flat_map f xs)
+pub each_flat : {A : Type 0} (P : ℕ × ℕ → Type 0) (f : A → Entries) (xs : List A)
+    → AllByRecursion (λ x. AllByRecursion P (f x)) xs → AllByRecursion P (flat_map f xs)
 each_flat P f [] h = tt
 each_flat P f (x ∷ xs) h = all_append P (f x) (flat_map f xs) h.0 (each_flat P f xs h.1)
 
@@ -189,7 +218,8 @@ module _ (f : ℕ → Entries) where
   abbrev from_all : List ℕ → Entries
   from_all rs = flat_map f rs
 
-  pub somewhere : (n s : ℕ) (rs : List ℕ) → find nat_cmp n (from_all rs) ≡ Some s → (r : ℕ) × (list_any (eq_by_cmp nat_cmp r) rs ≡ true) × (find nat_cmp n (f r) ≡ Some s)
+  pub somewhere : (n s : ℕ) (rs : List ℕ) → find nat_cmp n (from_all rs) ≡ Some s
+      → (r : ℕ) × (list_any (eq_by_cmp nat_cmp r) rs ≡ true) × (find nat_cmp n (f r) ≡ Some s)
   somewhere n s [] h = none_some s h
   somewhere n s (r ∷ rs) h =
       elim (find nat_cmp n (f r)) as (λ o. find nat_cmp n (f r) ≡ o → (q : ℕ) × (list_any (eq_by_cmp nat_cmp q) (r ∷ rs) ≡ true) × (find nat_cmp n (f q) ≡ Some s)) [
@@ -199,7 +229,8 @@ module _ (f : ℕ → Entries) where
 
   -- a number found among the entries of one region is found, with that value, among those of all, if no two regions
   -- have different values for it
-  there : (n r s : ℕ) → ((q t : ℕ) → find nat_cmp n (f q) ≡ Some t → t ≡ s) → find nat_cmp n (f r) ≡ Some s → (rs : List ℕ) → list_any (eq_by_cmp nat_cmp r) rs ≡ true → find nat_cmp n (from_all rs) ≡ Some s
+  there : (n r s : ℕ) → ((q t : ℕ) → find nat_cmp n (f q) ≡ Some t → t ≡ s) → find nat_cmp n (f r) ≡ Some s
+      → (rs : List ℕ) → list_any (eq_by_cmp nat_cmp r) rs ≡ true → find nat_cmp n (from_all rs) ≡ Some s
   there n r s one here rs among =
       let (t, found) = has_value_if_some (find nat_cmp n (from_all rs)) (found_among f n rs r among (ap is_some here)) in
       let (q, _, is) = somewhere n t rs found in
@@ -207,7 +238,8 @@ module _ (f : ℕ → Entries) where
 
 -- ---- pairs of numbers and amounts
 
-zip_found : (P : ℕ → Type 0) (ns ss : List ℕ) (n s : ℕ) → AllByRecursion P ns → find nat_cmp n (zip ns ss) ≡ Some s → P n
+zip_found : (P : ℕ → Type 0) (ns ss : List ℕ) (n s : ℕ) → AllByRecursion P ns → find nat_cmp n (zip ns ss) ≡ Some s
+    → P n
 zip_found P [] ss n s h is = none_some s is
 zip_found P (k ∷ ns) [] n s h is = none_some s is
 zip_found P (k ∷ ns) (t ∷ ss) n s h is =
@@ -223,11 +255,13 @@ IsRisen ns = InOrder (λ (n k : ℕ). n < k) ns
 zip_apart : (ns ss : List ℕ) → IsRisen ns → IsApart (zip ns ss)
 zip_apart [] ss h = tt
 zip_apart (n ∷ ns) [] h = tt
-zip_apart (n ∷ ns) (s ∷ ss) h = (none_if_not_some _ (λ t is. let low = zip_found (λ k. n < k) ns ss n t h.0 is in absurd (omega (arith, low))), zip_apart ns ss h.1)
+zip_apart (n ∷ ns) (s ∷ ss) h =
+    (none_if_not_some _ (λ t is. let low = zip_found (λ k. n < k) ns ss n t h.0 is in absurd (omega (arith, low))), zip_apart ns ss h.1)
 
 -- `g` maps the numbers `ns` to the amounts `ss`, if it has under each number the amount that is paired with it. The
 -- numbers are distinct, and as many as the amounts.
-zip_all : (g : ℕ → Option ℕ) (ns ss : List ℕ) → length ss ≡ length ns → IsApart (zip ns ss) → ((n s : ℕ) → find nat_cmp n (zip ns ss) ≡ Some s → g n ≡ Some s) → map g ns ≡ map Some ss
+zip_all : (g : ℕ → Option ℕ) (ns ss : List ℕ) → length ss ≡ length ns → IsApart (zip ns ss)
+    → ((n s : ℕ) → find nat_cmp n (zip ns ss) ≡ Some s → g n ≡ Some s) → map g ns ≡ map Some ss
 zip_all g [] [] l apart h = refl
 zip_all g [] (s ∷ ss) l apart h = absurd (omega arith)
 zip_all g (n ∷ ns) [] l apart h = absurd (omega arith)
@@ -242,7 +276,8 @@ all_listed : (P : ℕ → Type 0) (ns : List ℕ) → ((n : ℕ) → IsListed n 
 all_listed P [] h = tt
 all_listed P (n ∷ ns) h = (h n (inl refl), all_listed P ns (λ k is. h k (inr is)))
 
-each_mapped : {X Y : Type 0} (f : X → Y) (P : Y → Type 0) (xs : List X) → AllByRecursion (λ x. P (f x)) xs → AllByRecursion P (map f xs)
+each_mapped : {X Y : Type 0} (f : X → Y) (P : Y → Type 0) (xs : List X) → AllByRecursion (λ x. P (f x)) xs
+    → AllByRecursion P (map f xs)
 each_mapped f P [] h = tt
 each_mapped f P (x ∷ xs) h = (h.0, each_mapped f P xs h.1)
 
@@ -264,7 +299,8 @@ module _ (p : ℕ → Bool) (n : ℕ) where
   kept_listed [] h is = is
   kept_listed (k ∷ ns) h is = by_test (kept_listed ns h) (p k) refl is
     where
-      by_test : (IsListed n ns → IsListed n (filter p ns)) → (b : Bool) → p k ≡ b → IsListed n (k ∷ ns) → IsListed n (cond b (k ∷ filter p ns) (filter p ns))
+      by_test : (IsListed n ns → IsListed n (filter p ns)) → (b : Bool) → p k ≡ b → IsListed n (k ∷ ns)
+          → IsListed n (cond b (k ∷ filter p ns) (filter p ns))
       by_test rest true e (inl same) = inl same
       by_test rest true e (inr later) = inr (rest later)
       by_test rest false e (inl same) = absurd (false≢true (sym e ∙ ap p (sym same) ∙ h))
@@ -274,7 +310,8 @@ module _ (p : ℕ → Bool) (n : ℕ) where
   kept_was [] is = absurd is
   kept_was (k ∷ ns) is = by_test (kept_was ns) (p k) refl is
     where
-      by_test : (IsListed n (filter p ns) → IsListed n ns × (p n ≡ true)) → (b : Bool) → p k ≡ b → IsListed n (cond b (k ∷ filter p ns) (filter p ns)) → IsListed n (k ∷ ns) × (p n ≡ true)
+      by_test : (IsListed n (filter p ns) → IsListed n ns × (p n ≡ true)) → (b : Bool) → p k ≡ b
+          → IsListed n (cond b (k ∷ filter p ns) (filter p ns)) → IsListed n (k ∷ ns) × (p n ≡ true)
       by_test rest true e (inl same) = (inl same, ap p same ∙ e)
       by_test rest true e (inr later) = let (was, passes) = rest later in (inr was, passes)
       by_test rest false e later = let (was, passes) = rest later in (inr was, passes)
@@ -298,7 +335,8 @@ module _ (wants : FinMap nat_cmp ℕ) (units : FinMap nat_cmp Unit) where
       kept_in_order (λ n. is_some (get wants n)) (λ (n k : ℕ). n < k) (numbers_in_region r units)
       (keys_risen (filter here (entries units)) (kept_in_order here (λ (e f : ℕ × Unit). e.0 < f.0) (entries units) (entries_rise units)))
 
-  pub taker_listed : (n want : ℕ) (u : Unit) → get wants n ≡ Some want → get units n ≡ Some u → IsListed n (takers_in wants units u.region)
+  pub taker_listed : (n want : ℕ) (u : Unit) → get wants n ≡ Some want → get units n ≡ Some u
+      → IsListed n (takers_in wants units u.region)
   taker_listed n want u wanted is =
       kept_listed (λ k. is_some (get wants k)) n (numbers_in_region u.region units) (ap is_some wanted) (passing_listed (λ (v : Unit). v.region == u.region) units n u is (same_number u.region))
 
@@ -310,10 +348,13 @@ module _ (pot_of : ℕ → ℕ) (wants : FinMap nat_cmp ℕ) (units : FinMap nat
   given_in r = shares_in pot_of wants units r
 
   pub given_takes : (r n s : ℕ) → find nat_cmp n (given_in r) ≡ Some s → IsTaker wants units r n
-  given_takes r n s is = zip_found (IsTaker wants units r) (takers_in wants units r) (shares (pot_of r) (wants_in wants units r)) n s (takers_each wants units r) is
+  given_takes r n s is =
+      zip_found (IsTaker wants units r) (takers_in wants units r) (shares (pot_of r) (wants_in wants units r)) n s
+      (takers_each wants units r) is
 
   pub given_apart : (r : ℕ) → IsApart (given_in r)
-  given_apart r = zip_apart (takers_in wants units r) (shares (pot_of r) (wants_in wants units r)) (takers_risen wants units r)
+  given_apart r =
+      zip_apart (takers_in wants units r) (shares (pot_of r) (wants_in wants units r)) (takers_risen wants units r)
 
   -- if a unit has a share in region `q` and one in region `r`, the shares are equal, since a unit is in one region
   gives_one : (n q r s t : ℕ) → find nat_cmp n (given_in q) ≡ Some s → find nat_cmp n (given_in r) ≡ Some t → s ≡ t
@@ -325,25 +366,34 @@ module _ (pot_of : ℕ → ℕ) (wants : FinMap nat_cmp ℕ) (units : FinMap nat
       let share : Some s ≡ Some t = sym is ∙ ap (λ k. find nat_cmp n (given_in k)) region ∙ also in
       cc
 
-pub each_region : (P : ℕ → Type 0) (c : CampaignValue) → ((r : ℕ) → HasValue c.regions r → P r) → AllByRecursion P (keys c.regions)
-each_region P c h = by_entries (entries c.regions) (each-from_every (λ r q. get c.regions r ≡ Some q) c.regions (λ r q is. is))
+pub each_region : (P : ℕ → Type 0) (c : CampaignValue) → ((r : ℕ) → HasValue c.regions r → P r)
+    → AllByRecursion P (keys c.regions)
+each_region P c h =
+    by_entries (entries c.regions) (each-from_every (λ r q. get c.regions r ≡ Some q) c.regions (λ r q is. is))
   where
-    by_entries : (es : List (ℕ × Region)) → EachEntry (λ r q. get c.regions r ≡ Some q) es → AllByRecursion P (map (λ e. e.0) es)
+    by_entries : (es : List (ℕ × Region)) → EachEntry (λ r q. get c.regions r ≡ Some q) es
+        → AllByRecursion P (map (λ e. e.0) es)
     by_entries [] all = tt
     by_entries (e ∷ es) all = (h e.0 (e.1, all.0), by_entries es all.1)
 
 module _ (pot_of : ℕ → ℕ) (wants : FinMap nat_cmp ℕ) (c : CampaignValue) where
   -- the share of a unit (`share_of`) is the one found under its number among the shares of all regions
-  pub found_is : (n : ℕ) → share_of pot_of wants c n ≡ find nat_cmp n (flat_map (shares_in pot_of wants c.units) (keys c.regions))
+  pub found_is : (n : ℕ)
+      → share_of pot_of wants c n ≡ find nat_cmp n (flat_map (shares_in pot_of wants c.units) (keys c.regions))
   unfolding pot_shares
   found_is n = get-from_entries nat_cmp_total (flat_map (shares_in pot_of wants c.units) (keys c.regions)) n
 
-  pub given_is : (r n s : ℕ) → HasValue c.regions r → find nat_cmp n (shares_in pot_of wants c.units r) ≡ Some s → share_of pot_of wants c n ≡ Some s
+  pub given_is : (r n s : ℕ) → HasValue c.regions r → find nat_cmp n (shares_in pot_of wants c.units r) ≡ Some s
+      → share_of pot_of wants c n ≡ Some s
   given_is r n s (q, is) found =
-      found_is n ∙ there (shares_in pot_of wants c.units) n r s (λ k t also. gives_one pot_of wants c.units n k r t s also found) found (keys c.regions) (sym (contains_key-keys c.regions r) ∙ ap is_some is)
+      found_is n
+      ∙ there (shares_in pot_of wants c.units) n r s (λ k t also. gives_one pot_of wants c.units n k r t s also found) found (keys c.regions) (sym (contains_key-keys c.regions r) ∙ ap is_some is)
 
-  pub region_agrees : (r : ℕ) → HasValue c.regions r → AllByRecursion (λ e. share_of pot_of wants c e.0 ≡ Some e.1) (shares_in pot_of wants c.units r)
-  region_agrees r region = each_found (λ e. share_of pot_of wants c e.0 ≡ Some e.1) (shares_in pot_of wants c.units r) (given_apart pot_of wants c.units r) (λ n s is. given_is r n s region is)
+  pub region_agrees : (r : ℕ) → HasValue c.regions r
+      → AllByRecursion (λ e. share_of pot_of wants c e.0 ≡ Some e.1) (shares_in pot_of wants c.units r)
+  region_agrees r region =
+      each_found (λ e. share_of pot_of wants c e.0 ≡ Some e.1) (shares_in pot_of wants c.units r)
+      (given_apart pot_of wants c.units r) (λ n s is. given_is r n s region is)
 
   -- once no region is left to come, the map into which all shares were put is `pot_shares` of the definition
   pub all_put : (given : FinMap nat_cmp ℕ) (coming : List (ℕ × Region)) → coming ≡ []
@@ -356,22 +406,28 @@ module _ (pot_of : ℕ → ℕ) (wants : FinMap nat_cmp ℕ) (c : CampaignValue)
 
 -- ---- the regions where a unit has a want
 
-still_in_after_insert : (m : FinMap nat_cmp ℕ) (k v n : ℕ) → is_some (get m n) ≡ true → is_some (get (insert m k v) n) ≡ true
-still_in_after_insert m k v n h = ap is_some (get-insert nat_cmp_total m k v n) ∙ elim (is_eq (nat_cmp n k)) as (λ b. is_some (cond b (Some v) (get m n)) ≡ true) [ true ↦ refl | false ↦ h ]
+still_in_after_insert : (m : FinMap nat_cmp ℕ) (k v n : ℕ) → is_some (get m n) ≡ true
+    → is_some (get (insert m k v) n) ≡ true
+still_in_after_insert m k v n h =
+    ap is_some (get-insert nat_cmp_total m k v n)
+    ∙ elim (is_eq (nat_cmp n k)) as (λ b. is_some (cond b (Some v) (get m n)) ≡ true) [ true ↦ refl | false ↦ h ]
 
 pub inserted_is_in : (m : FinMap nat_cmp ℕ) (n v : ℕ) → is_some (get (insert m n v) n) ≡ true
 inserted_is_in m n v = ap is_some (get-insert_same m n v)
 
-pub still_in_after_entries : (m : FinMap nat_cmp ℕ) (es : List (ℕ × ℕ)) (n : ℕ) → is_some (get m n) ≡ true → is_some (get (with_entries m es) n) ≡ true
+pub still_in_after_entries : (m : FinMap nat_cmp ℕ) (es : List (ℕ × ℕ)) (n : ℕ) → is_some (get m n) ≡ true
+    → is_some (get (with_entries m es) n) ≡ true
 still_in_after_entries m [] n h = h
-still_in_after_entries m (e ∷ es) n h = still_in_after_entries (insert m e.0 e.1) es n (still_in_after_insert m e.0 e.1 n h)
+still_in_after_entries m (e ∷ es) n h =
+    still_in_after_entries (insert m e.0 e.1) es n (still_in_after_insert m e.0 e.1 n h)
 
 module _ (wants : FinMap nat_cmp ℕ) (c : CampaignValue) where
   -- the region of an entry's unit, with the unit's number; nothing where the unit isn't there
   abbrev asked_at : ℕ × ℕ → Entries
   asked_at e = region_at e.0 (get c.units e.0)
 
-  asked_each : (m : FinMap nat_cmp ℕ) (es : Entries) → AllByRecursion (λ e. (u : Unit) → get c.units e.0 ≡ Some u → is_some (get (with_entries m (flat_map asked_at es)) u.region) ≡ true) es
+  asked_each : (m : FinMap nat_cmp ℕ) (es : Entries)
+      → AllByRecursion (λ e. (u : Unit) → get c.units e.0 ≡ Some u → is_some (get (with_entries m (flat_map asked_at es)) u.region) ≡ true) es
   asked_each m [] = tt
   asked_each m (e ∷ es) =
       let rest = flat_map asked_at es in
@@ -380,7 +436,8 @@ module _ (wants : FinMap nat_cmp ℕ) (c : CampaignValue) where
         subst (λ k. AllByRecursion (λ f. (u : Unit) → get c.units f.0 ≡ Some u → is_some (get k u.region) ≡ true) es) (sym both) (asked_each (with_entries m (asked_at e)) es),
       )
 
-  taker_asks : (n : ℕ) (u : Unit) → HasValue wants n → get c.units n ≡ Some u → is_some (get (regions_with_wants wants c) u.region) ≡ true
+  taker_asks : (n : ℕ) (u : Unit) → HasValue wants n → get c.units n ≡ Some u
+      → is_some (get (regions_with_wants wants c) u.region) ≡ true
   taker_asks n u (want, wanted) is =
       every-from_each (λ k x. (v : Unit) → get c.units k ≡ Some v → is_some (get (regions_with_wants wants c) v.region) ≡ true) wants (as_pairs _ (entries wants) (asked_each empty (entries wants))) n want wanted u is
 
@@ -402,11 +459,15 @@ shares_each_pot pot_of wants c r region =
     let long : length given ≡ length takers = length-shares (pot_of r) (wants_in wants c.units r) ∙ length-map takers (want_of wants) in
     zip_all (share_of pot_of wants c) takers given long (given_apart pot_of wants c.units r) (λ n s is. given_is pot_of wants c r n s region is)
 
-each_has_share_within_want : (g : ℕ → Option ℕ) (want : ℕ → ℕ) (ns ss : List ℕ) → map g ns ≡ map Some ss → ((i : ℕ) → get_or ss i 0 ≤ get_or (map want ns) i 0) → (n : ℕ) → IsListed n ns → (share : ℕ) × (g n ≡ Some share) × (share ≤ want n)
+each_has_share_within_want : (g : ℕ → Option ℕ) (want : ℕ → ℕ) (ns ss : List ℕ) → map g ns ≡ map Some ss
+    → ((i : ℕ) → get_or ss i 0 ≤ get_or (map want ns) i 0) → (n : ℕ) → IsListed n ns
+    → (share : ℕ) × (g n ≡ Some share) × (share ≤ want n)
 each_has_share_within_want g want [] ss same low n is = absurd is
 each_has_share_within_want g want (k ∷ ns) [] same low n is = cc
-each_has_share_within_want g want (k ∷ ns) (s ∷ ss) same low n (inl at) = (s, ap g at ∙ (cc), subst (λ j. s ≤ want j) (sym at) (low 0))
-each_has_share_within_want g want (k ∷ ns) (s ∷ ss) same low n (inr rest) = each_has_share_within_want g want ns ss (cc) (λ i. low (suc i)) n rest
+each_has_share_within_want g want (k ∷ ns) (s ∷ ss) same low n (inl at) =
+    (s, ap g at ∙ (cc), subst (λ j. s ≤ want j) (sym at) (low 0))
+each_has_share_within_want g want (k ∷ ns) (s ∷ ss) same low n (inr rest) =
+    each_has_share_within_want g want ns ss (cc) (λ i. low (suc i)) n rest
 
 pub each_taker_gets : EachTakerGets
 each_taker_gets pot_of wants c n want u wanted is region =
@@ -424,10 +485,12 @@ only_takers_get pot_of wants c n s is =
     let same : t ≡ s = cc in
     (want, u, wanted, subst (λ k. k ≤ want) same low, at, is_at)
 
-pub pots_give : (pot_of : ℕ → ℕ) (c : CampaignValue) (wants : FinMap nat_cmp ℕ) (n share : ℕ) → get (pot_shares pot_of wants c) n ≡ Some share → (want : ℕ) × (get wants n ≡ Some want) × (share ≤ want)
+pub pots_give : (pot_of : ℕ → ℕ) (c : CampaignValue) (wants : FinMap nat_cmp ℕ) (n share : ℕ)
+    → get (pot_shares pot_of wants c) n ≡ Some share → (want : ℕ) × (get wants n ≡ Some want) × (share ≤ want)
 pots_give pot_of c wants n share is = let (want, u, wanted, low, at, region) = only_takers_get pot_of wants c n share is in (want, wanted, low)
 
-mapped_with_default : (g : ℕ → Option ℕ) (ns ss : List ℕ) → map g ns ≡ map Some ss → map (λ n. unwrap_or (g n) 0) ns ≡ ss
+mapped_with_default : (g : ℕ → Option ℕ) (ns ss : List ℕ) → map g ns ≡ map Some ss
+    → map (λ n. unwrap_or (g n) 0) ns ≡ ss
 mapped_with_default g ns ss h = mapped ns ∙ ap (map (λ o. unwrap_or o 0)) h ∙ back ss
   where
     mapped : (ns : List ℕ) → map (λ n. unwrap_or (g n) 0) ns ≡ map (λ o. unwrap_or o 0) (map g ns)
@@ -447,4 +510,5 @@ pub other_regions_do_not_count : OtherRegionsDoNotCount
 other_regions_do_not_count pot_of other_pots wants other_wants c other r here there pots takers wanted =
     shares_each_pot pot_of wants c r here
     ∙ ap (map Some) (ap (λ p. shares p (wants_in wants c.units r)) pots ∙ ap (shares (other_pots r)) wanted)
-    ∙ sym (shares_each_pot other_pots other_wants other r there) ∙ ap (map (share_of other_pots other_wants other)) (sym takers)
+    ∙ sym (shares_each_pot other_pots other_wants other r there)
+    ∙ ap (map (share_of other_pots other_wants other)) (sym takers)

@@ -57,47 +57,66 @@ other_amount_not_moved : (a b : ℕ) → a ≢ b → (if a == b then holding_lim
 other_amount_not_moved a b apart = let other : (a == b) ≡ false = grind (arith, nat_tests) in rw other (omega arith)
 
 used_less : (r : ℕ) → IsBoundWithin (moves_only holding_limit booked.Used (things.Item r)) (produce_moves holding_limit)
-used_less r booked.Made (things.Item j) = limit_or_zero_within_limit (amount_number booked.Made (things.Item j) == amount_number booked.Used (things.Item r))
-used_less r booked.Used (things.Item j) = limit_or_zero_within_limit (amount_number booked.Used (things.Item j) == amount_number booked.Used (things.Item r))
+used_less r booked.Made (things.Item j) =
+    limit_or_zero_within_limit (amount_number booked.Made (things.Item j) == amount_number booked.Used (things.Item r))
+used_less r booked.Used (things.Item j) =
+    limit_or_zero_within_limit (amount_number booked.Used (things.Item j) == amount_number booked.Used (things.Item r))
 used_less r e t = other_amount_not_moved (amount_number e t) (amount_number booked.Used (things.Item r)) (omega arith)
 
 made_less : (i : ℕ) → IsBoundWithin (moves_only holding_limit booked.Made (things.Item i)) (produce_moves holding_limit)
-made_less i booked.Made (things.Item j) = limit_or_zero_within_limit (amount_number booked.Made (things.Item j) == amount_number booked.Made (things.Item i))
-made_less i booked.Used (things.Item j) = limit_or_zero_within_limit (amount_number booked.Used (things.Item j) == amount_number booked.Made (things.Item i))
+made_less i booked.Made (things.Item j) =
+    limit_or_zero_within_limit (amount_number booked.Made (things.Item j) == amount_number booked.Made (things.Item i))
+made_less i booked.Used (things.Item j) =
+    limit_or_zero_within_limit (amount_number booked.Used (things.Item j) == amount_number booked.Made (things.Item i))
 made_less i e t = other_amount_not_moved (amount_number e t) (amount_number booked.Made (things.Item i)) (omega arith)
 
 -- `steps` times PRODUCE's bound for the limit `one` is within its bound for the limit `all`, if `steps * one` is at
 -- most `all`
-steps_within_produce : (steps one all : ℕ) → steps * one ≤ all → (e : BooksEntry) (t : Thing) → steps * produce_moves one e t ≤ produce_moves all e t
+steps_within_produce : (steps one all : ℕ) → steps * one ≤ all → (e : BooksEntry) (t : Thing)
+    → steps * produce_moves one e t ≤ produce_moves all e t
 steps_within_produce steps one all few booked.Made (things.Item i) = few
 steps_within_produce steps one all few booked.Used (things.Item i) = few
 steps_within_produce steps one all few e t = omega arith
 
-used_none : (r j : ℕ) → (if amount_number booked.Made (things.Item j) == amount_number booked.Used (things.Item r) then holding_limit else 0) ≤ 0
-used_none r j = other_amount_not_moved (amount_number booked.Made (things.Item j)) (amount_number booked.Used (things.Item r)) (omega arith)
+used_none : (r j : ℕ)
+    → (if amount_number booked.Made (things.Item j) == amount_number booked.Used (things.Item r) then holding_limit else 0)
+    ≤ 0
+used_none r j =
+    other_amount_not_moved (amount_number booked.Made (things.Item j)) (amount_number booked.Used (things.Item r))
+    (omega arith)
 
-made_none : (i j : ℕ) → (if amount_number booked.Used (things.Item j) == amount_number booked.Made (things.Item i) then holding_limit else 0) ≤ 0
-made_none i j = other_amount_not_moved (amount_number booked.Used (things.Item j)) (amount_number booked.Made (things.Item i)) (omega arith)
+made_none : (i j : ℕ)
+    → (if amount_number booked.Used (things.Item j) == amount_number booked.Made (things.Item i) then holding_limit else 0)
+    ≤ 0
+made_none i j =
+    other_amount_not_moved (amount_number booked.Used (things.Item j)) (amount_number booked.Made (things.Item i))
+    (omega arith)
 
-both_less : (r i : ℕ) → IsBoundWithin (both_move (moves_only holding_limit booked.Used (things.Item r)) (moves_only holding_limit booked.Made (things.Item i))) (produce_moves holding_limit)
+both_less : (r i : ℕ)
+    → IsBoundWithin (both_move (moves_only holding_limit booked.Used (things.Item r)) (moves_only holding_limit booked.Made (things.Item i))) (produce_moves holding_limit)
 both_less r i booked.Made (things.Item j) = omega (arith, used_none r j, made_less i booked.Made (things.Item j))
 both_less r i booked.Used (things.Item j) = omega (arith, used_less r booked.Used (things.Item j), made_none i j)
 both_less r i e t = omega (arith, used_less r e t, made_less i e t)
 
-pub only_room : (e : BooksEntry) (t : Thing) (z : ℤ) → HasRoom (moves_only holding_limit e t e t) z → HasRoom holding_limit z
+pub only_room : (e : BooksEntry) (t : Thing) (z : ℤ) → HasRoom (moves_only holding_limit e t e t) z
+    → HasRoom holding_limit z
 only_room e t z room = subst (λ b. HasRoom (if b then holding_limit else 0) z) (same_number (amount_number e t)) room
 
 -- ---- one step
 
 -- the number and the item that `numbered_item` finds are the number that the order names, and the world's item under it
-of_numbered : (w : WorldValue) (asked : Option ℕ) (f : ℕ × Item) → numbered_item w asked ≡ Some f → (asked ≡ Some f.0) × (slice_get w.items f.0 ≡ Some f.1)
+of_numbered : (w : WorldValue) (asked : Option ℕ) (f : ℕ × Item) → numbered_item w asked ≡ Some f
+    → (asked ≡ Some f.0) × (slice_get w.items f.0 ≡ Some f.1)
 of_numbered w None f is = none_some f is
 of_numbered w (Some i) f is = by_world (slice_get w.items i) refl is
   where
     -- for `of_numbered`: the world has the item (`o`), since one is found
-    by_world : (o : Option Item) → slice_get w.items i ≡ o → option_map (λ x. (i, x)) o ≡ Some f → (Some i ≡ Some f.0) × (slice_get w.items f.0 ≡ Some f.1)
+    by_world : (o : Option Item) → slice_get w.items i ≡ o → option_map (λ x. (i, x)) o ≡ Some f
+        → (Some i ≡ Some f.0) × (slice_get w.items f.0 ≡ Some f.1)
     by_world None there found = none_some f found
-    by_world (Some x) there found = subst (λ (g : ℕ × Item). (Some i ≡ Some g.0) × (slice_get w.items g.0 ≡ Some g.1)) (same_Some (i, x) f found) (refl, there)
+    by_world (Some x) there found =
+        subst (λ (g : ℕ × Item). (Some i ≡ Some g.0) × (slice_get w.items g.0 ≡ Some g.1)) (same_Some (i, x) f found)
+        (refl, there)
 
 module _ (asked : FinMap nat_cmp ℕ) (w : WorldValue) (c : CampaignValue) (e : ℕ × ℕ) where
   module _ (can : CanProduce asked w c e) (i : ℕ) (x : Item) (says : get asked e.0 ≡ Some i) (there : slice_get w.items i ≡ Some x) where
@@ -141,7 +160,10 @@ module _ (asked : FinMap nat_cmp ℕ) (w : WorldValue) (c : CampaignValue) (e : 
           known = fits.known;
           fits = below (amount_of h.items i) (amount_of can.unit.holding.items i) left fits.fits;
           steady = well.leaves_it;
-          room = amount_room_for_less e.1 holding_limit (amount_in (with_used c e.0 r (e.1 * x.raw_count)).books booked.Made (things.Item i)) (omega (arith, fits.fits))
+          room =
+              amount_room_for_less e.1 holding_limit
+              (amount_in (with_used c e.0 r (e.1 * x.raw_count)).books booked.Made (things.Item i))
+              (omega (arith, fits.fits))
               (only_room booked.Made (things.Item i) (amount_in (with_used c e.0 r (e.1 * x.raw_count)).books booked.Made (things.Item i))
               (room_for_second (moves_only holding_limit booked.Used (things.Item r)) (moves_only holding_limit booked.Made (things.Item i)) w c (with_used c e.0 r (e.1 * x.raw_count)) well
               (room_less (both_move (moves_only holding_limit booked.Used (things.Item r)) (moves_only holding_limit booked.Made (things.Item i))) (produce_moves holding_limit) c (both_less r i) can.room) booked.Made (things.Item i)));
@@ -167,8 +189,11 @@ module _ (asked : FinMap nat_cmp ℕ) (w : WorldValue) (c : CampaignValue) (e : 
     item_well : LeavesWell IsSteady (produce_moves holding_limit) w c (with_made (with_raw_used c e.0 (e.1 * x.raw_count) x.raw) e.0 i e.1)
     item_well = by_raw x.raw refl
       where
-        by_raw : (o : Option ℕ) → x.raw ≡ o → LeavesWell IsSteady (produce_moves holding_limit) w c (with_made (with_raw_used c e.0 (e.1 * x.raw_count) o) e.0 i e.1)
-        by_raw None is = well_within (moves_only holding_limit booked.Made (things.Item i)) (produce_moves holding_limit) w c (with_made c e.0 i e.1) (made_less i) (made_well w c e.0 i e.1 can_at_once)
+        by_raw : (o : Option ℕ) → x.raw ≡ o
+            → LeavesWell IsSteady (produce_moves holding_limit) w c (with_made (with_raw_used c e.0 (e.1 * x.raw_count) o) e.0 i e.1)
+        by_raw None is =
+            well_within (moves_only holding_limit booked.Made (things.Item i)) (produce_moves holding_limit) w c
+            (with_made c e.0 i e.1) (made_less i) (made_well w c e.0 i e.1 can_at_once)
         by_raw (Some r) is =
             let d = with_used c e.0 r (e.1 * x.raw_count) in
             let one = moves_only holding_limit booked.Used (things.Item r) in
@@ -177,7 +202,8 @@ module _ (asked : FinMap nat_cmp ℕ) (w : WorldValue) (c : CampaignValue) (e : 
             (both_leave_well one two w c d (with_made d e.0 i e.1) (used_well w c e.0 r (e.1 * x.raw_count) (can_use r is)) (made_well w d e.0 i e.1 (can_after r is)))
 
   -- the production of a unit keeps the campaign steady and its books balanced, if the unit can make its share
-  pub produced_well : CanProduce asked w c e → LeavesWell IsSteady (produce_moves holding_limit) w c (after_production asked w c e)
+  pub produced_well : CanProduce asked w c e
+      → LeavesWell IsSteady (produce_moves holding_limit) w c (after_production asked w c e)
   unfolding after_production
   produced_well can =
       let unchanged = well_unchanged (produce_moves holding_limit) w c can.steady in
@@ -195,8 +221,10 @@ module _ (asked : FinMap nat_cmp ℕ) (w : WorldValue) (c : CampaignValue) (e : 
       made_others w (with_raw_used c e.0 amount x.raw) e.0 i e.1 k apart
       ∙ by_option (IsStill k) (λ r. with_used c e.0 r amount) x.raw c refl (λ r raw. used_others w c e.0 r amount k apart))
 
-pub produce_keeps_others : (w : WorldValue) (c : CampaignValue) (os : List Task) → OthersAreNoWorse os c (after_sharing produce_pots w c os)
-produce_keeps_others w c os = others_no_worse produce_pots w (λ items. produced_others items w) c (produce_gives_to_wants w c) os
+pub produce_keeps_others : (w : WorldValue) (c : CampaignValue) (os : List Task)
+    → OthersAreNoWorse os c (after_sharing produce_pots w c os)
+produce_keeps_others w c os =
+    others_no_worse produce_pots w (λ items. produced_others items w) c (produce_gives_to_wants w c) os
 
 -- ---- what a unit makes it can make
 
@@ -224,7 +252,9 @@ module _ (w : WorldValue) (c : CampaignValue) (os : List Task) where
       let (u, t, there, own, low, fine, named) = given_is_named produce_pots w c (produce_gives_to_wants w c) os n made is in
       (u, there, by_item u (item_in t.order_value.operands) low fine named)
     where
-      by_item : (u : Unit) (s : Option ℕ) → made ≤ most_makeable w u.holding s → produce_fault u.holding (item_of w s) ≡ None → ((i : ℕ) → s ≡ Some i → get items n ≡ Some i) → made ≤ most_makeable w u.holding (get items n)
+      by_item : (u : Unit) (s : Option ℕ) → made ≤ most_makeable w u.holding s
+          → produce_fault u.holding (item_of w s) ≡ None → ((i : ℕ) → s ≡ Some i → get items n ≡ Some i)
+          → made ≤ most_makeable w u.holding (get items n)
       by_item u None low fine named = absurd (false≢true (names_item u.holding None fine))
       by_item u (Some i) low fine named = subst (λ o. made ≤ most_makeable w u.holding o) (sym (named i refl)) low
 
@@ -232,21 +262,26 @@ up_to_most : (h : HoldingValue) (count : ℕ) (raw : Option ℕ) (most : ℕ) �
 up_to_most h count None most = omega arith
 up_to_most h count (Some r) most = omega arith
 
-up_to_held : (h : HoldingValue) (count : ℕ) (raw : Option ℕ) (most r : ℕ) → raw ≡ Some r → up_to_raw h count raw most ≤ amount_of h.items r / count
-up_to_held h count raw most r is = subst (λ o. up_to_raw h count o most ≤ amount_of h.items r / count) (sym is) (omega arith)
+up_to_held : (h : HoldingValue) (count : ℕ) (raw : Option ℕ) (most r : ℕ) → raw ≡ Some r
+    → up_to_raw h count raw most ≤ amount_of h.items r / count
+up_to_held h count raw most r is =
+    subst (λ o. up_to_raw h count o most ≤ amount_of h.items r / count) (sym is) (omega arith)
 
-has_room : (made skilled limit held most : ℕ) → held ≤ limit → made ≤ most → most ≤ min skilled (limit - held) → held + made ≤ limit
+has_room : (made skilled limit held most : ℕ) → held ≤ limit → made ≤ most → most ≤ min skilled (limit - held)
+    → held + made ≤ limit
 has_room made skilled limit held most fits low least = omega (arith, fits, low, least)
 
 has_raw : (made count held : ℕ) → made ≤ held / count → made * count ≤ held
-has_raw made count held low = omega (arith, mul-le-mul_right count low, mul-div-le held count, mul_comm (held / count) count)
+has_raw made count held low =
+    omega (arith, mul-le-mul_right count low, mul-div-le held count, mul_comm (held / count) count)
 
 raw_in : (items r : ℕ) (o : Option ℕ) → o ≡ Some r → IfSome o (λ k. k < items) → r < items
 raw_in items r None is known = none_some r is
 raw_in items r (Some k) is known = let same : k ≡ r = cc in subst (λ m. m < items) same known
 
 module _ (asked : FinMap nat_cmp ℕ) (w : WorldValue) (c : CampaignValue) (world : IsWorld w) (steady : IsSteady w c) where
-  fits_by : (n made : ℕ) (u : Unit) → get c.units n ≡ Some u → made ≤ most_makeable w u.holding (get asked n) → (i : ℕ) (x : Item) → get asked n ≡ Some i → slice_get w.items i ≡ Some x → HasRoomAndRaw w u made i x
+  fits_by : (n made : ℕ) (u : Unit) → get c.units n ≡ Some u → made ≤ most_makeable w u.holding (get asked n)
+      → (i : ℕ) (x : Item) → get asked n ≡ Some i → slice_get w.items i ≡ Some x → HasRoomAndRaw w u made i x
   fits_by n made u there low i x says is =
       let all : made ≤ most_makeable_of u.holding i x = subst (λ o. made ≤ option_map_or (λ (f : ℕ × Item). most_makeable_of u.holding f.0 f.1) (option_map (λ y. (i, y)) o) 0) is (subst (λ o. made ≤ most_makeable w u.holding o) says low) in
       let skilled = u.holding.men * level_in_any u.holding x.skill in
@@ -262,18 +297,25 @@ module _ (asked : FinMap nat_cmp ℕ) (w : WorldValue) (c : CampaignValue) (worl
 
 -- the unit of a pair (unit, share) is in the campaign, and has room and raw items for the share of its item
 abbrev HasRoomFor : (FinMap nat_cmp ℕ) → WorldValue → CampaignValue → ℕ × ℕ → Type 0
-HasRoomFor asked w c e = (u : Unit) × (get c.units e.0 ≡ Some u) × ((i : ℕ) (x : Item) → get asked e.0 ≡ Some i → slice_get w.items i ≡ Some x → HasRoomAndRaw w u e.1 i x)
+HasRoomFor asked w c e =
+    (u : Unit) × (get c.units e.0 ≡ Some u) ×
+    ((i : ℕ) (x : Item) → get asked e.0 ≡ Some i → slice_get w.items i ≡ Some x → HasRoomAndRaw w u e.1 i x)
 
 module _ (asked : FinMap nat_cmp ℕ) (w : WorldValue) where
   abbrev step_moves : BookBound
   step_moves = produce_moves holding_limit
 
-  still : (c d : CampaignValue) (n : ℕ) (es : List (ℕ × ℕ)) → ((k : ℕ) → k ≢ n → get d.units k ≡ get c.units k) → AllByRecursion (λ f. n < f.0) es → AllByRecursion (HasRoomFor asked w c) es → AllByRecursion (HasRoomFor asked w d) es
+  still : (c d : CampaignValue) (n : ℕ) (es : List (ℕ × ℕ)) → ((k : ℕ) → k ≢ n → get d.units k ≡ get c.units k)
+      → AllByRecursion (λ f. n < f.0) es → AllByRecursion (HasRoomFor asked w c) es
+      → AllByRecursion (HasRoomFor asked w d) es
   still c d n [] same above all = tt
-  still c d n (f ∷ es) same above ((u, there, fits), all) = ((u, same f.0 (λ e. absurd (omega (arith, e, above.0))) ∙ there, fits), still c d n es same above.1 all)
+  still c d n (f ∷ es) same above ((u, there, fits), all) =
+      ((u, same f.0 (λ e. absurd (omega (arith, e, above.0))) ∙ there, fits), still c d n es same above.1 all)
 
   -- shares can be made in turn, if each unit has room and raw items for its own and the books have room for all
-  pub produce_in_turn : (c : CampaignValue) (es : List (ℕ × ℕ)) → Rise es → IsSteady w c → HaveRoom (moved_times (length es) step_moves) c → AllByRecursion (HasRoomFor asked w c) es → CanInTurn (CanProduce asked w) (after_production asked w) c es
+  pub produce_in_turn : (c : CampaignValue) (es : List (ℕ × ℕ)) → Rise es → IsSteady w c
+      → HaveRoom (moved_times (length es) step_moves) c → AllByRecursion (HasRoomFor asked w c) es
+      → CanInTurn (CanProduce asked w) (after_production asked w) c es
   produce_in_turn c [] rise steady room all = tt
   produce_in_turn c (e ∷ es) rise steady room ((u, there, fits), all) =
       let can : CanProduce asked w c e = record { unit = u; there = there; fits = fits; steady = steady; room = first_room step_moves c e es room } in
@@ -302,14 +344,16 @@ module _ (w : WorldValue) (c : CampaignValue) (world : IsWorld w) (steady : IsSt
   little : IsBoundWithin (moved_times (length shares) (produce_moves holding_limit)) (produce_moves most_moved)
   little e t = steps_within_produce (length shares) holding_limit most_moved (omega (arith, few)) e t
 
-  pub can_share_out : HaveRoom (produce_moves most_moved) c → CanInTurn (CanProduce named w) (after_production named w) c shares
+  pub can_share_out : HaveRoom (produce_moves most_moved) c
+      → CanInTurn (CanProduce named w) (after_production named w) c shares
   can_share_out room =
       produce_in_turn named w c shares (entries_rise (given_by produce_pots w c os)) steady (room_less (moved_times (length shares) (produce_moves holding_limit)) (produce_moves most_moved) c little room)
       (all_pairs (HasRoomFor named w c) shares (each-from_every (λ n made. HasRoomFor named w c (n, made)) (given_by produce_pots w c os) each_fits))
 
   -- PRODUCE keeps a steady campaign steady and its books balanced, within the phase's bound, if the books have room for
   -- it
-  pub produce_leaves_well : HaveRoom (produce_moves most_moved) c → LeavesWell IsSteady (produce_moves most_moved) w c (after_sharing produce_pots w c os)
+  pub produce_leaves_well : HaveRoom (produce_moves most_moved) c
+      → LeavesWell IsSteady (produce_moves most_moved) w c (after_sharing produce_pots w c os)
   unfolding after_sharing
   produce_leaves_well room =
       well_within (moved_times (length shares) (produce_moves holding_limit)) (produce_moves most_moved) w c (fold (after_production named w) c shares) little

@@ -53,11 +53,14 @@ with_fewer_peasants q recruits r = record r { peasants = q.peasants - recruits }
 
 -- a campaign in which recruits joined unit `u`, which paid for them
 abbrev pub with_recruits_joined : CampaignValue → ℕ → Unit → (recruits cost : ℕ) → CampaignValue
-with_recruits_joined c n u recruits cost = record c { units = insert c.units n (record u { holding = with_paid_recruits u.holding recruits cost }) }
+with_recruits_joined c n u recruits cost =
+    record c { units = insert c.units n (record u { holding = with_paid_recruits u.holding recruits cost }) }
 
 -- a campaign in which recruits left region `q` and joined unit `u`, and their cost is booked
 abbrev pub with_recruits_booked : CampaignValue → ℕ → Unit → Region → (recruits cost : ℕ) → CampaignValue
-with_recruits_booked c n u q recruits cost = with_booking (region_changed (with_fewer_peasants q recruits) (with_recruits_joined c n u recruits cost) u.region) Recruiting Money (neg_ℤ (pos cost))
+with_recruits_booked c n u q recruits cost =
+    with_booking (region_changed (with_fewer_peasants q recruits) (with_recruits_joined c n u recruits cost) u.region)
+    Recruiting Money (neg_ℤ (pos cost))
 
 module _ (w : WorldValue) (c : CampaignValue) (n : ℕ) (u : Unit) (q : Region) (recruits cost : ℕ) (is : get c.units n ≡ Some u) (around : get c.regions u.region ≡ Some q) where
   abbrev after : CampaignValue
@@ -74,8 +77,12 @@ module _ (w : WorldValue) (c : CampaignValue) (n : ℕ) (u : Unit) (q : Region) 
   abbrev left : CampaignValue
   left = region_changed (with_fewer_peasants q recruits) peopled u.region
 
-  recruits_are : with_booking (with_peasants (with_holding c n more) u.region (q.peasants - recruits)) Recruiting Money (neg_ℤ (pos cost)) ≡ after
-  recruits_are = ap (λ o. with_booking (with_peasants (with_holding_at c n more o) u.region (q.peasants - recruits)) Recruiting Money (neg_ℤ (pos cost))) is
+  recruits_are : with_booking (with_peasants (with_holding c n more) u.region (q.peasants - recruits)) Recruiting Money (neg_ℤ (pos cost))
+      ≡ after
+  recruits_are =
+      ap
+      (λ o. with_booking (with_peasants (with_holding_at c n more o) u.region (q.peasants - recruits)) Recruiting Money (neg_ℤ (pos cost)))
+      is
 
   module _ (fits : u.holding.men + recruits ≤ men_limit) (payable : cost ≤ u.holding.money) (enough : recruits ≤ q.peasants) (early : IsEarly w c) where
     may : MayHave w more
@@ -108,11 +115,14 @@ module _ (w : WorldValue) (c : CampaignValue) (e : ℕ × ℕ) where
 
   -- recruiting by a unit that is there, in a region that is there, moves the unit's share of peasants into the unit,
   -- and takes and books their price (`with_recruits_booked`)
-  pub recruited_is : (u : Unit) (q : Region) → get c.units e.0 ≡ Some u → get c.regions u.region ≡ Some q → after_recruiting w c e ≡ with_recruits_booked c e.0 u q e.1 price
+  pub recruited_is : (u : Unit) (q : Region) → get c.units e.0 ≡ Some u → get c.regions u.region ≡ Some q
+      → after_recruiting w c e ≡ with_recruits_booked c e.0 u q e.1 price
   unfolding after_recruiting
-  recruited_is u q is around = unit_there c e.0 _ u is ∙ region_there c u.region _ q around ∙ recruits_are w c e.0 u q e.1 price is around
+  recruited_is u q is around =
+      unit_there c e.0 _ u is ∙ region_there c u.region _ q around ∙ recruits_are w c e.0 u q e.1 price is around
 
-  made_is : (can : CanRecruit w c e) → after_recruiting w c e ≡ with_recruits_booked c e.0 can.at.unit can.at.region e.1 price
+  made_is : (can : CanRecruit w c e)
+      → after_recruiting w c e ≡ with_recruits_booked c e.0 can.at.unit can.at.region e.1 price
   made_is can = recruited_is can.at.unit can.at.region can.at.there can.at.around
 
   pub recruited_well : CanRecruit w c e → LeavesWell IsEarly (recruit_moves holding_limit) w c (after_recruiting w c e)
@@ -120,7 +130,8 @@ module _ (w : WorldValue) (c : CampaignValue) (e : ℕ × ℕ) where
       subst (λ d. LeavesWell IsEarly (recruit_moves holding_limit) w c d) (sym (made_is can))
       (recruits_leave_well w c e.0 can.at.unit can.at.region e.1 price can.at.there can.at.around can.fits can.payable can.enough can.early)
 
-  recruited_drains : (can : CanRecruit w c e) (units : FinMap nat_cmp Unit) → get units e.0 ≡ Some can.at.unit → Drains (region_pots units peasants_of) c e (after_recruiting w c e)
+  recruited_drains : (can : CanRecruit w c e) (units : FinMap nat_cmp Unit) → get units e.0 ≡ Some can.at.unit
+      → Drains (region_pots units peasants_of) c e (after_recruiting w c e)
   recruited_drains can units there =
       one_drains units peasants_of c e can.at.unit can.at.region there can.at.around (after_recruiting w c e) (with_fewer_peasants can.at.region e.1) (ap (λ (d : CampaignValue). d.regions) (made_is can)) (sub-add_cancel can.enough)
 
@@ -132,8 +143,10 @@ module _ (w : WorldValue) (c : CampaignValue) (e : ℕ × ℕ) where
       ap (λ o. get (with_holding_at c e.0 (with_paid_recruits u.holding e.1 price) o).units k) is
       ∙ get-insert_other c.units e.0 k (record u { holding = with_paid_recruits u.holding e.1 price }) apart))
 
-pub recruit_keeps_others : (w : WorldValue) (c : CampaignValue) (os : List Task) → OthersAreNoWorse os c (after_sharing recruit_pots w c os)
-recruit_keeps_others w c os = others_no_worse recruit_pots w (λ items. recruited_others w) c (λ items. pots_give (recruits_at w c) c) os
+pub recruit_keeps_others : (w : WorldValue) (c : CampaignValue) (os : List Task)
+    → OthersAreNoWorse os c (after_sharing recruit_pots w c os)
+recruit_keeps_others w c os =
+    others_no_worse recruit_pots w (λ items. recruited_others w) c (λ items. pots_give (recruits_at w c) c) os
 
 -- ---- all shares can be given in turn
 
@@ -146,7 +159,9 @@ module _ (w : WorldValue) (c : CampaignValue) where
 
   -- the unit of a pair (unit, share) is in the campaign, has room for its recruits, and can pay for them
   abbrev CanHave : ℕ × ℕ → Type 0
-  CanHave e = (u : Unit) × (get c.units e.0 ≡ Some u) × (u.holding.men + e.1 ≤ men_limit) × (e.1 * w.rules.recruit_price ≤ u.holding.money)
+  CanHave e =
+      (u : Unit) × (get c.units e.0 ≡ Some u) × (u.holding.men + e.1 ≤ men_limit) ×
+      (e.1 * w.rules.recruit_price ≤ u.holding.money)
 
   abbrev AreToJoin : CampaignValue → List (ℕ × ℕ) → Type 0
   AreToJoin = SharesArePayable pots CanHave w c
@@ -154,7 +169,8 @@ module _ (w : WorldValue) (c : CampaignValue) where
   abbrev CanBook : CampaignValue → List (ℕ × ℕ) → Type 0
   CanBook d es = HaveRoom (moved_times (length es) step_moves) d
 
-  first_can : (d : CampaignValue) (e : ℕ × ℕ) (es : List (ℕ × ℕ)) → AreToJoin d (e ∷ es) → CanBook d (e ∷ es) → CanRecruit w d e
+  first_can : (d : CampaignValue) (e : ℕ × ℕ) (es : List (ℕ × ℕ)) → AreToJoin d (e ∷ es) → CanBook d (e ∷ es)
+      → CanRecruit w d e
   first_can d e es ready room =
       let (u, there, fits, payable) = ready.fits.0 in
       let now : get d.units e.0 ≡ Some u = ready.same.0 ∙ there in
@@ -162,7 +178,8 @@ module _ (w : WorldValue) (c : CampaignValue) where
       let draws = one_draws c.units peasants_of d e u q there around es ready.enough in
       record { at = record { unit = u; there = now; region = q; around = around }; fits = fits; payable = payable; enough = draws; early = ready.early; room = first_room step_moves d e es room }
 
-  all_can : (d : CampaignValue) (es : List (ℕ × ℕ)) → AreToJoin d es → CanBook d es → CanInTurn (CanRecruit w) (after_recruiting w) d es
+  all_can : (d : CampaignValue) (es : List (ℕ × ℕ)) → AreToJoin d es → CanBook d es
+      → CanInTurn (CanRecruit w) (after_recruiting w) d es
   all_can d [] ready room = tt
   all_can d (e ∷ es) ready room =
       let can = first_can d e es ready room in
@@ -177,10 +194,12 @@ module _ (w : WorldValue) (c : CampaignValue) where
     abbrev shares : List (ℕ × ℕ)
     shares = entries (given_by recruit_pots w c os)
 
-    wanted_fits : (count payable men share : ℕ) → men ≤ men_limit → share ≤ min count (min payable (men_limit - men)) → men + share ≤ men_limit
+    wanted_fits : (count payable men share : ℕ) → men ≤ men_limit → share ≤ min count (min payable (men_limit - men))
+        → men + share ≤ men_limit
     wanted_fits count payable men share fits low = omega (arith, fits, low)
 
-    wanted_payable : (count money price most share : ℕ) → share ≤ min count (min (money / price) most) → share * price ≤ money
+    wanted_payable : (count money price most share : ℕ) → share ≤ min count (min (money / price) most)
+        → share * price ≤ money
     wanted_payable count money price most share low =
         let few : share ≤ money / price = omega (arith, low) in
         omega (arith, mul-le-mul_right price few, mul-div-le money price, mul_comm (money / price) price)
@@ -199,7 +218,9 @@ module _ (w : WorldValue) (c : CampaignValue) where
         omega (arith, few, part q.peasants w.rules.recruit_fraction)
 
     few : length shares ≤ most_units
-    few = omega (arith, few_given recruit_pots w c (λ items. pots_give (recruits_at w c) c) os, early.steady.numbers.few_units)
+    few =
+        omega
+        (arith, few_given recruit_pots w c (λ items. pots_give (recruits_at w c) c) os, early.steady.numbers.few_units)
 
     -- the recruiting of all units that get recruits moves each amount of the books by less than 10^14 altogether
     little : (e : BooksEntry) (t : Thing) → moved_times (length shares) step_moves e t ≤ recruit_moves most_moved e t

@@ -39,13 +39,15 @@ build_takes : TakesThose build_step is_building all_orders
 build_takes w a t of_phase fit = by_verb t.order_value.verb t.order_value.operands of_phase fit.shape fit.operands
   where
     -- an element of a list, by an index within the list, is there, and so is what is made of it
-    is_there : {A B : Type 0} (f : A → B) (xs : List A) (i : ℕ) → i < length xs → is_some (option_map f (slice_get xs i)) ≡ true
+    is_there : {A B : Type 0} (f : A → B) (xs : List A) (i : ℕ) → i < length xs
+        → is_some (option_map f (slice_get xs i)) ≡ true
     is_there f [] i inside = absurd (omega (arith, inside))
     is_there f (x ∷ xs) zero inside = refl
     is_there f (x ∷ xs) (suc i) inside = is_there f xs i (omega (arith, inside))
 
     -- operands of the shape of BUILD, with a kind of the world or none, have an effect
-    by_verb : (v : Verb) (o : OperandsValue) → is_building v ≡ true → Fits v o → AreOperandsOf w o → is_some (build_effect w t.unit o) ≡ true
+    by_verb : (v : Verb) (o : OperandsValue) → is_building v ≡ true → Fits v o → AreOperandsOf w o
+        → is_some (build_effect w t.unit o) ≡ true
     by_verb verbs.Build (operands.Kind None) of_phase fits within = refl
     by_verb verbs.Build (operands.Kind (Some kind)) of_phase fits within = is_there _ w.kinds kind within
     by_verb verbs.Build o of_phase fits within = cc
@@ -58,7 +60,8 @@ build_gives = gives_by_orders build_step is_building all_orders build_takes
 -- ---- phases with pots
 
 -- a phase with pots gives an event to each order of its verbs
-pots_give : (p : PotMeaning) (is_of : Verb → Bool) → Gives (λ counts t. report_if (is_of t.order_value.verb && counts) t) (pots_by_orders p is_of)
+pots_give : (p : PotMeaning) (is_of : Verb → Bool)
+    → Gives (λ counts t. report_if (is_of t.order_value.verb && counts) t) (pots_by_orders p is_of)
 unfolding events_by
 pots_give p is_of = record {
   events = λ w c m aliases readings ea er fit t there.
@@ -110,10 +113,13 @@ module _ (c : CampaignValue) (aliases : Aliases) (faction line : ℕ) (low : 0 <
   none_idle [] = refl
   none_idle (e ∷ es) =
       let rest = filter at (map (λ e. idle_task e.0 e.1.faction) es) in
-      ap (λ b. cond b (idle_task e.0 e.1.faction ∷ rest) rest) (second_false (e.1.faction == faction) (0 == line) (other_number 0 line (λ same. absurd (omega (arith, low, same))))) ∙ none_idle es
+      ap (λ b. cond b (idle_task e.0 e.1.faction ∷ rest) rest) (second_false (e.1.faction == faction) (0 == line) (other_number 0 line (λ same. absurd (omega (arith, low, same)))))
+      ∙ none_idle es
 
   -- the orders of WORK on the line are the written ones there
-  work_left : (m : MonthValue) → filter at (work_orders c m) ≡ values (from_entries {R = slice_cmp nat_cmp} (map (λ u. (key_of ByUnit u, u)) (filter (λ u. is_work u.order_value.verb) (filter at (orders_by_unit is_month_long m)))))
+  work_left : (m : MonthValue)
+      → filter at (work_orders c m)
+      ≡ values (from_entries {R = slice_cmp nat_cmp} (map (λ u. (key_of ByUnit u, u)) (filter (λ u. is_work u.order_value.verb) (filter at (orders_by_unit is_month_long m)))))
   unfolding work_orders
   work_left m =
       let ts = orders_by_unit is_month_long m in
@@ -143,6 +149,11 @@ work_gives = record {
 }
   where
     -- of one order, or of none, the order is left if it is one of WORK
-    passing_one : (t : Task) (b : Bool) → filter (λ u. is_work u.order_value.verb) (cond b (t ∷ []) []) ≡ cond (is_work t.order_value.verb && b) (t ∷ []) []
-    passing_one t true = elim (is_work t.order_value.verb) as (λ x. cond x (t ∷ []) [] ≡ cond (x && true) (t ∷ []) []) [ true ↦ refl | false ↦ refl ]
-    passing_one t false = elim (is_work t.order_value.verb) as (λ x. [] ≡ cond (x && false) (t ∷ []) []) [ true ↦ refl | false ↦ refl ]
+    passing_one : (t : Task) (b : Bool)
+        → filter (λ u. is_work u.order_value.verb) (cond b (t ∷ []) [])
+        ≡ cond (is_work t.order_value.verb && b) (t ∷ []) []
+    passing_one t true =
+        elim (is_work t.order_value.verb) as (λ x. cond x (t ∷ []) [] ≡ cond (x && true) (t ∷ []) [])
+        [ true ↦ refl | false ↦ refl ]
+    passing_one t false =
+        elim (is_work t.order_value.verb) as (λ x. [] ≡ cond (x && false) (t ∷ []) []) [ true ↦ refl | false ↦ refl ]

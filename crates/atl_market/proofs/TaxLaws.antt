@@ -62,23 +62,32 @@ module _ (w : WorldValue) (c : CampaignValue) (n : ℕ) (u : Unit) (q : Region) 
   tax_is = ap (λ d. with_region_money d u.region (q.money - share)) (richer_is c n u share is)
 
   module _ (enough : share ≤ q.money) where
-    same_total : (t : Thing) → total after t + region_amount t q ≡ total (richer c n u share) t + region_amount t (with_share_taken q share q)
-        → total (richer c n u share) t + unit_amount t u.holding ≡ total c t + unit_amount t (paid c n u share) → total after t ≡ total c t
+    same_total : (t : Thing)
+        → total after t + region_amount t q
+        ≡ total (richer c n u share) t + region_amount t (with_share_taken q share q)
+        → total (richer c n u share) t + unit_amount t u.holding ≡ total c t + unit_amount t (paid c n u share)
+        → total after t ≡ total c t
     same_total Money a b = omega (arith, a, b, enough)
     same_total People a b = omega (arith, a, b)
-    same_total (Item i) a b = same (total after (Item i)) (total (richer c n u share) (Item i)) (total c (Item i)) (amount_of q.stocks i) (amount_of u.holding.items i) a b
+    same_total (Item i) a b =
+        same (total after (Item i)) (total (richer c n u share) (Item i)) (total c (Item i)) (amount_of q.stocks i)
+        (amount_of u.holding.items i) a b
       where
         same : (x y z j k : ℕ) → x + j ≡ y + j → y + k ≡ z + k → x ≡ z
         same x y z j k a b = omega (arith, a, b)
 
     -- a unit that takes its share keeps an early campaign early and its books balanced, if it has room for the money
-    pub tax_leaves_well : u.holding.money + share ≤ holding_limit → IsEarly w c → LeavesWell IsEarly moves_nothing w c after
+    pub tax_leaves_well : u.holding.money + share ≤ holding_limit → IsEarly w c
+        → LeavesWell IsEarly moves_nothing w c after
     tax_leaves_well fits early =
         let steady = early.steady in
         let within = steady.numbers.regions u.region q around in
         record {
           leaves_it = record {
-            steady = steady-region (with_share_taken q share) (richer c n u share) u.region q around w (IsRegion-money q (q.money - share) (omega (arith, within.money)) within) (steady.known.markets u.region q around)
+            steady =
+                steady-region (with_share_taken q share) (richer c n u share) u.region q around w
+                (IsRegion-money q (q.money - share) (omega (arith, within.money)) within)
+                (steady.known.markets u.region q around)
                 (steady-new_holding w c n u (paid c n u share) is (may_hold_money w c n (u.holding.money + share) u is fits steady) steady);
             flags = of_one_faction_kept w c n u (paid c n u share) is (λ v. v.holding.guard) (λ g. g) early.flags;
           };
@@ -90,9 +99,11 @@ module _ (w : WorldValue) (c : CampaignValue) (n : ℕ) (u : Unit) (q : Region) 
 -- ---- one step
 
 module _ (w : WorldValue) (c : CampaignValue) (e : ℕ × ℕ) where
-  pub taxed_is : (u : Unit) (q : Region) → get c.units e.0 ≡ Some u → get c.regions u.region ≡ Some q → after_tax c e ≡ after_share_taken c e.0 u q e.1
+  pub taxed_is : (u : Unit) (q : Region) → get c.units e.0 ≡ Some u → get c.regions u.region ≡ Some q
+      → after_tax c e ≡ after_share_taken c e.0 u q e.1
   unfolding after_tax
-  taxed_is u q is around = unit_there c e.0 _ u is ∙ region_there c u.region _ q around ∙ tax_is w c e.0 u q e.1 is around
+  taxed_is u q is around =
+      unit_there c e.0 _ u is ∙ region_there c u.region _ q around ∙ tax_is w c e.0 u q e.1 is around
 
   pub taxed_well : CanTax w c e → LeavesWell IsEarly moves_nothing w c (after_tax c e)
   taxed_well can =
@@ -100,9 +111,12 @@ module _ (w : WorldValue) (c : CampaignValue) (e : ℕ × ℕ) where
       (tax_leaves_well w c e.0 can.at.unit can.at.region e.1 can.at.there can.at.around can.enough can.fits can.early)
 
   taxed_others : CanTax w c e → (k : ℕ) → k ≢ e.0 → get (after_tax c e).units k ≡ get c.units k
-  taxed_others can k apart = ap (λ (d : CampaignValue). get d.units k) (taxed_is can.at.unit can.at.region can.at.there can.at.around) ∙ others_stay c e.0 can.at.unit e.1 can.at.there k apart
+  taxed_others can k apart =
+      ap (λ (d : CampaignValue). get d.units k) (taxed_is can.at.unit can.at.region can.at.there can.at.around)
+      ∙ others_stay c e.0 can.at.unit e.1 can.at.there k apart
 
-  taxed_drains : (can : CanTax w c e) (units : FinMap nat_cmp Unit) → get units e.0 ≡ Some can.at.unit → Drains (region_pots units money_of) c e (after_tax c e)
+  taxed_drains : (can : CanTax w c e) (units : FinMap nat_cmp Unit) → get units e.0 ≡ Some can.at.unit
+      → Drains (region_pots units money_of) c e (after_tax c e)
   taxed_drains can units there =
       one_drains units money_of c e can.at.unit can.at.region there can.at.around (after_tax c e) (with_share_taken can.at.region e.1)
       (ap (λ (d : CampaignValue). d.regions) (taxed_is can.at.unit can.at.region can.at.there can.at.around)) (sub-add_cancel can.enough)
@@ -117,9 +131,12 @@ module _ (w : WorldValue) (c : CampaignValue) (e : ℕ × ℕ) where
 
 each_no_worse : (w : WorldValue) (c : CampaignValue) (es : List (ℕ × ℕ)) → AreNoWorse c (fold after_tax c es)
 each_no_worse w c [] = are_no_worse c
-each_no_worse w c (e ∷ es) = are_no_worse_twice c (after_tax c e) (fold after_tax (after_tax c e) es) (taxed_no_worse w c e) (each_no_worse w (after_tax c e) es)
+each_no_worse w c (e ∷ es) =
+    are_no_worse_twice c (after_tax c e) (fold after_tax (after_tax c e) es) (taxed_no_worse w c e)
+    (each_no_worse w (after_tax c e) es)
 
-pub tax_keeps_units : (w : WorldValue) (c : CampaignValue) (os : List Task) → AreNoWorse c (after_sharing tax_pots w c os)
+pub tax_keeps_units : (w : WorldValue) (c : CampaignValue) (os : List Task)
+    → AreNoWorse c (after_sharing tax_pots w c os)
 unfolding after_sharing
 tax_keeps_units w c os = each_no_worse w c (entries (given_by tax_pots w c os))
 
@@ -156,7 +173,8 @@ module _ (w : WorldValue) (c : CampaignValue) where
     abbrev shares : List (ℕ × ℕ)
     shares = entries (given_by tax_pots w c os)
 
-    wanted_fits : (money men share : ℕ) → money ≤ holding_limit → share ≤ min men (holding_limit - money) → money + share ≤ holding_limit
+    wanted_fits : (money men share : ℕ) → money ≤ holding_limit → share ≤ min men (holding_limit - money)
+        → money + share ≤ holding_limit
     wanted_fits money men share fits low = omega (arith, fits, low)
 
     each_fits : Every (λ n share. HasRoomFor (n, share)) (given_by tax_pots w c os)
@@ -165,7 +183,9 @@ module _ (w : WorldValue) (c : CampaignValue) where
         (u, there, wanted_fits u.holding.money _ share (early.steady.numbers.units n u there).1.money low)
 
     all_enough : HaveEnough pots c shares
-    all_enough r q around = subst (λ pot. drawn (draws_region c.units r) shares ≤ pot) (ap (λ o. option_map_or money_of o 0) around) (pot_is_enough _ _ c r (q, around))
+    all_enough r q around =
+        subst (λ pot. drawn (draws_region c.units r) shares ≤ pot) (ap (λ o. option_map_or money_of o 0) around)
+        (pot_is_enough _ _ c r (q, around))
 
     pub can_share_out : CanInTurn (CanTax w) after_tax c shares
     can_share_out = all_can c shares (record {

@@ -79,11 +79,13 @@ pub record ResultFits (w : WorldValue) (u : Unit) (i before : ℕ) (d : TradeRes
 
 -- a campaign in which unit `n` has the money and the amount of an item that a trade leaves
 abbrev pub with_trader_set : CampaignValue → ℕ → Unit → ℕ → TradeResult → CampaignValue
-with_trader_set c n u i d = record c { units = insert c.units n (record u { holding = with_trade_result u.holding i d }) }
+with_trader_set c n u i d =
+    record c { units = insert c.units n (record u { holding = with_trade_result u.holding i d }) }
 
 -- a campaign after a trade: the unit, the stock of its region and the books are as the result `d` says
 abbrev pub after_deal : CampaignValue → ℕ → Unit → ℕ → BooksEntry → TradeResult → CampaignValue
-after_deal c n u i entry d = with_booking (region_changed (λ r. restocked r i d.stock) (with_trader_set c n u i d) u.region) entry Money d.booked
+after_deal c n u i entry d =
+    with_booking (region_changed (λ r. restocked r i d.stock) (with_trader_set c n u i d) u.region) entry Money d.booked
 
 module _ (w : WorldValue) (c : CampaignValue) (n : ℕ) (u : Unit) (q : Region) (i : ℕ) (entry : BooksEntry) (d : TradeResult) (is : get c.units n ≡ Some u) (around : get c.regions u.region ≡ Some q) where
   abbrev after : CampaignValue
@@ -120,13 +122,18 @@ module _ (w : WorldValue) (c : CampaignValue) (n : ℕ) (u : Unit) (q : Region) 
       where
         by_test : (j : ℕ) (b : Bool) → eq_by_cmp nat_cmp j i ≡ b
             → cond b d.amount (amount_of u.holding.items j) + cond b d.stock (amount_of q.stocks j) ≡ amount_of u.holding.items j + amount_of q.stocks j
-        by_test j true is_i = fits.goods ∙ ap (λ k. amount_of u.holding.items k + amount_of q.stocks k) (sym (compared_equal_is_equal i j is_i))
+        by_test j true is_i =
+            fits.goods
+            ∙ ap (λ k. amount_of u.holding.items k + amount_of q.stocks k) (sym (compared_equal_is_equal i j is_i))
         by_test j false is_other = refl
 
-        items : (j : ℕ) → amount_of more.items j + amount_of (restocked q i d.stock).stocks j ≡ amount_of u.holding.items j + amount_of q.stocks j
+        items : (j : ℕ)
+            → amount_of more.items j + amount_of (restocked q i d.stock).stocks j
+            ≡ amount_of u.holding.items j + amount_of q.stocks j
         items j =
             ap (λ k. k + amount_of (restocked q i d.stock).stocks j) (amount_after_setting u.holding.items i d.amount j)
-            ∙ ap (λ k. cond (eq_by_cmp nat_cmp j i) d.amount (amount_of u.holding.items j) + k) (amount_after_setting q.stocks i d.stock j) ∙ by_test j (eq_by_cmp nat_cmp j i) refl
+            ∙ ap (λ k. cond (eq_by_cmp nat_cmp j i) d.amount (amount_of u.holding.items j) + k) (amount_after_setting q.stocks i d.stock j)
+            ∙ by_test j (eq_by_cmp nat_cmp j i) refl
 
     -- a trade whose result is within all limits keeps the campaign early and its books balanced, and books only money
     pub deal_well : LeavesWell IsEarly (moves_only holding_limit entry Money) w c after
@@ -142,11 +149,13 @@ pub record IsMarketFor (w : WorldValue) (u : Unit) (item : Option ℕ) (m : Mark
   pub there : market_of w u.region m.item ≡ Some m
   pub bounds : IsMarket (length w.items) m.item m
 
-pub market_is : (w : WorldValue) → IsWorld w → (u : Unit) (item : Option ℕ) (m : Market) → market_for w u item ≡ Some m → IsMarketFor w u item m
+pub market_is : (w : WorldValue) → IsWorld w → (u : Unit) (item : Option ℕ) (m : Market) → market_for w u item ≡ Some m
+    → IsMarketFor w u item m
 market_is w world u None m is = none_some m is
 market_is w world u (Some i) m is = by_plan (get w.regions u.region) refl is
   where
-    by_plan : (o : Option RegionPlan) → get w.regions u.region ≡ o → option_and_then (λ (p : RegionPlan). get p.markets i) o ≡ Some m → IsMarketFor w u (Some i) m
+    by_plan : (o : Option RegionPlan) → get w.regions u.region ≡ o
+        → option_and_then (λ (p : RegionPlan). get p.markets i) o ≡ Some m → IsMarketFor w u (Some i) m
     by_plan None at found = none_some m found
     by_plan (Some p) at found =
         let of = (world.regions u.region p at).markets i m found in
@@ -175,7 +184,8 @@ module _ (w : WorldValue) (u : Unit) (m : Market) (stock share : ℕ) (there : m
   up_to a k limit few most = omega (arith, few, most)
 
   -- if the unit can afford the trade and the market's pot is large enough, the result of the trade is within all limits
-  pub deal_fits : (trade : Trade) → CanAfford trade u.holding share (Some m) → PotAllowsShare trade stock share (Some m) → ResultFits w u m.item stock (trade_result_of trade u.holding stock share m)
+  pub deal_fits : (trade : Trade) → CanAfford trade u.holding share (Some m) → PotAllowsShare trade stock share (Some m)
+      → ResultFits w u m.item stock (trade_result_of trade u.holding stock share m)
   deal_fits Sell (enough, room) pot = record {
     money = room;
     amount = less (amount_of u.holding.items m.item) share holding_limit (amount_within u.holding m.item holds);
@@ -195,10 +205,12 @@ module _ (w : WorldValue) (u : Unit) (m : Market) (stock share : ℕ) (there : m
 
 -- ---- one step
 
-pub stock_is : (c : CampaignValue) (r : ℕ) (q : Region) (i : ℕ) → get c.regions r ≡ Some q → stock_of c r i ≡ amount_of q.stocks i
+pub stock_is : (c : CampaignValue) (r : ℕ) (q : Region) (i : ℕ) → get c.regions r ≡ Some q
+    → stock_of c r i ≡ amount_of q.stocks i
 stock_is c r q i around = ap (λ o. option_map_or (λ (x : Region). amount_of x.stocks i) o 0) around
 
-stock_low : (w : WorldValue) (c : CampaignValue) (r : ℕ) (q : Region) (i : ℕ) → IsEarly w c → get c.regions r ≡ Some q → amount_of q.stocks i ≤ stock_limit w r i
+stock_low : (w : WorldValue) (c : CampaignValue) (r : ℕ) (q : Region) (i : ℕ) → IsEarly w c → get c.regions r ≡ Some q
+    → amount_of q.stocks i ≤ stock_limit w r i
 stock_low w c r q i early around = by_amount (get q.stocks i) refl
   where
     by_amount : (o : Option ℕ) → get q.stocks i ≡ o → unwrap_or o 0 ≤ stock_limit w r i
@@ -211,19 +223,25 @@ draws_item units items k n = is_in_region k.0 (get units n) && asks_for_item k.1
 
 -- the pots of SELL or BUY, by region and item
 abbrev pub item_pots : Trade → WorldValue → FinMap nat_cmp Unit → FinMap nat_cmp ℕ → DrawnPots (ℕ × ℕ)
-item_pots trade w units items = record { pot_region = λ k. k.0; draws = draws_item units items; left = λ k q. market_pot trade (limit_of w k.1 k.0) (amount_of q.stocks k.1) }
+item_pots trade w units items =
+    record { pot_region = λ k. k.0; draws = draws_item units items; left = λ k q. market_pot trade (limit_of w k.1 k.0) (amount_of q.stocks k.1) }
 
-pot_less : (trade : Trade) (h : HoldingValue) (limit stock share : ℕ) (m : Market) → limit ≡ m.limit → PotAllowsShare trade stock share (Some m)
+pot_less : (trade : Trade) (h : HoldingValue) (limit stock share : ℕ) (m : Market) → limit ≡ m.limit
+    → PotAllowsShare trade stock share (Some m)
     → market_pot trade limit (trade_result_of trade h stock share m).stock + share ≡ market_pot trade limit stock
 pot_less Sell h limit stock share m same pot = omega (arith, same, pot)
 pot_less Buy h limit stock share m same pot = omega (arith, pot)
 
 -- a campaign after a unit traded with a market; unchanged where there is none
 abbrev pub traded_at : Trade → CampaignValue → ℕ × ℕ → Unit → Option Market → CampaignValue
-traded_at trade c e u o = option_map_or (λ m. with_trade_booked c e.0 u m.item (trade_entry trade) (trade_result_of trade u.holding (stock_of c u.region m.item) e.1 m)) o c
+traded_at trade c e u o =
+    option_map_or
+    (λ m. with_trade_booked c e.0 u m.item (trade_entry trade) (trade_result_of trade u.holding (stock_of c u.region m.item) e.1 m))
+    o c
 
 module _ (trade : Trade) (items : FinMap nat_cmp ℕ) (w : WorldValue) (c : CampaignValue) (e : ℕ × ℕ) where
-  pub traded_is : (u : Unit) → get c.units e.0 ≡ Some u → (o : Option Market) → market_for w u (get items e.0) ≡ o → after_trade trade items w c e ≡ traded_at trade c e u o
+  pub traded_is : (u : Unit) → get c.units e.0 ≡ Some u → (o : Option Market) → market_for w u (get items e.0) ≡ o
+      → after_trade trade items w c e ≡ traded_at trade c e u o
   unfolding after_trade
   traded_is u is o at = unit_there c e.0 _ u is ∙ ap (traded_at trade c e u) at
 
@@ -252,7 +270,8 @@ module _ (trade : Trade) (items : FinMap nat_cmp ℕ) (w : WorldValue) (c : Camp
         subst (λ d. LeavesWell IsEarly (trade_moves trade holding_limit) w c d) (sym made_is)
         (deal_well w c e.0 can.at.unit can.at.region m.item (trade_entry trade) deal can.at.there can.at.around fits market.bounds.item (subst IsSome (sym market.there) refl) can.early)
 
-    made_drains : (units : FinMap nat_cmp Unit) → get units e.0 ≡ Some can.at.unit → Drains (item_pots trade w units items) c e (after_trade trade items w c e)
+    made_drains : (units : FinMap nat_cmp Unit) → get units e.0 ≡ Some can.at.unit
+        → Drains (item_pots trade w units items) c e (after_trade trade items w c e)
     made_drains units there =
         region_drains (item_pots trade w units items) c e (after_trade trade items w c e) can.at.unit.region can.at.region can.at.around (λ r. restocked r m.item deal.stock) (ap (λ (d : CampaignValue). d.regions) made_is)
         (λ k same. here k same (eq_by_cmp nat_cmp k.1 m.item) refl)
@@ -280,19 +299,23 @@ module _ (trade : Trade) (items : FinMap nat_cmp ℕ) (w : WorldValue) (c : Camp
             ∙ ap (market_pot trade (limit_of w k.1 k.0)) (amount_after_setting can.at.region.stocks m.item deal.stock k.1 ∙ ap (λ b. cond b deal.stock (amount_of can.at.region.stocks k.1)) is)
 
   -- the trade of a unit that can trade keeps the campaign early and its books balanced, within the bound of one trade
-  pub traded_well : CanTrade trade items w c e → LeavesWell IsEarly (trade_moves trade holding_limit) w c (after_trade trade items w c e)
+  pub traded_well : CanTrade trade items w c e
+      → LeavesWell IsEarly (trade_moves trade holding_limit) w c (after_trade trade items w c e)
   traded_well can = by_market (market_for w can.at.unit (get items e.0)) refl
     where
-      by_market : (o : Option Market) → market_for w can.at.unit (get items e.0) ≡ o → LeavesWell IsEarly (trade_moves trade holding_limit) w c (after_trade trade items w c e)
+      by_market : (o : Option Market) → market_for w can.at.unit (get items e.0) ≡ o
+          → LeavesWell IsEarly (trade_moves trade holding_limit) w c (after_trade trade items w c e)
       by_market None at =
           subst (λ d. LeavesWell IsEarly (trade_moves trade holding_limit) w c d) (sym (traded_is can.at.unit can.at.there None at))
           (well_unchanged (trade_moves trade holding_limit) w c can.early)
       by_market (Some m) at = made_well can m at
 
-  traded_drains : (can : CanTrade trade items w c e) (units : FinMap nat_cmp Unit) → get units e.0 ≡ Some can.at.unit → Drains (item_pots trade w units items) c e (after_trade trade items w c e)
+  traded_drains : (can : CanTrade trade items w c e) (units : FinMap nat_cmp Unit) → get units e.0 ≡ Some can.at.unit
+      → Drains (item_pots trade w units items) c e (after_trade trade items w c e)
   traded_drains can units there = by_market (market_for w can.at.unit (get items e.0)) refl
     where
-      by_market : (o : Option Market) → market_for w can.at.unit (get items e.0) ≡ o → Drains (item_pots trade w units items) c e (after_trade trade items w c e)
+      by_market : (o : Option Market) → market_for w can.at.unit (get items e.0) ≡ o
+          → Drains (item_pots trade w units items) c e (after_trade trade items w c e)
       by_market None at =
           nothing_drains (item_pots trade w units items) c e (after_trade trade items w c e) (ap (λ (d : CampaignValue). d.regions) (traded_is can.at.unit can.at.there None at)) (subst (CanAfford trade can.at.unit.holding e.1) at can.deal)
       by_market (Some m) at = made_drains can m at units there
@@ -308,10 +331,14 @@ module _ (trade : Trade) (items : FinMap nat_cmp ℕ) (w : WorldValue) (c : Camp
 -- ---- who gets something
 
 pub trades_give : (trade : Trade) (w : WorldValue) (c : CampaignValue) → GivesToWants (trade_pots trade) w c
-trades_give trade w c items wants n share is = items_give (get items) (trade_pot trade w c) wants c n share (sym (shares_at (get items) (trade_pot trade w c) wants c n) ∙ is)
+trades_give trade w c items wants n share is =
+    items_give (get items) (trade_pot trade w c) wants c n share
+    (sym (shares_at (get items) (trade_pot trade w c) wants c n) ∙ is)
 
-pub trade_keeps_others : (trade : Trade) (w : WorldValue) (c : CampaignValue) (os : List Task) → OthersAreNoWorse os c (after_sharing (trade_pots trade) w c os)
-trade_keeps_others trade w c os = others_no_worse (trade_pots trade) w (λ items. traded_others trade items w) c (trades_give trade w c) os
+pub trade_keeps_others : (trade : Trade) (w : WorldValue) (c : CampaignValue) (os : List Task)
+    → OthersAreNoWorse os c (after_sharing (trade_pots trade) w c os)
+trade_keeps_others trade w c os =
+    others_no_worse (trade_pots trade) w (λ items. traded_others trade items w) c (trades_give trade w c) os
 
 -- what a unit wants to trade it can afford, if its holding is within the limits
 module _ (h : HoldingValue) (m : Market) (says share : ℕ) (holds : IsHolding h) where
@@ -319,7 +346,8 @@ module _ (h : HoldingValue) (m : Market) (says share : ℕ) (holds : IsHolding h
   few_of says a b low = (omega (arith, low), omega (arith, low))
 
   times : (money price : ℕ) → share ≤ money / price → share * price ≤ money
-  times money price few = omega (arith, mul-le-mul_right price few, mul-div-le money price, mul_comm (money / price) price)
+  times money price few =
+      omega (arith, mul-le-mul_right price few, mul-div-le money price, mul_comm (money / price) price)
 
   room_for : (a k limit : ℕ) → a ≤ limit → k ≤ limit - a → a + k ≤ limit
   room_for a k limit fits few = omega (arith, fits, few)
@@ -351,14 +379,16 @@ module _ (trade : Trade) (items : FinMap nat_cmp ℕ) (w : WorldValue) (world : 
   CanBook d es = HaveRoom (moved_times (length es) step_moves) d
 
   -- a share that is at most the market's pot can be traded: the market has room for it (SELL) or has it in stock (BUY)
-  has_pot : (limit stock share : ℕ) (m : Market) → limit ≡ m.limit → stock ≤ m.limit → share ≤ market_pot trade limit stock → PotAllowsShare trade stock share (Some m)
+  has_pot : (limit stock share : ℕ) (m : Market) → limit ≡ m.limit → stock ≤ m.limit
+      → share ≤ market_pot trade limit stock → PotAllowsShare trade stock share (Some m)
   has_pot limit stock share m same low few = by_trade trade few
     where
       by_trade : (t : Trade) → share ≤ market_pot t limit stock → PotAllowsShare t stock share (Some m)
       by_trade Sell few = omega (arith, same, low, few)
       by_trade Buy few = few
 
-  first_can : (d : CampaignValue) (e : ℕ × ℕ) (es : List (ℕ × ℕ)) → AreToTrade d (e ∷ es) → CanBook d (e ∷ es) → CanTrade trade items w d e
+  first_can : (d : CampaignValue) (e : ℕ × ℕ) (es : List (ℕ × ℕ)) → AreToTrade d (e ∷ es) → CanBook d (e ∷ es)
+      → CanTrade trade items w d e
   first_can d e es ready room =
       let (u, there, deal) = ready.fits.0 in
       let now : get d.units e.0 ≡ Some u = ready.same.0 ∙ there in
@@ -380,7 +410,8 @@ module _ (trade : Trade) (items : FinMap nat_cmp ℕ) (w : WorldValue) (world : 
         room = first_room step_moves d e es room;
       }
 
-  all_can : (d : CampaignValue) (es : List (ℕ × ℕ)) → AreToTrade d es → CanBook d es → CanInTurn (CanTrade trade items w) (after_trade trade items w) d es
+  all_can : (d : CampaignValue) (es : List (ℕ × ℕ)) → AreToTrade d es → CanBook d es
+      → CanInTurn (CanTrade trade items w) (after_trade trade items w) d es
   all_can d [] ready room = tt
   all_can d (e ∷ es) ready room =
       let can = first_can d e es ready room in
@@ -415,13 +446,20 @@ module _ (trade : Trade) (w : WorldValue) (world : IsWorld w) (c : CampaignValue
       let (u, t, there, own, low, fine, says) = given_is_named (trade_pots trade) w c (trades_give trade w c) os n share is in
       (u, there, by_item u there (count_in t.order_value.operands) (item_in t.order_value.operands) low fine says)
     where
-      by_market : (asked : ℕ) (u : Unit) → get c.units n ≡ Some u → (m : Option Market) → share ≤ trade_want trade u.holding asked m → CanAfford trade u.holding share m
+      by_market : (asked : ℕ) (u : Unit) → get c.units n ≡ Some u → (m : Option Market)
+          → share ≤ trade_want trade u.holding asked m → CanAfford trade u.holding share m
       by_market asked u there None low = omega (arith, low)
-      by_market asked u there (Some m) low = wanted_fits u.holding m asked share (early.steady.numbers.units n u there).1 trade low
+      by_market asked u there (Some m) low =
+          wanted_fits u.holding m asked share (early.steady.numbers.units n u there).1 trade low
 
-      by_item : (u : Unit) → get c.units n ≡ Some u → (asked : ℕ) (s : Option ℕ) → share ≤ trade_want trade u.holding asked (market_for w u s) → trade_fault trade u.holding (market_for w u s) ≡ None → ((i : ℕ) → s ≡ Some i → get named n ≡ Some i) → CanAfford trade u.holding share (market_for w u (get named n))
+      by_item : (u : Unit) → get c.units n ≡ Some u → (asked : ℕ) (s : Option ℕ)
+          → share ≤ trade_want trade u.holding asked (market_for w u s)
+          → trade_fault trade u.holding (market_for w u s) ≡ None → ((i : ℕ) → s ≡ Some i → get named n ≡ Some i)
+          → CanAfford trade u.holding share (market_for w u (get named n))
       by_item u there asked None low fine says = none_some NoMarket (sym fine)
-      by_item u there asked (Some i) low fine says = subst (λ o. CanAfford trade u.holding share (market_for w u o)) (sym (says i refl)) (by_market asked u there (market_for w u (Some i)) low)
+      by_item u there asked (Some i) low fine says =
+          subst (λ o. CanAfford trade u.holding share (market_for w u o)) (sym (says i refl))
+          (by_market asked u there (market_for w u (Some i)) low)
 
   all_enough : HaveEnough drawn_pots c shares
   all_enough k q around =
@@ -462,8 +500,10 @@ module _ (trade : Trade) (w : WorldValue) (world : IsWorld w) (c : CampaignValue
 
 -- ---- what the code sets, books and marks
 
-pub can_book_result : (trade : Trade) (items : FinMap nat_cmp ℕ) (w : WorldValue) (c : CampaignValue) (n share : ℕ) → CanTrade trade items w c (n, share)
-    → (u : Unit) (m : Market) (stock : ℕ) (entry : BooksEntry) (d : TradeResult) → get c.units n ≡ Some u → market_for w u (get items n) ≡ Some m → stock ≡ stock_of c u.region m.item
+pub can_book_result : (trade : Trade) (items : FinMap nat_cmp ℕ) (w : WorldValue) (c : CampaignValue) (n share : ℕ)
+    → CanTrade trade items w c (n, share)
+    → (u : Unit) (m : Market) (stock : ℕ) (entry : BooksEntry) (d : TradeResult) → get c.units n ≡ Some u
+    → market_for w u (get items n) ≡ Some m → stock ≡ stock_of c u.region m.item
     → entry ≡ trade_entry trade → d ≡ trade_result_of trade u.holding stock share m → CanBookTrade c n entry d
 can_book_result trade items w c n share can u m stock entry d there at stock_at entry_at d_at =
     let e : ℕ × ℕ = (n, share) in
@@ -486,15 +526,24 @@ can_book_result trade items w c n share can u m stock entry d there at stock_at 
 pub stock_most : (w : WorldValue) (c : CampaignValue) (r i : ℕ) → IsWorld w → IsEarly w c → stock_of c r i ≤ most_amount
 stock_most w c r i world early = by_region (get c.regions r) refl
   where
-    by_market : (q : Region) → amount_of q.stocks i ≤ stock_limit w r i → (o : Option RegionPlan) → get w.regions r ≡ o → stock_limit w r i ≤ most_amount
-    by_market q low None at = subst (λ p. option_map_or (λ (x : Market). x.limit) (option_and_then (λ (p : RegionPlan). get p.markets i) p) most_amount ≤ most_amount) (sym at) (omega arith)
-    by_market q low (Some p) at = subst (λ p. option_map_or (λ (x : Market). x.limit) (option_and_then (λ (p : RegionPlan). get p.markets i) p) most_amount ≤ most_amount) (sym at) (limited (get p.markets i) refl)
+    by_market : (q : Region) → amount_of q.stocks i ≤ stock_limit w r i → (o : Option RegionPlan) → get w.regions r ≡ o
+        → stock_limit w r i ≤ most_amount
+    by_market q low None at =
+        subst
+        (λ p. option_map_or (λ (x : Market). x.limit) (option_and_then (λ (p : RegionPlan). get p.markets i) p) most_amount ≤ most_amount)
+        (sym at) (omega arith)
+    by_market q low (Some p) at =
+        subst
+        (λ p. option_map_or (λ (x : Market). x.limit) (option_and_then (λ (p : RegionPlan). get p.markets i) p) most_amount ≤ most_amount)
+        (sym at) (limited (get p.markets i) refl)
       where
-        limited : (o : Option Market) → get p.markets i ≡ o → option_map_or (λ (x : Market). x.limit) o most_amount ≤ most_amount
+        limited : (o : Option Market) → get p.markets i ≡ o
+            → option_map_or (λ (x : Market). x.limit) o most_amount ≤ most_amount
         limited None is = omega arith
         limited (Some m) is = ((world.regions r p at).markets i m is).limit
 
-    by_region : (o : Option Region) → get c.regions r ≡ o → option_map_or (λ (x : Region). amount_of x.stocks i) o 0 ≤ most_amount
+    by_region : (o : Option Region) → get c.regions r ≡ o
+        → option_map_or (λ (x : Region). amount_of x.stocks i) o 0 ≤ most_amount
     by_region None is = omega arith
     by_region (Some q) is =
         let low = stock_low w c r q i early is in
@@ -509,5 +558,9 @@ module _ (c d e : MarkedCampaign) (n region item stock : ℕ) (f : HoldingValue 
   pub traded_marks : MarksStock d region item stock e.marks → MarksChanges c e
   traded_marks how = marks-trans c d e set.marks (marks_by d e _ put refl (marks-stock d region item stock e.marks how))
 
-  pub traded_what : (u : Unit) → get c.value.units n ≡ Some u → e.value ≡ with_stock (with_holding c.value n (f u.holding)) region item stock
-  traded_what u is = put ∙ ap (λ s. with_stock s region item stock) (changed_held f c.value d.value n set.value u is ∙ sym (ap (with_holding_at c.value n (f u.holding)) is))
+  pub traded_what : (u : Unit) → get c.value.units n ≡ Some u
+      → e.value ≡ with_stock (with_holding c.value n (f u.holding)) region item stock
+  traded_what u is =
+      put
+      ∙ ap (λ s. with_stock s region item stock)
+      (changed_held f c.value d.value n set.value u is ∙ sym (ap (with_holding_at c.value n (f u.holding)) is))

@@ -16,21 +16,27 @@ use Rattle.atl_market.specs.Bounds.{CanInTurn}
 
 -- Steps that each move one amount by at most 999,999,999 move it by less than 10^14 together, if they are at most
 -- 100,000 (as many as there may be units).
-pub few_holdings : (k : ℕ) → k ≤ most_units → (a : BooksEntry) (b : Thing) (e : BooksEntry) (t : Thing) → moved_times k (moves_only holding_limit a b) e t ≤ moves_only most_moved a b e t
+pub few_holdings : (k : ℕ) → k ≤ most_units → (a : BooksEntry) (b : Thing) (e : BooksEntry) (t : Thing)
+    → moved_times k (moves_only holding_limit a b) e t ≤ moves_only most_moved a b e t
 few_holdings k few a b e t = by_test (amount_number e t == amount_number a b)
   where
     by_test : (same : Bool) → k * (if same then holding_limit else 0) ≤ (if same then most_moved else 0)
     by_test true = omega (arith, few)
     by_test false = omega (arith, few)
 
-pub one_more : {B : Type 0} (book_bound : BookBound) (x : B) (xs : List B) → IsBoundWithin (both_move book_bound (moved_times (length xs) book_bound)) (moved_times (length (x ∷ xs)) book_bound)
+pub one_more : {B : Type 0} (book_bound : BookBound) (x : B) (xs : List B)
+    → IsBoundWithin (both_move book_bound (moved_times (length xs) book_bound)) (moved_times (length (x ∷ xs)) book_bound)
 one_more book_bound x xs e t = let one : length (x ∷ xs) * book_bound e t ≡ length xs * book_bound e t + book_bound e t = suc-mul (length xs) (book_bound e t) in omega arith
 
-pub first_room : {B : Type 0} (book_bound : BookBound) (c : CampaignValue) (x : B) (xs : List B) → HaveRoom (moved_times (length (x ∷ xs)) book_bound) c → HaveRoom book_bound c
-first_room book_bound c x xs room = room_less book_bound (moved_times (length (x ∷ xs)) book_bound) c (λ e t. omega (arith, one_more book_bound x xs e t)) room
+pub first_room : {B : Type 0} (book_bound : BookBound) (c : CampaignValue) (x : B) (xs : List B)
+    → HaveRoom (moved_times (length (x ∷ xs)) book_bound) c → HaveRoom book_bound c
+first_room book_bound c x xs room =
+    room_less book_bound (moved_times (length (x ∷ xs)) book_bound) c
+    (λ e t. omega (arith, one_more book_bound x xs e t)) room
 
 pub later_room : {B : Type 0} {leaves : Condition} (book_bound : BookBound) (w : WorldValue) (c d : CampaignValue) (x : B) (xs : List B)
-    → LeavesWell leaves book_bound w c d → HaveRoom (moved_times (length (x ∷ xs)) book_bound) c → HaveRoom (moved_times (length xs) book_bound) d
+    → LeavesWell leaves book_bound w c d → HaveRoom (moved_times (length (x ∷ xs)) book_bound) c
+    → HaveRoom (moved_times (length xs) book_bound) d
 later_room book_bound w c d x xs well room =
     room_for_second book_bound (moved_times (length xs) book_bound) w c d well
     (room_less (both_move book_bound (moved_times (length xs) book_bound)) (moved_times (length (x ∷ xs)) book_bound) c (one_more book_bound x xs) room)
@@ -38,7 +44,8 @@ later_room book_bound w c d x xs well room =
 module _ {A : Type 0} {leaves : Condition} (book_bound : BookBound) (w : WorldValue) (can : CampaignValue → A → Type 0) (step : CampaignValue → A → CampaignValue) (each : (c : CampaignValue) (x : A) → can c x → LeavesWell leaves book_bound w c (step c x)) where
   -- steps that can be taken in turn (`CanInTurn`) keep a campaign's rules and its books balanced, within the sum of
   -- their bounds, if each step does
-  pub turns_leave_well : (c : CampaignValue) (xs : List A) → leaves w c → CanInTurn can step c xs → LeavesWell leaves (moved_times (length xs) book_bound) w c (fold step c xs)
+  pub turns_leave_well : (c : CampaignValue) (xs : List A) → leaves w c → CanInTurn can step c xs
+      → LeavesWell leaves (moved_times (length xs) book_bound) w c (fold step c xs)
   turns_leave_well c [] h turns = well_unchanged (moved_times 0 book_bound) w c h
   turns_leave_well c (x ∷ xs) h turns =
       let one = each c x turns.0 in

@@ -28,7 +28,8 @@ use Rattle.atl_market.proofs.UnmailedPotLaws.{orders_with_verbs, others_items, p
 -- ---- what a unit uses
 
 abbrev with_item_amount : (item amount : ℕ) → Unit → Unit
-with_item_amount i amount u = record u { holding = record u.holding { items = with_amount_of u.holding.items i amount } }
+with_item_amount i amount u =
+    record u { holding = record u.holding { items = with_amount_of u.holding.items i amount } }
 
 used_men : (c : CampaignValue) (n i amount : ℕ) → HaveTheirMen c (with_used c n i amount)
 used_men c n i amount =
@@ -38,18 +39,21 @@ used_men c n i amount =
 
 -- ---- BUILD
 
-begun_men : (c : CampaignValue) (n kind : ℕ) (k : Kind) (region size : ℕ) → HaveTheirMen c (after_start c n kind k region size)
+begun_men : (c : CampaignValue) (n kind : ℕ) (k : Kind) (region size : ℕ)
+    → HaveTheirMen c (after_start c n kind k region size)
 begun_men c n kind k region size =
     let used = with_used c n k.material size in
     let new = with_new_structure used kind k region size in
     men_twice c used (with_place new n region c.next_structure) (used_men c n k.material size)
     (men_twice used new (with_place new n region c.next_structure) (men_same used new refl) (place_men new n region c.next_structure))
 
-begin_men : (w : WorldValue) (c : CampaignValue) (n kind : ℕ) (k : Kind) (u : Unit) → HaveTheirMen c (begin w n kind k c u).0
+begin_men : (w : WorldValue) (c : CampaignValue) (n kind : ℕ) (k : Kind) (u : Unit)
+    → HaveTheirMen c (begin w n kind k c u).0
 unfolding begin
 begin_men w c n kind k u = let size = size_added k u.holding 0 in men_unless c (after_start c n kind k u.region size) (Done size) (begin_fault w c u k) (begun_men c n kind k u.region size)
 
-gone_on_men : (c : CampaignValue) (n material size structure done : ℕ) → HaveTheirMen c (after_building_on c n material size structure done)
+gone_on_men : (c : CampaignValue) (n material size structure done : ℕ)
+    → HaveTheirMen c (after_building_on c n material size structure done)
 gone_on_men c n material size structure done = let used = with_used c n material size in men_twice c used (after_building_on c n material size structure done) (used_men c n material size) (men_same used (after_building_on c n material size structure done) refl)
 
 go_on_men : (w : WorldValue) (c : CampaignValue) (n : ℕ) (u : Unit) → HaveTheirMen c (go_on w n c u).0
@@ -64,7 +68,8 @@ go_on_men w c n u = by_structure (get c.structures u.structure)
     by_structure None = men_unless c c (Done 0) (outside_fault u) (men_stay c)
     by_structure (Some s) = by_kind s (slice_get w.kinds s.kind)
 
-built_men : (w : WorldValue) (c : CampaignValue) (f n : ℕ) (x : Unit) (s : OperandsValue) → IfSome (build_effect w n s) (λ effect. OthersHaveMen f c (effect c x).0)
+built_men : (w : WorldValue) (c : CampaignValue) (f n : ℕ) (x : Unit) (s : OperandsValue)
+    → IfSome (build_effect w n s) (λ effect. OthersHaveMen f c (effect c x).0)
 built_men w c f n x (operands.Kind (Some kind)) = by_kind (slice_get w.kinds kind)
   where
     by_kind : (o : Option Kind) → IfSome (option_map (begin w n kind) o) (λ effect. OthersHaveMen f c (effect c x).0)
@@ -77,7 +82,9 @@ build_leaves_men : LeavesOthersMen build_step
 build_leaves_men w a c t x own = built_men w c t.faction t.unit x t.order_value.operands
 
 pub build_leaves : PhaseLeavesUnmailed build_spec
-build_leaves = carried_leaves build_step is_building build_leaves_men (unmailed_keep_items is_building own_faction items_of_no_worse)
+build_leaves =
+    carried_leaves build_step is_building build_leaves_men
+    (unmailed_keep_items is_building own_faction items_of_no_worse)
 
 -- ---- PRODUCE
 
@@ -87,7 +94,8 @@ made_men c n i amount =
     let more = amount_of u.holding.items i + amount in
     men_put c (with_booking (with_item c n i more) Made (Item i) (pos amount)) n u (with_item_amount i more u) is (record { faction = refl; men = refl }) (changed-known (with_item_amount i more) c.units n u is))
 
-produced_men : (asked : FinMap nat_cmp ℕ) (w : WorldValue) (c : CampaignValue) (e : ℕ × ℕ) → HaveTheirMen c (produce.after_production asked w c e)
+produced_men : (asked : FinMap nat_cmp ℕ) (w : WorldValue) (c : CampaignValue) (e : ℕ × ℕ)
+    → HaveTheirMen c (produce.after_production asked w c e)
 unfolding produce.after_production
 produced_men asked w c e =
     by_option (HaveTheirMen c) _ (produce.numbered_item w (get asked e.0)) c (men_stay c) (λ (i, x) is.

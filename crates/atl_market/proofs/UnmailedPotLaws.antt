@@ -54,7 +54,8 @@ module _ (p : PotMeaning) (w : WorldValue) (c : CampaignValue) where
       nobody true = refl
       nobody false = refl
 
-  pots_report_none_starved : (events : List Event) (os : List Task) (n : ℕ) → starved_in (events ++ events_by p w c os) n ≡ starved_in events n
+  pots_report_none_starved : (events : List Event) (os : List Task) (n : ℕ)
+      → starved_in (events ++ events_by p w c os) n ≡ starved_in events n
   unfolding events_by
   pots_report_none_starved events os n =
       sum_by-append (λ (e : Event). if e.unit == n then men_starved_by e.verb e.outcome else 0) events (map (event_of p w c (given_by p w c os)) os)
@@ -68,15 +69,20 @@ module _ (p : PotMeaning) (orders : CampaignValue → MonthValue → List Task) 
 
   -- a phase with pots leaves units of factions without a mailing their men and items (`LeavesUnmailed`), if its meaning
   -- keeps these men and its frame `keeps` these items
-  pub shared_leave : {keeps : Frame} → ((w : WorldValue) (c : CampaignValue) (m : MonthValue) → UnmailedAre HasItsMen m c (shared w c m).0) → ((w : WorldValue) (c d : CampaignValue) (m : MonthValue) → keeps w m c d → UnmailedAre HasItsItems m c d) → LeavesUnmailed shared keeps
+  pub shared_leave : {keeps : Frame}
+      → ((w : WorldValue) (c : CampaignValue) (m : MonthValue) → UnmailedAre HasItsMen m c (shared w c m).0)
+      → ((w : WorldValue) (c d : CampaignValue) (m : MonthValue) → keeps w m c d → UnmailedAre HasItsItems m c d)
+      → LeavesUnmailed shared keeps
   shared_leave {keeps} men items =
       whole_leaves {meaning = shared} {keeps = keeps} (λ w c m. refl) (λ w c m n. pots_report_none_starved p w c m.events (orders c m) n) (λ w c m h. men w c m) (λ w c m h. items w c (shared w c m).0 m h)
 
-  pub paid_men : ((w : WorldValue) (items : FinMap nat_cmp ℕ) (d : CampaignValue) (e : ℕ × ℕ) → HaveTheirMen d (p.paid items w d e)) → (w : WorldValue) (c : CampaignValue) (m : MonthValue) → UnmailedAre HasItsMen m c (shared w c m).0
+  pub paid_men : ((w : WorldValue) (items : FinMap nat_cmp ℕ) (d : CampaignValue) (e : ℕ × ℕ) → HaveTheirMen d (p.paid items w d e))
+      → (w : WorldValue) (c : CampaignValue) (m : MonthValue) → UnmailedAre HasItsMen m c (shared w c m).0
   unfolding after_sharing
   paid_men paid w c m n u there none = let items = items_by p w c (orders c m) in men_in_turn (p.paid items w) (paid w items) c (entries (given_by p w c (orders c m))) n u there
 
-pub none_worse : (w : WorldValue) (c d : CampaignValue) (m : MonthValue) → AreNoWorse c d → UnmailedAre HasItsItems m c d
+pub none_worse : (w : WorldValue) (c d : CampaignValue) (m : MonthValue) → AreNoWorse c d
+    → UnmailedAre HasItsItems m c d
 none_worse w c d m h n u there none = let (v, after, better) = h n u there in record { unit = v; there = after; is_unaffected = items_of_no_worse u v better }
 
 -- ---- TAX
@@ -90,7 +96,9 @@ tax_men w c e =
     c (with_region_money (with_money c e.0 (u.holding.money + e.1)) u.region (q.money - e.1)) e.0 refl))
 
 pub tax_leaves : PhaseLeavesUnmailed tax_spec
-tax_leaves = shared_leave tax_pots (orders_with_verbs is_tax) (paid_men tax_pots (orders_with_verbs is_tax) (λ w items. tax_men w)) none_worse
+tax_leaves =
+    shared_leave tax_pots (orders_with_verbs is_tax)
+    (paid_men tax_pots (orders_with_verbs is_tax) (λ w items. tax_men w)) none_worse
 
 -- ---- WORK
 
@@ -107,21 +115,25 @@ work_leaves = shared_leave work_pots work_orders (paid_men work_pots work_orders
 
 -- ---- RECRUIT
 
-none_listed : (n f : ℕ) (ts : List Task) → AllByRecursion (λ t. t.faction ≢ f) ts → list_any (λ o. o.unit == n && o.faction == f) ts ≡ false
+none_listed : (n f : ℕ) (ts : List Task) → AllByRecursion (λ t. t.faction ≢ f) ts
+    → list_any (λ o. o.unit == n && o.faction == f) ts ≡ false
 none_listed n f [] h = refl
-none_listed n f (t ∷ ts) h = neither (t.unit == n) (t.faction == f) _ (other_number t.faction f h.0) (none_listed n f ts h.1)
+none_listed n f (t ∷ ts) h =
+    neither (t.unit == n) (t.faction == f) _ (other_number t.faction f h.0) (none_listed n f ts h.1)
   where
     neither : (a b d : Bool) → b ≡ false → d ≡ false → (a && b || d) ≡ false
     neither true b d e g = rw (e, g) refl
     neither false b d e g = g
 
 module _ (is_of : Verb → Bool) (m : MonthValue) where
-  pub unordered : (n : ℕ) (u : Unit) → get m.readings u.faction ≡ None → has_own_order (orders_by_unit is_of m) n u ≡ false
+  pub unordered : (n : ℕ) (u : Unit) → get m.readings u.faction ≡ None
+      → has_own_order (orders_by_unit is_of m) n u ≡ false
   unordered n u none =
       let ts = orders_by_unit is_of m in
       none_listed n u.faction ts (recursion_from_All (λ t. t.faction ≢ u.faction) ts (none_ordered is_of ByUnit m u.faction none))
 
-  pub others_items : (c d : CampaignValue) → OthersAreNoWorse (orders_by_unit is_of m) c d → UnmailedAre HasItsItems m c d
+  pub others_items : (c d : CampaignValue) → OthersAreNoWorse (orders_by_unit is_of m) c d
+      → UnmailedAre HasItsItems m c d
   others_items c d h n u there none = let (v, after, better) = h n u there (unordered n u none) in record { unit = v; there = after; is_unaffected = items_of_no_worse u v better }
 
 pub recruit_leaves : PhaseLeavesUnmailed recruit_spec

@@ -33,7 +33,8 @@ module _ (p : PotMeaning) (w : WorldValue) (c : CampaignValue) (n : ℕ) (u : Un
       clash : (a b f g : ℕ) → a ≡ b → (g == f) ≡ true → (a == b && f == g) ≡ false → true ≡ false
       clash a b f g same one none = grind (arith, nat_tests)
 
-  unwanted_by : (m : FinMap nat_cmp ℕ) (o : Task) (r : Result Unit EventFault) → unit_for p w c o ≡ r → own o ≡ false → get (with_entry_if_some m (option_map (λ v. (o.unit, p.want w v o)) (result_ok r))) n ≡ get m n
+  unwanted_by : (m : FinMap nat_cmp ℕ) (o : Task) (r : Result Unit EventFault) → unit_for p w c o ≡ r → own o ≡ false
+      → get (with_entry_if_some m (option_map (λ v. (o.unit, p.want w v o)) (result_ok r))) n ≡ get m n
   unwanted_by m o (Err f) is none = refl
   unwanted_by m o (Ok v) is none =
       let of = carries_out p w c o v is in
@@ -42,7 +43,8 @@ module _ (p : PotMeaning) (w : WorldValue) (c : CampaignValue) (n : ℕ) (u : Un
       let unit : v ≡ u = cc in
       no_order o (sym same) (subst (λ (x : Unit). (x.faction == o.faction) ≡ true) unit of.own) none)
 
-  unwanted : (m : FinMap nat_cmp ℕ) (os : List Task) → has_own_order os n u ≡ false → get (with_entries m (filter_map (want_by p w c) os)) n ≡ get m n
+  unwanted : (m : FinMap nat_cmp ℕ) (os : List Task) → has_own_order os n u ≡ false
+      → get (with_entries m (filter_map (want_by p w c) os)) n ≡ get m n
   unwanted m [] none = refl
   unwanted m (o ∷ os) none =
       let (first, rest) = or_parts _ _ none in
@@ -50,7 +52,8 @@ module _ (p : PotMeaning) (w : WorldValue) (c : CampaignValue) (n : ℕ) (u : Un
       ∙ unwanted (with_entry_if_some m (want_by p w c o)) os rest
       ∙ unwanted_by m o (unit_for p w c o) refl first
 
-  not_given : GivesToWants p w c → (os : List Task) → has_own_order os n u ≡ false → (share : ℕ) → get (given_by p w c os) n ≡ Some share → ⊥
+  not_given : GivesToWants p w c → (os : List Task) → has_own_order os n u ≡ false → (share : ℕ)
+      → get (given_by p w c os) n ≡ Some share → ⊥
   not_given gives os none share is =
       let (want, wanted, low) = gives (items_by p w c os) (wants_by p w c os) n share is in
       none_some want (sym (get-empty nat_cmp n) ∙ sym (unwanted empty os none) ∙ ap (λ (m : FinMap nat_cmp ℕ). get m n) (put_in_turn (filter_map (want_by p w c) os)) ∙ wanted)
@@ -58,20 +61,25 @@ module _ (p : PotMeaning) (w : WorldValue) (c : CampaignValue) (n : ℕ) (u : Un
 -- ---- units without an order stay as they are
 
 module _ (step : CampaignValue → ℕ × ℕ → CampaignValue) (others : (c : CampaignValue) (e : ℕ × ℕ) (k : ℕ) → k ≢ e.0 → get (step c e).units k ≡ get c.units k) where
-  pub passed_over : (c : CampaignValue) (es : List (ℕ × ℕ)) (n : ℕ) → AllByRecursion (λ e. n ≢ e.0) es → get (fold step c es).units n ≡ get c.units n
+  pub passed_over : (c : CampaignValue) (es : List (ℕ × ℕ)) (n : ℕ) → AllByRecursion (λ e. n ≢ e.0) es
+      → get (fold step c es).units n ≡ get c.units n
   passed_over c [] n apart = refl
   passed_over c (e ∷ es) n apart = passed_over (step c e) es n apart.1 ∙ others c e n apart.0
 
 -- A phase with pots leaves a unit without an order of its own faction as it was. This supposes that payments go only to
 -- units with a want, and that each changes its own unit alone.
-pub without_order_stays : (p : PotMeaning) (w : WorldValue) → ((items : FinMap nat_cmp ℕ) (c : CampaignValue) (e : ℕ × ℕ) (k : ℕ) → k ≢ e.0 → get (p.paid items w c e).units k ≡ get c.units k)
-    → (c : CampaignValue) → GivesToWants p w c → (os : List Task) (n : ℕ) (u : Unit) → get c.units n ≡ Some u → has_own_order os n u ≡ false → get (after_sharing p w c os).units n ≡ get c.units n
+pub without_order_stays : (p : PotMeaning) (w : WorldValue)
+    → ((items : FinMap nat_cmp ℕ) (c : CampaignValue) (e : ℕ × ℕ) (k : ℕ) → k ≢ e.0 → get (p.paid items w c e).units k ≡ get c.units k)
+    → (c : CampaignValue) → GivesToWants p w c → (os : List Task) (n : ℕ) (u : Unit) → get c.units n ≡ Some u
+    → has_own_order os n u ≡ false → get (after_sharing p w c os).units n ≡ get c.units n
 unfolding after_sharing
 without_order_stays p w others c gives os n u there none =
     let given = given_by p w c os in
     let apart = each-from_every (λ k share. n ≢ k) given (λ k share is same. not_given p w c n u there gives os none share (ap (get given) same ∙ is)) in
     passed_over (p.paid (items_by p w c os) w) (others (items_by p w c os)) c (entries given) n (all_pairs (λ e. n ≢ e.0) (entries given) apart)
 
-pub others_no_worse : (p : PotMeaning) (w : WorldValue) → ((items : FinMap nat_cmp ℕ) (c : CampaignValue) (e : ℕ × ℕ) (k : ℕ) → k ≢ e.0 → get (p.paid items w c e).units k ≡ get c.units k)
+pub others_no_worse : (p : PotMeaning) (w : WorldValue)
+    → ((items : FinMap nat_cmp ℕ) (c : CampaignValue) (e : ℕ × ℕ) (k : ℕ) → k ≢ e.0 → get (p.paid items w c e).units k ≡ get c.units k)
     → (c : CampaignValue) → GivesToWants p w c → (os : List Task) → OthersAreNoWorse os c (after_sharing p w c os)
-others_no_worse p w others c gives os n u there none = (u, without_order_stays p w others c gives os n u there none ∙ there, no_worse u)
+others_no_worse p w others c gives os n u there none =
+    (u, without_order_stays p w others c gives os n u there none ∙ there, no_worse u)

@@ -37,16 +37,20 @@ GivesToWants p w c =
     (items wants : FinMap nat_cmp ℕ) (n share : ℕ) → get (p.grants items w c wants) n ≡ Some share
     → (want : ℕ) × (get wants n ≡ Some want) × (share ≤ want)
 
-pub appended_entries : {V : Type 0} (m : FinMap nat_cmp V) (es fs : List (ℕ × V)) → with_entries m (es ++ fs) ≡ with_entries (with_entries m es) fs
+pub appended_entries : {V : Type 0} (m : FinMap nat_cmp V) (es fs : List (ℕ × V))
+    → with_entries m (es ++ fs) ≡ with_entries (with_entries m es) fs
 appended_entries m es fs = fold-append (λ so_far entry. insert so_far entry.0 entry.1) m es fs
 
-pub optional_entry_first : {V : Type 0} (m : FinMap nat_cmp V) (o : Option (ℕ × V)) (es : List (ℕ × V)) → with_entries m (cons_option o es) ≡ with_entries (with_entry_if_some m o) es
+pub optional_entry_first : {V : Type 0} (m : FinMap nat_cmp V) (o : Option (ℕ × V)) (es : List (ℕ × V))
+    → with_entries m (cons_option o es) ≡ with_entries (with_entry_if_some m o) es
 optional_entry_first m None es = refl
 optional_entry_first m (Some e) es = refl
 
-pub every-with_each : (P : ℕ → ℕ → Type 0) (m : FinMap nat_cmp ℕ) (es : List (ℕ × ℕ)) → AllByRecursion (λ e. P e.0 e.1) es → Every P m → Every P (with_entries m es)
+pub every-with_each : (P : ℕ → ℕ → Type 0) (m : FinMap nat_cmp ℕ) (es : List (ℕ × ℕ))
+    → AllByRecursion (λ e. P e.0 e.1) es → Every P m → Every P (with_entries m es)
 every-with_each P m [] each old = old
-every-with_each P m (e ∷ es) each old = every-with_each P (insert m e.0 e.1) es each.1 (every-insert P m e.0 e.1 each.0 old)
+every-with_each P m (e ∷ es) each old =
+    every-with_each P (insert m e.0 e.1) es each.1 (every-insert P m e.0 e.1 each.0 old)
 
 pub one_want : (m : FinMap nat_cmp ℕ) (n want : ℕ) → want ≤ most_amount → AreWants m → AreWants (insert m n want)
 one_want m n want low old = every-insert (λ number want. want ≤ most_amount) m n want low old
@@ -59,7 +63,8 @@ unfolding IsDistinct
 rise_apart [] h = tt
 rise_apart (e ∷ es) h = (others e.0 es h.0, rise_apart es h.1)
   where
-    others : (k : ℕ) (es : List (ℕ × ℕ)) → AllByRecursion (λ f. k < f.0) es → AllByRecursion (λ n. eq_by_cmp nat_cmp k n ≡ false) (keys_of es)
+    others : (k : ℕ) (es : List (ℕ × ℕ)) → AllByRecursion (λ f. k < f.0) es
+        → AllByRecursion (λ n. eq_by_cmp nat_cmp k n ≡ false) (keys_of es)
     others k [] h = tt
     others k (f ∷ es) h = (differs k f.0 h.0, others k es h.1)
 
@@ -79,16 +84,20 @@ module _ (p : PotMeaning) (w : WorldValue) (c : CampaignValue) where
   unfolding unit_for
   carries_out t u is = by_unit (get c.units t.unit) refl is
     where
-      by_fault : (v : Unit) → get c.units t.unit ≡ Some v → (v.faction == t.faction) ≡ true → (f : Option EventFault) → p.fault w v t ≡ f → unless_fault f v ≡ Ok u → CarriesOut t u
+      by_fault : (v : Unit) → get c.units t.unit ≡ Some v → (v.faction == t.faction) ≡ true → (f : Option EventFault)
+          → p.fault w v t ≡ f → unless_fault f v ≡ Ok u → CarriesOut t u
       by_fault v at own (Some f) fault h = none_some u (ap result_ok h)
-      by_fault v at own None fault h = subst (CarriesOut t) (same_Some _ _ (ap result_ok h)) (record { there = at; own = own; no_fault = fault })
+      by_fault v at own None fault h =
+          subst (CarriesOut t) (same_Some _ _ (ap result_ok h)) (record { there = at; own = own; no_fault = fault })
 
-      by_test : (v : Unit) → get c.units t.unit ≡ Some v → (b : Bool) → (v.faction == t.faction) ≡ b → carrier_of p w c t (cond b (Some v) None) ≡ Ok u → CarriesOut t u
+      by_test : (v : Unit) → get c.units t.unit ≡ Some v → (b : Bool) → (v.faction == t.faction) ≡ b
+          → carrier_of p w c t (cond b (Some v) None) ≡ Ok u → CarriesOut t u
       by_test v at true own h = by_fault v at own (p.fault w v t) refl h
       by_test v at false own h = none_some u (ap result_ok h)
 
       -- for `carries_out`: the unit `u` that `carrier_of` returns for the unit with the order's number (`o`) carries
-      by_unit : (o : Option Unit) → get c.units t.unit ≡ o → carrier_of p w c t (of_faction t.faction o) ≡ Ok u → CarriesOut t u
+      by_unit : (o : Option Unit) → get c.units t.unit ≡ o → carrier_of p w c t (of_faction t.faction o) ≡ Ok u
+          → CarriesOut t u
       by_unit None at h = none_some u (ap result_ok h)
       by_unit (Some v) at h = by_test v at (v.faction == t.faction) refl h
 
@@ -108,7 +117,8 @@ module _ (p : PotMeaning) (w : WorldValue) (c : CampaignValue) where
 
     -- if each want in map `m` is of an order without a fault (`IsWanted`), so is each once order `t` put its want and
     -- item into the maps
-    wanted_by : (r : Result Unit EventFault) → unit_for p w c t ≡ r → Every (IsWanted items) m → Every (IsWanted (with_entry_if_some items (cond (is_ok r) (named (item_in t.order_value.operands)) None))) (with_entry_if_some m (wanting r))
+    wanted_by : (r : Result Unit EventFault) → unit_for p w c t ≡ r → Every (IsWanted items) m
+        → Every (IsWanted (with_entry_if_some items (cond (is_ok r) (named (item_in t.order_value.operands)) None))) (with_entry_if_some m (wanting r))
     wanted_by (Err f) is old = old
     wanted_by (Ok u) is old = λ n want there. elim (cases_eq n t.unit) [
       | inl same ↦
@@ -127,7 +137,8 @@ module _ (p : PotMeaning) (w : WorldValue) (c : CampaignValue) where
           (v, o, here, own, wanted, fine, λ i is_i. item_elsewhere (item_in t.order_value.operands) n apart ∙ names i is_i)
     ]
 
-  all_wanted : (m items : FinMap nat_cmp ℕ) (ts : List Task) → Every (IsWanted items) m → Every (IsWanted (with_entries items (filter_map (item_by p w c) ts))) (with_entries m (filter_map (want_by p w c) ts))
+  all_wanted : (m items : FinMap nat_cmp ℕ) (ts : List Task) → Every (IsWanted items) m
+      → Every (IsWanted (with_entries items (filter_map (item_by p w c) ts))) (with_entries m (filter_map (want_by p w c) ts))
   all_wanted m items [] old = old
   all_wanted m items (t ∷ ts) old =
       subst (λ k. Every (IsWanted k) (with_entries m (filter_map (want_by p w c) (t ∷ ts)))) (sym (optional_entry_first items (item_by p w c t) (filter_map (item_by p w c) ts)))
@@ -148,7 +159,8 @@ module _ (p : PotMeaning) (w : WorldValue) (c : CampaignValue) where
         let (u, t, there, own, same, fine, named) = wants_are_wanted ts n want wanted in
         (u, t, there, own, subst (λ k. share ≤ k) same low, fine, named)
 
-    pub given_is_wanted : (ts : List Task) → Every (λ n share. (u : Unit) × (t : Task) × (get c.units n ≡ Some u) × (t.unit ≡ n) × (share ≤ p.want w u t)) (given_by p w c ts)
+    pub given_is_wanted : (ts : List Task)
+        → Every (λ n share. (u : Unit) × (t : Task) × (get c.units n ≡ Some u) × (t.unit ≡ n) × (share ≤ p.want w u t)) (given_by p w c ts)
     given_is_wanted ts n share is = let (u, t, there, own, low, fine, named) = given_is_named ts n share is in (u, t, there, own, low)
 
     in_units : (os : List Task) (n : ℕ) → is_some (get (given_by p w c os) n) ≡ true → is_some (get c.units n) ≡ true

@@ -66,7 +66,9 @@ module _ (w : WorldValue) (c : CampaignValue) (n : ℕ) (u : Unit) (money : ℕ)
   total_paid : (t : Thing) → pos (total wages_paid t) ≡ pos (total c t) +ℤ booked_for t Money (pos money)
   total_paid t = total_of t (total-booking given Wages Money t (pos money)) (total-new_holding w c n u more is t)
     where
-      total_of : (t : Thing) → total wages_paid t ≡ total given t → total given t + unit_amount t u.holding ≡ total c t + unit_amount t more → pos (total wages_paid t) ≡ pos (total c t) +ℤ booked_for t Money (pos money)
+      total_of : (t : Thing) → total wages_paid t ≡ total given t
+          → total given t + unit_amount t u.holding ≡ total c t + unit_amount t more
+          → pos (total wages_paid t) ≡ pos (total c t) +ℤ booked_for t Money (pos money)
       total_of Money a b = omega (arith, ints, a, b)
       total_of People a b = omega (arith, ints, a, b)
       total_of (Item i) a b =
@@ -81,7 +83,8 @@ module _ (w : WorldValue) (c : CampaignValue) (n : ℕ) (u : Unit) (money : ℕ)
           zero_more x = omega (arith, ints)
 
   -- wages that the unit has room for keep the campaign steady and its books balanced, and book only wages
-  pub wages_leave_well : u.holding.money + money ≤ holding_limit → IsSteady w c → LeavesWell IsSteady (work_moves holding_limit) w c wages_paid
+  pub wages_leave_well : u.holding.money + money ≤ holding_limit → IsSteady w c
+      → LeavesWell IsSteady (work_moves holding_limit) w c wages_paid
   wages_leave_well fits steady = record {
     leaves_it = steady-amount w given Wages Money (pos money) (omega arith) (steady-new_holding w c n u more is (may_hold_money w c n (u.holding.money + money) u is fits steady) steady);
     same_month = same_month_by refl;
@@ -100,7 +103,8 @@ module _ (w : WorldValue) (c : CampaignValue) (n : ℕ) (u : Unit) (money : ℕ)
 -- ---- one step
 
 module _ (w : WorldValue) (c : CampaignValue) (e : ℕ × ℕ) where
-  pub worked_is : (u : Unit) (is : get c.units e.0 ≡ Some u) → after_work w c e ≡ wages_paid w c e.0 u (wages_for w u.region e.1) is
+  pub worked_is : (u : Unit) (is : get c.units e.0 ≡ Some u)
+      → after_work w c e ≡ wages_paid w c e.0 u (wages_for w u.region e.1) is
   unfolding after_work
   worked_is u is = unit_there c e.0 _ u is ∙ wages_are w c e.0 u (wages_for w u.region e.1) is
 
@@ -122,9 +126,12 @@ module _ (w : WorldValue) (c : CampaignValue) (e : ℕ × ℕ) where
 
 each_no_worse : (w : WorldValue) (c : CampaignValue) (es : List (ℕ × ℕ)) → AreNoWorse c (fold (after_work w) c es)
 each_no_worse w c [] = are_no_worse c
-each_no_worse w c (e ∷ es) = are_no_worse_twice c (after_work w c e) (fold (after_work w) (after_work w c e) es) (worked_no_worse w c e) (each_no_worse w (after_work w c e) es)
+each_no_worse w c (e ∷ es) =
+    are_no_worse_twice c (after_work w c e) (fold (after_work w) (after_work w c e) es) (worked_no_worse w c e)
+    (each_no_worse w (after_work w c e) es)
 
-pub work_keeps_units : (w : WorldValue) (c : CampaignValue) (os : List Task) → AreNoWorse c (after_sharing work_pots w c os)
+pub work_keeps_units : (w : WorldValue) (c : CampaignValue) (os : List Task)
+    → AreNoWorse c (after_sharing work_pots w c os)
 unfolding after_sharing
 work_keeps_units w c os = each_no_worse w c (entries (given_by work_pots w c os))
 
@@ -132,25 +139,31 @@ work_keeps_units w c os = each_no_worse w c (entries (given_by work_pots w c os)
 
 -- the unit of a pair (unit, share) is in the campaign, and has room for the wages of its share of work places
 abbrev pub HasRoomFor : WorldValue → CampaignValue → ℕ × ℕ → Type 0
-HasRoomFor w c e = (u : Unit) × (get c.units e.0 ≡ Some u) × (u.holding.money + wages_for w u.region e.1 ≤ holding_limit)
+HasRoomFor w c e =
+    (u : Unit) × (get c.units e.0 ≡ Some u) × (u.holding.money + wages_for w u.region e.1 ≤ holding_limit)
 
 module _ (w : WorldValue) where
   abbrev step_moves : BookBound
   step_moves = work_moves holding_limit
 
-  still : (c d : CampaignValue) (n : ℕ) (es : List (ℕ × ℕ)) → ((k : ℕ) → k ≢ n → get d.units k ≡ get c.units k) → AllByRecursion (λ f. n < f.0) es → AllByRecursion (HasRoomFor w c) es → AllByRecursion (HasRoomFor w d) es
+  still : (c d : CampaignValue) (n : ℕ) (es : List (ℕ × ℕ)) → ((k : ℕ) → k ≢ n → get d.units k ≡ get c.units k)
+      → AllByRecursion (λ f. n < f.0) es → AllByRecursion (HasRoomFor w c) es → AllByRecursion (HasRoomFor w d) es
   still c d n [] same above all = tt
-  still c d n (f ∷ es) same above ((u, there, fits), all) = ((u, same f.0 (λ e. absurd (omega (arith, e, above.0))) ∙ there, fits), still c d n es same above.1 all)
+  still c d n (f ∷ es) same above ((u, there, fits), all) =
+      ((u, same f.0 (λ e. absurd (omega (arith, e, above.0))) ∙ there, fits), still c d n es same above.1 all)
 
   -- shares can be paid in turn, if each unit has room for its wages and the books have room for all of them
-  pub work_in_turn : (c : CampaignValue) (es : List (ℕ × ℕ)) → Rise es → IsSteady w c → HaveRoom (moved_times (length es) step_moves) c → AllByRecursion (HasRoomFor w c) es → CanInTurn (CanWork w) (after_work w) c es
+  pub work_in_turn : (c : CampaignValue) (es : List (ℕ × ℕ)) → Rise es → IsSteady w c
+      → HaveRoom (moved_times (length es) step_moves) c → AllByRecursion (HasRoomFor w c) es
+      → CanInTurn (CanWork w) (after_work w) c es
   work_in_turn c [] rise steady room all = tt
   work_in_turn c (e ∷ es) rise steady room ((u, there, fits), all) =
       let can : CanWork w c e = record { unit = u; there = there; fits = fits; steady = steady; room = first_room step_moves c e es room } in
       let well = worked_well w c e can in
       (can, work_in_turn (after_work w c e) es rise.1 well.leaves_it (later_room step_moves w c (after_work w c e) e es well room) (still c (after_work w c e) e.0 es (worked_others w c e can) rise.0 all))
 
-  wanted_fits : (u : Unit) (o : Option Terrain) (places : ℕ) → u.holding.money ≤ holding_limit → places ≤ work_want u o → u.holding.money + places * option_map_or (λ (t : Terrain). t.wage) o 0 ≤ holding_limit
+  wanted_fits : (u : Unit) (o : Option Terrain) (places : ℕ) → u.holding.money ≤ holding_limit → places ≤ work_want u o
+      → u.holding.money + places * option_map_or (λ (t : Terrain). t.wage) o 0 ≤ holding_limit
   wanted_fits u None places fits low = omega (arith, fits)
   wanted_fits u (Some t) places fits low =
       let room = holding_limit - u.holding.money in
@@ -176,10 +189,14 @@ module _ (w : WorldValue) where
     little e t = few_holdings (length shares) few Wages Money e t
 
     pub can_share_out : HaveRoom (work_moves most_moved) c → CanInTurn (CanWork w) (after_work w) c shares
-    can_share_out room = work_in_turn c shares (entries_rise (given_by work_pots w c os)) steady (room_less (moved_times (length shares) step_moves) (work_moves most_moved) c little room) (all_pairs (HasRoomFor w c) shares (each-from_every (λ n places. HasRoomFor w c (n, places)) (given_by work_pots w c os) each_fits))
+    can_share_out room =
+        work_in_turn c shares (entries_rise (given_by work_pots w c os)) steady
+        (room_less (moved_times (length shares) step_moves) (work_moves most_moved) c little room)
+        (all_pairs (HasRoomFor w c) shares (each-from_every (λ n places. HasRoomFor w c (n, places)) (given_by work_pots w c os) each_fits))
 
     -- WORK keeps a steady campaign steady and its books balanced, within the phase's bound, if the books have room
-    pub work_leaves_well : HaveRoom (work_moves most_moved) c → LeavesWell IsSteady (work_moves most_moved) w c (after_sharing work_pots w c os)
+    pub work_leaves_well : HaveRoom (work_moves most_moved) c
+        → LeavesWell IsSteady (work_moves most_moved) w c (after_sharing work_pots w c os)
     unfolding after_sharing
     work_leaves_well room =
         well_within (moved_times (length shares) step_moves) (work_moves most_moved) w c (fold (after_work w) c shares) little

@@ -60,19 +60,22 @@ module _ {K X : Type 0} (R : K → K → Ordering) (exact : IsAntisymmetric R) (
   apart_of Equal h = absurd (false≢true h)
   apart_of Greater h = refl
 
-  others : (x : X) (k : K) (es : List (K × X)) → k ≡ key x → below_all R k es ≡ true → AreKeyed es → AllByRecursion (λ y. eq_by_cmp R (key x) (key y) ≡ false) (map (λ e. e.1) es)
+  others : (x : X) (k : K) (es : List (K × X)) → k ≡ key x → below_all R k es ≡ true → AreKeyed es
+      → AllByRecursion (λ y. eq_by_cmp R (key x) (key y) ≡ false) (map (λ e. e.1) es)
   others x k [] is low all = tt
   others x k (e ∷ es) is low all =
       let parts = and_parts _ _ low in
       (ap is_eq (λ i. R (sym is i) (sym all.0 i)) ∙ apart_of (R k e.0) parts.0, others x k es is parts.1 all.1)
 
-  listed_apart : (es : List (K × X)) → is_sorted R es ≡ true → AreKeyed es → IsDistinct (λ x y. eq_by_cmp R (key x) (key y)) (map (λ e. e.1) es)
+  listed_apart : (es : List (K × X)) → is_sorted R es ≡ true → AreKeyed es
+      → IsDistinct (λ x y. eq_by_cmp R (key x) (key y)) (map (λ e. e.1) es)
   unfolding IsDistinct
   listed_apart [] up all = tt
   listed_apart (e ∷ es) up all = let parts = and_parts _ _ up in (others e.1 e.0 es all.0 parts.0 all.1, listed_apart es parts.1 all.1)
 
   -- no two values of the map of some values, each put in under its key, have the same key
-  values_apart : IsTotalOrder R → (xs : List X) → IsDistinct (λ x y. eq_by_cmp R (key x) (key y)) (values (from_entries {R = R} (map (λ x. (key x, x)) xs)))
+  values_apart : IsTotalOrder R → (xs : List X)
+      → IsDistinct (λ x y. eq_by_cmp R (key x) (key y)) (values (from_entries {R = R} (map (λ x. (key x, x)) xs)))
   values_apart o xs = let m = from_entries {R = R} (map (λ x. (key x, x)) xs) in listed_apart (entries m) (is_true _ (entries_sorted m)) (keyed-listed o xs)
 
 -- ---- keys that differ
@@ -85,13 +88,19 @@ abbrev pub have_same_key : Task → Task → Bool
 have_same_key a b = eq_by_cmp (slice_cmp nat_cmp) (work_key a) (work_key b)
 
 keys_tie : (a b : Task) → have_same_key a b ≡ true → work_key a ≡ work_key b
-keys_tie a b h = slice_cmp-IsAntisymmetric nat_cmp-IsAntisymmetric (work_key a) (work_key b) ((Equal-is (slice_cmp nat_cmp (work_key a) (work_key b))).0 h)
+keys_tie a b h =
+    slice_cmp-IsAntisymmetric nat_cmp-IsAntisymmetric (work_key a) (work_key b)
+    ((Equal-is (slice_cmp nat_cmp (work_key a) (work_key b))).0 h)
 
 other_orders_differ_in_key : (a b : Task) → (a.unit ≡ b.unit → a.faction ≡ b.faction → ⊥) → have_same_key a b ≡ false
-other_orders_differ_in_key a b differ = false_from_ne_true (have_same_key a b) (λ h. let e = keys_tie a b h in differ (ap (λ k. get_or k 0 0) e) (ap (λ k. get_or k 2 0) e))
+other_orders_differ_in_key a b differ =
+    false_from_ne_true (have_same_key a b)
+    (λ h. let e = keys_tie a b h in differ (ap (λ k. get_or k 0 0) e) (ap (λ k. get_or k 2 0) e))
 
 pub month_long_keys_differ : (m : MonthValue) → IsDistinct have_same_key (orders_by_unit is_month_long m)
-month_long_keys_differ m = values_apart (slice_cmp nat_cmp) (slice_cmp-IsAntisymmetric nat_cmp-IsAntisymmetric) (key_of ByUnit) nat_list_cmp_total _
+month_long_keys_differ m =
+    values_apart (slice_cmp nat_cmp) (slice_cmp-IsAntisymmetric nat_cmp-IsAntisymmetric) (key_of ByUnit)
+    nat_list_cmp_total _
 
 -- ---- the units that have an order of their own faction
 
@@ -99,7 +108,8 @@ module _ (c : CampaignValue) where
   abbrev IsAmongWriters : FinMap nat_cmp ℕ → Task → Type 0
   IsAmongWriters writers o = is_of_faction o.faction (get c.units o.unit) ≡ true → is_some (get writers o.unit) ≡ true
 
-  own_is_listed : (m : FinMap nat_cmp ℕ) (os : List Task) → AllByRecursion (IsAmongWriters (with_entries m (flat_map (own_unit c) os))) os
+  own_is_listed : (m : FinMap nat_cmp ℕ) (os : List Task)
+      → AllByRecursion (IsAmongWriters (with_entries m (flat_map (own_unit c) os))) os
   own_is_listed m [] = tt
   own_is_listed m (o ∷ os) =
       let rest = flat_map (own_unit c) os in
@@ -123,24 +133,34 @@ module _ (c : CampaignValue) where
 
     -- the order of WORK that the code adds for unit n, if it adds one, is `IsIdle`: n is there, the order is of n's own
     -- faction, and that faction wrote none of `os` for n
-    idle_if : (n : ℕ) (u : Unit) (b : Bool) → (nat_lt 0 u.holding.men && not (is_some (get writers n))) ≡ b → get c.units n ≡ Some u → AllByRecursion IsIdle (cond b (idle_task n u.faction ∷ []) [])
-    idle_if n u true is there = (record { unit = u; there = there; own = refl; unordered = not-true _ (and_parts _ _ is).1 }, tt)
+    idle_if : (n : ℕ) (u : Unit) (b : Bool) → (nat_lt 0 u.holding.men && not (is_some (get writers n))) ≡ b
+        → get c.units n ≡ Some u → AllByRecursion IsIdle (cond b (idle_task n u.faction ∷ []) [])
+    idle_if n u true is there =
+        (record { unit = u; there = there; own = refl; unordered = not-true _ (and_parts _ _ is).1 }, tt)
     idle_if n u false is there = tt
 
-    idle_each : (es : List (ℕ × Unit)) → EachEntry (λ n u. get c.units n ≡ Some u) es → AllByRecursion IsIdle (flat_map (idle_order writers) es)
+    idle_each : (es : List (ℕ × Unit)) → EachEntry (λ n u. get c.units n ≡ Some u) es
+        → AllByRecursion IsIdle (flat_map (idle_order writers) es)
     idle_each [] h = tt
-    idle_each ((n, u) ∷ es) h = all_append IsIdle (idle_order writers (n, u)) (flat_map (idle_order writers) es) (idle_if n u _ refl h.0) (idle_each es h.1)
+    idle_each ((n, u) ∷ es) h =
+        all_append IsIdle (idle_order writers (n, u)) (flat_map (idle_order writers) es) (idle_if n u _ refl h.0)
+        (idle_each es h.1)
 
     each_idle : AllByRecursion IsIdle (all_idle_orders c os)
     each_idle = idle_each (entries c.units) (each-from_every (λ n u. get c.units n ≡ Some u) c.units (λ n u is. is))
 
     of_unit : (e : ℕ × Unit) → AllByRecursion (λ o. o.unit ≡ e.0) (idle_order writers e)
-    of_unit (n, u) = elim (nat_lt 0 u.holding.men && not (is_some (get writers n))) as (λ b. AllByRecursion (λ (o : Task). o.unit ≡ n) (cond b (idle_task n u.faction ∷ []) [])) [ true ↦ (refl, tt) | false ↦ tt ]
+    of_unit (n, u) =
+        elim (nat_lt 0 u.holding.men && not (is_some (get writers n))) as
+        (λ b. AllByRecursion (λ (o : Task). o.unit ≡ n) (cond b (idle_task n u.faction ∷ []) []))
+        [ true ↦ (refl, tt) | false ↦ tt ]
 
     -- the code adds at most one order of WORK for a unit
     just_one : (e : ℕ × Unit) → IsDistinct have_same_key (idle_order writers e)
     unfolding IsDistinct
-    just_one (n, u) = elim (nat_lt 0 u.holding.men && not (is_some (get writers n))) as (λ b. IsDistinct have_same_key (cond b (idle_task n u.faction ∷ []) [])) [ true ↦ (tt, tt) | false ↦ tt ]
+    just_one (n, u) =
+        elim (nat_lt 0 u.holding.men && not (is_some (get writers n))) as
+        (λ b. IsDistinct have_same_key (cond b (idle_task n u.faction ∷ []) [])) [ true ↦ (tt, tt) | false ↦ tt ]
 
     idle_apart : IsDistinct have_same_key (all_idle_orders c os)
     idle_apart =
@@ -167,11 +187,13 @@ module _ (c : CampaignValue) where
 
 -- A unit is in a map with the writers of some orders put in exactly if it was before, or if its own faction wrote one
 -- of the orders for it.
-writes_own : (c : CampaignValue) (os : List Task) (n : ℕ) (u : Unit) → get c.units n ≡ Some u → (m : FinMap nat_cmp ℕ) → is_some (get (with_entries m (flat_map (own_unit c) os)) n) ≡ (has_own_order os n u || is_some (get m n))
+writes_own : (c : CampaignValue) (os : List Task) (n : ℕ) (u : Unit) → get c.units n ≡ Some u → (m : FinMap nat_cmp ℕ)
+    → is_some (get (with_entries m (flat_map (own_unit c) os)) n) ≡ (has_own_order os n u || is_some (get m n))
 writes_own c [] n u is m = refl
 writes_own c (o ∷ os) n u is m =
     ap (λ (k : FinMap nat_cmp ℕ). is_some (get k n)) (appended_entries m (own_unit c o) (flat_map (own_unit c) os))
-    ∙ writes_own c os n u is (with_entries m (own_unit c o)) ∙ ap (λ b. has_own_order os n u || b) one ∙ swapped (has_own_order os n u) (o.unit == n && o.faction == u.faction) (is_some (get m n))
+    ∙ writes_own c os n u is (with_entries m (own_unit c o)) ∙ ap (λ b. has_own_order os n u || b) one
+    ∙ swapped (has_own_order os n u) (o.unit == n && o.faction == u.faction) (is_some (get m n))
   where
     swapped : (a b d : Bool) → (a || (b || d)) ≡ ((b || a) || d)
     swapped true true d = refl
@@ -182,49 +204,66 @@ writes_own c (o ∷ os) n u is m =
     here : o.unit ≡ n → is_of_faction o.faction (get c.units o.unit) ≡ (u.faction == o.faction)
     here same = ap (λ k. is_of_faction o.faction (get c.units k)) same ∙ ap (is_of_faction o.faction) is
 
-    put_for : (b : Bool) → o.unit ≡ n → is_some (get (with_entries m (cond b ((o.unit, o.faction) ∷ []) [])) n) ≡ (b || is_some (get m n))
-    put_for true same = ap (λ k. is_some (get (insert m o.unit o.faction) k)) (sym same) ∙ inserted_is_in m o.unit o.faction
+    put_for : (b : Bool) → o.unit ≡ n
+        → is_some (get (with_entries m (cond b ((o.unit, o.faction) ∷ []) [])) n) ≡ (b || is_some (get m n))
+    put_for true same =
+        ap (λ k. is_some (get (insert m o.unit o.faction) k)) (sym same) ∙ inserted_is_in m o.unit o.faction
     put_for false same = refl
 
     put_elsewhere : (b : Bool) → n ≢ o.unit → get (with_entries m (cond b ((o.unit, o.faction) ∷ []) [])) n ≡ get m n
     put_elsewhere true apart = get-insert_other m o.unit n o.faction apart
     put_elsewhere false apart = refl
 
-    one : is_some (get (with_entries m (own_unit c o)) n) ≡ ((o.unit == n && o.faction == u.faction) || is_some (get m n))
+    one : is_some (get (with_entries m (own_unit c o)) n)
+        ≡ ((o.unit == n && o.faction == u.faction) || is_some (get m n))
     one = elim (cases_eq n o.unit) [
       | inl same ↦
-          put_for (is_of_faction o.faction (get c.units o.unit)) (sym same) ∙ ap (λ b. b || is_some (get m n)) (here (sym same) ∙ equality_is_symmetric u.faction o.faction)
+          put_for (is_of_faction o.faction (get c.units o.unit)) (sym same)
+          ∙ ap (λ b. b || is_some (get m n)) (here (sym same) ∙ equality_is_symmetric u.faction o.faction)
           ∙ sym (ap (λ b. (b && o.faction == u.faction) || is_some (get m n)) (ap (λ k. o.unit == k) same ∙ same_number o.unit))
       | inr apart ↦
           ap is_some (put_elsewhere (is_of_faction o.faction (get c.units o.unit)) apart)
           ∙ sym (ap (λ b. (b && o.faction == u.faction) || is_some (get m n)) (other_number o.unit n (λ same. apart (sym same))))
     ]
 
-is_writer : (c : CampaignValue) (os : List Task) (n : ℕ) (u : Unit) → get c.units n ≡ Some u → is_some (get (own_writers c os) n) ≡ has_own_order os n u
-is_writer c os n u is = writes_own c os n u is empty ∙ ap (λ o. has_own_order os n u || is_some o) (get-empty nat_cmp n) ∙ or-false (has_own_order os n u)
+is_writer : (c : CampaignValue) (os : List Task) (n : ℕ) (u : Unit) → get c.units n ≡ Some u
+    → is_some (get (own_writers c os) n) ≡ has_own_order os n u
+is_writer c os n u is =
+    writes_own c os n u is empty ∙ ap (λ o. has_own_order os n u || is_some o) (get-empty nat_cmp n)
+    ∙ or-false (has_own_order os n u)
 
 module _ (c : CampaignValue) (ts : List Task) where
   abbrev of_idle : List (ℕ × Unit) → List Task
   of_idle es = map (λ e. idle_task e.0 e.1.faction) (filter (is_idle ts) es)
 
-  one_idle : (n : ℕ) (u : Unit) → get c.units n ≡ Some u → idle_order (own_writers c ts) (n, u) ≡ cond (is_idle ts (n, u)) (idle_task n u.faction ∷ []) []
-  one_idle n u is = ap (λ b. cond (nat_lt 0 u.holding.men && not b) (idle_task n u.faction ∷ []) []) (is_writer c ts n u is)
+  one_idle : (n : ℕ) (u : Unit) → get c.units n ≡ Some u
+      → idle_order (own_writers c ts) (n, u) ≡ cond (is_idle ts (n, u)) (idle_task n u.faction ∷ []) []
+  one_idle n u is =
+      ap (λ b. cond (nat_lt 0 u.holding.men && not b) (idle_task n u.faction ∷ []) []) (is_writer c ts n u is)
 
-  idle_are : (es : List (ℕ × Unit)) → EachEntry (λ n u. get c.units n ≡ Some u) es → flat_map (idle_order (own_writers c ts)) es ≡ of_idle es
+  idle_are : (es : List (ℕ × Unit)) → EachEntry (λ n u. get c.units n ≡ Some u) es
+      → flat_map (idle_order (own_writers c ts)) es ≡ of_idle es
   idle_are [] h = refl
   idle_are ((n, u) ∷ es) h =
       ap (λ os. os ++ flat_map (idle_order (own_writers c ts)) es) (one_idle n u h.0)
-      ∙ ap (λ os. cond (is_idle ts (n, u)) (idle_task n u.faction ∷ []) [] ++ os) (idle_are es h.1) ∙ by_test (is_idle ts (n, u))
+      ∙ ap (λ os. cond (is_idle ts (n, u)) (idle_task n u.faction ∷ []) [] ++ os) (idle_are es h.1)
+      ∙ by_test (is_idle ts (n, u))
     where
-      by_test : (b : Bool) → cond b (idle_task n u.faction ∷ []) [] ++ of_idle es ≡ map (λ e. idle_task e.0 e.1.faction) (cond b ((n, u) ∷ filter (is_idle ts) es) (filter (is_idle ts) es))
+      by_test : (b : Bool)
+          → cond b (idle_task n u.faction ∷ []) [] ++ of_idle es
+          ≡ map (λ e. idle_task e.0 e.1.faction) (cond b ((n, u) ∷ filter (is_idle ts) es) (filter (is_idle ts) es))
       by_test true = refl
       by_test false = refl
 
   pub all_are : all_work c ts ≡ written_work ts ++ idle_work c ts
-  all_are = ap (λ os. written_work ts ++ os) (idle_are (entries c.units) (each-from_every (λ n u. get c.units n ≡ Some u) c.units (λ n u is. is)))
+  all_are =
+      ap (λ os. written_work ts ++ os)
+      (idle_are (entries c.units) (each-from_every (λ n u. get c.units n ≡ Some u) c.units (λ n u is. is)))
 
 -- the code's list of all orders of WORK, sorted by its keys, is the list of the definition (`work_orders`)
-pub work_sorted : (c : CampaignValue) (m : MonthValue) (os list : List PhaseOrder) → map task_of os ≡ all_work c (orders_by_unit is_month_long m) → IsPermutation os list → IsSortedByKey (λ o. key_of ByUnit (task_of o)) (slice_cmp nat_cmp) list → map task_of list ≡ work_orders c m
+pub work_sorted : (c : CampaignValue) (m : MonthValue) (os list : List PhaseOrder)
+    → map task_of os ≡ all_work c (orders_by_unit is_month_long m) → IsPermutation os list
+    → IsSortedByKey (λ o. key_of ByUnit (task_of o)) (slice_cmp nat_cmp) list → map task_of list ≡ work_orders c m
 unfolding work_orders
 work_sorted c m os list are moved up =
     let ts = orders_by_unit is_month_long m in

@@ -16,7 +16,8 @@ use Rattle.atl_market.proofs.WantLaws.{appended_entries}
 pub fits_one_more : (s : set.FinSet nat_cmp) (n room : ℕ) → set.len s < room → set.len (set.insert s n) ≤ room
 fits_one_more s n room h = let is = set.len-insert nat_cmp_total s n in by_test (set.contains s n) is
   where
-    by_test : (b : Bool) → set.len (set.insert s n) ≡ cond b (set.len s) (set.len s + 1) → set.len (set.insert s n) ≤ room
+    by_test : (b : Bool) → set.len (set.insert s n) ≡ cond b (set.len s) (set.len s + 1)
+        → set.len (set.insert s n) ≤ room
     by_test true is = omega (arith, is, h)
     by_test false is = omega (arith, is, h)
 
@@ -29,15 +30,18 @@ module _ (c : CampaignValue) (ts : List Task) (t : Task) where
       → own_writers c (ts ++ t ∷ []) ≡ with_entries (own_writers c ts) (cond b ((t.unit, t.faction) ∷ []) [])
   writers_more b is =
       ap (with_entries empty) (flat_map-append (own_unit c) ts (t ∷ []))
-      ∙ appended_entries empty (flat_map (own_unit c) ts) (own_unit c t ++ []) ∙ appended_entries (own_writers c ts) (own_unit c t) []
+      ∙ appended_entries empty (flat_map (own_unit c) ts) (own_unit c t ++ [])
+      ∙ appended_entries (own_writers c ts) (own_unit c t) []
       ∙ ap (λ b. with_entries (own_writers c ts) (cond b ((t.unit, t.faction) ∷ []) [])) is
 
   module _ (s : set.FinSet nat_cmp) (each : (unit : ℕ) → set.contains s unit ≡ is_some (get (own_writers c ts) unit)) where
     -- with the unit of one order more, if the order is of its faction, the set has the units of one order more
-    pub one_more : (unit : ℕ) → set.contains (with_writer c t.unit t.faction s) unit ≡ is_some (get (own_writers c (ts ++ t ∷ [])) unit)
+    pub one_more : (unit : ℕ)
+        → set.contains (with_writer c t.unit t.faction s) unit ≡ is_some (get (own_writers c (ts ++ t ∷ [])) unit)
     one_more unit = by_test (is_of_faction t.faction (get c.units t.unit)) refl
       where
-        by_test : (b : Bool) → is_of_faction t.faction (get c.units t.unit) ≡ b → set.contains (cond b (set.insert s t.unit) s) unit ≡ is_some (get (own_writers c (ts ++ t ∷ [])) unit)
+        by_test : (b : Bool) → is_of_faction t.faction (get c.units t.unit) ≡ b
+            → set.contains (cond b (set.insert s t.unit) s) unit ≡ is_some (get (own_writers c (ts ++ t ∷ [])) unit)
         by_test true own =
             set.contains-insert nat_cmp_total s t.unit unit ∙ ap (λ b. eq_by_cmp nat_cmp unit t.unit || b) (each unit)
             ∙ sym (ap (λ m. is_some (get m unit)) (writers_more true own) ∙ ap is_some (get-insert nat_cmp_total (own_writers c ts) t.unit t.faction unit)

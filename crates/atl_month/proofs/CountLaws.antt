@@ -34,7 +34,8 @@ module _ {V : Type 0} where
     where
       -- For `at_least`: a map `a` that has each number of map `b`, whose size is `k + 1`, has at least size `k + 1`.
       -- The law is given for all maps of size `k`.
-      by_entries : ((c d : FinMap nat_cmp V) → len d ≡ k → HasAllNumbers c d → k ≤ len c) → (es : List (ℕ × V)) → entries b ≡ es → suc k ≤ len a
+      by_entries : ((c d : FinMap nat_cmp V) → len d ≡ k → HasAllNumbers c d → k ≤ len c) → (es : List (ℕ × V))
+          → entries b ≡ es → suc k ≤ len a
       by_entries step [] is = absurd (omega (arith, count, len-entries b ∙ ap length is))
       by_entries step (e ∷ es) is =
           let here : get b e.0 ≡ Some e.1 = get-entries b e.0 ∙ ap (find nat_cmp e.0) is ∙ first e es in

@@ -38,7 +38,8 @@ use Rattle.atl_month.specs.Unmailed.{SentNone, UnmailedAreLeft}
 
 module _ (w : WorldValue) (d : CampaignValue) where
   finished_steady : d.month < last_month → IsSteady w d → IsSteady w (after_month d)
-  finished_steady early old = posted-steady w d (d.month + 1) empty d.reports (omega (arith, early)) (posted-unsent old.known.posts) old
+  finished_steady early old =
+      posted-steady w d (d.month + 1) empty d.reports (omega (arith, early)) (posted-unsent old.known.posts) old
 
   finished_balances : Balances d → Balances (after_month d)
   unfolding total
@@ -50,12 +51,16 @@ module _ (w : WorldValue) (c d : CampaignValue) (book_bound : BookBound) (little
 
   -- An amount within a bound (`more`) is, once moved by at most `m`, which is at most 2*10^14, within a bound (`most`)
   -- that is greater by at least 2*10^14.
-  near_within : (a b : ℤ) (m more most : ℕ) → m ≤ 200000000000000 → more + 200000000000000 ≤ most → IsNear m a b → IsWithin more a → IsWithin most b
-  near_within a b m more most l fits near within = record { most = omega (arith, ints, near.above, within.most); least = omega (arith, ints, near.below, within.least) }
+  near_within : (a b : ℤ) (m more most : ℕ) → m ≤ 200000000000000 → more + 200000000000000 ≤ most → IsNear m a b
+      → IsWithin more a → IsWithin most b
+  near_within a b m more most l fits near within =
+      record { most = omega (arith, ints, near.above, within.most); least = omega (arith, ints, near.below, within.least) }
 
   -- the bound on the books, 2*10^14 for each month (`a`, `b`) and 10^9 for each faction (`f`, `g`), grows by 2*10^14
   -- with one month more
-  bound_grows : (a b f g : ℕ) → b ≡ a → g ≡ f → (200000000000000 * (a + 1) + 1000000000 * f) + 200000000000000 ≤ 200000000000000 * ((b + 1) + 1) + 1000000000 * g
+  bound_grows : (a b f g : ℕ) → b ≡ a → g ≡ f
+      → (200000000000000 * (a + 1) + 1000000000 * f) + 200000000000000
+      ≤ 200000000000000 * ((b + 1) + 1) + 1000000000 * g
   bound_grows a b f g month count = omega (arith, month, count)
 
   amounts_within : AreAmountsWithin c → AreAmountsWithin (after_month d)
@@ -86,7 +91,9 @@ module _ {leaves : Condition} (w : WorldValue) (c d : CampaignValue) (well : Lea
   -- the phases of a month move each amount of the books by at most 10^14 - 1 for each phase that may move it
   -- (`month_moves`)
   pub books_near : BooksAreNear month_moves c d
-  books_near e t = near_more (phases_bound e t) (month_moves e t) (amount_in c.books e t) (amount_in d.books e t) (month_within e t) (well.near e t)
+  books_near e t =
+      near_more (phases_bound e t) (month_moves e t) (amount_in c.books e t) (amount_in d.books e t) (month_within e t)
+      (well.near e t)
 
   pub factions_stay : (n : ℕ) → HasValue c.factions n → HasValue d.factions n
   factions_stay = has_all_back c.factions d.factions well.same_month.count well.same_month.factions
@@ -96,17 +103,23 @@ phases_room w c sound = room_when_sound w c phases_bound (λ e t. omega (arith, 
 
 -- If some phases, run on month `m`, made campaign `d` and some events, they make the same when run on month `begin`,
 -- which is equal to `m`.
-phases_result : (phases : Meaning) (w : WorldValue) (c d : CampaignValue) (m n : MonthValue) (begin : MonthValue) (events : List Event) → (d, n) ≡ phases w c m → m ≡ begin → events ≡ n.events
+phases_result : (phases : Meaning) (w : WorldValue) (c d : CampaignValue) (m n : MonthValue) (begin : MonthValue) (events : List Event)
+    → (d, n) ≡ phases w c m → m ≡ begin → events ≡ n.events
     → ◌≡◌ {A = CampaignValue × List Event} (d, events) ((phases w c begin).0, (phases w c begin).1.events)
-phases_result phases w c d m n begin events meaning begins events_are = ap (λ (es : List Event). (d, es)) events_are ∙ ap (λ (p : CampaignValue × MonthValue). (p.0, p.1.events)) (meaning ∙ ap (phases w c) begins)
+phases_result phases w c d m n begin events meaning begins events_are =
+    ap (λ (es : List Event). (d, es)) events_are
+    ∙ ap (λ (p : CampaignValue × MonthValue). (p.0, p.1.events)) (meaning ∙ ap (phases w c) begins)
 
 pub month_is : (w : WorldValue) (c d : CampaignValue) (m n : MonthValue) (readings : FinMap nat_cmp Reading) (words : List ℕ) (events : List Event)
-    → (d, n) ≡ month_meaning w c m → m ≡ new_month readings words → events ≡ n.events → (d, events) ≡ month_of w c readings words
+    → (d, n) ≡ month_meaning w c m → m ≡ new_month readings words → events ≡ n.events
+    → (d, events) ≡ month_of w c readings words
 unfolding month_of
-month_is w c d m n readings words events meaning begins events_are = phases_result month_meaning w c d m n (new_month readings words) events meaning begins events_are
+month_is w c d m n readings words events meaning begins events_are =
+    phases_result month_meaning w c d m n (new_month readings words) events meaning begins events_are
 
 pub mail_order_does_not_count : MailOrderDoesNotCount
-mail_order_does_not_count w c words mailings others own same = ap (λ readings. month_of w c readings words) (mailings_have_no_order mailings others own same)
+mail_order_does_not_count w c words mailings others own same =
+    ap (λ readings. month_of w c readings words) (mailings_have_no_order mailings others own same)
 
 -- ---- the month
 
@@ -118,9 +131,12 @@ month_leaves =
     (closed_together last_phases last_leave)
 
 none_read : (f : ℕ) (ms : List Mailing) → SentNone ms f → get (by_faction (map reading_of ms)) f ≡ None
-none_read f ms none = get-from_entries nat_cmp_total (map (λ r. (r.faction, r)) (map reading_of ms)) f ∙ not_found ms (recursion_from_All (λ m. m.faction ≢ f) ms none)
+none_read f ms none =
+    get-from_entries nat_cmp_total (map (λ r. (r.faction, r)) (map reading_of ms)) f
+    ∙ not_found ms (recursion_from_All (λ m. m.faction ≢ f) ms none)
   where
-    not_found : (ms : List Mailing) → AllByRecursion (λ m. m.faction ≢ f) ms → find nat_cmp f (map (λ r. (r.faction, r)) (map reading_of ms)) ≡ None
+    not_found : (ms : List Mailing) → AllByRecursion (λ m. m.faction ≢ f) ms
+        → find nat_cmp f (map (λ r. (r.faction, r)) (map reading_of ms)) ≡ None
     not_found [] none = refl
     not_found (m ∷ ms) none =
         elim (nat_cmp f m.faction) as (λ o. nat_cmp f m.faction ≡ o → cond (is_eq o) (Some (reading_of m)) (find nat_cmp f (map (λ r. (r.faction, r)) (map reading_of ms))) ≡ None) [
@@ -132,7 +148,9 @@ none_read f ms none = get-from_entries nat_cmp_total (map (λ r. (r.faction, r))
 -- Phases that do as `ClosesUnmailed` says leave units of factions without a mailing their items, and their men less the
 -- starved. If the month begins without events, its events report these men. A unit all of whose men starved is removed
 -- (`IsLeft`).
-phases_leave_unmailed : (phases : Meaning) (keeps : Frame) → ClosesUnmailed phases keeps → (w : WorldValue) (c d : CampaignValue) (m : MonthValue) (events : List Event) → m.events ≡ [] → ◌≡◌ {A = CampaignValue × List Event} (d, events) ((phases w c m).0, (phases w c m).1.events) → keeps w m c d
+phases_leave_unmailed : (phases : Meaning) (keeps : Frame) → ClosesUnmailed phases keeps
+    → (w : WorldValue) (c d : CampaignValue) (m : MonthValue) (events : List Event) → m.events ≡ []
+    → ◌≡◌ {A = CampaignValue × List Event} (d, events) ((phases w c m).0, (phases w c m).1.events) → keeps w m c d
     → Every (λ n u. get m.readings u.faction ≡ None → IsLeft (starved_in events n) d n u) c.units
 phases_leave_unmailed phases keeps closes w c d m events begins is kept n u there none =
     let state : d ≡ (phases w c m).0 = ap (λ (p : CampaignValue × List Event). p.0) is in
@@ -144,7 +162,8 @@ phases_leave_unmailed phases keeps closes w c d m events begins is kept n u ther
 
 -- after a month each unit of a faction without a mailing has its name, no less of any item, and all men who didn't
 -- starve, or is removed where all its men starved (`UnmailedAreLeft`)
-pub unmailed_left : (w : WorldValue) (c d : CampaignValue) (ms : List Mailing) (words : List ℕ) (events : List Event) → (d, events) ≡ month_of w c (by_faction (map reading_of ms)) words
+pub unmailed_left : (w : WorldValue) (c d : CampaignValue) (ms : List Mailing) (words : List ℕ) (events : List Event)
+    → (d, events) ≡ month_of w c (by_faction (map reading_of ms)) words
     → month_keeps w (new_month (by_faction (map reading_of ms)) words) c d → UnmailedAreLeft ms events c d
 unfolding month_of
 unmailed_left w c d ms words events is kept n u there none =

@@ -34,9 +34,12 @@ is_two_at_most : (n : ℕ) → nat_le n 2 ≡ true → n ≤ 2
 is_two_at_most n is = grind (arith, nat_tests, is)
 
 pub two_at_most : TwoMoveAtMost
-two_at_most e Money = is_two_at_most (moving_phase_count e Money) (each_entry (λ k. nat_le (moving_phase_count k Money) 2) refl e)
-two_at_most e People = is_two_at_most (moving_phase_count e People) (each_entry (λ k. nat_le (moving_phase_count k People) 2) refl e)
-two_at_most e (Item i) = is_two_at_most (moving_phase_count e (Item i)) (each_entry (λ k. nat_le (moving_phase_count k (Item i)) 2) refl e)
+two_at_most e Money =
+    is_two_at_most (moving_phase_count e Money) (each_entry (λ k. nat_le (moving_phase_count k Money) 2) refl e)
+two_at_most e People =
+    is_two_at_most (moving_phase_count e People) (each_entry (λ k. nat_le (moving_phase_count k People) 2) refl e)
+two_at_most e (Item i) =
+    is_two_at_most (moving_phase_count e (Item i)) (each_entry (λ k. nat_le (moving_phase_count k (Item i)) 2) refl e)
 
 -- the phases of a month together move each amount by at most 2*10^14 (`moves_in_month`)
 pub phases_little : IsBoundWithin phases_bound moves_in_month

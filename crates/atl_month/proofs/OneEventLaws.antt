@@ -1,4 +1,5 @@
--- The law that each order that counts has exactly one event in the month: its phase gives it one, and no other phase does.
+-- The law that each order that counts has exactly one event in the month: its phase gives it one, and no other phase
+-- does.
 use Rattle.std.proofs.Common.{◌≡◌, ◌==◌, ◌&&◌, ◌++◌, ◌<◌, ℕ, Bool, true, false, not, cond, List, [], ◌∷◌, map, filter, refl, sym, ap, ◌∙◌, arith}
 use Rattle.std.proofs.lemmas.List.{append-nil}
 use Rattle.std.specs.FinMap.{FinMap, empty}
@@ -48,7 +49,8 @@ use Rattle.atl_month.specs.declared.upkeep_sharing.UpkeepResult.{UpkeepResult}
 -- ---- the phases without orders
 
 -- a phase that leaves the month as it was adds nothing
-nothing_given : (meaning : Meaning) → ((w : WorldValue) (c : CampaignValue) (m : MonthValue) → (meaning w c m).1 ≡ m) → Gives (λ counts t. []) meaning
+nothing_given : (meaning : Meaning) → ((w : WorldValue) (c : CampaignValue) (m : MonthValue) → (meaning w c m).1 ≡ m)
+    → Gives (λ counts t. []) meaning
 nothing_given meaning same = record {
   events = λ w c m aliases readings ea er fit t there. ap (reports_at t.faction t.line) (same w c m) ∙ sym (append-nil (reports_at t.faction t.line m));
   readings = λ w c m. ap (λ x. x.readings) (same w c m);
@@ -56,11 +58,13 @@ nothing_given meaning same = record {
 }
 
 -- no event of upkeep is on the line of an order
-none_starved : (faction line : ℕ) → 0 < line → (list : List UpkeepResult) → filter (is_from faction line) (map report_of (map starved_event list)) ≡ []
+none_starved : (faction line : ℕ) → 0 < line → (list : List UpkeepResult)
+    → filter (is_from faction line) (map report_of (map starved_event list)) ≡ []
 none_starved faction line low [] = refl
 none_starved faction line low (s ∷ list) =
     let rest = filter (is_from faction line) (map report_of (map starved_event list)) in
-    ap (λ b. cond b (report_of (starved_event s) ∷ rest) rest) (second_false (s.faction == faction) (0 == line) (other_number 0 line (λ same. absurd (omega (arith, low, same))))) ∙ none_starved faction line low list
+    ap (λ b. cond b (report_of (starved_event s) ∷ rest) rest) (second_false (s.faction == faction) (0 == line) (other_number 0 line (λ same. absurd (omega (arith, low, same)))))
+    ∙ none_starved faction line low list
 
 -- upkeep adds no event of an order
 upkeep_gives : Gives (λ counts t. []) upkeep_spec.meaning
@@ -102,11 +106,14 @@ last_added v counts t = report_if (is_work v && (is_month_long v && counts)) t +
 
 -- what all phases after FORM add
 abbrev all_added : Verb → (named guards counts : Bool) → Task → List Report
-all_added v named guards counts t = ((goods_added v named counts t ++ pots_added v counts t) ++ later_added v guards counts t) ++ last_added v counts t
+all_added v named guards counts t =
+    ((goods_added v named counts t ++ pots_added v counts t) ++ later_added v guards counts t) ++ last_added v counts t
 
 -- what all phases after FORM add for an order, by whether it counts
 abbrev added_for : Bool → Task → List Report
-added_for counts t = all_added t.order_value.verb (names t.order_value.verb t.order_value.operands) (sets_guard t.order_value.operands) counts t
+added_for counts t =
+    all_added t.order_value.verb (names t.order_value.verb t.order_value.operands) (sets_guard t.order_value.operands)
+    counts t
 
 -- the phases from NAME to TRANSFER
 abbrev goods_meaning : Meaning
@@ -118,7 +125,8 @@ pots_meaning = meaning_of (sell_spec ∷ buy_spec ∷ tax_spec ∷ recruit_spec 
 
 -- all phases after FORM
 abbrev rest_meaning : Meaning
-rest_meaning = then_also (then_also (then_also goods_meaning pots_meaning) (meaning_of later_phases)) (meaning_of last_phases)
+rest_meaning =
+    then_also (then_also (then_also goods_meaning pots_meaning) (meaning_of later_phases)) (meaning_of last_phases)
 
 -- the phases after FORM add what `all_added` says
 rest_gives : Gives added_for rest_meaning
@@ -135,16 +143,22 @@ rest_gives =
 
     -- the phases from GUARD 1 to PRODUCE
     later : Gives (λ counts t. later_added t.order_value.verb (sets_guard t.order_value.operands) counts t) (meaning_of later_phases)
-    later = gives_both guard_gives (gives_both quit_gives (gives_both walk_gives (gives_both sail_gives (gives_both build_gives (gives_both learn_gives produce_gives)))))
+    later =
+        gives_both guard_gives
+        (gives_both quit_gives (gives_both walk_gives (gives_both sail_gives (gives_both build_gives (gives_both learn_gives produce_gives)))))
 
     -- WORK and the phases after it
     last : Gives (λ counts t. last_added t.order_value.verb counts t) (meaning_of last_phases)
-    last = gives_both work_gives (gives_both upkeep_gives (gives_both (nothing_given season_spec.meaning (λ w c m. refl)) (nothing_given sweep_spec.meaning (λ w c m. refl))))
+    last =
+        gives_both work_gives
+        (gives_both upkeep_gives (gives_both (nothing_given season_spec.meaning (λ w c m. refl)) (nothing_given sweep_spec.meaning (λ w c m. refl))))
 
 -- ---- one event
 
 -- FORM adds the event of an order of FORM, and the other phases that of an order of another verb
-one_added : (v : Verb) (o : OperandsValue) (x y : Bool) (t u : Task) → report_if (is_forming v && x) t ++ all_added v (names v o) (sets_guard o) y u ≡ cond (is_forming v) (report_if x t) (report_if y u)
+one_added : (v : Verb) (o : OperandsValue) (x y : Bool) (t u : Task)
+    → report_if (is_forming v && x) t ++ all_added v (names v o) (sets_guard o) y u
+    ≡ cond (is_forming v) (report_if x t) (report_if y u)
 one_added verbs.Form o true y t u = refl
 one_added verbs.Form o false y t u = refl
 one_added verbs.Guard o x y t u = by_flag (sets_guard o) y
@@ -178,7 +192,8 @@ module _ (w : WorldValue) (c : CampaignValue) (readings : FinMap nat_cmp Reading
 
     -- the order, with its unit by some aliases, is in the mailing as it is read with these
     abbrev there_by : (aliases : Aliases) → IsInMailing aliases readings (read_by aliases)
-    there_by aliases = record { reading = there.reading; entry = there.entry; of_faction = there.of_faction; at_index = there.at_index; for_unit = refl; on_line = there.on_line; says = there.says }
+    there_by aliases =
+        record { reading = there.reading; entry = there.entry; of_faction = there.of_faction; at_index = there.at_index; for_unit = refl; on_line = there.on_line; says = there.says }
 
     -- whether the order counts, with the units of its mailing by some aliases
     abbrev counts_by : Aliases → Bool
@@ -189,20 +204,24 @@ module _ (w : WorldValue) (c : CampaignValue) (readings : FinMap nat_cmp Reading
     made = sym (rest_gives.aliases w formed.0 formed.1)
 
     -- the month has what FORM adds for the order, and then what the other phases add
-    all_reports : reports_at t.faction t.line after ≡ report_if (is_forming t.order_value.verb && counts_by empty) (read_by empty) ++ added_for (counts_by after.aliases) (read_by after.aliases)
+    all_reports : reports_at t.faction t.line after
+        ≡ report_if (is_forming t.order_value.verb && counts_by empty) (read_by empty) ++ added_for (counts_by after.aliases) (read_by after.aliases)
     all_reports =
         rest_gives.events w formed.0 formed.1 after.aliases readings made (form_keeps_readings w c before) fit (read_by after.aliases) (there_by after.aliases)
         ∙ ap (λ rs. rs ++ added_for (counts_by after.aliases) (read_by after.aliases))
         (form_gives w c before readings refl fit (read_by empty) (there_by empty))
 
     -- an order that counts as it is read by these aliases has its report
-    own_report : order_counts (tasks_of by t.faction there.reading) t ≡ true → report_if (counts_by by) (read_by by) ≡ report_for t ∷ []
+    own_report : order_counts (tasks_of by t.faction there.reading) t ≡ true
+        → report_if (counts_by by) (read_by by) ≡ report_for t ∷ []
     own_report counts =
         let same : read_by by ≡ t = λ i. record t { unit = there.for_unit i } in
-        ap (λ u. report_if (order_counts (tasks_of by t.faction there.reading) u) u) same ∙ ap (λ b. report_if b t) counts
+        ap (λ u. report_if (order_counts (tasks_of by t.faction there.reading) u) u) same
+        ∙ ap (λ b. report_if b t) counts
 
   -- an order that counts as the phase of its verb reads it has its report
-  report_of_verb : (t : Task) (v : Verb) (there : IsInMailing (aliases_for v after.aliases) readings t) → order_counts (tasks_of (aliases_for v after.aliases) t.faction there.reading) t ≡ true
+  report_of_verb : (t : Task) (v : Verb) (there : IsInMailing (aliases_for v after.aliases) readings t)
+      → order_counts (tasks_of (aliases_for v after.aliases) t.faction there.reading) t ≡ true
       → cond (is_forming v) (report_if (counts_by t there empty) (read_by t there empty)) (report_if (counts_by t there after.aliases) (read_by t there after.aliases)) ≡ report_for t ∷ []
   report_of_verb t verbs.Form there counts = own_report t there counts
   report_of_verb t v there counts = own_report t there counts

@@ -50,9 +50,11 @@ pub kept-refl : (u : Unit) → IsKept u u
 kept-refl u = record { no_worse = no_worse u; men = refl; days = refl }
 
 pub kept-trans : (u v x : Unit) → IsKept u v → IsKept v x → IsKept u x
-kept-trans u v x one two = record { no_worse = no_worse_twice u v x one.no_worse two.no_worse; men = two.men ∙ one.men; days = two.days ∙ one.days }
+kept-trans u v x one two =
+    record { no_worse = no_worse_twice u v x one.no_worse two.no_worse; men = two.men ∙ one.men; days = two.days ∙ one.days }
 
-kept-with : (u : Unit) (money : ℕ) (items : FinMap nat_cmp ℕ) → u.holding.money ≤ money → ((i : ℕ) → amount_of u.holding.items i ≤ amount_of items i)
+kept-with : (u : Unit) (money : ℕ) (items : FinMap nat_cmp ℕ) → u.holding.money ≤ money
+    → ((i : ℕ) → amount_of u.holding.items i ≤ amount_of items i)
     → IsKept u (record u { holding = record u.holding { money = money; items = items } })
 kept-with u money items more all = record {
   no_worse = record { faction = refl; region = refl; structure = refl; name = refl; guard = refl; men = omega arith; money = more; items = all; days = λ s. omega arith };
@@ -85,7 +87,8 @@ passes-refl w n c steady = record {
   back = λ m v is. (v, is, kept-refl v);
 }
 
-pub passes-trans : {o p : Thing → ℕ} {i j : BookBound} (w : WorldValue) (n : ℕ) (a b c : CampaignValue) → PassesOn w n o i a b → PassesOn w n p j b c
+pub passes-trans : {o p : Thing → ℕ} {i j : BookBound} (w : WorldValue) (n : ℕ) (a b c : CampaignValue)
+    → PassesOn w n o i a b → PassesOn w n p j b c
     → PassesOn w n (λ s. o s + p s) (both_move i j) a c
 passes-trans {o} {p} {i} {j} w n a b c one two = record {
   steady = two.steady;
@@ -100,7 +103,8 @@ passes-trans {o} {p} {i} {j} w n a b c one two = record {
 -- If `taken` of a thing is given to a unit and `lost` of it is booked as lost, its total is above the books by both
 -- together more than before. The total of any other thing is above the books by as much as before. Test `b` says
 -- whether a thing is the one.
-total_above_books : (b : Bool) (taken lost x before after : ℕ) (books : ℤ) → after ≡ before + cond b taken 0 → pos before ≡ books +ℤ pos x
+total_above_books : (b : Bool) (taken lost x before after : ℕ) (books : ℤ) → after ≡ before + cond b taken 0
+    → pos before ≡ books +ℤ pos x
     → pos after ≡ (books +ℤ cond b (neg_ℤ (pos lost)) (pos 0)) +ℤ pos (x + cond b (taken + lost) 0)
 total_above_books b taken lost x before after books e h = grind (arith, ints, e, h)
 
@@ -111,7 +115,8 @@ owed_all : (b : Bool) (lost x all : ℕ) (books : ℤ) → pos all ≡ books +�
 owed_all b lost x all books h = grind (arith, ints, h)
 
 module _ (w : WorldValue) (c : CampaignValue) (n : ℕ) (t : Thing) (inside : thing_index t < thing_count w) (steady : IsSteady w c) where
-  pub all_lost : (amount : ℕ) → PassesOn w n (λ s. amount_as_thing s t amount) (moves_only amount Lost t) c (with_lost c t amount)
+  pub all_lost : (amount : ℕ)
+      → PassesOn w n (λ s. amount_as_thing s t amount) (moves_only amount Lost t) c (with_lost c t amount)
   all_lost amount = record {
     steady = steady-amount w c Lost t (neg_ℤ (pos amount)) inside steady;
     owes = λ s x h.
@@ -157,7 +162,8 @@ module _ (w : WorldValue) (c : CampaignValue) (n : ℕ) (t : Thing) (inside : th
           (λ m x there. (x, there, kept-refl x));
     }
       where
-        new_unit : (m : ℕ) (u : Unit) → get c.units m ≡ Some u → (x : Unit) × (get (insert c.units k (record v { holding = h })) m ≡ Some x) × IsKept u x
+        new_unit : (m : ℕ) (u : Unit) → get c.units m ≡ Some u
+            → (x : Unit) × (get (insert c.units k (record v { holding = h })) m ≡ Some x) × IsKept u x
         new_unit m u there = elim (cases_eq m k) [
           | inl same ↦
               let one : Some v ≡ Some u = sym is ∙ ap (get c.units) (sym same) ∙ there in (
@@ -194,14 +200,16 @@ module _ (w : WorldValue) (c : CampaignValue) (n k : ℕ) (apart : n ≢ k) (ste
   abbrev Passed : Thing → ℕ → CampaignValue → Type 0
   Passed t amount d = PassesOn w n (λ s. amount_as_thing s t amount) (moves_only amount Lost t) c d
 
-  more_money : (h : HoldingValue) (n : ℕ) (s : Thing) → unit_amount s (record h { money = h.money + n }) ≡ unit_amount s h + amount_as_thing s Money n
+  more_money : (h : HoldingValue) (n : ℕ) (s : Thing)
+      → unit_amount s (record h { money = h.money + n }) ≡ unit_amount s h + amount_as_thing s Money n
   more_money h n Money = refl
   more_money h n People = grind (arith, nat_tests)
   more_money h n (Item i) = grind (arith, nat_tests)
 
   -- If booking all of an amount as lost is passing it on (`Passed`), so is booking the amount less the 0 that unit `k`
   -- takes.
-  all_left : (t : Thing) (amount : ℕ) → Passed t amount (with_lost c t amount) → Passed t amount (with_lost c t (amount - min amount 0))
+  all_left : (t : Thing) (amount : ℕ) → Passed t amount (with_lost c t amount)
+      → Passed t amount (with_lost c t (amount - min amount 0))
   all_left t amount lost = let same : amount ≡ amount - min amount 0 = omega arith in subst (λ a. Passed t amount (with_lost c t a)) same lost
 
   -- the campaign after unit `k`, if it is there, took money up to its room; the rest is booked as lost
@@ -282,7 +290,8 @@ module _ (w : WorldValue) (c : CampaignValue) (n k : ℕ) (apart : n ≢ k) (ste
 
 -- Items of the world that go in turn to unit `k`, up to the unit's room, with the rest booked as lost, are passed on
 -- from unit `n` (`PassesOn`). This supposes that the campaign is steady, and that `n` isn't `k`.
-pub pass_items : (w : WorldValue) (c : CampaignValue) (n k : ℕ) → n ≢ k → (es : List (ℕ × ℕ)) → EachEntry (λ i a. i < length w.items) es → IsSteady w c
+pub pass_items : (w : WorldValue) (c : CampaignValue) (n k : ℕ) → n ≢ k → (es : List (ℕ × ℕ))
+    → EachEntry (λ i a. i < length w.items) es → IsSteady w c
     → PassesOn w n (held_in_items es) (items_bound es) c (fold (after_passing_item k) c es)
 pass_items w c n k apart [] known steady = passes-refl w n c steady
 pass_items w c n k apart ((i, a) ∷ es) known steady =

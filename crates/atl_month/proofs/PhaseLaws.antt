@@ -43,24 +43,28 @@ use Rattle.atl_month.proofs.UnmailedEndLaws.{season_leaves, sweep_leaves, upkeep
 
 -- the bound `book_bound` is at most 10^14 - 1 under the entries that a phase lists for each thing, and 0 elsewhere
 abbrev MovesAlone : BookBound → MovedEntries → Type 0
-MovesAlone book_bound moved = (e : BooksEntry) (t : Thing) → book_bound e t ≤ (if may_move moved e t then most_moved else 0)
+MovesAlone book_bound moved =
+    (e : BooksEntry) (t : Thing) → book_bound e t ≤ (if may_move moved e t then most_moved else 0)
 
 moves_nothing_alone : (moved : MovedEntries) → MovesAlone moves_nothing moved
 moves_nothing_alone moved e t = omega arith
 
-money_alone : (k : BooksEntry) → MovesAlone (moves_only most_moved k Money) (record { money = k ∷ []; people = []; items = [] })
+money_alone : (k : BooksEntry)
+    → MovesAlone (moves_only most_moved k Money) (record { money = k ∷ []; people = []; items = [] })
 money_alone k e Money = grind (arith, nat_tests)
 money_alone k e People = grind (arith, nat_tests, entry_small k)
 money_alone k e (Item i) = grind (arith, nat_tests, entry_small k)
 
-people_alone : (k : BooksEntry) → MovesAlone (moves_only most_moved k People) (record { money = []; people = k ∷ []; items = [] })
+people_alone : (k : BooksEntry)
+    → MovesAlone (moves_only most_moved k People) (record { money = []; people = k ∷ []; items = [] })
 people_alone k e Money = grind (arith, nat_tests, entry_small e)
 people_alone k e People = grind (arith, nat_tests)
 people_alone k e (Item i) = grind (arith, nat_tests, entry_small k)
 
 -- A phase that moves money under `k` and people under `j` moves only the entries that it lists (`MovesAlone`), if it
 -- lists `k` for money and `j` for people.
-money_and_people : (k j : BooksEntry) → MovesAlone (both_move (moves_only most_moved k Money) (moves_only most_moved j People)) (record { money = k ∷ []; people = j ∷ []; items = [] })
+money_and_people : (k j : BooksEntry)
+    → MovesAlone (both_move (moves_only most_moved k Money) (moves_only most_moved j People)) (record { money = k ∷ []; people = j ∷ []; items = [] })
 money_and_people k j e Money = omega (arith, money_alone k e Money, people_alone j e Money)
 money_and_people k j e People = omega (arith, money_alone k e People, people_alone j e People)
 money_and_people k j e (Item i) = omega (arith, money_alone k e (Item i), people_alone j e (Item i))

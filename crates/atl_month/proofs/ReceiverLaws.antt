@@ -32,7 +32,8 @@ use Rattle.atl_world.proofs.EntryOrderLaws.{less_by_comparison}
 module _ {V : Type 0} (p : V → Bool) where
   -- For `below_listed`: P follows from `k` being listed in `ns`, with `n` in front (if `b`) or without, if it follows
   -- from `k` being `n`, and from `k` being listed in `ns`.
-  either_listed : {P : Type 0} (b : Bool) (n k : ℕ) (ns : List ℕ) → (k ≡ n → P) → (IsListed k ns → P) → IsListed k (cond b (n ∷ ns) ns) → P
+  either_listed : {P : Type 0} (b : Bool) (n k : ℕ) (ns : List ℕ) → (k ≡ n → P) → (IsListed k ns → P)
+      → IsListed k (cond b (n ∷ ns) ns) → P
   either_listed true n k ns here rest (inl same) = here same
   either_listed true n k ns here rest (inr h) = rest h
   either_listed false n k ns here rest h = rest h
@@ -43,14 +44,17 @@ module _ {V : Type 0} (p : V → Bool) where
       either_listed (p e.1) e.0 k (numbers_among p es) (λ same. let l = less_by_comparison x e.0 (and_parts _ _ low).0 in omega (arith, same, l)) (below_listed x k es (and_parts _ _ low).1)
       (subst (IsListed k) (chosen-cons p e es) h)
 
-  first_least : (k : ℕ) (es : List (ℕ × V)) → is_sorted nat_cmp es ≡ true → IsListed k (numbers_among p es) → first_or_zero (numbers_among p es) ≤ k
+  first_least : (k : ℕ) (es : List (ℕ × V)) → is_sorted nat_cmp es ≡ true → IsListed k (numbers_among p es)
+      → first_or_zero (numbers_among p es) ≤ k
   first_least k [] s h = absurd h
   first_least k (e ∷ es) s h =
       subst (λ ns. first_or_zero ns ≤ k) (sym (chosen-cons p e es))
       (by_test (p e.1) (first_least k es (and_parts _ _ s).1) (below_listed e.0 k es (and_parts _ _ s).0) (subst (IsListed k) (chosen-cons p e es) h))
     where
-      by_test : (b : Bool) → (IsListed k (numbers_among p es) → first_or_zero (numbers_among p es) ≤ k) → (IsListed k (numbers_among p es) → e.0 < k)
-          → IsListed k (cond b (e.0 ∷ numbers_among p es) (numbers_among p es)) → first_or_zero (cond b (e.0 ∷ numbers_among p es) (numbers_among p es)) ≤ k
+      by_test : (b : Bool) → (IsListed k (numbers_among p es) → first_or_zero (numbers_among p es) ≤ k)
+          → (IsListed k (numbers_among p es) → e.0 < k)
+          → IsListed k (cond b (e.0 ∷ numbers_among p es) (numbers_among p es))
+          → first_or_zero (cond b (e.0 ∷ numbers_among p es) (numbers_among p es)) ≤ k
       by_test true least above (inl same) = omega (arith, same)
       by_test true least above (inr rest) = let l = above rest in omega arith
       by_test false least above rest = least rest
@@ -60,7 +64,8 @@ module _ {V : Type 0} (p : V → Bool) where
 
   -- If each number that passes in map `o` passes in map `m`, and some number passes in `o`, then the first in `m` is no
   -- greater than the first in `o`. This supposes that the numbers of `m` begin at 1.
-  first_below : (m o : FinMap nat_cmp V) → Every (λ k v. 1 ≤ k) m → ((k : ℕ) → PassesIn o k → PassesIn m k) → first_or_zero (numbers_where p o) ≢ 0
+  first_below : (m o : FinMap nat_cmp V) → Every (λ k v. 1 ≤ k) m → ((k : ℕ) → PassesIn o k → PassesIn m k)
+      → first_or_zero (numbers_where p o) ≢ 0
       → (first_or_zero (numbers_where p m) ≢ 0) × (first_or_zero (numbers_where p m) ≤ first_or_zero (numbers_where p o))
   first_below m o low also some =
       let first = first_or_zero (numbers_where p o) in
@@ -72,7 +77,8 @@ module _ {V : Type 0} (p : V → Bool) where
       there [] least k h = absurd h
       there (n ∷ ns) least k h = let l = least n (inl refl) in λ zero. absurd (omega (arith, zero, l))
 
-  pub same_first : (m o : FinMap nat_cmp V) → Every (λ k v. 1 ≤ k) m → Every (λ k v. 1 ≤ k) o → ((k : ℕ) → PassesIn o k → PassesIn m k) → ((k : ℕ) → PassesIn m k → PassesIn o k)
+  pub same_first : (m o : FinMap nat_cmp V) → Every (λ k v. 1 ≤ k) m → Every (λ k v. 1 ≤ k) o
+      → ((k : ℕ) → PassesIn o k → PassesIn m k) → ((k : ℕ) → PassesIn m k → PassesIn o k)
       → first_or_zero (numbers_where p m) ≡ first_or_zero (numbers_where p o)
   same_first m o low deep there back =
       elim (cases_eq (first_or_zero (numbers_where p m)) 0) [
@@ -94,7 +100,8 @@ module _ (w : WorldValue) (c : CampaignValue) (n : ℕ) (steady : IsSteady w c) 
   has_men region faction u t = grind (arith, nat_tests, t)
 
   -- sweeping a unit leaves the receiver of each faction in each region the same, in a steady campaign
-  pub receiver_stays : (region faction : ℕ) → receiver (after_sweeping_unit c n) region faction ≡ receiver c region faction
+  pub receiver_stays : (region faction : ℕ)
+      → receiver (after_sweeping_unit c n) region faction ≡ receiver c region faction
   receiver_stays region faction =
       same_first (receives region faction) (after_sweeping_unit c n).units c.units
       (λ k v is. ((swept_at_leaves_well w c n steady).leaves_it.numbers.units k v is).0)
@@ -110,7 +117,9 @@ module _ (m : ReceiverMap) (n : ℕ) (u : Unit) (es : List (ℕ × Unit)) (low :
   after r f = first_or_zero (numbers_among (receives r f) es)
 
   opened : (r f : ℕ) → first_or_zero (numbers_among (receives r f) ((n, u) ∷ es)) ≡ cond (receives r f u) n (after r f)
-  opened r f = ap first_or_zero (chosen-cons (receives r f) (n, u) es) ∙ first_of_cond (receives r f u) (numbers_among (receives r f) es)
+  opened r f =
+      ap first_or_zero (chosen-cons (receives r f) (n, u) es)
+      ∙ first_of_cond (receives r f u) (numbers_among (receives r f) es)
     where
       first_of_cond : (b : Bool) (ns : List ℕ) → first_or_zero (cond b (n ∷ ns) ns) ≡ cond b n (first_or_zero ns)
       first_of_cond b ns = grind arith
@@ -139,10 +148,13 @@ module _ (m : ReceiverMap) (n : ℕ) (u : Unit) (es : List (ℕ × Unit)) (low :
           → or_if_zero (unwrap_or (cond ((k && (x == 0)) && (p && q)) (Some n) o) 0) next ≡ or_if_zero (unwrap_or o 0) (cond (p && (q && k)) n next)
       goes_on p q k o x next same = grind (arith, nat_tests, low)
 
-pub nothing_noted : (c : CampaignValue) (m : ReceiverMap) → m ≡ empty → (r f : ℕ) → or_if_zero (receiver_in m r f) (first_or_zero (numbers_among (receives r f) (entries c.units))) ≡ receiver c r f
+pub nothing_noted : (c : CampaignValue) (m : ReceiverMap) → m ≡ empty → (r f : ℕ)
+    → or_if_zero (receiver_in m r f) (first_or_zero (numbers_among (receives r f) (entries c.units))) ≡ receiver c r f
 nothing_noted c m none r f = rw (none, get-empty nat_cmp r, get-empty nat_cmp f) refl
 
-pub all_noted : (c : CampaignValue) (m : ReceiverMap) → ((r f : ℕ) → or_if_zero (receiver_in m r f) (first_or_zero (numbers_among (receives r f) [])) ≡ receiver c r f) → AreReceivers c m
+pub all_noted : (c : CampaignValue) (m : ReceiverMap)
+    → ((r f : ℕ) → or_if_zero (receiver_in m r f) (first_or_zero (numbers_among (receives r f) [])) ≡ receiver c r f)
+    → AreReceivers c m
 all_noted c m h r f = plain (receiver_in m r f) ∙ h r f
   where
     plain : (x : ℕ) → x ≡ or_if_zero x 0

@@ -51,22 +51,26 @@ abbrev pub stocking_bound : List (ℕ × Market) → BookBound
 stocking_bound [] e t = 0
 stocking_bound (x ∷ xs) e t = moves_only most_amount Stocked (Item x.0) e t + stocking_bound xs e t
 
-one_stocked : (k : ℕ) (e : BooksEntry) (t : Thing) → moves_only most_amount Stocked (Item k) e t ≤ stocks_by most_amount e t
+one_stocked : (k : ℕ) (e : BooksEntry) (t : Thing)
+    → moves_only most_amount Stocked (Item k) e t ≤ stocks_by most_amount e t
 one_stocked k e Money = grind (arith, nat_tests, entry_small e)
 one_stocked k e People = grind (arith, nat_tests, entry_small e)
 one_stocked k e (Item i) = grind (arith, nat_tests, entry_small e)
 
-other_item : (k : ℕ) (e : BooksEntry) (t : Thing) → thing_index t ≢ 2 + k → moves_only most_amount Stocked (Item k) e t ≡ 0
+other_item : (k : ℕ) (e : BooksEntry) (t : Thing) → thing_index t ≢ 2 + k
+    → moves_only most_amount Stocked (Item k) e t ≡ 0
 other_item k e t apart = grind (arith, nat_tests, entry_small e)
 
-none_above : (k : ℕ) (xs : List (ℕ × Market)) (e : BooksEntry) (t : Thing) → thing_index t ≡ 2 + k → below_all nat_cmp k xs ≡ true → stocking_bound xs e t ≡ 0
+none_above : (k : ℕ) (xs : List (ℕ × Market)) (e : BooksEntry) (t : Thing) → thing_index t ≡ 2 + k
+    → below_all nat_cmp k xs ≡ true → stocking_bound xs e t ≡ 0
 none_above k [] e t at above = refl
 none_above k (x ∷ xs) e t at above =
     let both = and_parts (is_lt (nat_cmp k x.0)) (below_all nat_cmp k xs) above in
     let less = less_by_comparison k x.0 both.0 in
     omega (arith, other_item x.0 e t (λ same. omega (arith, at, same, less)), none_above k xs e t at both.1)
 
-pub stocks_little : (xs : List (ℕ × Market)) → is_sorted nat_cmp xs ≡ true → (e : BooksEntry) (t : Thing) → stocking_bound xs e t ≤ stocks_by most_amount e t
+pub stocks_little : (xs : List (ℕ × Market)) → is_sorted nat_cmp xs ≡ true → (e : BooksEntry) (t : Thing)
+    → stocking_bound xs e t ≤ stocks_by most_amount e t
 stocks_little [] rising e t = omega arith
 stocks_little (x ∷ xs) rising e t =
     let both = and_parts (below_all nat_cmp x.0 xs) (is_sorted nat_cmp xs) rising in
@@ -109,7 +113,8 @@ module _ (w : WorldValue) (c : CampaignValue) (n i : ℕ) (m : Market) (r : Regi
   filled = with_stock c n i (stock + more)
 
   filled_steady : IsSteady w filled
-  filled_steady = steady-stock c n i (stock + more) r here w (ap is_some market) (omega (arith, stock_fits, limit_is)) steady
+  filled_steady =
+      steady-stock c n i (stock + more) r here w (ap is_some market) (omega (arith, stock_fits, limit_is)) steady
 
   filled_total : (t : Thing) → total filled t ≡ total c t + cond (thing_index t == 2 + i) more 0
   filled_total t = elim (cases_eq (thing_index t) (2 + i)) [
@@ -122,7 +127,8 @@ module _ (w : WorldValue) (c : CampaignValue) (n i : ℕ) (m : Market) (r : Regi
 
   balanced : Balances c → Balances (with_booking filled Stocked (Item i) (pos more))
   balanced old t =
-      ap pos (total-booking filled Stocked (Item i) t (pos more)) ∙ ap pos (filled_total t) ∙ added (thing_index t == 2 + i) (total c t) (booked c.books t) (old t)
+      ap pos (total-booking filled Stocked (Item i) t (pos more)) ∙ ap pos (filled_total t)
+      ∙ added (thing_index t == 2 + i) (total c t) (booked c.books t) (old t)
       ∙ sym (booked-after_booking c.books Stocked (Item i) (pos more) t)
     where
       added : (b : Bool) (x : ℕ) (z : ℤ) → pos x ≡ z → pos (x + cond b more 0) ≡ z +ℤ cond b (pos more) (pos 0)
@@ -148,10 +154,12 @@ abbrev pub IsMarketOf : WorldValue → (n i : ℕ) → Market → Type 0
 IsMarketOf w n i m = (market_of w n i ≡ Some m) × IsMarket (length w.items) i m
 
 module _ (w : WorldValue) (n : ℕ) (there : HasValue w.regions n) where
-  pub one_leaves_well : (c : CampaignValue) (x : ℕ × Market) → IsMarketOf w n x.0 x.1 → IsSteady w c → LeavesWell IsSteady (moves_only most_amount Stocked (Item x.0)) w c (after_market_restock n c x)
+  pub one_leaves_well : (c : CampaignValue) (x : ℕ × Market) → IsMarketOf w n x.0 x.1 → IsSteady w c
+      → LeavesWell IsSteady (moves_only most_amount Stocked (Item x.0)) w c (after_market_restock n c x)
   one_leaves_well c x of steady = let (r, here) = (steady.known.regions n).1 there in market_leaves_well w c n x.0 x.1 r here of.0 of.1 steady
 
-  all_leave_well : (xs : List (ℕ × Market)) → EachEntry (IsMarketOf w n) xs → (c : CampaignValue) → IsSteady w c → LeavesWell IsSteady (stocking_bound xs) w c (after_restock n c xs)
+  all_leave_well : (xs : List (ℕ × Market)) → EachEntry (IsMarketOf w n) xs → (c : CampaignValue) → IsSteady w c
+      → LeavesWell IsSteady (stocking_bound xs) w c (after_restock n c xs)
   all_leave_well [] each c steady = well_unchanged (stocking_bound []) w c steady
   all_leave_well (x ∷ xs) each c steady =
       let one = one_leaves_well c x each.0 steady in
@@ -166,18 +174,26 @@ module _ (w : WorldValue) (world : IsWorld w) (n : ℕ) where
   markets_there p is = ap (λ o. option_map_or (λ (q : RegionPlan). q.markets) o empty) is
 
   pub none_of : (c : CampaignValue) → get w.regions n ≡ None → after_restock n c (entries (markets_of w n)) ≡ c
-  none_of c is = ap (λ o. after_restock n c (entries (option_map_or (λ (q : RegionPlan). q.markets) o empty))) is ∙ ap (after_restock n c) none_there
+  none_of c is =
+      ap (λ o. after_restock n c (entries (option_map_or (λ (q : RegionPlan). q.markets) o empty))) is
+      ∙ ap (after_restock n c) none_there
 
   pub markets_are : (p : RegionPlan) → get w.regions n ≡ Some p → EachEntry (IsMarketOf w n) (entries p.markets)
-  markets_are p is = each-from_every (IsMarketOf w n) p.markets (λ i m at. (ap (λ o. option_and_then (λ (q : RegionPlan). get q.markets i) o) is ∙ at, (world.regions n p is).markets i m at))
+  markets_are p is =
+      each-from_every (IsMarketOf w n) p.markets
+      (λ i m at. (ap (λ o. option_and_then (λ (q : RegionPlan). get q.markets i) o) is ∙ at, (world.regions n p is).markets i m at))
 
   -- Restocking a region keeps a steady campaign steady and its books balanced, and books at most 999,999,999 of each
   -- item.
-  pub restocked_leaves_well : (c : CampaignValue) → IsSteady w c → LeavesWell IsSteady (stocks_by most_amount) w c (after_restock n c (entries (markets_of w n)))
+  pub restocked_leaves_well : (c : CampaignValue) → IsSteady w c
+      → LeavesWell IsSteady (stocks_by most_amount) w c (after_restock n c (entries (markets_of w n)))
   restocked_leaves_well c steady = by_plan (get w.regions n) refl
     where
-      by_plan : (o : Option RegionPlan) → get w.regions n ≡ o → LeavesWell IsSteady (stocks_by most_amount) w c (after_restock n c (entries (option_map_or (λ (p : RegionPlan). p.markets) o empty)))
-      by_plan None is = subst (λ es. LeavesWell IsSteady (stocks_by most_amount) w c (after_restock n c es)) (sym none_there) (well_unchanged (stocks_by most_amount) w c steady)
+      by_plan : (o : Option RegionPlan) → get w.regions n ≡ o
+          → LeavesWell IsSteady (stocks_by most_amount) w c (after_restock n c (entries (option_map_or (λ (p : RegionPlan). p.markets) o empty)))
+      by_plan None is =
+          subst (λ es. LeavesWell IsSteady (stocks_by most_amount) w c (after_restock n c es)) (sym none_there)
+          (well_unchanged (stocks_by most_amount) w c steady)
       by_plan (Some p) is =
           well_within (stocking_bound (entries p.markets)) (stocks_by most_amount) w c (after_restock n c (entries p.markets)) (stocks_little (entries p.markets) (sorted p.markets))
           (all_leave_well w n (p, is) (entries p.markets) (markets_are p is) c steady)
@@ -195,17 +211,26 @@ restocked_keeps n c (x ∷ xs) = restocked_keeps n (after_market_restock n c x) 
 pub restock_small : (m : Market) (stock : ℕ) → m.limit ≤ most_amount → restock m stock ≤ most_amount
 restock_small m stock l = omega (arith, l)
 
-pub room_alone : (c : CampaignValue) (i : ℕ) → HaveRoom (moves_only most_amount Stocked (Item i)) c → HasRoom most_amount (amount_in c.books Stocked (Item i))
+pub room_alone : (c : CampaignValue) (i : ℕ) → HaveRoom (moves_only most_amount Stocked (Item i)) c
+    → HasRoom most_amount (amount_in c.books Stocked (Item i))
 room_alone c i room =
     subst (λ b. HasRoom (if b then most_amount else 0) (amount_in c.books Stocked (Item i))) (same_number (amount_number Stocked (Item i))) (room Stocked (Item i))
 
-pub room_for_market : (x : ℕ × Market) (xs : List (ℕ × Market)) (c : CampaignValue) → HaveRoom (stocking_bound (x ∷ xs)) c → HaveRoom (moves_only most_amount Stocked (Item x.0)) c
-room_for_market x xs c room = room_less (moves_only most_amount Stocked (Item x.0)) (stocking_bound (x ∷ xs)) c (λ e t. omega arith) room
+pub room_for_market : (x : ℕ × Market) (xs : List (ℕ × Market)) (c : CampaignValue)
+    → HaveRoom (stocking_bound (x ∷ xs)) c → HaveRoom (moves_only most_amount Stocked (Item x.0)) c
+room_for_market x xs c room =
+    room_less (moves_only most_amount Stocked (Item x.0)) (stocking_bound (x ∷ xs)) c (λ e t. omega arith) room
 
-pub room_for_later_markets : (w : WorldValue) (n : ℕ) → HasValue w.regions n → (x : ℕ × Market) (xs : List (ℕ × Market)) (c : CampaignValue) → IsMarketOf w n x.0 x.1 → IsSteady w c → HaveRoom (stocking_bound (x ∷ xs)) c → HaveRoom (stocking_bound xs) (after_market_restock n c x)
-room_for_later_markets w n there x xs c of steady room = room_for_second (moves_only most_amount Stocked (Item x.0)) (stocking_bound xs) w c (after_market_restock n c x) (one_leaves_well w n there c x of steady) room
+pub room_for_later_markets : (w : WorldValue) (n : ℕ) → HasValue w.regions n
+    → (x : ℕ × Market) (xs : List (ℕ × Market)) (c : CampaignValue) → IsMarketOf w n x.0 x.1 → IsSteady w c
+    → HaveRoom (stocking_bound (x ∷ xs)) c → HaveRoom (stocking_bound xs) (after_market_restock n c x)
+room_for_later_markets w n there x xs c of steady room =
+    room_for_second (moves_only most_amount Stocked (Item x.0)) (stocking_bound xs) w c (after_market_restock n c x)
+    (one_leaves_well w n there c x of steady) room
 
-pub market_marks : (stock more n i : ℕ) (c d e : MarkedCampaign) → d.value ≡ with_stock c.value n i (stock + more) → MarksStock c n i (stock + more) d.marks
-    → e.value ≡ with_booking d.value Stocked (Item i) (pos more) → e.marks ≡ mark_amount d Stocked (Item i) → MarksChanges c e
+pub market_marks : (stock more n i : ℕ) (c d e : MarkedCampaign) → d.value ≡ with_stock c.value n i (stock + more)
+    → MarksStock c n i (stock + more) d.marks
+    → e.value ≡ with_booking d.value Stocked (Item i) (pos more) → e.marks ≡ mark_amount d Stocked (Item i)
+    → MarksChanges c e
 market_marks stock more n i c d e d_is d_marks e_is e_marks =
     booked_marks c d e Stocked (Item i) (pos more) (marks_by c d _ d_is refl (marks-stock c n i (stock + more) d.marks d_marks)) e_is e_marks

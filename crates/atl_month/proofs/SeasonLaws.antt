@@ -42,10 +42,12 @@ use Rattle.std.proofs.lemmas.Slice.Zip.{length-zip}
 
 -- ---- births and income
 
-pub births_fit : (growth limit word peasants : ℕ) → limit ≤ most_amount → peasants ≤ most_amount → peasants + births growth limit word peasants ≤ most_amount
+pub births_fit : (growth limit word peasants : ℕ) → limit ≤ most_amount → peasants ≤ most_amount
+    → peasants + births growth limit word peasants ≤ most_amount
 births_fit growth limit word peasants l p = omega (arith, l, p)
 
-pub income_fits : (per_peasant limit peasants money : ℕ) → limit ≤ most_amount → money ≤ most_amount → money + income per_peasant limit peasants money ≤ most_amount
+pub income_fits : (per_peasant limit peasants money : ℕ) → limit ≤ most_amount → money ≤ most_amount
+    → money + income per_peasant limit peasants money ≤ most_amount
 income_fits per_peasant limit peasants money l m = omega (arith, l, m)
 
 -- ---- the books of a region's season
@@ -72,20 +74,25 @@ module _ (w : WorldValue) (c : CampaignValue) (n : ℕ) (r : Region) (born earne
   peopled_there : get peopled.regions n ≡ Some (more_people r)
   peopled_there = region-changed more_people c n r is
 
-  growth_steady : r.peasants + born ≤ most_amount → r.money + earned ≤ most_amount → IsSteady w c → IsSteady w (with_growth c n r.peasants r.money born earned)
+  growth_steady : r.peasants + born ≤ most_amount → r.money + earned ≤ most_amount → IsSteady w c
+      → IsSteady w (with_growth c n r.peasants r.money born earned)
   growth_steady p m old =
       let grown = IsRegion-peasants r (r.peasants + born) p (old.numbers.regions n r is) in
       let stocks = old.known.markets n r is in
       steady-amount w counted Income Money (pos earned) (omega arith) (steady-amount w paid Births People (pos born) (omega arith)
       (steady-region more_money peopled n (more_people r) peopled_there w (IsRegion-money (more_people r) (r.money + earned) m grown) stocks (steady-region more_people c n r is w grown stocks old)))
 
-  total_grown : (t : Thing) → pos (total (with_growth c n r.peasants r.money born earned) t) ≡ (pos (total c t) +ℤ booked_for t People (pos born)) +ℤ booked_for t Money (pos earned)
+  total_grown : (t : Thing)
+      → pos (total (with_growth c n r.peasants r.money born earned) t)
+      ≡ (pos (total c t) +ℤ booked_for t People (pos born)) +ℤ booked_for t Money (pos earned)
   total_grown t =
       total_of t (total-booking counted Income Money t (pos earned)) (total-booking paid Births People t (pos born))
       (total-region more_people c n r is t) (total-region more_money peopled n (more_people r) peopled_there t)
     where
-      total_of : (t : Thing) → total (with_growth c n r.peasants r.money born earned) t ≡ total counted t → total counted t ≡ total paid t
-          → total peopled t + region_amount t r ≡ total c t + region_amount t (more_people r) → total paid t + region_amount t (more_people r) ≡ total peopled t + region_amount t (more_money (more_people r))
+      total_of : (t : Thing) → total (with_growth c n r.peasants r.money born earned) t ≡ total counted t
+          → total counted t ≡ total paid t
+          → total peopled t + region_amount t r ≡ total c t + region_amount t (more_people r)
+          → total paid t + region_amount t (more_people r) ≡ total peopled t + region_amount t (more_money (more_people r))
           → pos (total (with_growth c n r.peasants r.money born earned) t) ≡ (pos (total c t) +ℤ booked_for t People (pos born)) +ℤ booked_for t Money (pos earned)
       total_of Money a b g h = omega (arith, ints, a, b, g, h)
       total_of People a b g h = omega (arith, ints, a, b, g, h)
@@ -102,7 +109,8 @@ module _ (w : WorldValue) (c : CampaignValue) (n : ℕ) (r : Region) (born earne
       ∙ ap (λ z. z +ℤ booked_for t Money (pos earned)) (sym (booked-after_booking c.books Births People (pos born) t))
       ∙ sym (booked-after_booking one_booked Income Money (pos earned) t)
 
-  growth_near : born ≤ most_amount → earned ≤ most_amount → (e : BooksEntry) (t : Thing) → IsNear (grows_by most_amount e t) (amount_in c.books e t) (amount_in (with_growth c n r.peasants r.money born earned).books e t)
+  growth_near : born ≤ most_amount → earned ≤ most_amount → (e : BooksEntry) (t : Thing)
+      → IsNear (grows_by most_amount e t) (amount_in c.books e t) (amount_in (with_growth c n r.peasants r.money born earned).books e t)
   growth_near b m e t =
       let people = moves_only most_amount Births People e t in
       let money = moves_only most_amount Income Money e t in
@@ -114,7 +122,8 @@ module _ (w : WorldValue) (c : CampaignValue) (n : ℕ) (r : Region) (born earne
   -- Births and income that leave a region at most 999,999,999 peasants and as much money keep a steady campaign steady
   -- and its books balanced. Births of people and Income of money move by at most 999,999,999 each (`grows_by`), and no
   -- other amount does.
-  pub growth_leaves_well : r.peasants + born ≤ most_amount → r.money + earned ≤ most_amount → IsSteady w c → LeavesWell IsSteady (grows_by most_amount) w c (with_growth c n r.peasants r.money born earned)
+  pub growth_leaves_well : r.peasants + born ≤ most_amount → r.money + earned ≤ most_amount → IsSteady w c
+      → LeavesWell IsSteady (grows_by most_amount) w c (with_growth c n r.peasants r.money born earned)
   growth_leaves_well p m steady = record {
     leaves_it = growth_steady p m steady;
     same_month = same_month_by refl;
@@ -123,8 +132,11 @@ module _ (w : WorldValue) (c : CampaignValue) (n : ℕ) (r : Region) (born earne
   }
 
 -- books with room for income and births together have room for births and then income
-pub births_first : (c : CampaignValue) → HaveRoom (grows_by most_amount) c → HaveRoom (both_move (moves_only most_amount Births People) (moves_only most_amount Income Money)) c
-births_first c room = room_less (both_move (moves_only most_amount Births People) (moves_only most_amount Income Money)) (grows_by most_amount) c (λ e t. omega arith) room
+pub births_first : (c : CampaignValue) → HaveRoom (grows_by most_amount) c
+    → HaveRoom (both_move (moves_only most_amount Births People) (moves_only most_amount Income Money)) c
+births_first c room =
+    room_less (both_move (moves_only most_amount Births People) (moves_only most_amount Income Money))
+    (grows_by most_amount) c (λ e t. omega arith) room
 
 -- ---- marks
 
@@ -140,17 +152,21 @@ growth_marks c d e f g n peasants money born earned d_is d_marks e_is e_marks f_
 
 -- ---- the terrains of a world
 
-terrain_in : (w : WorldValue) (o : Option RegionPlan) (t : Terrain) → IsWorld w → option_and_then (λ (p : RegionPlan). slice_get w.terrains p.terrain) o ≡ Some t → (t.peasant_limit ≤ most_amount) × (t.money_limit ≤ most_amount)
+terrain_in : (w : WorldValue) (o : Option RegionPlan) (t : Terrain) → IsWorld w
+    → option_and_then (λ (p : RegionPlan). slice_get w.terrains p.terrain) o ≡ Some t
+    → (t.peasant_limit ≤ most_amount) × (t.money_limit ≤ most_amount)
 terrain_in w None t world is = none_some t is
 terrain_in w (Some p) t world is = let terrain = world.terrains p.terrain t is in (terrain.peasant_limit, terrain.money_limit)
 
 -- the limits of peasants and of money of the terrain of a region of the world are at most 999,999,999
-pub limits_fit : (w : WorldValue) (n : ℕ) (t : Terrain) → IsWorld w → terrain_of w n ≡ Some t → (t.peasant_limit ≤ most_amount) × (t.money_limit ≤ most_amount)
+pub limits_fit : (w : WorldValue) (n : ℕ) (t : Terrain) → IsWorld w → terrain_of w n ≡ Some t
+    → (t.peasant_limit ≤ most_amount) × (t.money_limit ≤ most_amount)
 limits_fit w n t world is = terrain_in w (get w.regions n) t world is
 
 -- ---- the season of a region, and of all
 
-pub region_grows_well : (w : WorldValue) → IsWorld w → (c : CampaignValue) (n word : ℕ) (t : Terrain) (r : Region) → terrain_of w n ≡ Some t → get c.regions n ≡ Some r → IsSteady w c
+pub region_grows_well : (w : WorldValue) → IsWorld w → (c : CampaignValue) (n word : ℕ) (t : Terrain) (r : Region)
+    → terrain_of w n ≡ Some t → get c.regions n ≡ Some r → IsSteady w c
     → LeavesWell IsSteady (grows_by most_amount) w c (with_growth c n r.peasants r.money (births w.rules.growth t.peasant_limit word r.peasants) (income w.rules.income t.money_limit (r.peasants + births w.rules.growth t.peasant_limit word r.peasants) r.money))
 region_grows_well w world c n word t r here is steady =
     let born = births w.rules.growth t.peasant_limit word r.peasants in
@@ -160,14 +176,16 @@ region_grows_well w world c n word t r here is steady =
     (births_fit w.rules.growth t.peasant_limit word r.peasants peasant_limit within.peasants)
     (income_fits w.rules.income t.money_limit (r.peasants + born) r.money money_limit within.money) steady
 
-pub season_at_leaves_well : (w : WorldValue) → IsWorld w → (c : CampaignValue) (x : ℕ × ℕ) → IsSteady w c → LeavesWell IsSteady (season_moves most_amount) w c (season_at w c x)
+pub season_at_leaves_well : (w : WorldValue) → IsWorld w → (c : CampaignValue) (x : ℕ × ℕ) → IsSteady w c
+    → LeavesWell IsSteady (season_moves most_amount) w c (season_at w c x)
 unfolding season_at
 season_at_leaves_well w world c (n, word) steady = by_terrain (terrain_of w n) refl
   where
     same : LeavesWell IsSteady (season_moves most_amount) w c c
     same = well_unchanged (season_moves most_amount) w c steady
 
-    by_region : (t : Terrain) → terrain_of w n ≡ Some t → (o : Option Region) → get c.regions n ≡ o → LeavesWell IsSteady (season_moves most_amount) w c (option_map_or (season_of w c n word t) o c)
+    by_region : (t : Terrain) → terrain_of w n ≡ Some t → (o : Option Region) → get c.regions n ≡ o
+        → LeavesWell IsSteady (season_moves most_amount) w c (option_map_or (season_of w c n word t) o c)
     by_region t here None is = same
     by_region t here (Some r) is =
         let born = births w.rules.growth t.peasant_limit word r.peasants in
@@ -177,17 +195,20 @@ season_at_leaves_well w world c (n, word) steady = by_terrain (terrain_of w n) r
         both_leave_well (grows_by most_amount) (stocks_by most_amount) w c grown (after_restock n grown (entries (markets_of w n))) growth
         (restocked_leaves_well w world n grown growth.leaves_it)
 
-    by_terrain : (o : Option Terrain) → terrain_of w n ≡ o → LeavesWell IsSteady (season_moves most_amount) w c (option_map_or (λ t. at_region c n (season_of w c n word t)) o c)
+    by_terrain : (o : Option Terrain) → terrain_of w n ≡ o
+        → LeavesWell IsSteady (season_moves most_amount) w c (option_map_or (λ t. at_region c n (season_of w c n word t)) o c)
     by_terrain None is = same
     by_terrain (Some t) is = by_region t is (get c.regions n) refl
 
 -- the season of as many regions as there may be moves each amount by less than 10^14
-pub season_little : (k : ℕ) → k ≤ most_regions → (e : BooksEntry) (t : Thing) → moved_times k (season_moves most_amount) e t ≤ season_moves most_moved e t
+pub season_little : (k : ℕ) → k ≤ most_regions → (e : BooksEntry) (t : Thing)
+    → moved_times k (season_moves most_amount) e t ≤ season_moves most_moved e t
 season_little k few e t = grind (arith, few)
 
 -- The season of all regions keeps a steady campaign steady and its books balanced, and moves each amount by less than
 -- 10^14.
-pub season_leaves_well : (w : WorldValue) → IsWorld w → (c : CampaignValue) (words : List ℕ) → IsSteady w c → LeavesWell IsSteady (season_moves most_moved) w c (season w c words)
+pub season_leaves_well : (w : WorldValue) → IsWorld w → (c : CampaignValue) (words : List ℕ) → IsSteady w c
+    → LeavesWell IsSteady (season_moves most_moved) w c (season w c words)
 season_leaves_well w world c words steady =
     let numbers = map (λ (e : ℕ × RegionPlan). e.0) (entries w.regions) in
     let pairs = zip numbers words in
@@ -206,30 +227,39 @@ season_at_keeps w c (n, word) = by_terrain (terrain_of w n)
         let earned = income w.rules.income t.money_limit (r.peasants + born) r.money in
         restocked_keeps n (with_growth c n r.peasants r.money born earned) (entries (markets_of w n))
 
-    by_terrain : (o : Option Terrain) → (option_map_or (λ t. at_region c n (season_of w c n word t)) o c).units ≡ c.units
+    by_terrain : (o : Option Terrain)
+        → (option_map_or (λ t. at_region c n (season_of w c n word t)) o c).units ≡ c.units
     by_terrain None = refl
     by_terrain (Some t) = by_region t (get c.regions n)
 
-seasons_keep_units : (w : WorldValue) (c : CampaignValue) (xs : List (ℕ × ℕ)) → (fold (season_at w) c xs).units ≡ c.units
+seasons_keep_units : (w : WorldValue) (c : CampaignValue) (xs : List (ℕ × ℕ))
+    → (fold (season_at w) c xs).units ≡ c.units
 seasons_keep_units w c [] = refl
 seasons_keep_units w c (x ∷ xs) = seasons_keep_units w (season_at w c x) xs ∙ season_at_keeps w c x
 
 pub season_keeps_units : (w : WorldValue) (c : CampaignValue) (words : List ℕ) → (season w c words).units ≡ c.units
-season_keeps_units w c words = seasons_keep_units w c (zip (map (λ (e : ℕ × RegionPlan). e.0) (entries w.regions)) words)
+season_keeps_units w c words =
+    seasons_keep_units w c (zip (map (λ (e : ℕ × RegionPlan). e.0) (entries w.regions)) words)
 
 -- ---- the season region by region
 
 pub season_goes_on : (w : WorldValue) (c d all : CampaignValue) (regions rest : List (ℕ × RegionPlan)) (words tail : List ℕ) (n word : ℕ) (plan : RegionPlan)
     → regions ≡ (n, plan) ∷ rest → words ≡ word ∷ tail → d ≡ season_at w c (n, word)
-    → fold (season_at w) c (zip (map (λ e. e.0) regions) words) ≡ all → fold (season_at w) d (zip (map (λ e. e.0) rest) tail) ≡ all
+    → fold (season_at w) c (zip (map (λ e. e.0) regions) words) ≡ all
+    → fold (season_at w) d (zip (map (λ e. e.0) rest) tail) ≡ all
 season_goes_on w c d all regions rest words tail n word plan listed given is whole = rw is (rw (listed, given) at whole)
 
-pub room_for_later_seasons : (w : WorldValue) → IsWorld w → (c d : CampaignValue) (regions rest : List (ℕ × RegionPlan)) (n word : ℕ) (plan : RegionPlan)
-    → regions ≡ (n, plan) ∷ rest → d ≡ season_at w c (n, word) → IsSteady w c → HaveRoom (moved_times (length regions) (season_moves most_amount)) c → HaveRoom (moved_times (length rest) (season_moves most_amount)) d
+pub room_for_later_seasons : (w : WorldValue) → IsWorld w
+    → (c d : CampaignValue) (regions rest : List (ℕ × RegionPlan)) (n word : ℕ) (plan : RegionPlan)
+    → regions ≡ (n, plan) ∷ rest → d ≡ season_at w c (n, word) → IsSteady w c
+    → HaveRoom (moved_times (length regions) (season_moves most_amount)) c
+    → HaveRoom (moved_times (length rest) (season_moves most_amount)) d
 room_for_later_seasons w world c d regions rest n word plan listed is steady room =
     rw is (room_after_one (season_moves most_amount) w (season_at w) (season_at_leaves_well w world) c (n, word) (n, plan) rest steady (subst (λ (l : List (ℕ × RegionPlan)). HaveRoom (moved_times (length l) (season_moves most_amount)) c) listed room))
 
-pub room_for_first_season : (w : WorldValue) → IsWorld w → (c : CampaignValue) (regions rest : List (ℕ × RegionPlan)) (n : ℕ) (plan : RegionPlan)
-    → regions ≡ (n, plan) ∷ rest → HaveRoom (moved_times (length regions) (season_moves most_amount)) c → HaveRoom (season_moves most_amount) c
+pub room_for_first_season : (w : WorldValue) → IsWorld w
+    → (c : CampaignValue) (regions rest : List (ℕ × RegionPlan)) (n : ℕ) (plan : RegionPlan)
+    → regions ≡ (n, plan) ∷ rest → HaveRoom (moved_times (length regions) (season_moves most_amount)) c
+    → HaveRoom (season_moves most_amount) c
 room_for_first_season w world c regions rest n plan listed room =
     room_for_one (season_moves most_amount) w (season_at w) (season_at_leaves_well w world) c (n, plan) rest (subst (λ (l : List (ℕ × RegionPlan)). HaveRoom (moved_times (length l) (season_moves most_amount)) c) listed room)

@@ -48,7 +48,9 @@ module _ (c : CampaignValue) (n : ℕ) where
       by_men : (u : Unit) → get c.units n ≡ Some u → (b : Bool) → (u.holding.men == 0) ≡ b
           → P (if b then without_unit (after_passing_all c (receiver c u.region u.faction) u) n else c)
       by_men u is true t = swept u is (is_equal u.holding.men 0 t)
-      by_men u is false t = stays (λ v there none. is_unequal u.holding.men 0 t (ap (λ (x : Unit). x.holding.men) (same_Some u v (sym is ∙ there)) ∙ none))
+      by_men u is false t =
+          stays
+          (λ v there none. is_unequal u.holding.men 0 t (ap (λ (x : Unit). x.holding.men) (same_Some u v (sym is ∙ there)) ∙ none))
 
       by_unit : (o : Option Unit) → get c.units n ≡ o
           → P (option_map_or (λ u. if u.holding.men == 0 then without_unit (after_passing_all c (receiver c u.region u.faction) u) n else c) o c)
@@ -75,7 +77,8 @@ module _ (w : WorldValue) (c : CampaignValue) (n : ℕ) (steady : IsSteady w c) 
 
   -- each unit of campaign `d` was there before, and nothing was taken from it; if it has no men, it isn't unit `n`
   abbrev WereThere : CampaignValue → Type 0
-  WereThere d = Every (λ m v. (v.holding.men ≡ 0 → m ≢ n) × ((x : Unit) × (get c.units m ≡ Some x) × IsKept x v)) d.units
+  WereThere d =
+      Every (λ m v. (v.holding.men ≡ 0 → m ≢ n) × ((x : Unit) × (get c.units m ≡ Some x) × IsKept x v)) d.units
 
   pub units_left_were_there : WereThere (after_sweeping_unit c n)
   units_left_were_there =
@@ -92,14 +95,16 @@ listed_later m n ns apart (inl same) = absurd (apart same)
 listed_later m n ns apart (inr rest) = rest
 
 module _ (w : WorldValue) where
-  pub all_have_men : (ns : List ℕ) (c : CampaignValue) → IsSteady w c → AreMenlessListed ns c → HaveMen (fold after_sweeping_unit c ns)
+  pub all_have_men : (ns : List ℕ) (c : CampaignValue) → IsSteady w c → AreMenlessListed ns c
+      → HaveMen (fold after_sweeping_unit c ns)
   all_have_men [] c steady listed = λ m v there. let some : v.holding.men ≢ 0 = listed m v there in omega arith
   all_have_men (n ∷ ns) c steady listed =
       all_have_men ns (after_sweeping_unit c n) (swept_at_leaves_well w c n steady).leaves_it (λ m v there none.
       let (apart, (x, was, kept)) = units_left_were_there w c n steady m v there in
       listed_later m n ns (apart none) (listed m x was (sym kept.men ∙ none)))
 
-  pub all_keep : (ns : List ℕ) (c : CampaignValue) → IsSteady w c → Every (λ m x. 1 ≤ x.holding.men → (v : Unit) × (get (fold after_sweeping_unit c ns).units m ≡ Some v) × IsKept x v) c.units
+  pub all_keep : (ns : List ℕ) (c : CampaignValue) → IsSteady w c
+      → Every (λ m x. 1 ≤ x.holding.men → (v : Unit) × (get (fold after_sweeping_unit c ns).units m ≡ Some v) × IsKept x v) c.units
   all_keep [] c steady m x there some = (x, there, kept-refl x)
   all_keep (n ∷ ns) c steady m x there some =
       let (v, here, kept) = swept_at_keeps w c n steady m x there some in
@@ -108,7 +113,8 @@ module _ (w : WorldValue) where
 
   -- in a steady campaign, after several units were swept each unit that is left was there, and nothing was taken from
   -- it (`IsKept`)
-  pub all_were : (ns : List ℕ) (c : CampaignValue) → IsSteady w c → Every (λ m v. (x : Unit) × (get c.units m ≡ Some x) × IsKept x v) (fold after_sweeping_unit c ns).units
+  pub all_were : (ns : List ℕ) (c : CampaignValue) → IsSteady w c
+      → Every (λ m v. (x : Unit) × (get c.units m ≡ Some x) × IsKept x v) (fold after_sweeping_unit c ns).units
   all_were [] c steady m v there = (v, there, kept-refl v)
   all_were (n ∷ ns) c steady m v there =
       let (y, here, more) = all_were ns (after_sweeping_unit c n) (swept_at_leaves_well w c n steady).leaves_it m v there in
@@ -120,8 +126,10 @@ module _ (w : WorldValue) where
 module _ (c : CampaignValue) (n : ℕ) where
   -- P holds of the campaign after sweeping faction `n`, if it holds in each case. Where the faction isn't there or has
   -- a unit, nothing changes; else the faction is gone.
-  by_gone : (P : CampaignValue → Type 0) → (((f : Faction) → get c.factions n ≡ Some f → numbers_of_faction n c.units ≢ []) → P c)
-      → ((f : Faction) → get c.factions n ≡ Some f → numbers_of_faction n c.units ≡ [] → P (with_gone c n)) → P (after_sweeping_faction c n)
+  by_gone : (P : CampaignValue → Type 0)
+      → (((f : Faction) → get c.factions n ≡ Some f → numbers_of_faction n c.units ≢ []) → P c)
+      → ((f : Faction) → get c.factions n ≡ Some f → numbers_of_faction n c.units ≡ [] → P (with_gone c n))
+      → P (after_sweeping_faction c n)
   by_gone P stays gone = by_units (numbers_of_faction n c.units) refl
     where
       by_faction : numbers_of_faction n c.units ≡ [] → (o : Option Faction) → get c.factions n ≡ o → P (with_gone c n)
@@ -135,7 +143,8 @@ module _ (c : CampaignValue) (n : ℕ) where
   pub gone_at_units : (after_sweeping_faction c n).units ≡ c.units
   gone_at_units = by_gone (λ d. d.units ≡ c.units) (λ some. refl) (λ f is none. refl)
 
-  pub gone_at_leaves_well : (w : WorldValue) → IsSteady w c → LeavesWell IsSteady moves_nothing w c (after_sweeping_faction c n)
+  pub gone_at_leaves_well : (w : WorldValue) → IsSteady w c
+      → LeavesWell IsSteady moves_nothing w c (after_sweeping_faction c n)
   gone_at_leaves_well w steady = by_gone (LeavesWell IsSteady moves_nothing w c) (λ some. well_unchanged moves_nothing w c steady) (λ f is none. record {
     leaves_it = steady-gone c n f is w none steady;
     same_month = same_month_among refl (count-gone c n f is) (known-gone c n f is);
@@ -145,7 +154,9 @@ module _ (c : CampaignValue) (n : ℕ) where
 
   -- each faction of campaign `d` that has no unit, and isn't gone, was there before as it is now, and isn't faction `n`
   abbrev OthersRemain : CampaignValue → Type 0
-  OthersRemain d = Every (λ m f. numbers_of_faction m c.units ≡ [] → f.gone ≡ false → (m ≢ n) × (get c.factions m ≡ Some f)) d.factions
+  OthersRemain d =
+      Every (λ m f. numbers_of_faction m c.units ≡ [] → f.gone ≡ false → (m ≢ n) × (get c.factions m ≡ Some f))
+      d.factions
 
   pub gone_at_remains : OthersRemain (after_sweeping_faction c n)
   gone_at_remains =
@@ -162,7 +173,8 @@ module _ (c : CampaignValue) (n : ℕ) where
 abbrev AreUnitlessListed : List ℕ → CampaignValue → Type 0
 AreUnitlessListed ns c = Every (λ m f. numbers_of_faction m c.units ≡ [] → f.gone ≡ false → IsListed m ns) c.factions
 
-all_are_gone : (ns : List ℕ) (c : CampaignValue) → AreUnitlessListed ns c → UnitlessAreGone (fold after_sweeping_faction c ns)
+all_are_gone : (ns : List ℕ) (c : CampaignValue) → AreUnitlessListed ns c
+    → UnitlessAreGone (fold after_sweeping_faction c ns)
 all_are_gone [] c listed = λ m f there none. true_from_ne_false f.gone (listed m f there none)
 all_are_gone (n ∷ ns) c listed =
     all_are_gone ns (after_sweeping_faction c n) (λ m f there none stays.
@@ -176,7 +188,8 @@ units_stay (n ∷ ns) c = units_stay ns (after_sweeping_faction c n) ∙ gone_at
 
 -- ---- the phase
 
-pub loses_little : (k : ℕ) → k ≤ most_units → (e : BooksEntry) (t : Thing) → moved_times k (loses_by most_amount) e t ≤ loses_by most_moved e t
+pub loses_little : (k : ℕ) → k ≤ most_units → (e : BooksEntry) (t : Thing)
+    → moved_times k (loses_by most_amount) e t ≤ loses_by most_moved e t
 loses_little k few e t = grind arith
 
 pub few_menless : (w : WorldValue) (c : CampaignValue) → IsSteady w c → length (menless_units c) ≤ most_units
@@ -210,7 +223,9 @@ module _ (w : WorldValue) (c : CampaignValue) (steady : IsSteady w c) where
       (all_have_men w (menless_units c) c steady (λ m v there none. passing_listed (λ (u : Unit). u.holding.men == 0) c.units m v there (let t : (v.holding.men == 0) ≡ true = grind (arith, nat_tests) in t)))
 
   are_gone : UnitlessAreGone (sweep c)
-  are_gone = all_are_gone (active units_swept) units_swept (λ m f there none stays. passing_listed (λ (x : Faction). not x.gone) units_swept.factions m f there (ap not stays))
+  are_gone =
+      all_are_gone (active units_swept) units_swept
+      (λ m f there none stays. passing_listed (λ (x : Faction). not x.gone) units_swept.factions m f there (ap not stays))
 
   -- After the sweep of a steady campaign it is steady, each unit has men, and each faction without units is gone
   -- (`IsSwept`). Books that balanced still do, and each amount moves by less than 10^14.

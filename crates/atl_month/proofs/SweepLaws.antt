@@ -60,7 +60,8 @@ all_owed h none (Item j) =
 
 -- a unit without men whose money and items are within their limits has of each thing at most what sweeping one unit may
 -- book as lost (`loses_by`)
-little_lost : (h : HoldingValue) → h.men ≡ 0 → h.money ≤ holding_limit → ((i : ℕ) → amount_of h.items i ≤ holding_limit) → (e : BooksEntry) (s : Thing)
+little_lost : (h : HoldingValue) → h.men ≡ 0 → h.money ≤ holding_limit → ((i : ℕ) → amount_of h.items i ≤ holding_limit)
+    → (e : BooksEntry) (s : Thing)
     → loss_under e s h ≤ loses_by most_amount e s
 little_lost h none money items e Money = grind arith
 little_lost h none money items e People = grind arith
@@ -177,9 +178,11 @@ passed_item_is c to item amount v is = rw is refl
 
 -- the books of `d`, moved within bound `j` from those of `c`, have room under bound `k`, if those of `c` had room under
 -- `j` and `k` together
-pub near_leaves_room : (j k : BookBound) (c d : CampaignValue) → ((e : BooksEntry) (t : Thing) → IsNear (j e t) (amount_in c.books e t) (amount_in d.books e t))
+pub near_leaves_room : (j k : BookBound) (c d : CampaignValue)
+    → ((e : BooksEntry) (t : Thing) → IsNear (j e t) (amount_in c.books e t) (amount_in d.books e t))
     → HaveRoom (both_move j k) c → HaveRoom k d
-near_leaves_room j k c d near room e t = near_room (j e t) (k e t) (amount_in c.books e t) (amount_in d.books e t) (near e t) (room e t)
+near_leaves_room j k c d near room e t =
+    near_room (j e t) (k e t) (amount_in c.books e t) (amount_in d.books e t) (near e t) (room e t)
 
 -- no number is its own successor: the laws below pass things on as if from unit `suc to`, which isn't unit `to`
 successor_differs : (n : ℕ) → suc n ≢ n
@@ -200,7 +203,8 @@ module _ (w : WorldValue) (c : CampaignValue) (steady : IsSteady w c) where
   pub money_steady : (to amount : ℕ) → IsSteady w (after_passing_money c to amount)
   money_steady to amount = (pass_money w c (suc to) to (successor_differs to) steady amount).steady
 
-  pub items_room : (n to : ℕ) (u : Unit) → get c.units n ≡ Some u → u.holding.men ≡ 0 → HaveRoom (loses_by most_amount) c
+  pub items_room : (n to : ℕ) (u : Unit) → get c.units n ≡ Some u → u.holding.men ≡ 0
+      → HaveRoom (loses_by most_amount) c
       → HaveRoom (items_bound (entries u.holding.items)) (after_passing_money c to u.holding.money)
   items_room n to u is none room =
       near_leaves_room (moves_only u.holding.money Lost Money) (items_bound (entries u.holding.items)) c (after_passing_money c to u.holding.money)

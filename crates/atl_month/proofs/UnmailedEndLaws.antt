@@ -32,7 +32,8 @@ use Rattle.std.proofs.lemmas.Bool.Decides.{nat_tests}
 
 -- after its upkeep a unit has its men less exactly those who starved (`IsLessBy`), if no more starved than it had
 fewer_by : (s : UpkeepResult) (u : Unit) → s.starved ≤ u.holding.men → IsLessBy s.starved u (unit_after_upkeep s u)
-fewer_by s u few = record { faction = refl; name = grind arith; men = grind (arith, nat_tests, few); items = λ i. grind arith }
+fewer_by s u few =
+    record { faction = refl; name = grind arith; men = grind (arith, nat_tests, few); items = λ i. grind arith }
 
 -- how many men of unit `n` starve by one result of upkeep; 0 where the result is another unit's
 abbrev starved_of_n : ℕ → UpkeepResult → ℕ
@@ -55,7 +56,8 @@ module _ (m : ℕ) (all : List UpkeepInput) (n : ℕ) where
   none_starving (e ∷ es) above = other_starving e es (λ same. omega (arith, above.0, same)) ∙ none_starving es above.1
 
   -- by the upkeep of units with rising numbers, unit `n` among them, those of `n` starve who starve by its own upkeep
-  own_starving : (es : List (ℕ × Unit)) (u : Unit) → Rise es → find nat_cmp n es ≡ Some u → starving es ≡ (upkeep_result_one m all (upkeep_input_of (n, u))).starved
+  own_starving : (es : List (ℕ × Unit)) (u : Unit) → Rise es → find nat_cmp n es ≡ Some u
+      → starving es ≡ (upkeep_result_one m all (upkeep_input_of (n, u))).starved
   own_starving [] u rise found = none_some u found
   own_starving ((k, v) ∷ es) u rise found = elim (cases_eq n k) [
     | inl own ↦
@@ -74,13 +76,19 @@ by_event n e = if e.unit == n then men_starved_by e.verb e.outcome else 0
 abbrev starved_reported : ℕ → List UpkeepResult → ℕ
 starved_reported n ss = starved_in (map starved_event ss) n
 
-starved_are_reported : (ss : List UpkeepResult) (n : ℕ) → starved_reported n (filter starves ss) ≡ sum_by (starved_of_n n) ss
+starved_are_reported : (ss : List UpkeepResult) (n : ℕ)
+    → starved_reported n (filter starves ss) ≡ sum_by (starved_of_n n) ss
 starved_are_reported [] n = refl
-starved_are_reported (s ∷ ss) n = by_test (starved_are_reported ss n) (s.starved == 0) refl ∙ sym (sum_by-cons (starved_of_n n) s ss)
+starved_are_reported (s ∷ ss) n =
+    by_test (starved_are_reported ss n) (s.starved == 0) refl ∙ sym (sum_by-cons (starved_of_n n) s ss)
   where
-    by_test : starved_reported n (filter starves ss) ≡ sum_by (starved_of_n n) ss → (b : Bool) → (s.starved == 0) ≡ b → starved_reported n (cond (not b) (s ∷ filter starves ss) (filter starves ss)) ≡ starved_of_n n s + sum_by (starved_of_n n) ss
+    by_test : starved_reported n (filter starves ss) ≡ sum_by (starved_of_n n) ss → (b : Bool) → (s.starved == 0) ≡ b
+        → starved_reported n (cond (not b) (s ∷ filter starves ss) (filter starves ss))
+        ≡ starved_of_n n s + sum_by (starved_of_n n) ss
     by_test rest true is = let none = is_equal s.starved 0 is in grind (arith, rest, none)
-    by_test rest false is = sum_by-cons (by_event n) (starved_event s) (map starved_event (filter starves ss)) ∙ ap (λ x. starved_of_n n s + x) rest
+    by_test rest false is =
+        sum_by-cons (by_event n) (starved_event s) (map starved_event (filter starves ss))
+        ∙ ap (λ x. starved_of_n n s + x) rest
 
 -- upkeep leaves units of factions without a mailing their items, and their men less the starved (`LeavesUnmailed`)
 pub upkeep_leaves : LeavesUnmailed upkeep_meaning upkeep_keeps
@@ -103,8 +111,11 @@ upkeep_leaves = record {
     men_starved : (w : WorldValue) (c : CampaignValue) (n : ℕ) → ℕ
     men_starved w c n = sum_by (starved_of_n n) (upkeep_results w c)
 
-    starved_add_up : (w : WorldValue) (c : CampaignValue) (m : MonthValue) (n : ℕ) → starved_in (upkeep_meaning w c m).1.events n ≡ starved_in m.events n + men_starved w c n
-    starved_add_up w c m n = sum_by-append (by_event n) m.events (map starved_event (filter starves (upkeep_results w c))) ∙ ap (λ x. starved_in m.events n + x) (starved_are_reported (upkeep_results w c) n)
+    starved_add_up : (w : WorldValue) (c : CampaignValue) (m : MonthValue) (n : ℕ)
+        → starved_in (upkeep_meaning w c m).1.events n ≡ starved_in m.events n + men_starved w c n
+    starved_add_up w c m n =
+        sum_by-append (by_event n) m.events (map starved_event (filter starves (upkeep_results w c)))
+        ∙ ap (λ x. starved_in m.events n + x) (starved_are_reported (upkeep_results w c) n)
 
 -- ---- season and sweep
 

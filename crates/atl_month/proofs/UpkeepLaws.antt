@@ -61,7 +61,8 @@ AreSkillDays w men skill days = (skill < length w.skills) × (1 ≤ days) × (da
 
 module _ (w : WorldValue) (left men : ℕ) (fewer : left ≤ men) where
   days_fit_men_left : (days : ℕ) → days ≤ most_days * men → days * left / men ≤ most_days * left
-  days_fit_men_left days most = div-le_of_le-mul men (subst (λ n. days * left ≤ n) factors_swap (mul-le-mul_right left most))
+  days_fit_men_left days most =
+      div-le_of_le-mul men (subst (λ n. days * left ≤ n) factors_swap (mul-le-mul_right left most))
     where
       factors_swap : (most_days * men) * left ≡ men * (most_days * left)
       factors_swap = grind arith
@@ -87,12 +88,15 @@ module _ (w : WorldValue) (h : HoldingValue) (left : ℕ) (fewer : left ≤ h.me
           (known, some, subst (λ n. n ≤ most_days * left) (sym said) (days_fit_men_left w left h.men fewer had most))
 
   abbrev IsWithMen : HoldingValue → Type 0
-  IsWithMen k = (k.men ≡ left) × Every (AreSkillDays w left) k.days × (k.name ≡ h.name) × (k.guard ≡ h.guard) × (k.items ≡ h.items)
+  IsWithMen k =
+      (k.men ≡ left) × Every (AreSkillDays w left) k.days × (k.name ≡ h.name) × (k.guard ≡ h.guard) ×
+      (k.items ≡ h.items)
 
   less_men : IsWithMen (with_men_left left h)
   less_men = by_men (left == h.men) refl
     where
-      by_men : (b : Bool) → (left == h.men) ≡ b → IsWithMen (if b then h else record h { men = left; days = days_left left h })
+      by_men : (b : Bool) → (left == h.men) ≡ b
+          → IsWithMen (if b then h else record h { men = left; days = days_left left h })
       by_men true is =
           let same : h.men ≡ left = grind (arith, nat_tests) in
           (same, subst (λ n. Every (AreSkillDays w n) h.days) same days, refl, refl, refl)
@@ -196,7 +200,8 @@ module _ (w : WorldValue) (c : CampaignValue) (s : UpkeepResult) (u : Unit) (is 
   pub few_starved : s.starved ≤ most_amount
   few_starved = omega (arith, spare.starved, (steady.numbers.units s.unit u is).1.men)
 
-  upkeep_near : (e : BooksEntry) (t : Thing) → IsNear (takes_up_to most_amount e t) (amount_in c.books e t) (amount_in after.books e t)
+  upkeep_near : (e : BooksEntry) (t : Thing)
+      → IsNear (takes_up_to most_amount e t) (amount_in c.books e t) (amount_in after.books e t)
   upkeep_near e t =
       near_twice (moves_only most_amount Upkeep Money e t) (moves_only most_amount Starved People e t) _ _ _
       (booked-near c.books Upkeep Money (neg_ℤ (pos s.paid)) most_amount
@@ -216,15 +221,18 @@ module _ (w : WorldValue) (c : CampaignValue) (s : UpkeepResult) (u : Unit) (is 
 
 -- ---- the upkeep of all
 
-pub upkeep_at_is : (c : CampaignValue) (s : UpkeepResult) (u : Unit) → get c.units s.unit ≡ Some u → upkeep_at c s ≡ upkeep_in c s (Some u)
+pub upkeep_at_is : (c : CampaignValue) (s : UpkeepResult) (u : Unit) → get c.units s.unit ≡ Some u
+    → upkeep_at c s ≡ upkeep_in c s (Some u)
 unfolding upkeep_at
 upkeep_at_is c s u is = ap (upkeep_in c s) is
 
 pub upkeep_at_leaves_well : (w : WorldValue) (c : CampaignValue) (s : UpkeepResult) → CanPayUpkeep w c s
     → LeavesWell IsSteady (takes_up_to most_amount) w c (upkeep_at c s)
-upkeep_at_leaves_well w c s can = rw (upkeep_at_is c s can.unit can.there) (unit_leaves_well w c s can.unit can.there can.spare can.steady)
+upkeep_at_leaves_well w c s can =
+    rw (upkeep_at_is c s can.unit can.there) (unit_leaves_well w c s can.unit can.there can.spare can.steady)
 
-pub other_unit : (c : CampaignValue) (s : UpkeepResult) (n : ℕ) → n ≢ s.unit → get (upkeep_at c s).units n ≡ get c.units n
+pub other_unit : (c : CampaignValue) (s : UpkeepResult) (n : ℕ) → n ≢ s.unit
+    → get (upkeep_at c s).units n ≡ get c.units n
 unfolding upkeep_at
 other_unit c s n apart = by_unit (get c.units s.unit)
   where
@@ -235,7 +243,8 @@ other_unit c s n apart = by_unit (get c.units s.unit)
 pub each_still : (c : CampaignValue) (s : UpkeepResult) (es : List (ℕ × Unit)) → AllByRecursion (λ e. s.unit < e.0) es
     → EachEntry (λ n u. get c.units n ≡ Some u) es → EachEntry (λ n u. get (upkeep_at c s).units n ≡ Some u) es
 each_still c s [] above there = tt
-each_still c s (e ∷ es) above there = (other_unit c s e.0 (λ same. omega (arith, above.0, same)) ∙ there.0, each_still c s es above.1 there.1)
+each_still c s (e ∷ es) above there =
+    (other_unit c s e.0 (λ same. omega (arith, above.0, same)) ∙ there.0, each_still c s es above.1 there.1)
 
 -- what upkeep takes from one unit, where `all` are the units of the campaign
 abbrev pub upkeep_result_one : ℕ → (all : List UpkeepInput) → UpkeepInput → UpkeepResult
@@ -254,8 +263,10 @@ module _ (w : WorldValue) (all : List UpkeepInput) where
 
   -- The upkeep of some units, sorted by their numbers, can be paid in turn. This supposes that the campaign is steady
   -- and has the units as listed, and that its books have room for the upkeep of all.
-  upkeep_result_in_turn : (es : List (ℕ × Unit)) (c : CampaignValue) → Rise es → EachEntry (λ n u. get c.units n ≡ Some u) es
-      → IsSteady w c → HaveRoom (moved_times (length (each_of es)) step_moves) c → CanInTurn (CanPayUpkeep w) upkeep_at c (each_of es)
+  upkeep_result_in_turn : (es : List (ℕ × Unit)) (c : CampaignValue) → Rise es
+      → EachEntry (λ n u. get c.units n ≡ Some u) es
+      → IsSteady w c → HaveRoom (moved_times (length (each_of es)) step_moves) c
+      → CanInTurn (CanPayUpkeep w) upkeep_at c (each_of es)
   upkeep_result_in_turn [] c rise there steady room = tt
   upkeep_result_in_turn ((n, u) ∷ es) c rise there steady room =
       let p = upkeep_input_of (n, u) in
@@ -290,7 +301,9 @@ module _ (w : WorldValue) (c : CampaignValue) (steady : IsSteady w c) (room : Ha
   list = upkeep_results w c
 
   few : length list ≤ most_units
-  few = omega (arith, length-map (upkeep_inputs_of c) (upkeep_result_one w.rules.maintenance (upkeep_inputs_of c)), length-map (entries c.units) upkeep_input_of, len-entries c.units, steady.numbers.few_units)
+  few =
+      omega
+      (arith, length-map (upkeep_inputs_of c) (upkeep_result_one w.rules.maintenance (upkeep_inputs_of c)), length-map (entries c.units) upkeep_input_of, len-entries c.units, steady.numbers.few_units)
 
   little : IsBoundWithin (moved_times (length list) (takes_up_to most_amount)) (takes_up_to most_moved)
   little e t = grind (arith, few)
@@ -313,10 +326,14 @@ module _ (w : WorldValue) (c : CampaignValue) (steady : IsSteady w c) (room : Ha
 men_stay : (h : HoldingValue) (left : ℕ) → left ≡ h.men → with_men_left left h ≡ h
 men_stay h left is = grind (arith, nat_tests, is)
 
-pub paid_alone : (s : UpkeepResult) (h : HoldingValue) → s.starved ≡ 0 → after_upkeep s h ≡ record h { money = h.money - s.paid }
-paid_alone s h fed = ap (λ (k : HoldingValue). record k { money = h.money - s.paid }) (men_stay h (h.men - s.starved) (omega (arith, fed)))
+pub paid_alone : (s : UpkeepResult) (h : HoldingValue) → s.starved ≡ 0
+    → after_upkeep s h ≡ record h { money = h.money - s.paid }
+paid_alone s h fed =
+    ap (λ (k : HoldingValue). record k { money = h.money - s.paid })
+    (men_stay h (h.men - s.starved) (omega (arith, fed)))
 
-pub pays_nothing : (c : CampaignValue) (s : UpkeepResult) (u : Unit) → get c.units s.unit ≡ Some u → s.starved ≡ 0 → s.paid ≡ 0
+pub pays_nothing : (c : CampaignValue) (s : UpkeepResult) (u : Unit) → get c.units s.unit ≡ Some u → s.starved ≡ 0
+    → s.paid ≡ 0
     → c ≡ with_holding_at c s.unit (after_upkeep s u.holding) (Some u)
 pays_nothing c s u is fed none =
     let same : after_upkeep s u.holding ≡ u.holding = paid_alone s u.holding fed ∙ ap (λ m. record u.holding { money = m }) (omega (arith, none)) in
@@ -332,7 +349,8 @@ each_stays_positive f (e ∷ es) had old =
 
 -- Setting the days of each skill, one by one, to those that stay with fewer men gives the map of the days that stay
 -- (`days_left`).
-days_set : (left : ℕ) (h : HoldingValue) → Every (λ k d. 1 ≤ d) h.days → with_days h.days (staying_list left h.men h.days) ≡ days_left left h
+days_set : (left : ℕ) (h : HoldingValue) → Every (λ k d. 1 ≤ d) h.days
+    → with_days h.days (staying_list left h.men h.days) ≡ days_left left h
 days_set left h listed =
     set_again h.days stays none listed
     ∙ same_amounts anew (days_left left h)
@@ -360,7 +378,8 @@ days_set left h listed =
 
 -- A holding with its men, its money and its days of each skill set to what upkeep leaves is the holding after upkeep
 -- (`after_upkeep`). For this some men of the unit starve, and no more than it has.
-pub starving_sets_holding : (s : UpkeepResult) (h : HoldingValue) → 1 ≤ s.starved → s.starved ≤ h.men → Every (λ k d. 1 ≤ d) h.days
+pub starving_sets_holding : (s : UpkeepResult) (h : HoldingValue) → 1 ≤ s.starved → s.starved ≤ h.men
+    → Every (λ k d. 1 ≤ d) h.days
     → record h { men = h.men - s.starved; money = h.money - s.paid; days = with_days h.days (staying_list (h.men - s.starved) h.men h.days) } ≡ after_upkeep s h
 starving_sets_holding s h some fewer listed =
     let set = days_set (h.men - s.starved) h listed in
@@ -373,8 +392,11 @@ starving_sets_holding s h some fewer listed =
 abbrev pub unit_after_upkeep : UpkeepResult → Unit → Unit
 unit_after_upkeep s u = record u { holding = after_upkeep s u.holding }
 
-pub own_unit : (c : CampaignValue) (s : UpkeepResult) (u : Unit) → get c.units s.unit ≡ Some u → get (upkeep_at c s).units s.unit ≡ Some (unit_after_upkeep s u)
-own_unit c s u is = ap (λ (d : CampaignValue). get d.units s.unit) (upkeep_at_is c s u is) ∙ get-insert_same c.units s.unit (unit_after_upkeep s u)
+pub own_unit : (c : CampaignValue) (s : UpkeepResult) (u : Unit) → get c.units s.unit ≡ Some u
+    → get (upkeep_at c s).units s.unit ≡ Some (unit_after_upkeep s u)
+own_unit c s u is =
+    ap (λ (d : CampaignValue). get d.units s.unit) (upkeep_at_is c s u is)
+    ∙ get-insert_same c.units s.unit (unit_after_upkeep s u)
 
 module _ (m : ℕ) (all : List UpkeepInput) where
   others_stay : (es : List (ℕ × Unit)) (c : CampaignValue) (n : ℕ) → AllByRecursion (λ e. n < e.0) es
@@ -385,11 +407,13 @@ module _ (m : ℕ) (all : List UpkeepInput) where
       others_stay es (upkeep_at c s) n h.1 ∙ other_unit c s n (λ same. omega (arith, h.0, same))
 
   abbrev HasUpkeepResult : CampaignValue → ℕ → Unit → Type 0
-  HasUpkeepResult after n u = get after.units n ≡ Some (unit_after_upkeep (upkeep_result_one m all (upkeep_input_of (n, u))) u)
+  HasUpkeepResult after n u =
+      get after.units n ≡ Some (unit_after_upkeep (upkeep_result_one m all (upkeep_input_of (n, u))) u)
 
   -- after the upkeep of some units in the order of their numbers, which the campaign has as listed, each of them has
   -- what its upkeep among all units leaves it
-  each_upkeep_result : (es : List (ℕ × Unit)) (c : CampaignValue) → Rise es → EachEntry (λ n u. get c.units n ≡ Some u) es
+  each_upkeep_result : (es : List (ℕ × Unit)) (c : CampaignValue) → Rise es
+      → EachEntry (λ n u. get c.units n ≡ Some u) es
       → EachEntry (HasUpkeepResult (fold upkeep_at c (upkeep_result_each m all es))) es
   each_upkeep_result [] c rise there = tt
   each_upkeep_result ((n, u) ∷ es) c rise there =

@@ -29,20 +29,29 @@ is_own_input : (p : UpkeepInput) → is_input_of p.region p.faction p ≡ true
 is_own_input p = rw (same_number p.region, same_number p.faction) refl
 
 module _ (amount : UpkeepInput → ℕ) (xs : List UpkeepInput) (p : UpkeepInput) where
-  more_among : (s g : ℕ) → sum_by amount (peers_of s g (xs ++ p ∷ [])) ≡ sum_by amount (peers_of s g xs) + cond (is_input_of s g p) (amount p) 0
+  more_among : (s g : ℕ)
+      → sum_by amount (peers_of s g (xs ++ p ∷ []))
+      ≡ sum_by amount (peers_of s g xs) + cond (is_input_of s g p) (amount p) 0
   more_among s g =
-      ap (sum_by amount) (filter-append (is_input_of s g) xs (p ∷ [])) ∙ sum_by-append amount (peers_of s g xs) (peers_of s g (p ∷ []))
+      ap (sum_by amount) (filter-append (is_input_of s g) xs (p ∷ []))
+      ∙ sum_by-append amount (peers_of s g xs) (peers_of s g (p ∷ []))
       ∙ ap (λ n. sum_by amount (peers_of s g xs) + n) (sum_of_one (is_input_of s g p))
     where
       sum_of_one : (b : Bool) → sum_by amount (cond b (p ∷ []) []) ≡ cond b (amount p) 0
       sum_of_one true = omega arith
       sum_of_one false = refl
 
-  more_own : sum_by amount (peers_of p.region p.faction (xs ++ p ∷ [])) ≡ sum_by amount (peers_of p.region p.faction xs) + amount p
-  more_own = more_among p.region p.faction ∙ ap (λ b. sum_by amount (peers_of p.region p.faction xs) + cond b (amount p) 0) (is_own_input p)
+  more_own : sum_by amount (peers_of p.region p.faction (xs ++ p ∷ []))
+      ≡ sum_by amount (peers_of p.region p.faction xs) + amount p
+  more_own =
+      more_among p.region p.faction
+      ∙ ap (λ b. sum_by amount (peers_of p.region p.faction xs) + cond b (amount p) 0) (is_own_input p)
 
-  more_other : (s g : ℕ) → is_input_of s g p ≡ false → sum_by amount (peers_of s g (xs ++ p ∷ [])) ≡ sum_by amount (peers_of s g xs)
-  more_other s g is = more_among s g ∙ ap (λ b. sum_by amount (peers_of s g xs) + cond b (amount p) 0) is ∙ add-zero (sum_by amount (peers_of s g xs))
+  more_other : (s g : ℕ) → is_input_of s g p ≡ false
+      → sum_by amount (peers_of s g (xs ++ p ∷ [])) ≡ sum_by amount (peers_of s g xs)
+  more_other s g is =
+      more_among s g ∙ ap (λ b. sum_by amount (peers_of s g xs) + cond b (amount p) 0) is
+      ∙ add-zero (sum_by amount (peers_of s g xs))
 
 -- ---- an account is set in the map
 
@@ -59,7 +68,9 @@ each_account P m p a here others s g = by_test (is_input_of s g p) refl
   where
     account_found : (test : Bool) → is_input_of s g p ≡ test
         → account_at (with_account m p.region p.faction a) s g ≡ unwrap_or (cond test (Some a) (get (group_of m s) g)) no_account
-    account_found test is = ap (λ o. unwrap_or o no_account) (get-grouped m p.region p.faction a s g ∙ ap (λ b. cond b (Some a) (get (group_of m s) g)) is)
+    account_found test is =
+        ap (λ o. unwrap_or o no_account)
+        (get-grouped m p.region p.faction a s g ∙ ap (λ b. cond b (Some a) (get (group_of m s) g)) is)
 
     by_test : (test : Bool) → is_input_of s g p ≡ test → P s g (account_at (with_account m p.region p.faction a) s g)
     by_test true is =
@@ -76,7 +87,8 @@ each_if_short : (P : ℕ → ℕ → Account → Type 0) (m : FactionAccounts) (
     → (s g : ℕ) → P s g (account_at (with_if_short m p.region p.faction a) s g)
 each_if_short P m p a none some others s g = by_short (a.short == 0) refl
   where
-    by_test : (test : Bool) → is_input_of s g p ≡ test → P p.region p.faction (account_at m p.region p.faction) → P s g (account_at m s g)
+    by_test : (test : Bool) → is_input_of s g p ≡ test → P p.region p.faction (account_at m p.region p.faction)
+        → P s g (account_at m s g)
     by_test true is old =
         let region : p.region ≡ s = grind (arith, nat_tests) in
         let faction : p.faction ≡ g = grind (arith, nat_tests) in
@@ -132,7 +144,8 @@ module _ (m : ℕ) (before : List UpkeepInput) (p : UpkeepInput) (accounts : Fac
           is ∙ ap (λ (b : Account). record b { short = b.short + short_of m p }) (each p.region p.faction)
           ∙ account_is _ _ _ _ _ _ _ _ (same_left _ _) (sym (more_own (short_of m) before p)) refl refl
 
-      no_more : a.short ≡ 0 → short_among m p.region p.faction before ≡ short_among m p.region p.faction (before ++ p ∷ [])
+      no_more : a.short ≡ 0
+          → short_among m p.region p.faction before ≡ short_among m p.region p.faction (before ++ p ∷ [])
       no_more none = omega (arith, none, ap (λ (b : Account). b.short) this, more_own (short_of m) before p)
 
   -- what all units of the faction in the unit's region are short of
@@ -149,7 +162,8 @@ module _ (m : ℕ) (before : List UpkeepInput) (p : UpkeepInput) (accounts : Fac
       (λ some. this ∙ account_is _ _ _ _ _ _ _ _ (now_left (none_short false some)) refl refl refl)
       (λ s g apart. each s g ∙ account_is _ _ _ _ _ _ _ _ (ap (counted_left (short_among m s g all)) (sym (more_other (left_of m) before p s g apart))) refl refl refl)
     where
-      this : a ≡ account (counted_left (all_short all) (left_among m p.region p.faction before) + left_of m p) (all_short all) 0 0
+      this : a
+          ≡ account (counted_left (all_short all) (left_among m p.region p.faction before) + left_of m p) (all_short all) 0 0
       this = is ∙ ap (λ (b : Account). record b { left = b.left + left_of m p }) (each p.region p.faction)
 
       none_short : (b : Bool) → (a.short == 0) ≡ b → (all_short all == 0) ≡ b
@@ -157,14 +171,18 @@ module _ (m : ℕ) (before : List UpkeepInput) (p : UpkeepInput) (accounts : Fac
 
       now_left : (all_short all == 0) ≡ false
           → counted_left (all_short all) (left_among m p.region p.faction before) + left_of m p ≡ counted_left (all_short all) (left_among m p.region p.faction (before ++ p ∷ []))
-      now_left some = ap (λ n. n + left_of m p) (counted (all_short all) _ false some) ∙ sym (more_own (left_of m) before p) ∙ sym (counted (all_short all) _ false some)
+      now_left some =
+          ap (λ n. n + left_of m p) (counted (all_short all) _ false some) ∙ sym (more_own (left_of m) before p)
+          ∙ sym (counted (all_short all) _ false some)
 
 -- If the money that each account is short of is within that of `n` units, it is, with one more unit counted, within
 -- that of `n + 1`.
-pub few_short : (m n : ℕ) (accounts : FactionAccounts) (p : UpkeepInput) (a : Account) → short_of m p ≤ most_per_head * men_limit
+pub few_short : (m n : ℕ) (accounts : FactionAccounts) (p : UpkeepInput) (a : Account)
+    → short_of m p ≤ most_per_head * men_limit
     → ((s g : ℕ) → (account_at accounts s g).short ≤ most_per_head * men_limit * n)
     → a ≡ record (account_at accounts p.region p.faction) { short = (account_at accounts p.region p.faction).short + short_of m p }
-    → (s g : ℕ) → (account_at (with_if_short accounts p.region p.faction a) s g).short ≤ most_per_head * men_limit * (n + 1)
+    → (s g : ℕ)
+    → (account_at (with_if_short accounts p.region p.faction a) s g).short ≤ most_per_head * men_limit * (n + 1)
 few_short m n accounts p a short each is =
     let old = each p.region p.faction in
     each_if_short (λ s g b. b.short ≤ most_per_head * men_limit * (n + 1)) accounts p a
@@ -216,12 +234,14 @@ lower_first (p ∷ ps) (suc i) d order l =
 
 -- for `upkeep_result_more`: what the units before gave in turn, with what the next one gives, is the lesser of what all
 -- these want to give (`before + want`) and the amount to give
-next_dealt : (before want amount give : ℕ) → give ≡ amount → min before amount + min (give - min before amount) want ≡ min (before + want) amount
+next_dealt : (before want amount give : ℕ) → give ≡ amount
+    → min before amount + min (give - min before amount) want ≡ min (before + want) amount
 next_dealt before want amount give is = omega (arith, is)
 
 -- For `upkeep_result_is`: what a unit gives or gets in turn is what all units up to and with this one give or get
 -- together, less what the units before it do.
-is_dealt : (before want amount give : ℕ) → give ≡ amount → min (give - min before amount) want ≡ min (before + want) amount - min before amount
+is_dealt : (before want amount give : ℕ) → give ≡ amount
+    → min (give - min before amount) want ≡ min (before + want) amount - min before amount
 is_dealt before want amount give is = omega (arith, is)
 
 module _ (m : ℕ) (all before : List UpkeepInput) (p : UpkeepInput) (accounts : FactionAccounts)
@@ -243,7 +263,8 @@ module _ (m : ℕ) (all before : List UpkeepInput) (p : UpkeepInput) (accounts :
   -- after a unit had its turn, each account is that of all units, of which those before it and it had their turn
   -- (`account_of`)
   pub upkeep_result_more : (a : Account) → a ≡ account_after m (account_at accounts p.region p.faction) p
-      → (s g : ℕ) → account_at (with_if_short accounts p.region p.faction a) s g ≡ account_of m all (before ++ p ∷ []) s g
+      → (s g : ℕ)
+      → account_at (with_if_short accounts p.region p.faction a) s g ≡ account_of m all (before ++ p ∷ []) s g
   upkeep_result_more a is =
       each_if_short (λ s g b. b ≡ account_of m all (before ++ p ∷ []) s g) accounts p a
       (λ none. each p.region p.faction ∙ account_is _ _ _ _ _ _ _ _ refl refl (none_dealt _ _ (none_short none)) (none_dealt _ _ (none_short none))) (λ some. this)
@@ -264,19 +285,23 @@ module _ (m : ℕ) (all before : List UpkeepInput) (p : UpkeepInput) (accounts :
       none_dealt : (x y : ℕ) → short_among m p.region p.faction all ≡ 0 → min x amount ≡ min y amount
       none_dealt x y none = omega (arith, none)
 
-  before_among : filter (is_lower p.unit) all ≡ before → filter (is_lower p.unit) peers ≡ peers_of p.region p.faction before
+  before_among : filter (is_lower p.unit) all ≡ before
+      → filter (is_lower p.unit) peers ≡ peers_of p.region p.faction before
   before_among first =
       filters_swap (is_input_of p.region p.faction) (is_lower p.unit) all ∙ ap (peers_of p.region p.faction) first
 
   -- if the units that had their turn before a unit are those with lower numbers, upkeep takes from it by its account
   -- what the definition says (`upkeep_result_among`)
-  pub upkeep_result_is : filter (is_lower p.unit) all ≡ before → upkeep_result_by m (account_at accounts p.region p.faction) p ≡ upkeep_result_among m peers p
+  pub upkeep_result_is : filter (is_lower p.unit) all ≡ before
+      → upkeep_result_by m (account_at accounts p.region p.faction) p ≡ upkeep_result_among m peers p
   upkeep_result_is first =
       ap (λ b. upkeep_result_by m b p) (each p.region p.faction)
       ∙ same_upkeep_result _ _ _ _ (ap (λ n. paid_by m p + n) (part_of (left_of m))) (ap (λ n. starved_of m (short_of m p - n)) (part_of (short_of m)))
     where
       -- what a unit gives or gets by the account is what it gives or gets in turn, after its peers with lower numbers
-      part_of : (f : UpkeepInput → ℕ) → min (to_give now - min (sum_by f (peers_of p.region p.faction before)) amount) (f p) ≡ amount_in_turn amount (sum_by f (filter (is_lower p.unit) peers)) (f p)
+      part_of : (f : UpkeepInput → ℕ)
+          → min (to_give now - min (sum_by f (peers_of p.region p.faction before)) amount) (f p)
+          ≡ amount_in_turn amount (sum_by f (filter (is_lower p.unit) peers)) (f p)
       part_of f =
           is_dealt (sum_by f (peers_of p.region p.faction before)) (f p) amount (to_give now) to_give_is
           ∙ ap (λ xs. amount_in_turn amount (sum_by f xs) (f p)) (sym (before_among first))
@@ -290,7 +315,8 @@ module _ (m : ℕ) (all before : List UpkeepInput) (p : UpkeepInput) (accounts :
   -- Of the account of the unit's faction in its region, at most the amount to give was given so far, and at most that
   -- amount covered.
   pub account_open : IsOpen (account_at accounts p.region p.faction)
-  account_open = rw (each p.region p.faction) (record { given = omega (arith, to_give_is); covered = omega (arith, to_give_is) })
+  account_open =
+      rw (each p.region p.faction) (record { given = omega (arith, to_give_is); covered = omega (arith, to_give_is) })
 
 -- ---- a unit pays no more than it has
 

@@ -25,16 +25,20 @@ near_if_equal x y is = record { above = omega (arith, ints, is); below = omega (
 
 module _ (books : BooksValue) (e : BooksEntry) (t : Thing) (z : ℤ) (n : ℕ) (small : IsWithin n z) where
   -- a booking of at most n in size moves the amount of entry e and thing t by at most n, and no other amount
-  pub booked-near : (f : BooksEntry) (u : Thing) → IsNear (moves_only n e t f u) (amount_in books f u) (amount_in (after_booking books e t z) f u)
+  pub booked-near : (f : BooksEntry) (u : Thing)
+      → IsNear (moves_only n e t f u) (amount_in books f u) (amount_in (after_booking books e t z) f u)
   booked-near f u = by_number (amount_number f u == amount_number e t) refl
     where
-      by_number : (b : Bool) → (amount_number f u == amount_number e t) ≡ b → IsNear (if b then n else 0) (amount_in books f u) (amount_in (after_booking books e t z) f u)
+      by_number : (b : Bool) → (amount_number f u == amount_number e t) ≡ b
+          → IsNear (if b then n else 0) (amount_in books f u) (amount_in (after_booking books e t z) f u)
       by_number true is = near_by _ _ z n small (amount-after_booking books e t z f u)
       by_number false is = near_if_equal _ _ (booking-other_amount books f e u t z (is_unequal _ _ is))
 
   -- after a booking of at most n in size the books have room for the bound `next`, if before they had room for this
   -- bound, and for n besides on the booked amount
-  pub booked-room : (next : BookBound) → ((f : BooksEntry) (u : Thing) → HasRoom (moves_only n e t f u + next f u) (amount_in books f u)) → (f : BooksEntry) (u : Thing) → HasRoom (next f u) (amount_in (after_booking books e t z) f u)
+  pub booked-room : (next : BookBound)
+      → ((f : BooksEntry) (u : Thing) → HasRoom (moves_only n e t f u + next f u) (amount_in books f u))
+      → (f : BooksEntry) (u : Thing) → HasRoom (next f u) (amount_in (after_booking books e t z) f u)
   booked-room next room f u = near_room (moves_only n e t f u) (next f u) _ _ (booked-near f u) (room f u)
 
 by_sign : (z : ℤ) → z ≤ℤ pos amount_limit → pos 0 ≤ℤ (z +ℤ pos amount_limit) → FitsSigned w64 z
@@ -42,7 +46,8 @@ by_sign (pos n) most less = record { sfits = omega (arith, ints, most) }
 by_sign (negsuc n) most less = record { sfits = omega (arith, ints, less) }
 
 pub booking_fits : (x z : ℤ) (n : ℕ) → IsWithin n z → HasRoom n x → FitsSigned w64 (x +ℤ z)
-booking_fits x z n small room = by_sign (x +ℤ z) (omega (arith, ints, room.above, small.most)) (omega (arith, ints, room.below, small.least))
+booking_fits x z n small room =
+    by_sign (x +ℤ z) (omega (arith, ints, room.above, small.most)) (omega (arith, ints, room.below, small.least))
 
 pub within-pos : (k n : ℕ) → k ≤ n → IsWithin n (pos k)
 within-pos k n l = record { most = omega (arith, ints); least = omega (arith, ints) }

@@ -1,5 +1,5 @@
--- Laws of the events of phases: a phase gives an event to each of its orders, and to no order two. What a phase adds for
--- an order is said by the reports of its events that are of the order's faction and on its line.
+-- Laws of the events of phases: a phase gives an event to each of its orders, and to no order two. What a phase adds
+-- for an order is said by the reports of its events that are of the order's faction and on its line.
 use Rattle.std.proofs.Common.{◌≡◌, ◌&&◌, ℕ, Bool, true, false, cond, List, [], ◌∷◌, ◌++◌, map, filter, is_some, Option, Some, None, refl, sym, ap, ap₂, subst, ◌∙◌, append_assoc}
 use Rattle.std.proofs.lemmas.List.{append-nil, map-append}
 use Rattle.std.proofs.lemmas.List.Elements.{filter-append, recursion_from_All}
@@ -34,12 +34,14 @@ reports_at faction line m = filter (is_from faction line) (map report_of m.event
 
 -- ---- what a phase adds
 
--- What a phase adds to the events of an order's faction and line: the reports `added`, given whether the order counts in
--- its mailing, and the order. The phase keeps the mailings and the aliases.
+-- What a phase adds to the events of an order's faction and line: the reports `added`, given whether the order counts
+-- in its mailing, and the order. The phase keeps the mailings and the aliases.
 pub record Gives (added : Bool → Task → List Report) (meaning : Meaning) : Type 0 where
   -- the phase adds the reports to those of the order's faction and line
-  pub events : (w : WorldValue) (c : CampaignValue) (m : MonthValue) (aliases : Aliases) (readings : FinMap nat_cmp Reading) → m.aliases ≡ aliases → m.readings ≡ readings → AreFit w readings
-      → (t : Task) (there : IsInMailing aliases readings t) → reports_at t.faction t.line (meaning w c m).1 ≡ reports_at t.faction t.line m ++ added (order_counts (tasks_of aliases t.faction there.reading) t) t
+  pub events : (w : WorldValue) (c : CampaignValue) (m : MonthValue) (aliases : Aliases) (readings : FinMap nat_cmp Reading)
+      → m.aliases ≡ aliases → m.readings ≡ readings → AreFit w readings
+      → (t : Task) (there : IsInMailing aliases readings t)
+      → reports_at t.faction t.line (meaning w c m).1 ≡ reports_at t.faction t.line m ++ added (order_counts (tasks_of aliases t.faction there.reading) t) t
   -- the phase keeps the mailings
   pub readings : (w : WorldValue) (c : CampaignValue) (m : MonthValue) → (meaning w c m).1.readings ≡ m.readings
   -- the phase keeps the aliases
@@ -50,7 +52,8 @@ abbrev pub report_if : Bool → Task → List Report
 report_if b t = cond b (report_for t ∷ []) []
 
 -- two phases in turn add what the first adds, and then what the second adds
-pub gives_both : {a b : Bool → Task → List Report} {first second : Meaning} → Gives a first → Gives b second → Gives (λ counts t. a counts t ++ b counts t) (then_also first second)
+pub gives_both : {a b : Bool → Task → List Report} {first second : Meaning} → Gives a first → Gives b second
+    → Gives (λ counts t. a counts t ++ b counts t) (then_also first second)
 gives_both {a} {b} {first} {second} one two = record {
   events = λ w c m aliases readings ea er fit t there.
       let mid = first w c m in
@@ -65,11 +68,16 @@ gives_both {a} {b} {first} {second} one two = record {
 -- ---- events that are added
 
 -- the reports at a faction and line after some events are added: those before, and those among the added ones
-pub reports_after : (faction line : ℕ) (m : MonthValue) (events : List Event) → reports_at faction line (with_events m events) ≡ reports_at faction line m ++ filter (is_from faction line) (map report_of events)
-reports_after faction line m events = ap (filter (is_from faction line)) (map-append report_of m.events events) ∙ filter-append (is_from faction line) (map report_of m.events) (map report_of events)
+pub reports_after : (faction line : ℕ) (m : MonthValue) (events : List Event)
+    → reports_at faction line (with_events m events)
+    ≡ reports_at faction line m ++ filter (is_from faction line) (map report_of events)
+reports_after faction line m events =
+    ap (filter (is_from faction line)) (map-append report_of m.events events)
+    ∙ filter-append (is_from faction line) (map report_of m.events) (map report_of events)
 
 -- the reports of orders at a faction and line are those of the orders that are of the faction and on the line
-pub reports_of_orders : (aliases : Aliases) (faction line : ℕ) (ts : List Task) → filter (is_from faction line) (map report_for ts) ≡ map report_for (filter (is_at aliases faction line) ts)
+pub reports_of_orders : (aliases : Aliases) (faction line : ℕ) (ts : List Task)
+    → filter (is_from faction line) (map report_for ts) ≡ map report_for (filter (is_at aliases faction line) ts)
 reports_of_orders aliases faction line ts = filter-map (is_from faction line) report_for ts
 
 -- the reports of an order, if the test holds, and else of none
@@ -77,16 +85,21 @@ pub one_reported : (t : Task) (b : Bool) → map report_for (cond b (t ∷ []) [
 one_reported t true = refl
 one_reported t false = refl
 
--- of the reports of a phase's orders just one is of an order's faction and on its line, if the order is one of the phase's
-pub report_in_phase : (w : WorldValue) (m : MonthValue) (aliases : Aliases) (readings : FinMap nat_cmp Reading) → m.aliases ≡ aliases → m.readings ≡ readings → AreFit w readings → (t : Task) (there : IsInMailing aliases readings t) (is_of : Verb → Bool) (a : Arrangement)
+-- of the reports of a phase's orders just one is of an order's faction and on its line, if the order is one of the
+-- phase's
+pub report_in_phase : (w : WorldValue) (m : MonthValue) (aliases : Aliases) (readings : FinMap nat_cmp Reading)
+    → m.aliases ≡ aliases → m.readings ≡ readings → AreFit w readings
+    → (t : Task) (there : IsInMailing aliases readings t) (is_of : Verb → Bool) (a : Arrangement)
     → filter (is_from t.faction t.line) (map report_for (orders_of is_of a m.aliases m.readings)) ≡ report_if (is_of t.order_value.verb && order_counts (tasks_of aliases t.faction there.reading) t) t
 report_in_phase w m aliases readings ea er fit t there is_of a =
     reports_of_orders aliases t.faction t.line (orders_of is_of a m.aliases m.readings)
     ∙ ap₂ (λ x y. map report_for (filter (is_at aliases t.faction t.line) (orders_of is_of a x y))) ea er
-    ∙ ap (map report_for) (one_in_phase w aliases readings fit t there is_of a) ∙ one_reported t (is_of t.order_value.verb && order_counts (tasks_of aliases t.faction there.reading) t)
+    ∙ ap (map report_for) (one_in_phase w aliases readings fit t there is_of a)
+    ∙ one_reported t (is_of t.order_value.verb && order_counts (tasks_of aliases t.faction there.reading) t)
 
 -- the reports of the events that are made for some orders, whatever came of them, are those of the orders
-pub reports_made : (outcome : Task → Outcome) (ts : List Task) → map report_of (map (λ t. event_for t (outcome t)) ts) ≡ map report_for ts
+pub reports_made : (outcome : Task → Outcome) (ts : List Task)
+    → map report_of (map (λ t. event_for t (outcome t)) ts) ≡ map report_for ts
 reports_made outcome [] = refl
 reports_made outcome (t ∷ ts) = ap (λ rs. report_for t ∷ rs) (reports_made outcome ts)
 
@@ -94,22 +107,30 @@ reports_made outcome (t ∷ ts) = ap (λ rs. report_for t ∷ rs) (reports_made 
 
 module _ {X : Type 0} where
   -- what each order keeps of the month is kept by orders in turn
-  pub fold_keeps : {A : Type 0} (part : MonthValue → A) (step : X × MonthValue → Task → X × MonthValue) → ((p : X × MonthValue) (t : Task) → part (step p t).1 ≡ part p.1) → (ts : List Task) (p : X × MonthValue) → part (fold step p ts).1 ≡ part p.1
+  pub fold_keeps : {A : Type 0} (part : MonthValue → A) (step : X × MonthValue → Task → X × MonthValue)
+      → ((p : X × MonthValue) (t : Task) → part (step p t).1 ≡ part p.1) → (ts : List Task) (p : X × MonthValue)
+      → part (fold step p ts).1 ≡ part p.1
   fold_keeps part step keeps [] p = refl
   fold_keeps part step keeps (t ∷ ts) p = fold_keeps part step keeps ts (step p t) ∙ keeps p t
 
   -- orders of which each adds its event add an event for each, in their order
-  pub fold_adds : (step : X × MonthValue → Task → X × MonthValue) → ((p : X × MonthValue) (t : Task) → map report_of (step p t).1.events ≡ map report_of p.1.events ++ report_for t ∷ []) → (ts : List Task) (p : X × MonthValue)
+  pub fold_adds : (step : X × MonthValue → Task → X × MonthValue)
+      → ((p : X × MonthValue) (t : Task) → map report_of (step p t).1.events ≡ map report_of p.1.events ++ report_for t ∷ [])
+      → (ts : List Task) (p : X × MonthValue)
       → map report_of (fold step p ts).1.events ≡ map report_of p.1.events ++ map report_for ts
   fold_adds step adds [] p = sym (append-nil (map report_of p.1.events))
   fold_adds step adds (t ∷ ts) p =
-      fold_adds step adds ts (step p t) ∙ ap (λ rs. rs ++ map report_for ts) (adds p t) ∙ append_assoc (map report_of p.1.events) (report_for t ∷ []) (map report_for ts)
+      fold_adds step adds ts (step p t) ∙ ap (λ rs. rs ++ map report_for ts) (adds p t)
+      ∙ append_assoc (map report_of p.1.events) (report_for t ∷ []) (map report_for ts)
 
 -- ---- a phase that carries its orders out one by one
 
--- a step passes over an order that has a verb of the phase and says what it is (`IsOrderOf`) just if the order fails a test
+-- a step passes over an order that has a verb of the phase and says what it is (`IsOrderOf`) just if the order fails a
+-- test
 abbrev pub TakesThose : OrderMeaning → (Verb → Bool) → (Task → Bool) → Type 0
-TakesThose step is_of takes = (w : WorldValue) (a : Aliases) (t : Task) → is_of t.order_value.verb ≡ true → IsOrderOf w t.order_value → is_some (step w a t) ≡ takes t
+TakesThose step is_of takes =
+    (w : WorldValue) (a : Aliases) (t : Task) → is_of t.order_value.verb ≡ true → IsOrderOf w t.order_value → is_some
+    (step w a t) ≡ takes t
 
 -- the operands have the shape that the order table gives the verb
 abbrev pub Fits : Verb → OperandsValue → Type 0
@@ -121,22 +142,27 @@ all_orders t = true
 
 module _ (step : OrderMeaning) (is_of : Verb → Bool) (takes : Task → Bool) (takes_those : TakesThose step is_of takes) where
   -- an order adds its event, if the phase doesn't pass it over
-  one_event : (c : CampaignValue) (m : MonthValue) (t : Task) (o : Option OrderEffect) → map report_of (with_event_of m t (order_result o c t.faction t.unit).1).events ≡ map report_of m.events ++ report_if (is_some o) t
+  one_event : (c : CampaignValue) (m : MonthValue) (t : Task) (o : Option OrderEffect)
+      → map report_of (with_event_of m t (order_result o c t.faction t.unit).1).events
+      ≡ map report_of m.events ++ report_if (is_some o) t
   one_event c m t None = sym (append-nil (map report_of m.events))
   one_event c m t (Some effect) = map-append report_of m.events _
 
   -- an event added to a month keeps its mailings and its aliases
-  kept : (m : MonthValue) (t : Task) (o : Option Outcome) → ((with_event_of m t o).readings ≡ m.readings) × ((with_event_of m t o).aliases ≡ m.aliases)
+  kept : (m : MonthValue) (t : Task) (o : Option Outcome)
+      → ((with_event_of m t o).readings ≡ m.readings) × ((with_event_of m t o).aliases ≡ m.aliases)
   kept m t None = (refl, refl)
   kept m t (Some outcome) = (refl, refl)
 
   -- the report of an order in front of those of others, if it is taken
-  in_front : (t : Task) (ts : List Task) (b : Bool) → report_if b t ++ map report_for ts ≡ map report_for (cond b (t ∷ ts) ts)
+  in_front : (t : Task) (ts : List Task) (b : Bool)
+      → report_if b t ++ map report_for ts ≡ map report_for (cond b (t ∷ ts) ts)
   in_front t ts true = refl
   in_front t ts false = refl
 
   -- orders carried out in turn add an event for each that isn't passed over, in their order
-  all_events : (w : WorldValue) (aliases : Aliases) (ts : List Task) (c : CampaignValue) (m : MonthValue) → m.aliases ≡ aliases → AllByRecursion (λ t. is_some (step w aliases t) ≡ takes t) ts
+  all_events : (w : WorldValue) (aliases : Aliases) (ts : List Task) (c : CampaignValue) (m : MonthValue)
+      → m.aliases ≡ aliases → AllByRecursion (λ t. is_some (step w aliases t) ≡ takes t) ts
       → map report_of (fold (one_order step w) (c, m) ts).1.events ≡ map report_of m.events ++ map report_for (filter takes ts)
   all_events w aliases [] c m ea all = sym (append-nil (map report_of m.events))
   all_events w aliases (t ∷ ts) c m ea all =
@@ -149,11 +175,16 @@ module _ (step : OrderMeaning) (is_of : Verb → Bool) (takes : Task → Bool) (
       ∙ ap (λ rs. map report_of m.events ++ rs) (ap (λ b. report_if b t ++ map report_for rest) taken ∙ in_front t rest (takes t))
 
   -- each order of the phase is taken just if it passes the test
-  all_taken : (w : WorldValue) (m : MonthValue) → AreFit w m.readings → AllByRecursion (λ t. is_some (step w m.aliases t) ≡ takes t) (orders_by_unit is_of m)
-  all_taken w m fit = both (orders_by_unit is_of m) (orders_have_verbs is_of ByUnit m.aliases m.readings) (recursion_from_All (λ t. IsOrderOf w t.order_value) (orders_by_unit is_of m) (orders_fit w m.aliases m.readings fit is_of))
+  all_taken : (w : WorldValue) (m : MonthValue) → AreFit w m.readings
+      → AllByRecursion (λ t. is_some (step w m.aliases t) ≡ takes t) (orders_by_unit is_of m)
+  all_taken w m fit =
+      both (orders_by_unit is_of m) (orders_have_verbs is_of ByUnit m.aliases m.readings)
+      (recursion_from_All (λ t. IsOrderOf w t.order_value) (orders_by_unit is_of m) (orders_fit w m.aliases m.readings fit is_of))
     where
       -- for `all_taken`: each of some orders is, if it has a verb of the phase and says what it is
-      both : (ts : List Task) → AllByRecursion (λ t. is_of t.order_value.verb ≡ true) ts → AllByRecursion (λ t. IsOrderOf w t.order_value) ts → AllByRecursion (λ t. is_some (step w m.aliases t) ≡ takes t) ts
+      both : (ts : List Task) → AllByRecursion (λ t. is_of t.order_value.verb ≡ true) ts
+          → AllByRecursion (λ t. IsOrderOf w t.order_value) ts
+          → AllByRecursion (λ t. is_some (step w m.aliases t) ≡ takes t) ts
       both [] verbs says = tt
       both (t ∷ ts) verbs says = (takes_those w m.aliases t verbs.0 says.0, both ts verbs.1 says.1)
 
@@ -174,6 +205,8 @@ module _ (step : OrderMeaning) (is_of : Verb → Bool) (takes : Task → Bool) (
   }
     where
       -- for `gives_by_orders`: of one order, or of none, the report of the order is left if it passes the test
-      taken_one : (t : Task) (b : Bool) → map report_for (filter takes (cond b (t ∷ []) [])) ≡ report_if (b && takes t) t
-      taken_one t true = elim (takes t) as (λ b. map report_for (cond b (t ∷ []) []) ≡ report_if b t) [ true ↦ refl | false ↦ refl ]
+      taken_one : (t : Task) (b : Bool)
+          → map report_for (filter takes (cond b (t ∷ []) [])) ≡ report_if (b && takes t) t
+      taken_one t true =
+          elim (takes t) as (λ b. map report_for (cond b (t ∷ []) []) ≡ report_if b t) [ true ↦ refl | false ↦ refl ]
       taken_one t false = refl

@@ -10,6 +10,9 @@ use Rattle.atl_records.proofs.EveryLaws.{every-empty, every-insert}
 use Rattle.atl_phase.specs.Month.{by_faction}
 use Rattle.atl_phase.specs.Fit.{AreFit}
 
-pub read_fit : (w : WorldValue) (ms : List Mailing) → AllByRecursion (IsReadWith w) ms → AreFit w (by_faction (map reading_of ms))
+pub read_fit : (w : WorldValue) (ms : List Mailing) → AllByRecursion (IsReadWith w) ms
+    → AreFit w (by_faction (map reading_of ms))
 read_fit w [] all = every-empty (λ f r. IsReading w r)
-read_fit w (m ∷ ms) all = every-insert (λ f r. IsReading w r) (by_faction (map reading_of ms)) m.faction (reading_of m) (readings_keep_bounds w m.text (reading_of m) all.0) (read_fit w ms all.1)
+read_fit w (m ∷ ms) all =
+    every-insert (λ f r. IsReading w r) (by_faction (map reading_of ms)) m.faction (reading_of m)
+    (readings_keep_bounds w m.text (reading_of m) all.0) (read_fit w ms all.1)

@@ -5,18 +5,23 @@ use Rattle.std.specs.List.{All}
 use Rattle.std.proofs.lemmas.List.{drop_all, drop_more, get_or-map, length-map}
 
 -- if the fold over the elements from i on gives `whole`, so does the fold over those from i + 1 on after the step at i
-pub fold_after_step : {S A : Type 0} (f : S → A → S) (xs : List A) (i : ℕ) (none : A) (before : S) {after whole : S} → i < length xs
+pub fold_after_step : {S A : Type 0} (f : S → A → S) (xs : List A) (i : ℕ) (none : A) (before : S) {after whole : S}
+    → i < length xs
     → after ≡ f before (get_or xs i none) → fold f before (drop i xs) ≡ whole → fold f after (drop (i + 1) xs) ≡ whole
-fold_after_step f xs i none before inside step all = ap (λ s. fold f s (drop (i + 1) xs)) step ∙ sym (ap (fold f before) (drop_more xs i none inside)) ∙ all
+fold_after_step f xs i none before inside step all =
+    ap (λ s. fold f s (drop (i + 1) xs)) step ∙ sym (ap (fold f before) (drop_more xs i none inside)) ∙ all
 
-pub fold_ended : {S A : Type 0} (f : S → A → S) (xs : List A) (i : ℕ) (later : S) {whole : S} → length xs ≤ i → fold f later (drop i xs) ≡ whole → later ≡ whole
+pub fold_ended : {S A : Type 0} (f : S → A → S) (xs : List A) (i : ℕ) (later : S) {whole : S} → length xs ≤ i
+    → fold f later (drop i xs) ≡ whole → later ≡ whole
 fold_ended f xs i later ended all = sym (ap (fold f later) (drop_all i xs ended)) ∙ all
 
-pub fold_mapped : {S A B : Type 0} (f : S → B → S) (g : A → B) (s : S) (xs : List A) → fold (λ r x. f r (g x)) s xs ≡ fold f s (map g xs)
+pub fold_mapped : {S A B : Type 0} (f : S → B → S) (g : A → B) (s : S) (xs : List A)
+    → fold (λ r x. f r (g x)) s xs ≡ fold f s (map g xs)
 fold_mapped f g s [] = refl
 fold_mapped f g s (x ∷ xs) = fold_mapped f g (f s (g x)) xs
 
-pub each_mapped : {A B : Type 0} (P : B → Type 0) (g : A → B) (xs : List A) (ys : List B) → map g xs ≡ ys → All P ys → (i : ℕ) (d : A) → i < length xs → P (g (get_or xs i d))
+pub each_mapped : {A B : Type 0} (P : B → Type 0) (g : A → B) (xs : List A) (ys : List B) → map g xs ≡ ys → All P ys
+    → (i : ℕ) (d : A) → i < length xs → P (g (get_or xs i d))
 each_mapped P g xs ys is all i d inside =
     let long : length (map g xs) ≡ length xs = length-map xs g in
     subst P (get_or-map g xs i d (g d) inside) (subst (All P) (sym is) all i (g d) (omega (arith, long, inside)))

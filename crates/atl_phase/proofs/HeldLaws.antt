@@ -18,7 +18,8 @@ use Rattle.atl_campaign.specs.Campaign.{CampaignValue}
 use Rattle.atl_campaign.specs.Good.{IsSteady}
 use Rattle.atl_phase.specs.Meaning.{most_moved}
 
-pub sum_within : {V : Type 0} (f : V → ℕ) (most : ℕ) (es : List (ℕ × V)) → EachEntry (λ n v. f v ≤ most) es → sum_by (λ e. f e.1) es ≤ length es * most
+pub sum_within : {V : Type 0} (f : V → ℕ) (most : ℕ) (es : List (ℕ × V)) → EachEntry (λ n v. f v ≤ most) es
+    → sum_by (λ e. f e.1) es ≤ length es * most
 sum_within f most [] each = omega arith
 sum_within {V} f most (e ∷ es) each =
     sum_step (sum_by (λ (d : ℕ × V). f d.1) (e ∷ es)) (f e.1) (sum_by (λ (d : ℕ × V). f d.1) es) (length (e ∷ es) * most) (length es * most) most (sum_by-cons (λ (d : ℕ × V). f d.1) e es) (suc-mul (length es) most) each.0 (sum_within f most es each.1)
@@ -32,7 +33,8 @@ within_limit People h is = omega (arith, is.men)
 within_limit (Item i) h is = amount_within h i is
 
 -- in a steady campaign all units together hold less than 10^14 of each thing
-pub all_held_within : (w : WorldValue) (c : CampaignValue) → IsSteady w c → (t : Thing) → sum_over (λ (u : Unit). unit_amount t u.holding) c.units ≤ most_moved
+pub all_held_within : (w : WorldValue) (c : CampaignValue) → IsSteady w c → (t : Thing)
+    → sum_over (λ (u : Unit). unit_amount t u.holding) c.units ≤ most_moved
 all_held_within w c steady t =
     sum_of_few_units (sum_over (λ (u : Unit). unit_amount t u.holding) c.units) (length (entries c.units))
     (sum_within (λ (u : Unit). unit_amount t u.holding) holding_limit (entries c.units) (each-from_every (λ n u. unit_amount t u.holding ≤ holding_limit) c.units (λ n u is. within_limit t u.holding (steady.numbers.units n u is).1)))

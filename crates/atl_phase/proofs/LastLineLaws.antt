@@ -19,7 +19,9 @@ use Rattle.atl_phase.specs.OrderIndices.{LastLineMap, line_in, with_line}
 module _ (lines : LastLineMap) (k u line : ℕ) where
   -- after a line of slot k and unit u is noted, slot k has for u the greater of this line and the old one; other slots
   -- stay
-  group_at : (j : ℕ) → group_of (with_line lines k u line) j ≡ (if j == k then insert (group_of lines k) u (max (line_in lines k u) line) else group_of lines j)
+  group_at : (j : ℕ)
+      → group_of (with_line lines k u line) j
+      ≡ (if j == k then insert (group_of lines k) u (max (line_in lines k u) line) else group_of lines j)
   group_at j =
       ap (λ o. unwrap_or o empty) (get-insert nat_cmp_total lines k (insert (group_of lines k) u (max (line_in lines k u) line)) j)
       ∙ ap (λ b. unwrap_or (cond b (Some (insert (group_of lines k) u (max (line_in lines k u) line))) (get lines j)) empty) (sym (unsigned_ties j k))
@@ -28,7 +30,9 @@ module _ (lines : LastLineMap) (k u line : ℕ) where
         | false ↦ refl
       ]
 
-  in_group : (unit n : ℕ) → max (unwrap_or (get (insert (group_of lines k) u (max (line_in lines k u) line)) unit) 0) n ≡ max (line_in lines k unit) (max (if (u == unit) && true then line else 0) n)
+  in_group : (unit n : ℕ)
+      → max (unwrap_or (get (insert (group_of lines k) u (max (line_in lines k u) line)) unit) 0) n
+      ≡ max (line_in lines k unit) (max (if (u == unit) && true then line else 0) n)
   in_group unit n =
       ap (λ o. max (unwrap_or o 0) n) (get-insert nat_cmp_total (group_of lines k) u (max (line_in lines k u) line) unit)
       ∙ ap (λ b. max (unwrap_or (cond b (Some (max (line_in lines k u) line)) (get (group_of lines k) unit)) 0) n) (sym (unsigned_ties unit u) ∙ equality_is_symmetric unit u)
@@ -45,7 +49,9 @@ module _ (lines : LastLineMap) (k u line : ℕ) where
 
   -- once a line of slot k and unit u is noted, the greatest line is for k and u the greater of this line and the old
   -- one, and otherwise the old one
-  noted_at : (j unit n : ℕ) → max (line_in (with_line lines k u line) j unit) n ≡ max (line_in lines j unit) (max (if (u == unit) && (j == k) then line else 0) n)
+  noted_at : (j unit n : ℕ)
+      → max (line_in (with_line lines k u line) j unit) n
+      ≡ max (line_in lines j unit) (max (if (u == unit) && (j == k) then line else 0) n)
   noted_at j unit n =
       ap (λ g. max (unwrap_or (get g unit) 0) n) (group_at j)
       ∙ elim (j == k) as (λ b. (j == k) ≡ b → max (unwrap_or (get (if b then insert (group_of lines k) u (max (line_in lines k u) line) else group_of lines j) unit) 0) n ≡ max (line_in lines j unit) (max (if (u == unit) && b then line else 0) n)) [
@@ -63,7 +69,8 @@ module _ (slot : Slot) (aliases : Aliases) (faction : ℕ) (text : List ℕ) whe
 
   -- The greatest line of the orders from i on is that of the orders from i + 1 on. But it is the line of the order at
   -- i, if this order is in the slot and for the unit, and its line is greater.
-  opened : (es : List Entry) (i : ℕ) (e : Entry) (in_slot : Option Slot) (unit : ℕ) → i < length es → e ≡ get_or es i e → (row_of e.order.verb).slot ≡ in_slot →
+  opened : (es : List Entry) (i : ℕ) (e : Entry) (in_slot : Option Slot) (unit : ℕ) → i < length es → e ≡ get_or es i e
+      → (row_of e.order.verb).slot ≡ in_slot →
       rest_from i es unit ≡ max (if (unit_of aliases faction e.target == unit) && is_same_slot slot in_slot then e.line else 0) (rest_from (i + 1) es unit)
   opened es i e in_slot unit h is slot_is =
       ap (λ ds. last_line slot unit (tasks_from aliases faction i (map (entry_value text) ds))) (next_of es i e h is)
@@ -71,7 +78,8 @@ module _ (slot : Slot) (aliases : Aliases) (faction : ℕ) (text : List ℕ) whe
 
   -- if the order at i is in a slot, the greatest of the noted lines and those still to come stays the same once the
   -- line of this order is noted
-  pub noted : (es : List Entry) (i : ℕ) (e : Entry) (lines : LastLineMap) (other : Slot) (unit : ℕ) → i < length es → e ≡ get_or es i e → (row_of e.order.verb).slot ≡ Some other →
+  pub noted : (es : List Entry) (i : ℕ) (e : Entry) (lines : LastLineMap) (other : Slot) (unit : ℕ) → i < length es
+      → e ≡ get_or es i e → (row_of e.order.verb).slot ≡ Some other →
       max (line_in (with_line lines (slot_number other) (unit_of aliases faction e.target) e.line) (slot_number slot) unit) (rest_from (i + 1) es unit) ≡ max (line_in lines (slot_number slot) unit) (rest_from i es unit)
   noted es i e lines other unit h is b =
       noted_at lines (slot_number other) (unit_of aliases faction e.target) e.line (slot_number slot) unit (rest_from (i + 1) es unit)
@@ -81,8 +89,11 @@ module _ (slot : Slot) (aliases : Aliases) (faction : ℕ) (text : List ℕ) whe
   neither true line n = omega arith
   neither false line n = omega arith
 
-  pub passed : (es : List Entry) (i : ℕ) (e : Entry) (unit : ℕ) → i < length es → e ≡ get_or es i e → (row_of e.order.verb).slot ≡ None → rest_from (i + 1) es unit ≡ rest_from i es unit
-  passed es i e unit h is b = sym (opened es i e None unit h is b ∙ neither (unit_of aliases faction e.target == unit) e.line (rest_from (i + 1) es unit))
+  pub passed : (es : List Entry) (i : ℕ) (e : Entry) (unit : ℕ) → i < length es → e ≡ get_or es i e
+      → (row_of e.order.verb).slot ≡ None → rest_from (i + 1) es unit ≡ rest_from i es unit
+  passed es i e unit h is b =
+      sym
+      (opened es i e None unit h is b ∙ neither (unit_of aliases faction e.target == unit) e.line (rest_from (i + 1) es unit))
 
 pub none_noted : (lines : LastLineMap) (slot unit n : ℕ) → lines ≡ empty → max (line_in lines slot unit) n ≡ n
 none_noted lines slot unit n h =

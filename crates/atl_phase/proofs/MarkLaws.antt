@@ -17,7 +17,8 @@ use Rattle.atl_campaign.proofs.OwnerLaws.{place-what}
 pub marks_by : (a b m : MarkedCampaign) → b.value ≡ m.value → b.marks ≡ m.marks → MarksChanges a m → MarksChanges a b
 marks_by a b m what marks h = rw (what, marks) (record { stay = h.stay; covers = h.covers })
 
-pub booked_marks : (a b d : MarkedCampaign) (e : BooksEntry) (t : Thing) (z : ℤ) → MarksChanges a b → d.value ≡ with_booking b.value e t z → d.marks ≡ mark_amount b e t → MarksChanges a d
+pub booked_marks : (a b d : MarkedCampaign) (e : BooksEntry) (t : Thing) (z : ℤ) → MarksChanges a b
+    → d.value ≡ with_booking b.value e t z → d.marks ≡ mark_amount b e t → MarksChanges a d
 booked_marks a b d e t z before what marks =
     marks-trans a b d before (marks_by b d (record { value = with_booking b.value e t z; marks = mark_amount b e t }) what marks (marks-amount b e t z))
 
@@ -28,15 +29,19 @@ marks_place_at c n r s (Some u) = by_test (u.structure == s)
     one_put : MarksChanges c (put_marked c n r s)
     one_put = marks-unit_row (λ x. record x { region = r; structure = s }) (λ x. refl) c n
 
-    by_test : (b : Bool) → MarksChanges c (if b then put_marked c n r s else handed_marked (handed_marked (put_marked c n r s) u.structure n (heir c.value u.structure n)) s 0 n)
+    by_test : (b : Bool)
+        → MarksChanges c (if b then put_marked c n r s else handed_marked (handed_marked (put_marked c n r s) u.structure n (heir c.value u.structure n)) s 0 n)
     by_test true = one_put
     by_test false =
         let next = handed_marked (put_marked c n r s) u.structure n (heir c.value u.structure n) in
         marks-trans c next (handed_marked next s 0 n) (marks-trans c (put_marked c n r s) next one_put (marks-after_handover (put_marked c n r s) u.structure n (heir c.value u.structure n))) (marks-after_handover next s 0 n)
 
-pub marks-place : (c d : MarkedCampaign) (n r s : ℕ) → d.value ≡ with_place c.value n r s → d.marks ≡ (place_marked c n r s).marks → MarksChanges c d
+pub marks-place : (c d : MarkedCampaign) (n r s : ℕ) → d.value ≡ with_place c.value n r s
+    → d.marks ≡ (place_marked c n r s).marks → MarksChanges c d
 unfolding place_marked
-marks-place c d n r s what marks = marks_by c d (place_marked c n r s) (what ∙ sym (place-what c n r s)) marks (marks_place_at c n r s (get c.value.units n))
+marks-place c d n r s what marks =
+    marks_by c d (place_marked c n r s) (what ∙ sym (place-what c n r s)) marks
+    (marks_place_at c n r s (get c.value.units n))
 
 pub on_ok_both : {A E : Type 0} {P Q R : Type 0} (r : Result A E) → (P → Q → R) → OnOk r P → OnOk r Q → OnOk r R
 on_ok_both (Ok a) f p q = f p q

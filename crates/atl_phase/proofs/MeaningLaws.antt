@@ -21,7 +21,8 @@ use Rattle.atl_phase.specs.Meaning.{BookBound, Condition, Frame, IsNear, IsSameM
 use Rattle.atl_phase.specs.Bounds.{HasRoom, HaveRoom, moved_times}
 
 pub near_twice : (j k : ℕ) (a b c : ℤ) → IsNear j a b → IsNear k b c → IsNear (j + k) a c
-near_twice j k a b c g h = record { above = omega (arith, ints, g.above, h.above); below = omega (arith, ints, g.below, h.below) }
+near_twice j k a b c g h =
+    record { above = omega (arith, ints, g.above, h.above); below = omega (arith, ints, g.below, h.below) }
 
 pub near_more : (j k : ℕ) (a b : ℤ) → j ≤ k → IsNear j a b → IsNear k a b
 near_more j k a b l h = record { above = omega (arith, ints, h.above); below = omega (arith, ints, h.below) }
@@ -30,10 +31,12 @@ pub near_same : (k : ℕ) (a : ℤ) → IsNear k a a
 near_same k a = record { above = omega (arith, ints); below = omega (arith, ints) }
 
 pub near_room : (j k : ℕ) (a b : ℤ) → IsNear j a b → HasRoom (j + k) a → HasRoom k b
-near_room j k a b near room = record { above = omega (arith, ints, near.above, room.above); below = omega (arith, ints, near.below, room.below) }
+near_room j k a b near room =
+    record { above = omega (arith, ints, near.above, room.above); below = omega (arith, ints, near.below, room.below) }
 
 pub amount_room_for_less : (j k : ℕ) (a : ℤ) → j ≤ k → HasRoom k a → HasRoom j a
-amount_room_for_less j k a l room = record { above = omega (arith, ints, room.above); below = omega (arith, ints, room.below) }
+amount_room_for_less j k a l room =
+    record { above = omega (arith, ints, room.above); below = omega (arith, ints, room.below) }
 
 -- the first bound is at most the second for each amount
 abbrev pub IsBoundWithin : BookBound → BookBound → Type 0
@@ -43,24 +46,30 @@ pub room_less : (j k : BookBound) (c : CampaignValue) → IsBoundWithin j k → 
 room_less j k c l room e t = amount_room_for_less (j e t) (k e t) (amount_in c.books e t) (l e t) (room e t)
 
 -- the books of a sound campaign have room for any bound of at most 5*10^18
-pub room_when_sound : (w : WorldValue) (c : CampaignValue) (book_bound : BookBound) → IsBoundWithin book_bound (λ e t. 5000000000000000000) → IsSound w c → HaveRoom book_bound c
+pub room_when_sound : (w : WorldValue) (c : CampaignValue) (book_bound : BookBound)
+    → IsBoundWithin book_bound (λ e t. 5000000000000000000) → IsSound w c → HaveRoom book_bound c
 room_when_sound w c book_bound l sound e t =
     let few : amount_bound c ≤ 3000000000000000000 = omega (arith, sound.steady.numbers.month, sound.steady.numbers.few_factions) in
     within (amount_in c.books e t) (amount_bound c) (book_bound e t) few (l e t) (sound.amounts e t)
   where
     -- for `room_when_sound`: an amount of at most 3*10^18 in size has room for a move of at most 5*10^18
-    within : (a : ℤ) (bound change : ℕ) → bound ≤ 3000000000000000000 → change ≤ 5000000000000000000 → IsWithin bound a → HasRoom change a
-    within a bound change few little h = record { above = omega (arith, ints, h.most); below = omega (arith, ints, h.least) }
+    within : (a : ℤ) (bound change : ℕ) → bound ≤ 3000000000000000000 → change ≤ 5000000000000000000 → IsWithin bound a
+        → HasRoom change a
+    within a bound change few little h =
+        record { above = omega (arith, ints, h.most); below = omega (arith, ints, h.least) }
 
 -- books with room for two phases have room for the second after the first, if that keeps its bound (`LeavesWell`)
-pub room_for_second : {leaves : Condition} (j k : BookBound) (w : WorldValue) (c d : CampaignValue) → LeavesWell leaves j w c d → HaveRoom (both_move j k) c → HaveRoom k d
-room_for_second j k w c d well room e t = near_room (j e t) (k e t) (amount_in c.books e t) (amount_in d.books e t) (well.near e t) (room e t)
+pub room_for_second : {leaves : Condition} (j k : BookBound) (w : WorldValue) (c d : CampaignValue)
+    → LeavesWell leaves j w c d → HaveRoom (both_move j k) c → HaveRoom k d
+room_for_second j k w c d well room e t =
+    near_room (j e t) (k e t) (amount_in c.books e t) (amount_in d.books e t) (well.near e t) (room e t)
 
 -- the number of the month last closed and the reports of a campaign
 abbrev pub counted_month : CampaignValue → ℕ × FinMap nat_cmp (List ℕ)
 counted_month c = (c.month, c.reports)
 
-pub same_month_among : {c d : CampaignValue} → counted_month d ≡ counted_month c → len d.factions ≡ len c.factions → ((n : ℕ) → HasValue d.factions n → HasValue c.factions n) → IsSameMonth c d
+pub same_month_among : {c d : CampaignValue} → counted_month d ≡ counted_month c → len d.factions ≡ len c.factions
+    → ((n : ℕ) → HasValue d.factions n → HasValue c.factions n) → IsSameMonth c d
 same_month_among {c} {d} same count factions = record {
   month = ap (λ (p : ℕ × FinMap nat_cmp (List ℕ)). p.0) same;
   reports = ap (λ (p : ℕ × FinMap nat_cmp (List ℕ)). p.1) same;
@@ -89,7 +98,8 @@ same_month_twice a b c one two = record {
 }
 
 -- two phases in turn keep books balanced and amounts within the sum of their bounds, if each does so (`LeavesWell`)
-pub both_leave_well : {between leaves : Condition} (j k : BookBound) (w : WorldValue) (a b c : CampaignValue) → LeavesWell between j w a b → LeavesWell leaves k w b c → LeavesWell leaves (both_move j k) w a c
+pub both_leave_well : {between leaves : Condition} (j k : BookBound) (w : WorldValue) (a b c : CampaignValue)
+    → LeavesWell between j w a b → LeavesWell leaves k w b c → LeavesWell leaves (both_move j k) w a c
 both_leave_well j k w a b c one two = record {
   leaves_it = two.leaves_it;
   same_month = same_month_twice a b c one.same_month two.same_month;
@@ -102,29 +112,38 @@ pub both_keep_well : (first : Meaning) (early late : Frame) (w : WorldValue) (m 
     → (b, n) ≡ first w a m → early w m a b → late w n b c → both_keep first early late w m a c
 both_keep_well first early late w m n a b c is one two = rw (sym is) (one, two)
 
-pub well_within : {leaves : Condition} (j k : BookBound) (w : WorldValue) (a b : CampaignValue) → IsBoundWithin j k → LeavesWell leaves j w a b → LeavesWell leaves k w a b
-well_within j k w a b l h = record { leaves_it = h.leaves_it; same_month = h.same_month; balances = h.balances; near = λ e t. near_more (j e t) (k e t) (amount_in a.books e t) (amount_in b.books e t) (l e t) (h.near e t) }
+pub well_within : {leaves : Condition} (j k : BookBound) (w : WorldValue) (a b : CampaignValue) → IsBoundWithin j k
+    → LeavesWell leaves j w a b → LeavesWell leaves k w a b
+well_within j k w a b l h =
+    record { leaves_it = h.leaves_it; same_month = h.same_month; balances = h.balances; near = λ e t. near_more (j e t) (k e t) (amount_in a.books e t) (amount_in b.books e t) (l e t) (h.near e t) }
 
-pub well_unchanged : {leaves : Condition} (book_bound : BookBound) (w : WorldValue) (c : CampaignValue) → leaves w c → LeavesWell leaves book_bound w c c
-well_unchanged book_bound w c h = record { leaves_it = h; same_month = same_month c; balances = λ b. b; near = λ e t. near_same (book_bound e t) (amount_in c.books e t) }
+pub well_unchanged : {leaves : Condition} (book_bound : BookBound) (w : WorldValue) (c : CampaignValue) → leaves w c
+    → LeavesWell leaves book_bound w c c
+well_unchanged book_bound w c h =
+    record { leaves_it = h; same_month = same_month c; balances = λ b. b; near = λ e t. near_same (book_bound e t) (amount_in c.books e t) }
 
 -- steps of one kind in turn, each of which keeps the books in balance and within one bound (`LeavesWell`)
 module _ {A : Type 0} {leaves : Condition} (book_bound : BookBound) (w : WorldValue) (step : CampaignValue → A → CampaignValue) (each : (c : CampaignValue) (x : A) → leaves w c → LeavesWell leaves book_bound w c (step c x)) where
-  more : {B : Type 0} (x : B) (xs : List B) → IsBoundWithin (both_move book_bound (moved_times (length xs) book_bound)) (moved_times (length (x ∷ xs)) book_bound)
+  more : {B : Type 0} (x : B) (xs : List B)
+      → IsBoundWithin (both_move book_bound (moved_times (length xs) book_bound)) (moved_times (length (x ∷ xs)) book_bound)
   more x xs e t = let one : length (x ∷ xs) * book_bound e t ≡ length xs * book_bound e t + book_bound e t = suc-mul (length xs) (book_bound e t) in omega arith
 
   -- steps in turn keep books balanced and within their number times one step's bound, if each does so (`LeavesWell`)
-  pub fold_leaves_well : (c : CampaignValue) (xs : List A) → leaves w c → LeavesWell leaves (moved_times (length xs) book_bound) w c (fold step c xs)
+  pub fold_leaves_well : (c : CampaignValue) (xs : List A) → leaves w c
+      → LeavesWell leaves (moved_times (length xs) book_bound) w c (fold step c xs)
   fold_leaves_well c [] h = well_unchanged (moved_times 0 book_bound) w c h
   fold_leaves_well c (x ∷ xs) h =
       let one = each c x h in
       well_within (both_move book_bound (moved_times (length xs) book_bound)) (moved_times (length (x ∷ xs)) book_bound) w c (fold step (step c x) xs) (more x xs)
       (both_leave_well book_bound (moved_times (length xs) book_bound) w c (step c x) (fold step (step c x) xs) one (fold_leaves_well (step c x) xs one.leaves_it))
 
-  pub room_for_one : {B : Type 0} (c : CampaignValue) (y : B) (ys : List B) → HaveRoom (moved_times (length (y ∷ ys)) book_bound) c → HaveRoom book_bound c
-  room_for_one c y ys room = room_less book_bound (moved_times (length (y ∷ ys)) book_bound) c (λ e t. omega (arith, more y ys e t)) room
+  pub room_for_one : {B : Type 0} (c : CampaignValue) (y : B) (ys : List B)
+      → HaveRoom (moved_times (length (y ∷ ys)) book_bound) c → HaveRoom book_bound c
+  room_for_one c y ys room =
+      room_less book_bound (moved_times (length (y ∷ ys)) book_bound) c (λ e t. omega (arith, more y ys e t)) room
 
-  pub room_after_one : {B : Type 0} (c : CampaignValue) (x : A) (y : B) (ys : List B) → leaves w c → HaveRoom (moved_times (length (y ∷ ys)) book_bound) c → HaveRoom (moved_times (length ys) book_bound) (step c x)
+  pub room_after_one : {B : Type 0} (c : CampaignValue) (x : A) (y : B) (ys : List B) → leaves w c
+      → HaveRoom (moved_times (length (y ∷ ys)) book_bound) c → HaveRoom (moved_times (length ys) book_bound) (step c x)
   room_after_one c x y ys h room =
       room_for_second book_bound (moved_times (length ys) book_bound) w c (step c x) (each c x h)
       (room_less (both_move book_bound (moved_times (length ys) book_bound)) (moved_times (length (y ∷ ys)) book_bound) c (more y ys) room)

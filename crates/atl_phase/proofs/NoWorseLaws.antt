@@ -6,7 +6,8 @@ use Rattle.atl_campaign.specs.Campaign.{CampaignValue}
 use Rattle.atl_phase.specs.NoWorse.{AreNoWorse, IsNoWorse}
 
 pub no_worse : (u : Unit) → IsNoWorse u u
-no_worse u = record { faction = refl; region = refl; structure = refl; name = refl; guard = refl; men = omega arith; money = omega arith; items = λ i. omega arith; days = λ s. omega arith }
+no_worse u =
+    record { faction = refl; region = refl; structure = refl; name = refl; guard = refl; men = omega arith; money = omega arith; items = λ i. omega arith; days = λ s. omega arith }
 
 pub no_worse_twice : (u v x : Unit) → IsNoWorse u v → IsNoWorse v x → IsNoWorse u x
 no_worse_twice u v x one two = record {

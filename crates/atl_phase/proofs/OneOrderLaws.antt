@@ -29,13 +29,15 @@ use Rattle.atl_phase.proofs.PhaseOrderLaws.{IsPhaseOrder, orders_count}
 
 -- ---- lines
 
-pub entry_line_above : (n i : ℕ) (es : List EntryValue) (e : EntryValue) → LinesRise n es → slice_get es i ≡ Some e → n < e.line
+pub entry_line_above : (n i : ℕ) (es : List EntryValue) (e : EntryValue) → LinesRise n es → slice_get es i ≡ Some e
+    → n < e.line
 entry_line_above n i [] e rise is = cc
 entry_line_above n zero (x ∷ es) e rise is = let same = ap (λ (y : EntryValue). y.line) (same_Some x e is) in omega (arith, same, rise.0)
 entry_line_above n (suc i) (x ∷ es) e rise is = let after = entry_line_above x.line i es e rise.1 is in omega (arith, after, rise.0)
 
 -- two entries of a mailing with one line have one index, since the lines are strictly ascending (`LinesRise`)
-same_place : (n : ℕ) (es : List EntryValue) (i j : ℕ) (d e : EntryValue) → LinesRise n es → slice_get es i ≡ Some d → slice_get es j ≡ Some e → d.line ≡ e.line → i ≡ j
+same_place : (n : ℕ) (es : List EntryValue) (i j : ℕ) (d e : EntryValue) → LinesRise n es → slice_get es i ≡ Some d
+    → slice_get es j ≡ Some e → d.line ≡ e.line → i ≡ j
 same_place n [] i j d e rise one two line = cc
 same_place n (x ∷ es) zero zero d e rise one two line = refl
 same_place n (x ∷ es) zero (suc j) d e rise one two line =
@@ -58,24 +60,33 @@ slots_are Taxing Taxing same = refl
 slots_are Recruiting Recruiting same = refl
 slots_are s o same = cc
 
-line_of : (ts : List Task) (t : Task) (s : Slot) (o : Option Slot) → o ≡ Some s → counts_in_slot ts t o ≡ true → t.line ≡ last_line s t.unit ts
+line_of : (ts : List Task) (t : Task) (s : Slot) (o : Option Slot) → o ≡ Some s → counts_in_slot ts t o ≡ true
+    → t.line ≡ last_line s t.unit ts
 line_of ts t s None is there = cc
-line_of ts t s (Some x) is there = is_equal t.line (last_line x t.unit ts) there ∙ ap (λ y. last_line y t.unit ts) (same_Some x s is)
+line_of ts t s (Some x) is there =
+    is_equal t.line (last_line x t.unit ts) there ∙ ap (λ y. last_line y t.unit ts) (same_Some x s is)
 
-one_line : (ts us : List Task) (t o : Task) → ts ≡ us → t.unit ≡ o.unit → are_same_slot (row_of t.order_value.verb).slot (row_of o.order_value.verb).slot ≡ true → order_counts ts t ≡ true → order_counts us o ≡ true → t.line ≡ o.line
-one_line ts us t o same unit share one two = by_slots (row_of t.order_value.verb).slot (row_of o.order_value.verb).slot refl refl share
+one_line : (ts us : List Task) (t o : Task) → ts ≡ us → t.unit ≡ o.unit
+    → are_same_slot (row_of t.order_value.verb).slot (row_of o.order_value.verb).slot ≡ true → order_counts ts t ≡ true
+    → order_counts us o ≡ true → t.line ≡ o.line
+one_line ts us t o same unit share one two =
+    by_slots (row_of t.order_value.verb).slot (row_of o.order_value.verb).slot refl refl share
   where
-    by_slots : (a b : Option Slot) → (row_of t.order_value.verb).slot ≡ a → (row_of o.order_value.verb).slot ≡ b → are_same_slot a b ≡ true → t.line ≡ o.line
+    by_slots : (a b : Option Slot) → (row_of t.order_value.verb).slot ≡ a → (row_of o.order_value.verb).slot ≡ b
+        → are_same_slot a b ≡ true → t.line ≡ o.line
     by_slots None b first second never = cc
     by_slots (Some s) None first second never = cc
     by_slots (Some s) (Some x) first second alike =
         let slot = slots_are s x alike in
-        line_of ts t s _ first one ∙ ap (λ y. last_line y t.unit ts) slot ∙ ap (λ n. last_line x n ts) unit ∙ ap (last_line x o.unit) same ∙ sym (line_of us o x _ second two)
+        line_of ts t s _ first one ∙ ap (λ y. last_line y t.unit ts) slot ∙ ap (λ n. last_line x n ts) unit
+        ∙ ap (last_line x o.unit) same ∙ sym (line_of us o x _ second two)
 
 -- ---- the orders of a phase
 
 -- if P holds of each element, and no two elements pass the test e, no two pass the test f, which fails where e does
-distinct_also : {X : Type 0} (P : X → Type 0) (e f : X → X → Bool) → ((x y : X) → P x → P y → e x y ≡ false → f x y ≡ false) → (xs : List X) → AllByRecursion P xs → IsDistinct e xs → IsDistinct f xs
+distinct_also : {X : Type 0} (P : X → Type 0) (e f : X → X → Bool)
+    → ((x y : X) → P x → P y → e x y ≡ false → f x y ≡ false) → (xs : List X) → AllByRecursion P xs → IsDistinct e xs
+    → IsDistinct f xs
 unfolding IsDistinct
 distinct_also P e f also [] all apart = tt
 distinct_also P e f also (x ∷ xs) all apart = (
@@ -84,7 +95,8 @@ distinct_also P e f also (x ∷ xs) all apart = (
 )
 
 module _ (w : WorldValue) (is_of : Verb → Bool) (a : Arrangement) (aliases : Aliases) (readings : FinMap nat_cmp Reading) (fit : AreFit w readings) where
-  are_one : (t o : Task) → IsPhaseOrder is_of aliases readings t → IsPhaseOrder is_of aliases readings o → share_slot t o ≡ true → t ≡ o
+  are_one : (t o : Task) → IsPhaseOrder is_of aliases readings t → IsPhaseOrder is_of aliases readings o
+      → share_slot t o ≡ true → t ≡ o
   are_one t o one two share =
       let first = and_parts _ _ share in
       let second = and_parts _ _ first.1 in

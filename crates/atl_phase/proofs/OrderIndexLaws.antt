@@ -15,7 +15,8 @@ use Rattle.atl_phase.specs.Month.{Aliases}
 use Rattle.atl_phase.specs.PhaseOrders.{Task, order_counts, counts_in_slot, tasks_for, tasks_from, tasks_of, unit_of}
 use Rattle.atl_phase.specs.OrderIndices.{AddsMailing, AreLastLines, IsThere, LastLineMap, all_tasks, mailing_at, no_entry, no_mailing, counts_by_lines, task_at, tasks_at}
 
-by_lines : (ts : List Task) (lines : LastLineMap) (t : Task) → AreLastLines ts lines → (o : Option Slot) → counts_by_lines lines t.unit t.line o ≡ counts_in_slot ts t o
+by_lines : (ts : List Task) (lines : LastLineMap) (t : Task) → AreLastLines ts lines → (o : Option Slot)
+    → counts_by_lines lines t.unit t.line o ≡ counts_in_slot ts t o
 by_lines ts lines t last None = refl
 by_lines ts lines t last (Some slot) = ap (λ n. t.line == n) (last slot t.unit)
 
@@ -35,15 +36,19 @@ module _ (is_of : Verb → Bool) (aliases : Aliases) (ms : List Mailing) (at : �
   rest_from i = filter is_wanted (tasks_from aliases read.faction i (map (entry_value read.text) (drop i read.entries)))
 
   abbrev place_of : ℕ → OrderIndex
-  place_of i = record { unit = unit_of aliases read.faction (entry_at i).target; line = (entry_at i).line; faction = read.faction; mailing = at; index = i }
+  place_of i =
+      record { unit = unit_of aliases read.faction (entry_at i).target; line = (entry_at i).line; faction = read.faction; mailing = at; index = i }
 
   -- whether the order at index i of the mailing counts for the phase
   abbrev counts : ℕ → Bool
   counts i = is_wanted (task_at ms (place_of i))
 
   -- the orders that count from index i on are the one at i, if it counts, and those from i + 1 on
-  opened : (i : ℕ) → i < length read.entries → rest_from i ≡ cond (counts i) (task_at ms (place_of i) ∷ rest_from (i + 1)) (rest_from (i + 1))
-  opened i h = ap (λ es. filter is_wanted (tasks_from aliases read.faction i (map (entry_value read.text) es))) (drop_more read.entries i no_entry h)
+  opened : (i : ℕ) → i < length read.entries
+      → rest_from i ≡ cond (counts i) (task_at ms (place_of i) ∷ rest_from (i + 1)) (rest_from (i + 1))
+  opened i h =
+      ap (λ es. filter is_wanted (tasks_from aliases read.faction i (map (entry_value read.text) es)))
+      (drop_more read.entries i no_entry h)
 
   -- the list has the indices of the orders that count before index i of the mailing, after those of `old`
   pub record Added (old : List OrderIndex) (i : ℕ) (list : List OrderIndex) : Type 0 where
@@ -80,17 +85,22 @@ module _ (is_of : Verb → Bool) (aliases : Aliases) (ms : List Mailing) (at : �
       index = i;
     }
 
-    pub counts_by : (lines : LastLineMap) (b : Bool) → AreLastLines (tasks_at aliases ms at) lines → b ≡ (is_of e.order.verb && counts_by_lines lines unit e.line (row_of e.order.verb).slot) → counts i ≡ b
+    pub counts_by : (lines : LastLineMap) (b : Bool) → AreLastLines (tasks_at aliases ms at) lines
+        → b ≡ (is_of e.order.verb && counts_by_lines lines unit e.line (row_of e.order.verb).slot) → counts i ≡ b
     counts_by lines b last is =
         let t = task_at ms (place_of i) in
         sym (is ∙ (λ k. is_of (entry k).order.verb && counts_by_lines lines (found_is k).unit (found_is k).line (row_of (entry k).order.verb).slot) ∙ ap (λ z. is_of t.order_value.verb && z) (by_lines (tasks_at aliases ms at) lines t last (row_of t.order_value.verb).slot))
 
-    pub added : (old list new : List OrderIndex) → i < length read.entries → Added old i list → at < length ms → counts i ≡ true → new ≡ list ++ found ∷ [] → Added old (i + 1) new
-    added old list new h before within counted is = subst (Added old (i + 1)) (sym (is ∙ ap (λ p. list ++ p ∷ []) found_is)) (pushed old list i h before within counted)
+    pub added : (old list new : List OrderIndex) → i < length read.entries → Added old i list → at < length ms
+        → counts i ≡ true → new ≡ list ++ found ∷ [] → Added old (i + 1) new
+    added old list new h before within counted is =
+        subst (Added old (i + 1)) (sym (is ∙ ap (λ p. list ++ p ∷ []) found_is))
+        (pushed old list i h before within counted)
 
   -- past the last order of a mailing the list has the old indices and those
   -- of all its orders that count (`AddsMailing`)
-  pub ended : (old list : List OrderIndex) (i : ℕ) → length read.entries ≤ i → Added old i list → AddsMailing is_of aliases ms at old list
+  pub ended : (old list : List OrderIndex) (i : ℕ) → length read.entries ≤ i → Added old i list
+      → AddsMailing is_of aliases ms at old list
   ended old list i h before = record {
     there = before.there;
     tasks =
@@ -102,26 +112,35 @@ module _ (is_of : Verb → Bool) (aliases : Aliases) (ms : List Mailing) (at : �
 -- ---- a mailing without an order of the phase
 
 -- no order of entries that have no verb of the phase is one of the phase's, whatever else is asked of it
-none_wanted : (is_of : Verb → Bool) (aliases : Aliases) (asked : Task → Bool) (faction i : ℕ) (text : List ℕ) (es : List Entry) → list_any (λ (e : Entry). is_of e.order.verb) es ≡ false
+none_wanted : (is_of : Verb → Bool) (aliases : Aliases) (asked : Task → Bool) (faction i : ℕ) (text : List ℕ) (es : List Entry)
+    → list_any (λ (e : Entry). is_of e.order.verb) es ≡ false
     → filter (λ t. is_of t.order_value.verb && asked t) (tasks_from aliases faction i (map (entry_value text) es)) ≡ []
 none_wanted is_of aliases asked faction i text [] h = refl
-none_wanted is_of aliases asked faction i text (e ∷ es) h = by_test (λ g. none_wanted is_of aliases asked faction (i + 1) text es g) (is_of e.order.verb) h
+none_wanted is_of aliases asked faction i text (e ∷ es) h =
+    by_test (λ g. none_wanted is_of aliases asked faction (i + 1) text es g) (is_of e.order.verb) h
   where
     -- the order of the first entry
     first : Task
-    first = record { faction = faction; unit = unit_of aliases faction e.target; line = e.line; index = i; order_value = (entry_value text e).order_value }
+    first =
+        record { faction = faction; unit = unit_of aliases faction e.target; line = e.line; index = i; order_value = (entry_value text e).order_value }
 
     -- the orders of the other entries that are wanted
     rest : List Task
-    rest = filter (λ t. is_of t.order_value.verb && asked t) (tasks_from aliases faction (i + 1) (map (entry_value text) es))
+    rest =
+        filter (λ t. is_of t.order_value.verb && asked t)
+        (tasks_from aliases faction (i + 1) (map (entry_value text) es))
 
     -- for none_wanted: no order is wanted, where the first entry has a verb of the phase (b) or not
-    by_test : (list_any (λ (f : Entry). is_of f.order.verb) es ≡ false → rest ≡ []) → (b : Bool) → (b || list_any (λ (f : Entry). is_of f.order.verb) es) ≡ false → cond (b && asked first) (first ∷ rest) rest ≡ []
+    by_test : (list_any (λ (f : Entry). is_of f.order.verb) es ≡ false → rest ≡ []) → (b : Bool)
+        → (b || list_any (λ (f : Entry). is_of f.order.verb) es) ≡ false
+        → cond (b && asked first) (first ∷ rest) rest ≡ []
     by_test others true g = absurd (true≢false g)
     by_test others false g = others g
 
 -- a mailing without an order that has a verb of the phase adds no index (`AddsMailing`)
-pub adds_none : (is_of : Verb → Bool) (aliases : Aliases) (ms : List Mailing) (at : ℕ) (list : List OrderIndex) → list_any (λ (e : Entry). is_of e.order.verb) (mailing_at ms at).entries ≡ false → AddsMailing is_of aliases ms at list list
+pub adds_none : (is_of : Verb → Bool) (aliases : Aliases) (ms : List Mailing) (at : ℕ) (list : List OrderIndex)
+    → list_any (λ (e : Entry). is_of e.order.verb) (mailing_at ms at).entries ≡ false
+    → AddsMailing is_of aliases ms at list list
 adds_none is_of aliases ms at list none =
     let m = mailing_at ms at in record {
       there = λ all. all;
@@ -132,7 +151,10 @@ adds_none is_of aliases ms at list none =
 
 -- the indices name the orders of the phase of the mailings up to and with index i, once those of the mailing at i are
 -- added (`AddsMailing`), if they named those of the mailings before i
-pub next_mailing : (is_of : Verb → Bool) (aliases : Aliases) (ms : List Mailing) (i : ℕ) (old new : List OrderIndex) → i < length ms → AddsMailing is_of aliases ms i old new → map (task_at ms) old ≡ all_tasks is_of aliases (take i ms) → map (task_at ms) new ≡ all_tasks is_of aliases (take (i + 1) ms)
+pub next_mailing : (is_of : Verb → Bool) (aliases : Aliases) (ms : List Mailing) (i : ℕ) (old new : List OrderIndex)
+    → i < length ms → AddsMailing is_of aliases ms i old new
+    → map (task_at ms) old ≡ all_tasks is_of aliases (take i ms)
+    → map (task_at ms) new ≡ all_tasks is_of aliases (take (i + 1) ms)
 next_mailing is_of aliases ms i old new h adds before =
     adds.tasks ∙ ap₂ (λ us vs. us ++ vs) before (sym (append-nil (tasks_for is_of (tasks_at aliases ms i))))
     ∙ sym (ap (all_tasks is_of aliases) (take_more ms i no_mailing h) ∙ flat_map-append (λ m. tasks_for is_of (tasks_of aliases m.faction (reading_of m))) (take i ms) (mailing_at ms i ∷ []))

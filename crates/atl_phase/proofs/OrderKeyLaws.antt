@@ -34,7 +34,8 @@ use Rattle.atl_phase.proofs.MonthLaws.{by_faction_is, under_faction}
 abbrev pub same_key : Arrangement → Task → Task → Bool
 same_key a t u = eq_by_cmp (slice_cmp nat_cmp) (key_of a t) (key_of a u)
 
-same_key_same_index : (a : Arrangement) (t u : Task) → key_of a t ≡ key_of a u → (t.faction ≡ u.faction) × (t.index ≡ u.index)
+same_key_same_index : (a : Arrangement) (t u : Task) → key_of a t ≡ key_of a u
+    → (t.faction ≡ u.faction) × (t.index ≡ u.index)
 same_key_same_index ByUnit t u e = (ap (λ key. get_or key 2 0) e, ap (λ key. get_or key 3 0) e)
 same_key_same_index ByFaction t u e = (ap (λ key. get_or key 0 0) e, ap (λ key. get_or key 3 0) e)
 
@@ -44,11 +45,13 @@ other_key a t u other = false_from_ne_true (same_key a t u) (λ h.
     other same.0 same.1)
 
 module _ (a : Arrangement) (aliases : Aliases) where
-  from_low : (faction low index : ℕ) (es : List EntryValue) → low ≤ index → AllByRecursion (λ t. (t.faction ≡ faction) × (low ≤ t.index)) (tasks_from aliases faction index es)
+  from_low : (faction low index : ℕ) (es : List EntryValue) → low ≤ index
+      → AllByRecursion (λ t. (t.faction ≡ faction) × (low ≤ t.index)) (tasks_from aliases faction index es)
   from_low faction low index [] le = tt
   from_low faction low index (e ∷ es) le = ((refl, le), from_low faction low (index + 1) es (omega arith))
 
-  apart_within : (faction index : ℕ) (es : List EntryValue) → IsDistinct (same_key a) (tasks_from aliases faction index es)
+  apart_within : (faction index : ℕ) (es : List EntryValue)
+      → IsDistinct (same_key a) (tasks_from aliases faction index es)
   unfolding IsDistinct
   apart_within faction index [] = tt
   apart_within faction index (e ∷ es) =
@@ -58,7 +61,8 @@ module _ (a : Arrangement) (aliases : Aliases) where
         apart_within faction (index + 1) es,
       )
 
-  pub all_apart : (is_of : Verb → Bool) (readings : FinMap nat_cmp Reading) → IsDistinct (same_key a) (tasks_of_phase is_of aliases (entries readings))
+  pub all_apart : (is_of : Verb → Bool) (readings : FinMap nat_cmp Reading)
+      → IsDistinct (same_key a) (tasks_of_phase is_of aliases (entries readings))
   all_apart is_of readings =
       flat_apart (same_key a) (λ e. tasks_for is_of (tasks_of aliases e.0 e.1)) (λ (e f : ℕ × Reading). e.0 < f.0) (λ e t. t.faction ≡ e.0)
       (λ e f t u less own other. other_key a t u (λ same _. omega (arith, less, own, other, same)))
@@ -69,7 +73,8 @@ module _ (a : Arrangement) (aliases : Aliases) where
 -- ---- as they are collected, and as the map lists them
 
 -- elements sorted by the keys of their orders have these orders sorted by key (`sorted_by`), if no two keys are equal
-sorted_by_keys : {X : Type 0} (as_task : X → Task) (key : Task → List ℕ) (os list : List X) (ts : List Task) → map as_task os ≡ ts → IsDistinct (λ t u. eq_by_cmp (slice_cmp nat_cmp) (key t) (key u)) ts → IsPermutation os list
+sorted_by_keys : {X : Type 0} (as_task : X → Task) (key : Task → List ℕ) (os list : List X) (ts : List Task)
+    → map as_task os ≡ ts → IsDistinct (λ t u. eq_by_cmp (slice_cmp nat_cmp) (key t) (key u)) ts → IsPermutation os list
     → IsSortedByKey (λ o. key (as_task o)) (slice_cmp nat_cmp) list → map as_task list ≡ sorted_by key ts
 sorted_by_keys {X = X} as_task key os list ts are apart p up =
     let entry : X → List ℕ × Task = λ o. (key (as_task o), as_task o) in
@@ -80,26 +85,32 @@ sorted_by_keys {X = X} as_task key os list ts are apart p up =
     ∙ ap (λ es. values (from_entries {R = slice_cmp nat_cmp} es)) (sym (map-map paired as_task os) ∙ ap (map paired) are)
 
 -- orders of the code sorted by a key, no two with the same key, are the orders sorted by it (`sorted_by`)
-pub listed_tasks : (key : Task → List ℕ) (os list : List PhaseOrder) (ts : List Task) → map task_of os ≡ ts → IsDistinct (λ t u. eq_by_cmp (slice_cmp nat_cmp) (key t) (key u)) ts → IsPermutation os list
+pub listed_tasks : (key : Task → List ℕ) (os list : List PhaseOrder) (ts : List Task) → map task_of os ≡ ts
+    → IsDistinct (λ t u. eq_by_cmp (slice_cmp nat_cmp) (key t) (key u)) ts → IsPermutation os list
     → IsSortedByKey (λ o. key (task_of o)) (slice_cmp nat_cmp) list → map task_of list ≡ sorted_by key ts
 listed_tasks = sorted_by_keys task_of
 
--- the orders of a phase that count of all mailings, mailing by mailing, are those of the readings in the map by faction, if the
--- mailings are sorted by faction
-all_tasks_are : (is_of : Verb → Bool) (aliases : Aliases) (ms : List Mailing) → AreByFaction ms → all_tasks is_of aliases ms ≡ tasks_of_phase is_of aliases (entries (by_faction (map reading_of ms)))
+-- the orders of a phase that count of all mailings, mailing by mailing, are those of the readings in the map by
+-- faction, if the mailings are sorted by faction
+all_tasks_are : (is_of : Verb → Bool) (aliases : Aliases) (ms : List Mailing) → AreByFaction ms
+    → all_tasks is_of aliases ms ≡ tasks_of_phase is_of aliases (entries (by_faction (map reading_of ms)))
 all_tasks_are is_of aliases ms h =
     let of_reading : ℕ × Reading → List Task = λ e. tasks_for is_of (tasks_of aliases e.0 e.1) in
     sym (ap (λ (c : FinMap nat_cmp Reading). flat_map of_reading (entries c)) (by_faction_is ms) ∙ ap (flat_map of_reading) (entries_of nat_cmp_total under_faction ms h) ∙ flat_map-map of_reading under_faction ms)
 
 -- ---- the indices of all orders
 
-sorted_by_order_keys : (a : Arrangement) (ms : List Mailing) (list : List OrderIndex) → IsSortedByKey (key_by a) (slice_cmp nat_cmp) list → IsSortedByKey (λ p. key_of a (task_at ms p)) (slice_cmp nat_cmp) list
+sorted_by_order_keys : (a : Arrangement) (ms : List Mailing) (list : List OrderIndex)
+    → IsSortedByKey (key_by a) (slice_cmp nat_cmp) list
+    → IsSortedByKey (λ p. key_of a (task_at ms p)) (slice_cmp nat_cmp) list
 sorted_by_order_keys ByUnit ms list up = up
 sorted_by_order_keys ByFaction ms list up = up
 
 -- the indices of all orders that count, once sorted by their own keys, name these orders as the arrangement sorts them
 -- (`AreOrderIndices`)
-pub sorted_places : (is_of : Verb → Bool) (a : Arrangement) (aliases : Aliases) (ms : List Mailing) (os list : List OrderIndex) → AreByFaction ms → AreIndicesByMailing is_of aliases ms os → IsPermutation os list → IsSortedByKey (key_by a) (slice_cmp nat_cmp) list
+pub sorted_places : (is_of : Verb → Bool) (a : Arrangement) (aliases : Aliases) (ms : List Mailing) (os list : List OrderIndex)
+    → AreByFaction ms → AreIndicesByMailing is_of aliases ms os → IsPermutation os list
+    → IsSortedByKey (key_by a) (slice_cmp nat_cmp) list
     → AreOrderIndices is_of a aliases ms list
 sorted_places is_of a aliases ms os list h are p up = record {
   there = All-permutation (IsThere ms) os list p are.there;

@@ -9,7 +9,8 @@ use Rattle.atl_phase.specs.Outcomes.{first_fault}
 pub false_true : {P : Type 0} → false ≡ true → P
 false_true e = cc
 
-pub none_fits : (fits : Bool) (fault : EventFault) (more : List (Bool × EventFault)) → first_fault ((fits, fault) ∷ more) ≡ None → (fits ≡ false) × (first_fault more ≡ None)
+pub none_fits : (fits : Bool) (fault : EventFault) (more : List (Bool × EventFault))
+    → first_fault ((fits, fault) ∷ more) ≡ None → (fits ≡ false) × (first_fault more ≡ None)
 none_fits true fault more is = cc
 none_fits false fault more is = (refl, is)
 

@@ -18,13 +18,15 @@ use Rattle.atl_campaign.proofs.NumberListLaws.{IsListed, first_of}
 module _ (c d : CampaignValue) (n : ℕ) (away : (k : ℕ) → k ≢ n → get d.units k ≡ get c.units k) where
   -- from campaign c to d units other than n stay: P holds of each unit of d, if it holds of unit n there, and of each
   -- other unit as it is in c
-  every_away : (P : ℕ → Unit → Type 0) → ((v : Unit) → get d.units n ≡ Some v → P n v) → ((k : ℕ) (v : Unit) → k ≢ n → get c.units k ≡ Some v → P k v) → Every P d.units
+  every_away : (P : ℕ → Unit → Type 0) → ((v : Unit) → get d.units n ≡ Some v → P n v)
+      → ((k : ℕ) (v : Unit) → k ≢ n → get c.units k ≡ Some v → P k v) → Every P d.units
   every_away P mine others k v there = elim (cases_eq k n) [
     | inl same ↦ subst (λ j. P j v) (sym same) (mine v (ap (get d.units) (sym same) ∙ there))
     | inr apart ↦ others k v apart (sym (away k apart) ∙ there)
   ]
 
-  pub owner_stays : (q : ℕ) (y : Structure) → IsOwned c q y → y.owner ≢ n → (y.owner ≡ 0 → (v : Unit) → get d.units n ≡ Some v → v.structure ≢ q) → IsOwned d q y
+  pub owner_stays : (q : ℕ) (y : Structure) → IsOwned c q y → y.owner ≢ n
+      → (y.owner ≡ 0 → (v : Unit) → get d.units n ≡ Some v → v.structure ≢ q) → IsOwned d q y
   owner_stays q y old other outside = record {
     owned = λ some. let (v, there, inside) = old.owned some in (v, away y.owner other ∙ there, inside);
     ownerless = λ none. every_away (λ k v. v.structure ≢ q) (outside none) (λ k v apart there. old.ownerless none k v there);
@@ -32,7 +34,9 @@ module _ (c d : CampaignValue) (n : ℕ) (away : (k : ℕ) → k ≢ n → get d
 
   -- A structure that unit n has left is rightly owned by the structure's heir: the lowest of the other units inside, or
   -- nobody (0) where no other unit is inside. For this all units have numbers of at least 1.
-  pub heir_owns : (location : ℕ) → location ≢ 0 → Every (λ k v. 1 ≤ k) c.units → ((v : Unit) → get d.units n ≡ Some v → v.structure ≢ location) → (y : Structure) → IsOwned d location (owned_by (heir c location n) y)
+  pub heir_owns : (location : ℕ) → location ≢ 0 → Every (λ k v. 1 ≤ k) c.units
+      → ((v : Unit) → get d.units n ≡ Some v → v.structure ≢ location) → (y : Structure)
+      → IsOwned d location (owned_by (heir c location n) y)
   heir_owns location some low outside y =
       let next = heir c location n in
       let first = first_of (λ k. not (k == n)) (numbers_inside location c.units) listed_low in

@@ -37,7 +37,8 @@ module _ {K X : Type 0} (R : K → K → Ordering) (P : K → X → Type 0) wher
         | Greater ↦ λ o. (all.0, entries-put anti k v es h all.1)
       ] refl
 
-  entries-listed : IsTotalOrder R → IsAntisymmetric R → (key : X → K) (xs : List X) → AllByRecursion (λ x. P (key x) x) xs → Entries (entries (from_entries {R = R} (map (λ x. (key x, x)) xs)))
+  entries-listed : IsTotalOrder R → IsAntisymmetric R → (key : X → K) (xs : List X)
+      → AllByRecursion (λ x. P (key x) x) xs → Entries (entries (from_entries {R = R} (map (λ x. (key x, x)) xs)))
   entries-listed o anti key [] all = subst Entries (sym (no_entries R)) tt
   entries-listed o anti key (x ∷ xs) all =
       let m = from_entries (map (λ x. (key x, x)) xs) in
@@ -51,7 +52,8 @@ module _ (is_of : Verb → Bool) (aliases : Aliases) (readings : FinMap nat_cmp 
     pub there : IsInMailing aliases readings t
     pub passes : (is_of t.order_value.verb && order_counts (tasks_of aliases t.faction there.reading) t) ≡ true
 
-  counted : (f : ℕ) (r : Reading) → get readings f ≡ Some r → (index : ℕ) (es : List EntryValue) → ((j : ℕ) (e : EntryValue) → slice_get es j ≡ Some e → slice_get r.entries (index + j) ≡ Some e) →
+  counted : (f : ℕ) (r : Reading) → get readings f ≡ Some r → (index : ℕ) (es : List EntryValue)
+      → ((j : ℕ) (e : EntryValue) → slice_get es j ≡ Some e → slice_get r.entries (index + j) ≡ Some e) →
       AllByRecursion (λ t. (is_of t.order_value.verb && order_counts (tasks_of aliases f r) t) ≡ true → IsPhaseOrder t) (tasks_from aliases f index es)
   counted f r h index [] whole = tt
   counted f r h index (e ∷ es) whole =
@@ -63,7 +65,8 @@ module _ (is_of : Verb → Bool) (aliases : Aliases) (readings : FinMap nat_cmp 
         counted f r h (index + 1) es (λ j x is. let next : index + suc j ≡ (index + 1) + j = omega arith in subst (λ n. slice_get r.entries n ≡ Some x) next (whole (suc j) x is)),
       )
 
-  all_count : (es : List (ℕ × Reading)) → EachEntry (λ f r. get readings f ≡ Some r) es → AllByRecursion IsPhaseOrder (tasks_of_phase is_of aliases es)
+  all_count : (es : List (ℕ × Reading)) → EachEntry (λ f r. get readings f ≡ Some r) es
+      → AllByRecursion IsPhaseOrder (tasks_of_phase is_of aliases es)
   all_count [] h = tt
   all_count (e ∷ es) h =
       let ts = tasks_of aliases e.0 e.1 in
@@ -72,19 +75,25 @@ module _ (is_of : Verb → Bool) (aliases : Aliases) (readings : FinMap nat_cmp 
 
   -- each order of a phase is under its key, is in its faction's mailing, counts there, and has a verb of the phase
   -- (`IsPhaseOrder`)
-  pub orders_count : (a : Arrangement) → AllByRecursion (λ e. (e.0 ≡ key_of a e.1) × IsPhaseOrder e.1) (entries (under_keys (key_of a) (tasks_of_phase is_of aliases (entries readings))))
+  pub orders_count : (a : Arrangement)
+      → AllByRecursion (λ e. (e.0 ≡ key_of a e.1) × IsPhaseOrder e.1) (entries (under_keys (key_of a) (tasks_of_phase is_of aliases (entries readings))))
   orders_count a =
       let ts = tasks_of_phase is_of aliases (entries readings) in
       entries-listed (slice_cmp nat_cmp) (λ k t. (k ≡ key_of a t) × IsPhaseOrder t) nat_list_cmp_total (slice_cmp-IsAntisymmetric nat_cmp-IsAntisymmetric) (key_of a) ts
       (each_follows IsPhaseOrder (λ t. (key_of a t ≡ key_of a t) × IsPhaseOrder t) (λ t h. (refl, h)) ts (all_count (entries readings) (each-from_every (λ f r. get readings f ≡ Some r) readings (λ f r is. is))))
 
-  of_each : (P : Task → Type 0) → ((t : Task) → IsPhaseOrder t → P t) → (a : Arrangement) → All P (orders_of is_of a aliases readings)
+  of_each : (P : Task → Type 0) → ((t : Task) → IsPhaseOrder t → P t) → (a : Arrangement)
+      → All P (orders_of is_of a aliases readings)
   of_each P so a =
       let es = entries (under_keys (key_of a) (tasks_of_phase is_of aliases (entries readings))) in
       All-map P (λ (e : List ℕ × Task). e.1) es (All-from_recursion (λ e. P e.1) es (each_follows (λ e. (e.0 ≡ key_of a e.1) × IsPhaseOrder e.1) (λ e. P e.1) (λ e h. so e.1 h.1) es (orders_count a)))
 
 pub orders_are_in_mailings : OrdersAreInMailings
-orders_are_in_mailings is_of a aliases readings = of_each is_of aliases readings (IsInMailing aliases readings) (λ t h. h.there) a
+orders_are_in_mailings is_of a aliases readings =
+    of_each is_of aliases readings (IsInMailing aliases readings) (λ t h. h.there) a
 
-pub orders_have_verbs : (is_of : Verb → Bool) (a : Arrangement) (aliases : Aliases) (readings : FinMap nat_cmp Reading) → AllByRecursion (λ t. is_of t.order_value.verb ≡ true) (orders_of is_of a aliases readings)
-orders_have_verbs is_of a aliases readings = recursion_from_All (λ t. is_of t.order_value.verb ≡ true) _ (of_each is_of aliases readings (λ t. is_of t.order_value.verb ≡ true) (λ t h. (and_parts _ _ h.passes).0) a)
+pub orders_have_verbs : (is_of : Verb → Bool) (a : Arrangement) (aliases : Aliases) (readings : FinMap nat_cmp Reading)
+    → AllByRecursion (λ t. is_of t.order_value.verb ≡ true) (orders_of is_of a aliases readings)
+orders_have_verbs is_of a aliases readings =
+    recursion_from_All (λ t. is_of t.order_value.verb ≡ true) _
+    (of_each is_of aliases readings (λ t. is_of t.order_value.verb ≡ true) (λ t h. (and_parts _ _ h.passes).0) a)

@@ -8,7 +8,8 @@ use Rattle.atl_phase.specs.PhaseSpecs.{EachPhase, MovesItsOwn, PhaseSpec, keeps_
 use Rattle.atl_phase.specs.Unmailed.{starved_in}
 use Rattle.atl_phase.proofs.UnmailedLaws.{ClosesUnmailed, LeavesUnmailed, both_leave, then_closes}
 
-pub each_also : {P Q : PhaseSpec → Type 0} → ((phase : PhaseSpec) → P phase → Q phase) → (phases : List PhaseSpec) → EachPhase P phases → EachPhase Q phases
+pub each_also : {P Q : PhaseSpec → Type 0} → ((phase : PhaseSpec) → P phase → Q phase) → (phases : List PhaseSpec)
+    → EachPhase P phases → EachPhase Q phases
 each_also also [] each = tt
 each_also also (phase ∷ rest) each = (also phase each.0, each_also also rest each.1)
 
@@ -17,20 +18,25 @@ each_also also (phase ∷ rest) each = (also phase each.0, each_also also rest e
 -- For `moved_within`: one phase and the others together move an amount by at most `most_moved` for each phase that may
 -- move it. The one phase, which may move it if `b` is true, moves it by `moved`. The others move it by `rest`, and
 -- `most` of them may move it.
-moves_add_up : (b : Bool) (rest moved most : ℕ) → moved ≤ (if b then most_moved else 0) → rest ≤ most * most_moved → moved + rest ≤ ((if b then 1 else 0) + most) * most_moved
+moves_add_up : (b : Bool) (rest moved most : ℕ) → moved ≤ (if b then most_moved else 0) → rest ≤ most * most_moved
+    → moved + rest ≤ ((if b then 1 else 0) + most) * most_moved
 moves_add_up true rest moved most one others = omega (arith, one, others)
 moves_add_up false rest moved most one others = omega (arith, one, others)
 
-pub moved_within : (phases : List PhaseSpec) → EachPhase MovesItsOwn phases → (e : BooksEntry) (t : Thing) → book_bound_of phases e t ≤ moving_phase_count_of phases e t * most_moved
+pub moved_within : (phases : List PhaseSpec) → EachPhase MovesItsOwn phases → (e : BooksEntry) (t : Thing)
+    → book_bound_of phases e t ≤ moving_phase_count_of phases e t * most_moved
 moved_within [] each e t = omega arith
 moved_within (phase ∷ []) each e t = alone (may_move phase.moved e t) (each.0 e t)
   where
     -- what one phase alone moves of an amount is at most `most_moved` times the number of phases that may move it,
     -- which is 1 if the phase may (`b`), and else 0
-    alone : (b : Bool) → phase.book_bound e t ≤ (if b then most_moved else 0) → phase.book_bound e t ≤ ((if b then 1 else 0) + 0) * most_moved
+    alone : (b : Bool) → phase.book_bound e t ≤ (if b then most_moved else 0)
+        → phase.book_bound e t ≤ ((if b then 1 else 0) + 0) * most_moved
     alone true one = omega (arith, one)
     alone false one = omega (arith, one)
-moved_within (phase ∷ next ∷ rest) each e t = moves_add_up (may_move phase.moved e t) (book_bound_of (next ∷ rest) e t) (phase.book_bound e t) (moving_phase_count_of (next ∷ rest) e t) (each.0 e t) (moved_within (next ∷ rest) each.1 e t)
+moved_within (phase ∷ next ∷ rest) each e t =
+    moves_add_up (may_move phase.moved e t) (book_bound_of (next ∷ rest) e t) (phase.book_bound e t)
+    (moving_phase_count_of (next ∷ rest) e t) (each.0 e t) (moved_within (next ∷ rest) each.1 e t)
 
 -- ---- a faction without a mailing
 
@@ -47,12 +53,14 @@ CloseTogether (phase ∷ next ∷ rest) = PhaseLeavesUnmailed phase × CloseToge
 
 -- Phases in turn leave units of factions without a mailing their items, and their men less the starved, if each phase
 -- does (`CloseTogether`). After the last phase, a unit all of whose men starved is removed (`ClosesUnmailed`).
-pub closed_together : (phases : List PhaseSpec) → CloseTogether phases → ClosesUnmailed (meaning_of phases) (keeps_of phases)
+pub closed_together : (phases : List PhaseSpec) → CloseTogether phases
+    → ClosesUnmailed (meaning_of phases) (keeps_of phases)
 closed_together [] none = absurd none
 closed_together (phase ∷ []) closes = closes
 closed_together (phase ∷ next ∷ rest) each = then_closes each.0 (closed_together (next ∷ rest) each.1)
 
-pub leave_together : (phases : List PhaseSpec) → EachPhase PhaseLeavesUnmailed phases → LeavesUnmailed (meaning_of phases) (keeps_of phases)
+pub leave_together : (phases : List PhaseSpec) → EachPhase PhaseLeavesUnmailed phases
+    → LeavesUnmailed (meaning_of phases) (keeps_of phases)
 leave_together [] each = record {
   readings = λ w c m. refl;
   starved_reported = λ w c m n. omega arith;

@@ -22,7 +22,8 @@ use Rattle.atl_phase.proofs.MapOfListLaws.{entries-passing}
 use Rattle.atl_phase.proofs.OrderKeyLaws.{all_apart, same_key}
 
 -- for `sorted-passing`: to map elements by f and keep those that pass p is to keep those whose f passes p, and map them
-pub filter-map : {X Y : Type 0} (p : Y → Bool) (f : X → Y) (xs : List X) → filter p (map f xs) ≡ map f (filter (λ x. p (f x)) xs)
+pub filter-map : {X Y : Type 0} (p : Y → Bool) (f : X → Y) (xs : List X)
+    → filter p (map f xs) ≡ map f (filter (λ x. p (f x)) xs)
 filter-map p f [] = refl
 filter-map p f (x ∷ xs) =
     let rest = filter-map p f xs in
@@ -32,7 +33,8 @@ filter-map p f (x ∷ xs) =
     ]
 
 -- the sorted orders of those that pass a test are those of all sorted orders that pass, if no two keys are equal
-pub sorted-passing : (a : Arrangement) (p : Task → Bool) (ts : List Task) → IsDistinct (same_key a) ts → sorted_by (key_of a) (filter p ts) ≡ filter p (sorted_by (key_of a) ts)
+pub sorted-passing : (a : Arrangement) (p : Task → Bool) (ts : List Task) → IsDistinct (same_key a) ts
+    → sorted_by (key_of a) (filter p ts) ≡ filter p (sorted_by (key_of a) ts)
 sorted-passing a p ts apart =
     let entry : Task → List ℕ × Task = λ t. (key_of a t, t) in
     ap (λ fs. values (from_entries {R = slice_cmp nat_cmp} fs)) (sym (filter-map (λ (e : List ℕ × Task). p e.1) entry ts))
@@ -55,7 +57,8 @@ twice false = refl
 
 -- the phase's verbs (`is_of`) are among those of the indices (`wide`)
 module _ (wide is_of : Verb → Bool) (within : (v : Verb) → is_of v ≡ (wide v && is_of v)) (aliases : Aliases) where
-  picked_tasks : (es : List (ℕ × Reading)) → tasks_of_phase is_of aliases es ≡ filter (has_verb is_of) (tasks_of_phase wide aliases es)
+  picked_tasks : (es : List (ℕ × Reading))
+      → tasks_of_phase is_of aliases es ≡ filter (has_verb is_of) (tasks_of_phase wide aliases es)
   picked_tasks [] = refl
   picked_tasks (e ∷ es) =
       let ts = tasks_of aliases e.0 e.1 in
@@ -63,15 +66,18 @@ module _ (wide is_of : Verb → Bool) (within : (v : Verb) → is_of v ≡ (wide
       ap₂ (λ us vs. us ++ vs) (filter_agree (λ t. has_verb is_of t && order_counts ts t) (λ t. counts t && has_verb is_of t) (λ t. narrow (wide t.order_value.verb) (is_of t.order_value.verb) (order_counts ts t) (within t.order_value.verb)) ts ∙ sym (filter_both counts (has_verb is_of) ts)) (picked_tasks es)
       ∙ sym (filter-append (has_verb is_of) (tasks_for wide ts) (tasks_of_phase wide aliases es))
 
-  picked_orders : (a : Arrangement) (readings : FinMap nat_cmp Reading) (ts : List Task) → ts ≡ orders_of wide a aliases readings → filter (has_verb is_of) ts ≡ orders_of is_of a aliases readings
+  picked_orders : (a : Arrangement) (readings : FinMap nat_cmp Reading) (ts : List Task)
+      → ts ≡ orders_of wide a aliases readings → filter (has_verb is_of) ts ≡ orders_of is_of a aliases readings
   picked_orders a readings ts all =
       ap (filter (has_verb is_of)) all ∙ sym (sorted-passing a (has_verb is_of) _ (all_apart a aliases wide readings))
       ∙ ap (sorted_by (key_of a)) (sym (picked_tasks (entries readings)))
 
   -- The list that the code returns has the orders of the phase, if it has those that are picked from the indices of the
   -- orders of more verbs that count. The code reads the mailings `ms` as `ns`, and the indices `places` as `qs`.
-  pub picked_list : {Z E : Type 0} (a : Arrangement) (ms ns : List Mailing) (places qs : List OrderIndex) (r : Result (Vec PhaseOrder Z) E) → ns ≡ ms → qs ≡ places → AreOrderIndices wide a aliases ms places
-      → IfOk r (λ list. map task_of list.items ≡ tasks_picked is_of ns qs) → IfOk r (λ list. map task_of list.items ≡ orders_of is_of a aliases (by_faction (map reading_of ms)))
+  pub picked_list : {Z E : Type 0} (a : Arrangement) (ms ns : List Mailing) (places qs : List OrderIndex) (r : Result (Vec PhaseOrder Z) E)
+      → ns ≡ ms → qs ≡ places → AreOrderIndices wide a aliases ms places
+      → IfOk r (λ list. map task_of list.items ≡ tasks_picked is_of ns qs)
+      → IfOk r (λ list. map task_of list.items ≡ orders_of is_of a aliases (by_faction (map reading_of ms)))
   picked_list a ms ns places qs r same_mailings same_places all =
       IfOk-weaker r (λ list. map task_of list.items ≡ tasks_picked is_of ns qs) (λ list. map task_of list.items ≡ orders_of is_of a aliases (by_faction (map reading_of ms)))
       (λ list is. is ∙ (λ i. tasks_picked is_of (same_mailings i) (same_places i)) ∙ picked_orders a (by_faction (map reading_of ms)) _ all.tasks)
@@ -79,13 +85,17 @@ module _ (wide is_of : Verb → Bool) (within : (v : Verb) → is_of v ≡ (wide
 -- The new list has the orders that are picked from the indices up to and with index i, if the old list has those picked
 -- from the indices before i. The new list is the old one and the order at i, if its verb is the phase's (`b`), and else
 -- the old one.
-pub picked_more : (is_of : Verb → Bool) (ms : List Mailing) (places : List OrderIndex) (i : ℕ) (p : OrderIndex) (o : PhaseOrder) (list new : List PhaseOrder) (b : Bool) → i < length places → p ≡ get_or places i p → task_of o ≡ task_at ms p
-    → map task_of list ≡ tasks_picked is_of ms (take i places) → is_of o.order.now.verb ≡ b → new ≡ cond b (list ++ o ∷ []) list → map task_of new ≡ tasks_picked is_of ms (take (i + 1) places)
+pub picked_more : (is_of : Verb → Bool) (ms : List Mailing) (places : List OrderIndex) (i : ℕ) (p : OrderIndex) (o : PhaseOrder) (list new : List PhaseOrder) (b : Bool)
+    → i < length places → p ≡ get_or places i p → task_of o ≡ task_at ms p
+    → map task_of list ≡ tasks_picked is_of ms (take i places) → is_of o.order.now.verb ≡ b
+    → new ≡ cond b (list ++ o ∷ []) list → map task_of new ≡ tasks_picked is_of ms (take (i + 1) places)
 picked_more is_of ms places i p o list new b h at task before verb is =
-    ap (map task_of) is ∙ by_test b ∙ ap₂ (λ us c. us ++ cond c (task_at ms p ∷ []) []) before (sym verb ∙ ap (has_verb is_of) task)
+    ap (map task_of) is ∙ by_test b
+    ∙ ap₂ (λ us c. us ++ cond c (task_at ms p ∷ []) []) before (sym verb ∙ ap (has_verb is_of) task)
     ∙ ap (λ q. tasks_picked is_of ms (take i places) ++ filter (has_verb is_of) (task_at ms q ∷ [])) at
     ∙ sym (ap (filter (has_verb is_of)) (map_more (task_at ms) places i p h) ∙ filter-append (has_verb is_of) (map (task_at ms) (take i places)) (task_at ms (get_or places i p) ∷ []))
   where
-    by_test : (c : Bool) → map task_of (cond c (list ++ o ∷ []) list) ≡ map task_of list ++ cond c (task_at ms p ∷ []) []
+    by_test : (c : Bool)
+        → map task_of (cond c (list ++ o ∷ []) list) ≡ map task_of list ++ cond c (task_at ms p ∷ []) []
     by_test true = map_push task_of list o ∙ ap (λ t. map task_of list ++ t ∷ []) task
     by_test false = sym (append-nil (map task_of list))

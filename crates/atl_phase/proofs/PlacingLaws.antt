@@ -29,7 +29,8 @@ use Rattle.atl_phase.proofs.RefitLaws.{IsRefit, IsRelabelled, early-refitted, re
 use Rattle.atl_phase.proofs.StructureLaws.{changed_else, get-after_handover, handed_is, handed_on, len-after_handover, placed_cases}
 use Rattle.atl_phase.proofs.UnbookedLaws.{unbooked_well}
 
-pub mapped_twice : {A : Type 0} (f g : A → A) (o : Option A) → option_map f (option_map g o) ≡ option_map (λ y. f (g y)) o
+pub mapped_twice : {A : Type 0} (f g : A → A) (o : Option A)
+    → option_map f (option_map g o) ≡ option_map (λ y. f (g y)) o
 mapped_twice f g None = refl
 mapped_twice f g (Some y) = refl
 
@@ -38,10 +39,12 @@ relabelled_if true to y = record { kind = refl; region = refl; done = refl; name
 relabelled_if false to y = record { kind = refl; region = refl; done = refl; name = λ old. old }
 
 relabelled_twice : (x y z : Structure) → IsRelabelled x y → IsRelabelled y z → IsRelabelled x z
-relabelled_twice x y z one two = record { kind = two.kind ∙ one.kind; region = two.region ∙ one.region; done = two.done ∙ one.done; name = λ old. two.name (one.name old) }
+relabelled_twice x y z one two =
+    record { kind = two.kind ∙ one.kind; region = two.region ∙ one.region; done = two.done ∙ one.done; name = λ old. two.name (one.name old) }
 
 -- in a steady campaign a unit owns no structure but the one that it is inside
-pub owns_no_other : (w : WorldValue) (c : CampaignValue) (n : ℕ) (u : Unit) → get c.units n ≡ Some u → IsSteady w c → (q : ℕ) (y : Structure) → get c.structures q ≡ Some y → q ≢ u.structure → y.owner ≢ n
+pub owns_no_other : (w : WorldValue) (c : CampaignValue) (n : ℕ) (u : Unit) → get c.units n ≡ Some u → IsSteady w c
+    → (q : ℕ) (y : Structure) → get c.structures q ≡ Some y → q ≢ u.structure → y.owner ≢ n
 owns_no_other w c n u is steady q y there other own =
     let least = (steady.numbers.units n u is).0 in
     let (v, here, inside) = (steady.owners q y there).owned (λ none. absurd (omega (arith, own, none, least))) in
@@ -81,7 +84,9 @@ module _ (w : WorldValue) (c : CampaignValue) (n : ℕ) (u : Unit) (s : ℕ) (is
 
   placed_is : with_place c n u.region s ≡ after_entering
   unfolding with_place
-  placed_is = ap (with_place_at c n u.region s) is ∙ ap (λ b. if b then begun else after_entering) (other_number old_place s apart)
+  placed_is =
+      ap (with_place_at c n u.region s) is
+      ∙ ap (λ b. if b then begun else after_entering) (other_number old_place s apart)
 
   -- the campaign that the two handovers make (`after_entering`) is `placed_campaign`, the same campaign given as a
   -- refit
@@ -93,9 +98,12 @@ module _ (w : WorldValue) (c : CampaignValue) (n : ℕ) (u : Unit) (s : ℕ) (is
   pub place_is : with_place c n u.region s ≡ placed_campaign
   place_is = placed_is ∙ placed_campaign_is
 
-  at : (q : ℕ) → get after_entering.structures q ≡ option_map (λ y. handed_on s 0 n q (handed_on old_place n next_owner q y)) (get c.structures q)
+  at : (q : ℕ)
+      → get after_entering.structures q
+      ≡ option_map (λ y. handed_on s 0 n q (handed_on old_place n next_owner q y)) (get c.structures q)
   at q =
-      get-after_handover after_leaving s 0 n q ∙ ap (option_map (handed_on s 0 n q)) (get-after_handover begun old_place n next_owner q)
+      get-after_handover after_leaving s 0 n q
+      ∙ ap (option_map (handed_on s 0 n q)) (get-after_handover begun old_place n next_owner q)
       ∙ mapped_twice (handed_on s 0 n q) (handed_on old_place n next_owner q) (get c.structures q)
 
   same_but_owner : (q : ℕ) (y : Structure) → IsRelabelled y (handed_on s 0 n q (handed_on old_place n next_owner q y))
@@ -112,29 +120,43 @@ module _ (w : WorldValue) (c : CampaignValue) (n : ℕ) (u : Unit) (s : ℕ) (is
   away k other = get-insert_other c.units n k moved other
 
   inside_it : (v : Unit) → get placed_campaign.units n ≡ Some v → v.structure ≡ s
-  inside_it v there = sym (ap (λ (x : Unit). x.structure) (same_Some moved v (sym (get-insert_same c.units n moved) ∙ there)))
+  inside_it v there =
+      sym (ap (λ (x : Unit). x.structure) (same_Some moved v (sym (get-insert_same c.units n moved) ∙ there)))
 
-  still_owned : (q : ℕ) (y : Structure) → get c.structures q ≡ Some y → y.owner ≢ n → (y.owner ≡ 0 → s ≢ q) → IsOwned placed_campaign q y
-  still_owned q y there other free = owner_stays c placed_campaign n away q y (steady.owners q y there) other (λ none v here inside. free none (sym (inside_it v here) ∙ inside))
+  still_owned : (q : ℕ) (y : Structure) → get c.structures q ≡ Some y → y.owner ≢ n → (y.owner ≡ 0 → s ≢ q)
+      → IsOwned placed_campaign q y
+  still_owned q y there other free =
+      owner_stays c placed_campaign n away q y (steady.owners q y there) other
+      (λ none v here inside. free none (sym (inside_it v here) ∙ inside))
 
-  entered_owned : (q : ℕ) (y : Structure) → get c.structures q ≡ Some y → q ≢ old_place → q ≡ s → (z : Bool) → (y.owner == 0) ≡ z → IsOwned placed_campaign q (if z then owned_by n y else y)
+  entered_owned : (q : ℕ) (y : Structure) → get c.structures q ≡ Some y → q ≢ old_place → q ≡ s → (z : Bool)
+      → (y.owner == 0) ≡ z → IsOwned placed_campaign q (if z then owned_by n y else y)
   entered_owned q y there other here true t = record {
     owned = λ some. (moved, get-insert_same c.units n moved, sym here);
     ownerless = λ none. let least = numbered_from_one n u is in absurd (omega (arith, none, least));
   }
-  entered_owned q y there other here false t = still_owned q y there (owns_no_other w c n u is steady q y there other) (λ none. absurd (true≢false (sym (eq-eqb y.owner 0 none) ∙ t)))
+  entered_owned q y there other here false t =
+      still_owned q y there (owns_no_other w c n u is steady q y there other)
+      (λ none. absurd (true≢false (sym (eq-eqb y.owner 0 none) ∙ t)))
 
   -- a structure with its owner after both handovers, by whether it is the one left (`a`), was unit n's own (`e`),
   -- and is the one entered (`b`)
   abbrev after_handovers : (a e b : Bool) → Structure → Structure
   after_handovers a e b y = let x = if a && e then owned_by next_owner y else y in if b && x.owner == 0 then owned_by n x else x
 
-  by_tests : (q : ℕ) (y : Structure) → get c.structures q ≡ Some y → (a e b : Bool) → (q == old_place) ≡ a → (y.owner == n) ≡ e → (q == s) ≡ b → IsOwned placed_campaign q (after_handovers a e b y)
+  by_tests : (q : ℕ) (y : Structure) → get c.structures q ≡ Some y → (a e b : Bool) → (q == old_place) ≡ a
+      → (y.owner == n) ≡ e → (q == s) ≡ b → IsOwned placed_campaign q (after_handovers a e b y)
   by_tests q y there true e true p r t = absurd (apart (sym (is_equal q old_place p) ∙ is_equal q s t))
-  by_tests q y there true true false p r t = subst (λ k. IsOwned placed_campaign k (owned_by next_owner y)) (sym (is_equal q old_place p)) (heir_owns c placed_campaign n away old_place (λ zero. is_no_zero c.structures c.next_structure steady.next.structures q y there (is_equal q old_place p ∙ zero)) numbered_from_one (λ v here inside. apart (sym inside ∙ inside_it v here)) y)
-  by_tests q y there true false false p r t = still_owned q y there (is_unequal y.owner n r) (λ none here. is_unequal q s t (sym here))
-  by_tests q y there false e true p r t = entered_owned q y there (is_unequal q old_place p) (is_equal q s t) (y.owner == 0) refl
-  by_tests q y there false e false p r t = still_owned q y there (owns_no_other w c n u is steady q y there (is_unequal q old_place p)) (λ none here. is_unequal q s t (sym here))
+  by_tests q y there true true false p r t =
+      subst (λ k. IsOwned placed_campaign k (owned_by next_owner y)) (sym (is_equal q old_place p))
+      (heir_owns c placed_campaign n away old_place (λ zero. is_no_zero c.structures c.next_structure steady.next.structures q y there (is_equal q old_place p ∙ zero)) numbered_from_one (λ v here inside. apart (sym inside ∙ inside_it v here)) y)
+  by_tests q y there true false false p r t =
+      still_owned q y there (is_unequal y.owner n r) (λ none here. is_unequal q s t (sym here))
+  by_tests q y there false e true p r t =
+      entered_owned q y there (is_unequal q old_place p) (is_equal q s t) (y.owner == 0) refl
+  by_tests q y there false e false p r t =
+      still_owned q y there (owns_no_other w c n u is steady q y there (is_unequal q old_place p))
+      (λ none here. is_unequal q s t (sym here))
 
   -- ---- the campaign
 
@@ -163,7 +185,9 @@ module _ (w : WorldValue) (c : CampaignValue) (n : ℕ) (u : Unit) (s : ℕ) (is
 module _ (w : WorldValue) (c : CampaignValue) (n : ℕ) (u : Unit) (s : ℕ) (is : get c.units n ≡ Some u) (early : IsEarly w c) (apart : u.structure ≢ s) where
   -- A move to another structure of the region, or on land to none, keeps an early campaign early and in balance
   -- (`StepsWell`). On water the structure must be a ship.
-  pub place_well : (s ≢ 0 → (x : Structure) × (get c.structures s ≡ Some x) × (x.region ≡ u.region)) → (is_land_at w u.region ≡ false → (x : Structure) × (get c.structures s ≡ Some x) × (is_ship w x ≡ true)) → StepsWell IsEarly nothing_remaining w c (with_place c n u.region s)
+  pub place_well : (s ≢ 0 → (x : Structure) × (get c.structures s ≡ Some x) × (x.region ≡ u.region))
+      → (is_land_at w u.region ≡ false → (x : Structure) × (get c.structures s ≡ Some x) × (is_ship w x ≡ true))
+      → StepsWell IsEarly nothing_remaining w c (with_place c n u.region s)
   place_well inside afloat =
       let steady = early.steady in
       subst (StepsWell IsEarly nothing_remaining w c) (sym (place_is w c n u s is steady apart))

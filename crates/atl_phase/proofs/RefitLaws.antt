@@ -31,7 +31,8 @@ pub record IsRelabelled (before after : Structure) : Type 0 where
   pub done : after.done ≡ before.done
   pub name : IsTrue (name_ok before.name) → IsTrue (name_ok after.name)
 
-pub mapped_from : {A B : Type 0} (f : A → B) (o : Option A) (x : B) → option_map f o ≡ Some x → (v : A) × (o ≡ Some v) × (f v ≡ x)
+pub mapped_from : {A B : Type 0} (f : A → B) (o : Option A) (x : B) → option_map f o ≡ Some x
+    → (v : A) × (o ≡ Some v) × (f v ≡ x)
 mapped_from f None x is = none_some x is
 mapped_from f (Some v) x is = let same : f v ≡ x = cc in (v, refl, same)
 
@@ -41,7 +42,8 @@ module _ (c : CampaignValue) (units : FinMap nat_cmp Unit) (structures : FinMap 
   abbrev pub replaced : CampaignValue
   replaced = record c { units = units; structures = structures }
 
-  pub in_range_replaced : (w : WorldValue) → len units ≡ len c.units → len structures ≡ len c.structures → Every (λ k x. (1 ≤ k) × IsHolding x.holding) units
+  pub in_range_replaced : (w : WorldValue) → len units ≡ len c.units → len structures ≡ len c.structures
+      → Every (λ k x. (1 ≤ k) × IsHolding x.holding) units
       → Every (λ k x. (1 ≤ x.done) × (x.done ≤ size_of w x.kind)) structures → AreInRange w c → AreInRange w replaced
   in_range_replaced w unit_count structure_count new_units new_structures old = record {
     month = old.month;
@@ -58,10 +60,13 @@ module _ (c : CampaignValue) (units : FinMap nat_cmp Unit) (structures : FinMap 
     books = old.books;
   }
 
-  pub named_replaced : Every (λ k x. IsTrue (name_ok x.holding.name)) units → Every (λ k x. IsTrue (name_ok x.name)) structures → AreNamed c → AreNamed replaced
-  named_replaced new_units new_structures old = record { pass = old.pass; factions = old.factions; joined = old.joined; units = new_units; structures = new_structures }
+  pub named_replaced : Every (λ k x. IsTrue (name_ok x.holding.name)) units
+      → Every (λ k x. IsTrue (name_ok x.name)) structures → AreNamed c → AreNamed replaced
+  named_replaced new_units new_structures old =
+      record { pass = old.pass; factions = old.factions; joined = old.joined; units = new_units; structures = new_structures }
 
-  pub numbered_replaced : len structures ≡ len c.structures → ((k : ℕ) → get c.units k ≡ None → get units k ≡ None) → ((k : ℕ) → get c.structures k ≡ None → get structures k ≡ None)
+  pub numbered_replaced : len structures ≡ len c.structures → ((k : ℕ) → get c.units k ≡ None → get units k ≡ None)
+      → ((k : ℕ) → get c.structures k ≡ None → get structures k ≡ None)
       → AreNumbered c → AreNumbered replaced
   numbered_replaced count no_unit no_structure old = record {
     factions = old.factions;
@@ -109,7 +114,8 @@ module _ (w : WorldValue) (c : CampaignValue) (n : ℕ) (u : Unit) (s : ℕ) (is
         (every-insert (λ k x. (1 ≤ k) × IsHolding x.holding) c.units n moved_unit (old.units n u is) old.units)
         (every_structure (λ k x. (1 ≤ x.done) × (x.done ≤ size_of w x.kind)) (λ k y was. let r = refit.same k y was in rw (r.done, r.kind) (old.structures k y was))) old
 
-    still_inside : (j region : ℕ) → (x : Structure) × (get c.structures j ≡ Some x) × (x.region ≡ region) → (x : Structure) × (get structures j ≡ Some x) × (x.region ≡ region)
+    still_inside : (j region : ℕ) → (x : Structure) × (get c.structures j ≡ Some x) × (x.region ≡ region)
+        → (x : Structure) × (get structures j ≡ Some x) × (x.region ≡ region)
     still_inside j region (x, there, here) = (g j x, forth j x there, (refit.same j x there).region ∙ here)
 
     known_kept : AreKnown w c → AreKnown w refitted
@@ -136,14 +142,18 @@ module _ (w : WorldValue) (c : CampaignValue) (n : ℕ) (u : Unit) (s : ℕ) (is
         (λ k none. get-insert_other c.units n k moved_unit (λ same. none_some u (sym none ∙ ap (get c.units) same ∙ is)) ∙ none) none_kept
 
     gone_kept : GoneHaveNone c → GoneHaveNone refitted
-    gone_kept old m f there gone = numbers_where-insert_known (λ x. x.faction == m) c.units n u moved_unit is refl ∙ old m f there gone
+    gone_kept old m f there gone =
+        numbers_where-insert_known (λ x. x.faction == m) c.units n u moved_unit is refl ∙ old m f there gone
 
-    still_aboard : (j : ℕ) → (x : Structure) × (get c.structures j ≡ Some x) × (is_ship w x ≡ true) → (x : Structure) × (get structures j ≡ Some x) × (is_ship w x ≡ true)
+    still_aboard : (j : ℕ) → (x : Structure) × (get c.structures j ≡ Some x) × (is_ship w x ≡ true)
+        → (x : Structure) × (get structures j ≡ Some x) × (is_ship w x ≡ true)
     still_aboard j (x, there, ship) = (g j x, forth j x there, rw ((refit.same j x there).kind) ship)
 
     water_kept : AreAfloat w c → AreAfloat w refitted
     water_kept old = record {
-      units = every-insert (λ k x. is_land_at w x.region ≡ false → IsAboard w refitted x) c.units n moved_unit (λ sea. still_aboard s (refit.afloat sea))
+      units =
+          every-insert (λ k x. is_land_at w x.region ≡ false → IsAboard w refitted x) c.units n moved_unit
+          (λ sea. still_aboard s (refit.afloat sea))
           (λ k x there sea. still_aboard x.structure (old.units k x there sea));
       structures = every_structure (λ k x. is_land_at w x.region ≡ false → (is_ship w x ≡ true) × (x.done ≡ size_of w x.kind)) (λ k y was. let r = refit.same k y was in rw (r.region, r.kind, r.done) (old.structures k y was));
     }
@@ -176,7 +186,8 @@ module _ (w : WorldValue) (c : CampaignValue) (n : ℕ) (u : Unit) (s : ℕ) (is
     }
 
     pub early-refitted : IsEarly w c → IsEarly w refitted
-    early-refitted old = record { steady = steady-refitted old.steady; flags = of_one_faction_refitted (λ x. x.holding.guard) (λ g. g) old.flags }
+    early-refitted old =
+        record { steady = steady-refitted old.steady; flags = of_one_faction_refitted (λ x. x.holding.guard) (λ g. g) old.flags }
 
   cancelled : (a b h r : ℕ) → a + h ≡ b + h → a + r ≡ b + r
   cancelled a b h r e = omega arith

@@ -30,7 +30,8 @@ use Rattle.atl_phase.proofs.PickedLaws.{sorted-passing}
 
 -- the order that an entry of a faction's mailing is, at its index
 abbrev task_for : Aliases → (faction index : ℕ) → EntryValue → Task
-task_for aliases faction index e = record { faction = faction; unit = unit_of aliases faction e.target; line = e.line; index = index; order_value = e.order_value }
+task_for aliases faction index e =
+    record { faction = faction; unit = unit_of aliases faction e.target; line = e.line; index = index; order_value = e.order_value }
 
 -- a conjunction is false, if its second part is
 pub second_false : (a b : Bool) → b ≡ false → (a && b) ≡ false
@@ -47,7 +48,8 @@ module _ (aliases : Aliases) (faction line : ℕ) where
   left_out u us fails rest = ap (λ b. cond b (u ∷ filter is_at us) (filter is_at us)) fails ∙ rest
 
   -- of entries on lines above the line none is left
-  none_above : (f index low : ℕ) (es : List EntryValue) → line ≤ low → LinesRise low es → filter is_at (tasks_from aliases f index es) ≡ []
+  none_above : (f index low : ℕ) (es : List EntryValue) → line ≤ low → LinesRise low es
+      → filter is_at (tasks_from aliases f index es) ≡ []
   none_above f index low [] le rise = refl
   none_above f index low (e ∷ es) le rise =
       left_out (task_for aliases f index e) (tasks_from aliases f (index + 1) es)
@@ -61,7 +63,8 @@ module _ (aliases : Aliases) (faction line : ℕ) where
       left_out (task_for aliases f index e) (tasks_from aliases f (index + 1) es) (ap (λ b. b && (e.line == line)) (other_number f faction other)) (none_of f (index + 1) es other)
 
   -- of the faction's entries the one on the line is left
-  one_left : (index low i : ℕ) (es : List EntryValue) (e : EntryValue) → LinesRise low es → slice_get es i ≡ Some e → e.line ≡ line → filter is_at (tasks_from aliases faction index es) ≡ task_for aliases faction (index + i) e ∷ []
+  one_left : (index low i : ℕ) (es : List EntryValue) (e : EntryValue) → LinesRise low es → slice_get es i ≡ Some e
+      → e.line ≡ line → filter is_at (tasks_from aliases faction index es) ≡ task_for aliases faction (index + i) e ∷ []
   one_left index low i [] e rise is on = cc
   one_left index low zero (x ∷ es) e rise is on =
       let same : x ≡ e = same_Some x e is in
@@ -80,10 +83,12 @@ module _ (aliases : Aliases) (faction line : ℕ) where
       let rest = filter is_at (tasks_from aliases faction (index + 1) es) in
       let past : is_at first ≡ false = second_false (faction == faction) (x.line == line) (other_number x.line line (λ same. absurd (omega (arith, same, above, on)))) in
       let next : (index + 1) + i ≡ index + suc i = omega arith in
-      ap (λ b. cond b (first ∷ rest) rest) past ∙ one_left (index + 1) x.line i es e rise.1 is on ∙ ap (λ j. task_for aliases faction j e ∷ []) next
+      ap (λ b. cond b (first ∷ rest) rest) past ∙ one_left (index + 1) x.line i es e rise.1 is on
+      ∙ ap (λ j. task_for aliases faction j e ∷ []) next
 
 -- an order in a mailing isn't on line 0
-pub line_of_order : (w : WorldValue) (aliases : Aliases) (readings : FinMap nat_cmp Reading) → AreFit w readings → (t : Task) → IsInMailing aliases readings t → 0 < t.line
+pub line_of_order : (w : WorldValue) (aliases : Aliases) (readings : FinMap nat_cmp Reading) → AreFit w readings
+    → (t : Task) → IsInMailing aliases readings t → 0 < t.line
 line_of_order w aliases readings fit t there =
     let above = entry_line_above 0 t.index there.reading.entries there.entry (fit t.faction there.reading there.of_faction).lines there.at_index in
     let on = there.on_line in
@@ -93,10 +98,14 @@ line_of_order w aliases readings fit t there =
 
 -- to keep what passes two tests in turn is to keep it in the other order
 pub in_turn : (p q : Task → Bool) (us : List Task) → filter q (filter p us) ≡ filter p (filter q us)
-in_turn p q us = filter_both p q us ∙ filter_agree (λ u. p u && q u) (λ u. q u && p u) (λ u. and_comm (p u) (q u)) us ∙ sym (filter_both q p us)
+in_turn p q us =
+    filter_both p q us ∙ filter_agree (λ u. p u && q u) (λ u. q u && p u) (λ u. and_comm (p u) (q u)) us
+    ∙ sym (filter_both q p us)
 
 -- an order that is sorted by its key alone, or no order, is what it was
-pub alone : (t : Task) (a : Arrangement) (b : Bool) → values (from_entries {R = slice_cmp nat_cmp} (map (λ u. (key_of a u, u)) (cond b (t ∷ []) []))) ≡ cond b (t ∷ []) []
+pub alone : (t : Task) (a : Arrangement) (b : Bool)
+    → values (from_entries {R = slice_cmp nat_cmp} (map (λ u. (key_of a u, u)) (cond b (t ∷ []) [])))
+    ≡ cond b (t ∷ []) []
 alone t a true =
     ap (map (λ e. e.1)) (entries-insert nat_list_cmp_total (from_entries {R = slice_cmp nat_cmp} []) (key_of a t) t ∙ ap (put (slice_cmp nat_cmp) (key_of a t) t) (no_entries (slice_cmp nat_cmp)))
 alone t a false = ap (map (λ e. e.1)) (no_entries (slice_cmp nat_cmp))
@@ -135,7 +144,8 @@ module _ (w : WorldValue) (aliases : Aliases) (readings : FinMap nat_cmp Reading
       in_turn p is_there us ∙ ap (filter p) in_own_mailing
 
   -- of the orders of the phase in other factions' mailings none is left
-  others_left : (es : List (ℕ × Reading)) → AllByRecursion (λ e. e.0 ≢ t.faction) es → filter is_there (flat_map of_mailing es) ≡ []
+  others_left : (es : List (ℕ × Reading)) → AllByRecursion (λ e. e.0 ≢ t.faction) es
+      → filter is_there (flat_map of_mailing es) ≡ []
   others_left [] all = refl
   others_left (e ∷ es) all =
       let us = tasks_of aliases e.0 e.1 in
@@ -144,24 +154,31 @@ module _ (w : WorldValue) (aliases : Aliases) (readings : FinMap nat_cmp Reading
       ∙ ap₂ (λ xs ys. xs ++ ys) (in_turn p is_there us ∙ ap (filter p) (none_of aliases t.faction t.line e.0 0 e.1.entries all.0)) (others_left es all.1)
 
   -- entries with higher numbers than the faction's are of other factions
-  higher : (es : List (ℕ × Reading)) (n : ℕ) → n ≡ t.faction → AllByRecursion (λ e. n < e.0) es → AllByRecursion (λ e. e.0 ≢ t.faction) es
+  higher : (es : List (ℕ × Reading)) (n : ℕ) → n ≡ t.faction → AllByRecursion (λ e. n < e.0) es
+      → AllByRecursion (λ e. e.0 ≢ t.faction) es
   higher [] n is all = tt
-  higher (e ∷ es) n is all = ((λ same. let above = all.0 in absurd (omega (arith, same, above, is))), higher es n is all.1)
+  higher (e ∷ es) n is all =
+      ((λ same. let above = all.0 in absurd (omega (arith, same, above, is))), higher es n is all.1)
 
   -- of the orders of the phase in mailings by faction, among them that of t's faction, only t is left, if it is one
   -- of the phase's
-  mailings_left : (es : List (ℕ × Reading)) → Rise es → find nat_cmp t.faction es ≡ Some there.reading → filter is_there (flat_map of_mailing es) ≡ if_of_phase
+  mailings_left : (es : List (ℕ × Reading)) → Rise es → find nat_cmp t.faction es ≡ Some there.reading
+      → filter is_there (flat_map of_mailing es) ≡ if_of_phase
   mailings_left [] rise found = cc
   mailings_left (e ∷ es) rise found = by_test (mailings_left es rise.1) (eq_by_cmp nat_cmp t.faction e.0) refl found
     where
       -- whether the first mailing is that of t's faction (b) or not
-      by_test : (find nat_cmp t.faction es ≡ Some there.reading → filter is_there (flat_map of_mailing es) ≡ if_of_phase) → (b : Bool) → eq_by_cmp nat_cmp t.faction e.0 ≡ b → cond b (Some e.1) (find nat_cmp t.faction es) ≡ Some there.reading → filter is_there (flat_map of_mailing (e ∷ es)) ≡ if_of_phase
+      by_test : (find nat_cmp t.faction es ≡ Some there.reading → filter is_there (flat_map of_mailing es) ≡ if_of_phase)
+          → (b : Bool) → eq_by_cmp nat_cmp t.faction e.0 ≡ b
+          → cond b (Some e.1) (find nat_cmp t.faction es) ≡ Some there.reading
+          → filter is_there (flat_map of_mailing (e ∷ es)) ≡ if_of_phase
       by_test rest true is here =
           let faction = same_key t.faction e.0 is in
           let reading = same_Some e.1 there.reading here in
           let own : filter is_there (of_mailing e) ≡ if_of_phase = (λ i. filter is_there (tasks_for is_of (tasks_of aliases (sym faction i) (reading i)))) ∙ own_mailing_left in
           filter-append is_there (of_mailing e) (flat_map of_mailing es)
-          ∙ ap₂ (λ xs ys. xs ++ ys) own (others_left es (higher es e.0 (sym faction) rise.0)) ∙ nothing_after is_of_phase
+          ∙ ap₂ (λ xs ys. xs ++ ys) own (others_left es (higher es e.0 (sym faction) rise.0))
+          ∙ nothing_after is_of_phase
         where
           -- nothing comes after t
           nothing_after : (b : Bool) → cond b (t ∷ []) [] ++ [] ≡ cond b (t ∷ []) []
@@ -174,8 +191,8 @@ module _ (w : WorldValue) (aliases : Aliases) (readings : FinMap nat_cmp Reading
           filter-append is_there (of_mailing e) (flat_map of_mailing es)
           ∙ ap₂ (λ xs ys. xs ++ ys) (in_turn p is_there us ∙ ap (filter p) (none_of aliases t.faction t.line e.0 0 e.1.entries other)) (rest later)
 
-  -- of the orders of the phase none but t is of t's faction and on its line, and t is among them just once, if it is one
-  -- of the phase's
+  -- of the orders of the phase none but t is of t's faction and on its line, and t is among them just once, if it is
+  -- one of the phase's
   pub one_in_phase : (a : Arrangement) → filter is_there (orders_of is_of a aliases readings) ≡ if_of_phase
   one_in_phase a =
       let us = flat_map of_mailing (entries readings) in

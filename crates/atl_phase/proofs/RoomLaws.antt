@@ -9,8 +9,10 @@ use Rattle.atl_phase.specs.Room.{OnePhaseHasRoom, roomy_amount}
 
 -- an amount of at most 9*10^18 in size has room for a move of less than 10^14
 roomy_has_room : (moved : ℕ) (amount : ℤ) → moved ≤ most_moved → IsWithin roomy_amount amount → HasRoom moved amount
-roomy_has_room moved amount little within = record { above = omega (arith, ints, within.most); below = omega (arith, ints, within.least) }
+roomy_has_room moved amount little within =
+    record { above = omega (arith, ints, within.most); below = omega (arith, ints, within.least) }
 
 -- if no amount passes 9*10^18, the books have room for one phase that moves each by less than 10^14
 pub one_phase_has_room : OnePhaseHasRoom
-one_phase_has_room book_bound c little roomy e t = roomy_has_room (book_bound e t) (amount_in c.books e t) (little e t) (roomy e t)
+one_phase_has_room book_bound c little roomy e t =
+    roomy_has_room (book_bound e t) (amount_in c.books e t) (little e t) (roomy e t)

@@ -39,7 +39,8 @@ module _ {V : Type 0} (f : V → V) (m : FinMap nat_cmp V) (k : ℕ) where
   pub get-changed : (q : ℕ) → get (with_changed_value f m k) q ≡ option_map (at_number q) (get m q)
   get-changed q = elim (cases_eq q k) [
     | inl same ↦
-        ap (get (with_changed_value f m k)) same ∙ changed_here (get m k) refl ∙ ap (λ j. option_map f (get m j)) (sym same)
+        ap (get (with_changed_value f m k)) same ∙ changed_here (get m k) refl
+        ∙ ap (λ j. option_map f (get m j)) (sym same)
         ∙ mapped_here q (eq-eqb q k same) (get m q)
     | inr apart ↦ changed_else q apart (get m k) ∙ mapped_else q (other_number q k apart) (get m q)
   ]
@@ -63,13 +64,18 @@ module _ (c : CampaignValue) (k from to : ℕ) where
   abbrev after : Bool → CampaignValue
   after b = if b then with_owner c k to else c
 
-  here_by : (y : Structure) → get c.structures k ≡ Some y → (b : Bool) → get (after b).structures k ≡ Some (if b then owned_by to y else y)
-  here_by y is true = changed_here (owned_by to) c.structures k (get c.structures k) refl ∙ ap (option_map (owned_by to)) is
+  here_by : (y : Structure) → get c.structures k ≡ Some y → (b : Bool)
+      → get (after b).structures k ≡ Some (if b then owned_by to y else y)
+  here_by y is true =
+      changed_here (owned_by to) c.structures k (get c.structures k) refl ∙ ap (option_map (owned_by to)) is
   here_by y is false = is
 
-  here : (o : Option Structure) → get c.structures k ≡ o → get (after (is_owned_by o from)).structures k ≡ option_map (handed_on k from to k) o
+  here : (o : Option Structure) → get c.structures k ≡ o
+      → get (after (is_owned_by o from)).structures k ≡ option_map (handed_on k from to k) o
   here None is = is
-  here (Some y) is = here_by y is (y.owner == from) ∙ ap (λ b. Some (if b && y.owner == from then owned_by to y else y)) (sym (eq-eqb k k refl))
+  here (Some y) is =
+      here_by y is (y.owner == from)
+      ∙ ap (λ b. Some (if b && y.owner == from then owned_by to y else y)) (sym (eq-eqb k k refl))
 
   else_by : (q : ℕ) → q ≢ k → (b : Bool) → get (after b).structures q ≡ get c.structures q
   else_by q apart true = changed_else (owned_by to) c.structures k q apart (get c.structures k)
@@ -77,11 +83,13 @@ module _ (c : CampaignValue) (k from to : ℕ) where
 
   unmoved : (q : ℕ) → q ≢ k → (o : Option Structure) → o ≡ option_map (handed_on k from to q) o
   unmoved q apart None = refl
-  unmoved q apart (Some y) = ap (λ b. Some (if b && y.owner == from then owned_by to y else y)) (sym (other_number q k apart))
+  unmoved q apart (Some y) =
+      ap (λ b. Some (if b && y.owner == from then owned_by to y else y)) (sym (other_number q k apart))
 
   -- a look-up after a handover of structure k finds it with the owner `to` if `from` owned it, and each other structure
   -- as it was (`handed_on`)
-  pub get-after_handover : (q : ℕ) → get (after_handover c k from to).structures q ≡ option_map (handed_on k from to q) (get c.structures q)
+  pub get-after_handover : (q : ℕ)
+      → get (after_handover c k from to).structures q ≡ option_map (handed_on k from to q) (get c.structures q)
   get-after_handover q = elim (cases_eq q k) [
     | inl same ↦
         ap (get (after_handover c k from to).structures) same ∙ here (get c.structures k) refl
@@ -90,17 +98,20 @@ module _ (c : CampaignValue) (k from to : ℕ) where
   ]
 
   handed_cases : (P : CampaignValue → Type 0) → P c → P (with_owner c k to) → P (after_handover c k from to)
-  handed_cases P same handed = elim (is_owned_by (get c.structures k) from) as (λ b. P (after b)) [ true ↦ handed | false ↦ same ]
+  handed_cases P same handed =
+      elim (is_owned_by (get c.structures k) from) as (λ b. P (after b)) [ true ↦ handed | false ↦ same ]
 
   pub len-after_handover : len (after_handover c k from to).structures ≡ len c.structures
-  len-after_handover = handed_cases (λ d. len d.structures ≡ len c.structures) refl (len-changed (owned_by to) c.structures k)
+  len-after_handover =
+      handed_cases (λ d. len d.structures ≡ len c.structures) refl (len-changed (owned_by to) c.structures k)
 
   pub handed_is : after_handover c k from to ≡ record c { structures = (after_handover c k from to).structures }
   handed_is = handed_cases (λ d. d ≡ record c { structures = d.structures }) refl refl
 
 -- P holds of the campaign after unit n is put in region r and structure s, if P holds of the campaign as it was, and of
 -- the one with the unit put there. Each handover of a structure must keep P.
-pub placed_cases : (P : CampaignValue → Type 0) (c : CampaignValue) (n r s : ℕ) → P c → P (with_position c n r s) → ((d : CampaignValue) (k from to : ℕ) → P d → P (after_handover d k from to)) → P (with_place c n r s)
+pub placed_cases : (P : CampaignValue → Type 0) (c : CampaignValue) (n r s : ℕ) → P c → P (with_position c n r s)
+    → ((d : CampaignValue) (k from to : ℕ) → P d → P (after_handover d k from to)) → P (with_place c n r s)
 unfolding with_place
 placed_cases P c n r s same put handed = by_unit (get c.units n)
   where

@@ -23,7 +23,8 @@ use Rattle.atl_phase.proofs.OrderEffectLaws.{bound_unused_by}
 
 -- a step that leaves month, books and totals as they are keeps the books in balance within a remaining bound of 0
 -- (`StepsWell`), if `holds` is true of the campaign after it
-pub stays_well : (holds : Condition) (w : WorldValue) (c d : CampaignValue) → holds w d → IsSameMonth c d → d.books ≡ c.books → ((t : Thing) → total d t ≡ total c t) → StepsWell holds nothing_remaining w c d
+pub stays_well : (holds : Condition) (w : WorldValue) (c d : CampaignValue) → holds w d → IsSameMonth c d
+    → d.books ≡ c.books → ((t : Thing) → total d t ≡ total c t) → StepsWell holds nothing_remaining w c d
 stays_well holds w c d still same books totals = record {
   holds_still = still;
   same_month = same;
@@ -31,19 +32,23 @@ stays_well holds w c d still same books totals = record {
   uses_bound = λ e t. bound_unused_by 0 0 (amount_in c.books e t) (amount_in d.books e t) refl (ap (λ b. amount_in b e t) books);
 }
 
-pub unbooked_well : (w : WorldValue) (c d : CampaignValue) → IsEarly w d → IsSameMonth c d → d.books ≡ c.books → ((t : Thing) → total d t ≡ total c t) → StepsWell IsEarly nothing_remaining w c d
+pub unbooked_well : (w : WorldValue) (c d : CampaignValue) → IsEarly w d → IsSameMonth c d → d.books ≡ c.books
+    → ((t : Thing) → total d t ≡ total c t) → StepsWell IsEarly nothing_remaining w c d
 unbooked_well = stays_well IsEarly
 
-pub same_total_of : (c d : CampaignValue) → d.units ≡ c.units → d.regions ≡ c.regions → (t : Thing) → total d t ≡ total c t
+pub same_total_of : (c d : CampaignValue) → d.units ≡ c.units → d.regions ≡ c.regions → (t : Thing)
+    → total d t ≡ total c t
 unfolding total
 same_total_of c d units regions t =
     let stock = λ (x : Unit). unit_amount t x.holding in
     let keep = λ (r : Region). region_amount t r in
-    ap (λ m. sum_over stock m + sum_over keep d.regions) units ∙ ap (λ m. sum_over stock c.units + sum_over keep m) regions
+    ap (λ m. sum_over stock m + sum_over keep d.regions) units
+    ∙ ap (λ m. sum_over stock c.units + sum_over keep m) regions
 
 -- a unit isn't the one that an order is for, if its own faction didn't write the order for it (`IsOwnOrder`), and the
 -- order is for a unit of its writer's faction
-pub other_unit : (c : CampaignValue) (t : Task) (x : Unit) (k : ℕ) (v : Unit) → IsUnitOf c t x → get c.units k ≡ Some v → (IsOwnOrder t k v.faction → ⊥) → k ≢ t.unit
+pub other_unit : (c : CampaignValue) (t : Task) (x : Unit) (k : ℕ) (v : Unit) → IsUnitOf c t x → get c.units k ≡ Some v
+    → (IsOwnOrder t k v.faction → ⊥) → k ≢ t.unit
 other_unit c t x k v own there apart same =
     let unit : x ≡ v = same_Some _ _ (sym own.there ∙ ap (get c.units) (sym same) ∙ there) in
     apart (record { unit = sym same; faction = sym own.faction ∙ ap (λ (y : Unit). y.faction) unit })
@@ -51,10 +56,16 @@ other_unit c t x k v own there apart same =
 -- A unit for which its own faction didn't write an order is there after it, in its place with its name and guard flag,
 -- and has lost nothing (`IsNoWorse`). For this the order is for a unit of its writer's faction, and no other unit
 -- changes.
-pub other_is_no_worse : (c d : CampaignValue) (t : Task) (x : Unit) → ((k : ℕ) → k ≢ t.unit → get d.units k ≡ get c.units k) → IsUnitOf c t x → (k : ℕ) (v : Unit) → get c.units k ≡ Some v → (IsOwnOrder t k v.faction → ⊥) → IsStillThere IsNoWorse d k v
-other_is_no_worse c d t x stay own k v there apart = record { unit = v; there = stay k (other_unit c t x k v own there apart) ∙ there; is_unaffected = no_worse v }
+pub other_is_no_worse : (c d : CampaignValue) (t : Task) (x : Unit)
+    → ((k : ℕ) → k ≢ t.unit → get d.units k ≡ get c.units k) → IsUnitOf c t x → (k : ℕ) (v : Unit)
+    → get c.units k ≡ Some v → (IsOwnOrder t k v.faction → ⊥) → IsStillThere IsNoWorse d k v
+other_is_no_worse c d t x stay own k v there apart =
+    record { unit = v; there = stay k (other_unit c t x k v own there apart) ∙ there; is_unaffected = no_worse v }
 
-pub unchanged_is_no_worse : (step : Option OrderEffect) (c : CampaignValue) (t : Task) (x : Unit) → IsUnitOf c t x → (k : ℕ) (v : Unit) → get c.units k ≡ Some v → (IsOwnOrder t k v.faction → ⊥)
-    → ((j : ℕ) → j ≢ t.unit → IfSome step (λ effect. get (effect c x).0.units j ≡ get c.units j)) → IfSome step (λ effect. IsStillThere IsNoWorse (effect c x).0 k v)
+pub unchanged_is_no_worse : (step : Option OrderEffect) (c : CampaignValue) (t : Task) (x : Unit) → IsUnitOf c t x
+    → (k : ℕ) (v : Unit) → get c.units k ≡ Some v → (IsOwnOrder t k v.faction → ⊥)
+    → ((j : ℕ) → j ≢ t.unit → IfSome step (λ effect. get (effect c x).0.units j ≡ get c.units j))
+    → IfSome step (λ effect. IsStillThere IsNoWorse (effect c x).0 k v)
 unchanged_is_no_worse None c t x own k v there apart stay = tt
-unchanged_is_no_worse (Some effect) c t x own k v there apart stay = other_is_no_worse c (effect c x).0 t x stay own k v there apart
+unchanged_is_no_worse (Some effect) c t x own k v there apart stay =
+    other_is_no_worse c (effect c x).0 t x stay own k v there apart

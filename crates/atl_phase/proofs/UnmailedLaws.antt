@@ -43,14 +43,16 @@ use Rattle.atl_phase.proofs.PhaseOrderLaws.{orders_are_in_mailings}
 -- and its men less exactly those who starve. The phase keeps the mailings and takes back no Starved event.
 pub record LeavesUnmailed (meaning : Meaning) (keeps : Frame) : Type 0 where
   pub readings : (w : WorldValue) (c : CampaignValue) (m : MonthValue) → (meaning w c m).1.readings ≡ m.readings
-  pub starved_reported : (w : WorldValue) (c : CampaignValue) (m : MonthValue) (n : ℕ) → starved_in m.events n ≤ starved_in (meaning w c m).1.events n
+  pub starved_reported : (w : WorldValue) (c : CampaignValue) (m : MonthValue) (n : ℕ)
+      → starved_in m.events n ≤ starved_in (meaning w c m).1.events n
   pub left : (w : WorldValue) (c : CampaignValue) (m : MonthValue) → keeps w m c (meaning w c m).0 →
       Every (λ n u. get m.readings u.faction ≡ None → IsStillThere (IsLessBy (starved_in (meaning w c m).1.events n - starved_in m.events n)) (meaning w c m).0 n u) c.units
 
 -- After the phase each unit of a faction without a mailing is there, or removed if all its men starve (`IsLeft`). The
 -- phase takes back no Starved event, and may change the mailings.
 pub record ClosesUnmailed (meaning : Meaning) (keeps : Frame) : Type 0 where
-  pub starved_reported : (w : WorldValue) (c : CampaignValue) (m : MonthValue) (n : ℕ) → starved_in m.events n ≤ starved_in (meaning w c m).1.events n
+  pub starved_reported : (w : WorldValue) (c : CampaignValue) (m : MonthValue) (n : ℕ)
+      → starved_in m.events n ≤ starved_in (meaning w c m).1.events n
   -- if the phase keeps what `keeps` says, each unit of a faction without a mailing is left with those men whom the new
   -- events don't report as starved
   pub left : (w : WorldValue) (c : CampaignValue) (m : MonthValue) → keeps w m c (meaning w c m).0 →
@@ -58,7 +60,8 @@ pub record ClosesUnmailed (meaning : Meaning) (keeps : Frame) : Type 0 where
 
 -- A unit that has y - x men less after one phase, and then z - y less after the next, has z - x less (`IsLessBy`). Of
 -- its men x had starved before both phases, y by the end of the first, and z by the end of the second.
-less_twice : (x y z : ℕ) (u v t : Unit) → x ≤ y → y ≤ z → IsLessBy (y - x) u v → IsLessBy (z - y) v t → IsLessBy (z - x) u t
+less_twice : (x y z : ℕ) (u v t : Unit) → x ≤ y → y ≤ z → IsLessBy (y - x) u v → IsLessBy (z - y) v t
+    → IsLessBy (z - x) u t
 less_twice x y z u v t l k one two = record {
   faction = two.faction ∙ one.faction;
   name = two.name ∙ one.name;
@@ -79,11 +82,15 @@ some_left x y z a b l k e some = omega arith
 none_left : (x y z a b : ℕ) → x ≤ y → y ≤ z → b + (y - x) ≡ a → z - x ≡ a → z - y ≡ b
 none_left x y z a b l k e all = omega arith
 
-still_none : {first : Meaning} {early : Frame} → LeavesUnmailed first early → (w : WorldValue) (c : CampaignValue) (m : MonthValue) (f g : ℕ) → g ≡ f → get m.readings f ≡ None → get (first w c m).1.readings g ≡ None
-still_none one w c m f g same none = ap (λ (r : FinMap nat_cmp Reading). get r g) (one.readings w c m) ∙ ap (get m.readings) same ∙ none
+still_none : {first : Meaning} {early : Frame} → LeavesUnmailed first early
+    → (w : WorldValue) (c : CampaignValue) (m : MonthValue) (f g : ℕ) → g ≡ f → get m.readings f ≡ None
+    → get (first w c m).1.readings g ≡ None
+still_none one w c m f g same none =
+    ap (λ (r : FinMap nat_cmp Reading). get r g) (one.readings w c m) ∙ ap (get m.readings) same ∙ none
 
 module _ {first second : Meaning} {early late : Frame} where
-  pub both_leave : LeavesUnmailed first early → LeavesUnmailed second late → LeavesUnmailed (then_also first second) (both_keep first early late)
+  pub both_leave : LeavesUnmailed first early → LeavesUnmailed second late
+      → LeavesUnmailed (then_also first second) (both_keep first early late)
   both_leave one two = record {
     readings = λ w c m. two.readings w (first w c m).0 (first w c m).1 ∙ one.readings w c m;
     starved_reported = λ w c m n. omega (arith, one.starved_reported w c m n, two.starved_reported w (first w c m).0 (first w c m).1 n);
@@ -96,7 +103,8 @@ module _ {first second : Meaning} {early late : Frame} where
 
   -- A phase of `LeavesUnmailed` and then one of `ClosesUnmailed` together do as `ClosesUnmailed` says. They leave units
   -- of factions without a mailing their items, and their men less the starved.
-  pub then_closes : LeavesUnmailed first early → ClosesUnmailed second late → ClosesUnmailed (then_also first second) (both_keep first early late)
+  pub then_closes : LeavesUnmailed first early → ClosesUnmailed second late
+      → ClosesUnmailed (then_also first second) (both_keep first early late)
   then_closes one two = record {
     starved_reported = λ w c m n. omega (arith, one.starved_reported w c m n, two.starved_reported w (first w c m).0 (first w c m).1 n);
     left = λ w c m keeps n u there none.
@@ -135,9 +143,11 @@ men_twice a b c one two n u there =
     record { unit = y.unit; there = y.there; is_unaffected = record { faction = y.is_unaffected.faction ∙ x.is_unaffected.faction; men = y.is_unaffected.men ∙ x.is_unaffected.men } }
 
 pub men_same : (c d : CampaignValue) → d.units ≡ c.units → HaveTheirMen c d
-men_same c d same n u there = record { unit = u; there = ap (λ (m : FinMap nat_cmp Unit). get m n) same ∙ there; is_unaffected = record { faction = refl; men = refl } }
+men_same c d same n u there =
+    record { unit = u; there = ap (λ (m : FinMap nat_cmp Unit). get m n) same ∙ there; is_unaffected = record { faction = refl; men = refl } }
 
-pub men_changed : (f : Unit → Unit) → ((u : Unit) → HasItsMen u (f u)) → (c d : CampaignValue) (k : ℕ) → d.units ≡ with_changed_value f c.units k → HaveTheirMen c d
+pub men_changed : (f : Unit → Unit) → ((u : Unit) → HasItsMen u (f u)) → (c d : CampaignValue) (k : ℕ)
+    → d.units ≡ with_changed_value f c.units k → HaveTheirMen c d
 men_changed f stay c d k same n u there =
     record { unit = at_number f c.units k n u; there = ap (λ (m : FinMap nat_cmp Unit). get m n) same ∙ get-changed f c.units k n ∙ ap (option_map (at_number f c.units k n)) there; is_unaffected = by_number (n == k) }
   where
@@ -145,7 +155,8 @@ men_changed f stay c d k same n u there =
     by_number true = stay u
     by_number false = record { faction = refl; men = refl }
 
-pub men_put : (c d : CampaignValue) (k : ℕ) (v x : Unit) → get c.units k ≡ Some v → HasItsMen v x → d.units ≡ insert c.units k x → HaveTheirMen c d
+pub men_put : (c d : CampaignValue) (k : ℕ) (v x : Unit) → get c.units k ≡ Some v → HasItsMen v x
+    → d.units ≡ insert c.units k x → HaveTheirMen c d
 men_put c d k v x here stay same n u there = elim (cases_eq n k) [
   | inl own ↦
       let unit : v ≡ u = same_Some _ _ (sym here ∙ ap (get c.units) (sym own) ∙ there) in
@@ -154,11 +165,15 @@ men_put c d k v x here stay same n u there = elim (cases_eq n k) [
       record { unit = u; there = ap (λ (m : FinMap nat_cmp Unit). get m n) same ∙ get-insert_other c.units k n x apart ∙ there; is_unaffected = record { faction = refl; men = refl } }
 ]
 
-pub men_in_turn : {X : Type 0} (step : CampaignValue → X → CampaignValue) → ((c : CampaignValue) (x : X) → HaveTheirMen c (step c x)) → (c : CampaignValue) (xs : List X) → HaveTheirMen c (fold step c xs)
+pub men_in_turn : {X : Type 0} (step : CampaignValue → X → CampaignValue)
+    → ((c : CampaignValue) (x : X) → HaveTheirMen c (step c x)) → (c : CampaignValue) (xs : List X)
+    → HaveTheirMen c (fold step c xs)
 men_in_turn step each c [] = men_stay c
-men_in_turn step each c (x ∷ xs) = men_twice c (step c x) (fold step (step c x) xs) (each c x) (men_in_turn step each (step c x) xs)
+men_in_turn step each c (x ∷ xs) =
+    men_twice c (step c x) (fold step (step c x) xs) (each c x) (men_in_turn step each (step c x) xs)
 
-pub men_unless : (c d : CampaignValue) (o : Outcome) (fault : Option EventFault) → HaveTheirMen c d → HaveTheirMen c (unless c fault (d, o)).0
+pub men_unless : (c d : CampaignValue) (o : Outcome) (fault : Option EventFault) → HaveTheirMen c d
+    → HaveTheirMen c (unless c fault (d, o)).0
 men_unless c d o (Some fault) h = men_stay c
 men_unless c d o None h = h
 
@@ -166,7 +181,9 @@ flag_men : (flag : Bool) (u : Unit) → HasItsMen u (record u { holding = record
 flag_men flag u = record { faction = refl; men = refl }
 
 pub guard_men : (c : CampaignValue) (n : ℕ) (flag : Bool) → HaveTheirMen c (with_guard c n flag)
-guard_men c n flag = men_changed (λ u. record u { holding = record u.holding { guard = flag } }) (flag_men flag) c (with_guard c n flag) n refl
+guard_men c n flag =
+    men_changed (λ u. record u { holding = record u.holding { guard = flag } }) (flag_men flag) c (with_guard c n flag)
+    n refl
 
 pub place_men : (c : CampaignValue) (n r s : ℕ) → HaveTheirMen c (with_place c n r s)
 place_men c n r s =
@@ -185,10 +202,12 @@ items_of_no_worse u v h = record { name = h.name; items = h.items }
 -- each unit whose faction sent no mailing is in the campaign after, and `unaffected` relates what it was to what it is
 -- then
 abbrev pub UnmailedAre : Unaffected → MonthValue → CampaignValue → CampaignValue → Type 0
-UnmailedAre unaffected m before after = Every (λ n u. get m.readings u.faction ≡ None → IsStillThere unaffected after n u) before.units
+UnmailedAre unaffected m before after =
+    Every (λ n u. get m.readings u.faction ≡ None → IsStillThere unaffected after n u) before.units
 
 none_less : (x y : ℕ) (u v : Unit) → y ≡ x → HasItsMen u v → HasItsItems u v → IsLessBy (y - x) u v
-none_less x y u v same men items = record { faction = men.faction; name = items.name; men = nobody u.holding.men v.holding.men men.men; items = items.items }
+none_less x y u v same men items =
+    record { faction = men.faction; name = items.name; men = nobody u.holding.men v.holding.men men.men; items = items.items }
   where
     nobody : (a b : ℕ) → b ≡ a → b + (y - x) ≡ a
     nobody a b e = omega (arith, same)
@@ -212,14 +231,17 @@ module _ {meaning : Meaning} {keeps : Frame} (readings : (w : WorldValue) (c : C
 
 -- ---- a phase whose orders are carried out one by one
 
-pub none_ordered : (is_of : Verb → Bool) (arrangement : Arrangement) (m : MonthValue) (f : ℕ) → get m.readings f ≡ None → All (λ t. t.faction ≢ f) (orders_of is_of arrangement m.aliases m.readings)
+pub none_ordered : (is_of : Verb → Bool) (arrangement : Arrangement) (m : MonthValue) (f : ℕ) → get m.readings f ≡ None
+    → All (λ t. t.faction ≢ f) (orders_of is_of arrangement m.aliases m.readings)
 none_ordered is_of arrangement m f none k d l same =
     let h = orders_are_in_mailings is_of arrangement m.aliases m.readings k d l in
     none_some h.reading (sym none ∙ ap (get m.readings) (sym same) ∙ h.of_faction)
 
-pub order_event_starves_none : (events : List Event) (t : Task) (outcome : Outcome) (n : ℕ) → starved_in (events ++ event_for t outcome ∷ []) n ≡ starved_in events n
+pub order_event_starves_none : (events : List Event) (t : Task) (outcome : Outcome) (n : ℕ)
+    → starved_in (events ++ event_for t outcome ∷ []) n ≡ starved_in events n
 order_event_starves_none events t outcome n =
-    sum_by_push (λ (e : Event). if e.unit == n then men_starved_by e.verb e.outcome else 0) events (event_for t outcome) ∙ by_unit (t.unit == n) (starved_in events n)
+    sum_by_push (λ (e : Event). if e.unit == n then men_starved_by e.verb e.outcome else 0) events (event_for t outcome)
+    ∙ by_unit (t.unit == n) (starved_in events n)
   where
     by_unit : (b : Bool) (x : ℕ) → x + (if b then 0 else 0) ≡ x
     by_unit true x = omega arith
@@ -235,13 +257,20 @@ others_men f c d men n u there other = men n u there
 
 -- the effect of each order leaves every unit of another faction than the order's writer its men (`OthersHaveMen`)
 abbrev pub LeavesOthersMen : OrderMeaning → Type 0
-LeavesOthersMen step = (w : WorldValue) (a : Aliases) (c : CampaignValue) (t : Task) (x : Unit) → IsUnitOf c t x → IfSome (step w a t) (λ effect. OthersHaveMen t.faction c (effect c x).0)
+LeavesOthersMen step =
+    (w : WorldValue) (a : Aliases) (c : CampaignValue) (t : Task) (x : Unit) → IsUnitOf c t x → IfSome (step w a t)
+    (λ effect. OthersHaveMen t.faction c (effect c x).0)
 
 module _ (step : OrderMeaning) where
-  order_leaves_men : LeavesOthersMen step → (w : WorldValue) (a : Aliases) (c : CampaignValue) (t : Task) → OthersHaveMen t.faction c (order_result (step w a t) c t.faction t.unit).0
-  order_leaves_men unaffected w a c t = ordered_cases (OthersHaveMen t.faction c) (step w a t) c t (others_men t.faction c c (men_stay c)) (λ x own. unaffected w a c t x own)
+  order_leaves_men : LeavesOthersMen step → (w : WorldValue) (a : Aliases) (c : CampaignValue) (t : Task)
+      → OthersHaveMen t.faction c (order_result (step w a t) c t.faction t.unit).0
+  order_leaves_men unaffected w a c t =
+      ordered_cases (OthersHaveMen t.faction c) (step w a t) c t (others_men t.faction c c (men_stay c))
+      (λ x own. unaffected w a c t x own)
 
-  orders_leave_men : LeavesOthersMen step → (w : WorldValue) (c : CampaignValue) (m : MonthValue) (ts : List Task) → (n : ℕ) (u : Unit) → get c.units n ≡ Some u → AllByRecursion (λ t. t.faction ≢ u.faction) ts → IsStillThere HasItsMen (fold (one_order step w) (c, m) ts).0 n u
+  orders_leave_men : LeavesOthersMen step → (w : WorldValue) (c : CampaignValue) (m : MonthValue) (ts : List Task)
+      → (n : ℕ) (u : Unit) → get c.units n ≡ Some u → AllByRecursion (λ t. t.faction ≢ u.faction) ts
+      → IsStillThere HasItsMen (fold (one_order step w) (c, m) ts).0 n u
   orders_leave_men unaffected w c m [] n u there others = men_stay c n u there
   orders_leave_men unaffected w c m (t ∷ ts) n u there others =
       let next = one_order step w (c, m) t in
@@ -249,31 +278,37 @@ module _ (step : OrderMeaning) where
       let two = orders_leave_men unaffected w next.0 next.1 ts n one.unit one.there (subst (λ f. AllByRecursion (λ t. t.faction ≢ f) ts) (sym one.is_unaffected.faction) others.1) in
       record { unit = two.unit; there = two.there; is_unaffected = record { faction = two.is_unaffected.faction ∙ one.is_unaffected.faction; men = two.is_unaffected.men ∙ one.is_unaffected.men } }
 
-  orders_readings : (w : WorldValue) (p : CampaignValue × MonthValue) (ts : List Task) → (fold (one_order step w) p ts).1.readings ≡ p.1.readings
+  orders_readings : (w : WorldValue) (p : CampaignValue × MonthValue) (ts : List Task)
+      → (fold (one_order step w) p ts).1.readings ≡ p.1.readings
   orders_readings w p [] = refl
   orders_readings w p (t ∷ ts) = orders_readings w (one_order step w p t) ts ∙ order_readings step w p t
 
-  order_starves_none : (w : WorldValue) (p : CampaignValue × MonthValue) (t : Task) (n : ℕ) → starved_in (one_order step w p t).1.events n ≡ starved_in p.1.events n
+  order_starves_none : (w : WorldValue) (p : CampaignValue × MonthValue) (t : Task) (n : ℕ)
+      → starved_in (one_order step w p t).1.events n ≡ starved_in p.1.events n
   order_starves_none w p t n = by_outcome (order_result (step w p.1.aliases t) p.0 t.faction t.unit).1
     where
       by_outcome : (o : Option Outcome) → starved_in (with_event_of p.1 t o).events n ≡ starved_in p.1.events n
       by_outcome None = refl
       by_outcome (Some outcome) = order_event_starves_none p.1.events t outcome n
 
-  orders_starve_none : (w : WorldValue) (p : CampaignValue × MonthValue) (ts : List Task) (n : ℕ) → starved_in (fold (one_order step w) p ts).1.events n ≡ starved_in p.1.events n
+  orders_starve_none : (w : WorldValue) (p : CampaignValue × MonthValue) (ts : List Task) (n : ℕ)
+      → starved_in (fold (one_order step w) p ts).1.events n ≡ starved_in p.1.events n
   orders_starve_none w p [] n = refl
   orders_starve_none w p (t ∷ ts) n = orders_starve_none w (one_order step w p t) ts n ∙ order_starves_none w p t n
 
   module _ (is_of : Verb → Bool) where
-    pub carried_readings : (w : WorldValue) (c : CampaignValue) (m : MonthValue) → (meaning_by_orders step is_of w c m).1.readings ≡ m.readings
+    pub carried_readings : (w : WorldValue) (c : CampaignValue) (m : MonthValue)
+        → (meaning_by_orders step is_of w c m).1.readings ≡ m.readings
     unfolding meaning_by_orders
     carried_readings w c m = orders_readings w (c, m) (orders_of is_of ByUnit m.aliases m.readings)
 
-    pub carried_starve_none : (w : WorldValue) (c : CampaignValue) (m : MonthValue) (n : ℕ) → starved_in (meaning_by_orders step is_of w c m).1.events n ≡ starved_in m.events n
+    pub carried_starve_none : (w : WorldValue) (c : CampaignValue) (m : MonthValue) (n : ℕ)
+        → starved_in (meaning_by_orders step is_of w c m).1.events n ≡ starved_in m.events n
     unfolding meaning_by_orders
     carried_starve_none w c m n = orders_starve_none w (c, m) (orders_of is_of ByUnit m.aliases m.readings) n
 
-    pub carried_men : LeavesOthersMen step → (w : WorldValue) (c : CampaignValue) (m : MonthValue) → UnmailedAre HasItsMen m c (meaning_by_orders step is_of w c m).0
+    pub carried_men : LeavesOthersMen step → (w : WorldValue) (c : CampaignValue) (m : MonthValue)
+        → UnmailedAre HasItsMen m c (meaning_by_orders step is_of w c m).0
     unfolding meaning_by_orders
     carried_men unaffected w c m n u there none =
         let ts = orders_of is_of ByUnit m.aliases m.readings in
@@ -282,7 +317,9 @@ module _ (step : OrderMeaning) where
     -- A phase that carries out its orders one by one leaves units of factions without a mailing their items, and their
     -- men less the starved (`LeavesUnmailed`). For this each order must leave units of other factions their men
     -- (`LeavesOthersMen`), and units of factions without a mailing must keep their items.
-    pub carried_leaves : {keeps : Frame} → LeavesOthersMen step → ((w : WorldValue) (c d : CampaignValue) (m : MonthValue) → keeps w m c d → UnmailedAre HasItsItems m c d) → LeavesUnmailed (meaning_by_orders step is_of) keeps
+    pub carried_leaves : {keeps : Frame} → LeavesOthersMen step
+        → ((w : WorldValue) (c d : CampaignValue) (m : MonthValue) → keeps w m c d → UnmailedAre HasItsItems m c d)
+        → LeavesUnmailed (meaning_by_orders step is_of) keeps
     carried_leaves {keeps} unaffected items =
         whole_leaves {meaning = meaning_by_orders step is_of} {keeps = keeps} carried_readings carried_starve_none
         (λ w c m h. carried_men unaffected w c m) (λ w c m h. items w c (meaning_by_orders step is_of w c m).0 m h)
@@ -292,8 +329,10 @@ own_faction t n f h = h.faction
 
 -- A phase that leaves alone the units which no order affects leaves units of factions without a mailing their items.
 -- For this only orders of a unit's own faction may affect the unit, and an unaffected unit must keep its items.
-pub unmailed_keep_items : {affects : Affects} {unaffected : Unaffected} (is_of : Verb → Bool) → ((t : Task) (n f : ℕ) → affects t n f → t.faction ≡ f) → ((u v : Unit) → unaffected u v → HasItsItems u v)
-    → (w : WorldValue) (c d : CampaignValue) (m : MonthValue) → others_unaffected affects unaffected is_of w m c d → UnmailedAre HasItsItems m c d
+pub unmailed_keep_items : {affects : Affects} {unaffected : Unaffected} (is_of : Verb → Bool)
+    → ((t : Task) (n f : ℕ) → affects t n f → t.faction ≡ f) → ((u v : Unit) → unaffected u v → HasItsItems u v)
+    → (w : WorldValue) (c d : CampaignValue) (m : MonthValue) → others_unaffected affects unaffected is_of w m c d
+    → UnmailedAre HasItsItems m c d
 unmailed_keep_items {affects} {unaffected} is_of own items w c d m h n u there none =
     let others = none_ordered is_of ByUnit m u.faction none in
     let one = h n u there (λ k e l concerned. others k e l (own _ n u.faction concerned)) in

@@ -18,40 +18,56 @@ none_passes p (e ∷ es) h = by_test (p e) h (none_passes p es)
     by_test true h rest = absurd (false≢true (sym h))
     by_test false h rest = rest h
 
-some_passes : (p : Event → Bool) (es : List Event) → list_any p es ≡ true → results_text [] (filter p es) ≡ event_lines (filter p es)
+some_passes : (p : Event → Bool) (es : List Event) → list_any p es ≡ true
+    → results_text [] (filter p es) ≡ event_lines (filter p es)
 some_passes p [] h = absurd (false≢true h)
 some_passes p (e ∷ es) h = by_test (p e) h (some_passes p es)
   where
-    by_test : (t : Bool) → (t || list_any p es) ≡ true → (list_any p es ≡ true → results_text [] (filter p es) ≡ event_lines (filter p es)) → results_text [] (cond t (e ∷ filter p es) (filter p es)) ≡ event_lines (cond t (e ∷ filter p es) (filter p es))
+    by_test : (t : Bool) → (t || list_any p es) ≡ true
+        → (list_any p es ≡ true → results_text [] (filter p es) ≡ event_lines (filter p es))
+        → results_text [] (cond t (e ∷ filter p es) (filter p es))
+        ≡ event_lines (cond t (e ∷ filter p es) (filter p es))
     by_test true h rest = refl
     by_test false h rest = rest h
 
 some_length : (f : FaultyLine) (fs : List FaultyLine) → (length (f ∷ fs) == 0) ≡ false
 some_length f fs = grind (arith, nat_tests)
 
-pub results_none : (faction : ℕ) (faults : List FaultyLine) (events : List Event) → ((length faults == 0) && not (list_any (λ (e : Event). e.faction == faction) events)) ≡ true
+pub results_none : (faction : ℕ) (faults : List FaultyLine) (events : List Event)
+    → ((length faults == 0) && not (list_any (λ (e : Event). e.faction == faction) events)) ≡ true
     → results_text faults (own_events faction events) ≡ codes "None.\n"
-results_none faction (f ∷ fs) events h = absurd (false≢true (sym (ap (λ b. b && not (list_any (λ (e : Event). e.faction == faction) events)) (some_length f fs)) ∙ h))
-results_none faction [] events h = by_test (list_any (λ (e : Event). e.faction == faction) events) h (none_passes (λ (e : Event). e.faction == faction) events)
+results_none faction (f ∷ fs) events h =
+    absurd
+    (false≢true (sym (ap (λ b. b && not (list_any (λ (e : Event). e.faction == faction) events)) (some_length f fs)) ∙ h))
+results_none faction [] events h =
+    by_test (list_any (λ (e : Event). e.faction == faction) events) h
+    (none_passes (λ (e : Event). e.faction == faction) events)
   where
     by_test : (t : Bool) → not t ≡ true → (t ≡ false → results_text [] (own_events faction events) ≡ codes "None.\n") → results_text [] (own_events faction events) ≡ codes "None.\n"
     by_test true h rest = absurd (false≢true h)
     by_test false h rest = rest refl
 
-pub results_lines : (faction : ℕ) (faults : List FaultyLine) (events : List Event) → ((length faults == 0) && not (list_any (λ (e : Event). e.faction == faction) events)) ≡ false
+pub results_lines : (faction : ℕ) (faults : List FaultyLine) (events : List Event)
+    → ((length faults == 0) && not (list_any (λ (e : Event). e.faction == faction) events)) ≡ false
     → results_text faults (own_events faction events) ≡ faulty_lines faults ++ event_lines (own_events faction events)
 results_lines faction (f ∷ fs) events h = refl
-results_lines faction [] events h = by_test (list_any (λ (e : Event). e.faction == faction) events) h (some_passes (λ (e : Event). e.faction == faction) events)
+results_lines faction [] events h =
+    by_test (list_any (λ (e : Event). e.faction == faction) events) h
+    (some_passes (λ (e : Event). e.faction == faction) events)
   where
-    by_test : (t : Bool) → not t ≡ false → (t ≡ true → results_text [] (own_events faction events) ≡ event_lines (own_events faction events)) → results_text [] (own_events faction events) ≡ event_lines (own_events faction events)
+    by_test : (t : Bool) → not t ≡ false
+        → (t ≡ true → results_text [] (own_events faction events) ≡ event_lines (own_events faction events))
+        → results_text [] (own_events faction events) ≡ event_lines (own_events faction events)
     by_test true h rest = rest refl
     by_test false h rest = absurd (false≢true (sym h))
 
 pub others_events_are_not_reported : OthersEventsAreNotReported
 unfolding report_of orders_part
-others_events_are_not_reported w v faults events others h = ap (λ own. header_line v ++ ((codes "Orders:\n" ++ results_text faults own) ++ region_parts w v.regions)) h
+others_events_are_not_reported w v faults events others h =
+    ap (λ own. header_line v ++ ((codes "Orders:\n" ++ results_text faults own) ++ region_parts w v.regions)) h
 
 pub only_what_is_seen_is_reported : OnlyWhatIsSeenIsReported
 unfolding view_of
 only_what_is_seen_is_reported w c d faction faults events others seen results_text =
-    others_events_are_not_reported w (view_of w c faction) faults events others results_text ∙ ap (λ v. report_of w v faults others) seen
+    others_events_are_not_reported w (view_of w c faction) faults events others results_text
+    ∙ ap (λ v. report_of w v faults others) seen

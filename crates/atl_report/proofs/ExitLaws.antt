@@ -10,7 +10,8 @@ use Rattle.atl_report.specs.Report.{exit_text, exit_texts, joined_or_none}
 
 -- an exit as it is written: direction and number, after a comma unless it is the first; nothing without an exit
 abbrev pub exit_as_written : (is_first : Bool) → (direction : List ℕ) → Option ℕ → List ℕ
-exit_as_written is_first direction exit = option_map_or (λ to. (if is_first then [] else codes ", ") ++ exit_text direction to) exit []
+exit_as_written is_first direction exit =
+    option_map_or (λ to. (if is_first then [] else codes ", ") ++ exit_text direction to) exit []
 
 abbrev after_commas : List (List ℕ) → List ℕ
 after_commas texts = each_text (λ t. codes ", " ++ t) texts
@@ -25,8 +26,10 @@ later_exit_is_written : (direction : List ℕ) (exit : Option ℕ) (texts : List
 later_exit_is_written direction None texts = refl
 later_exit_is_written direction (Some to) texts = refl
 
-last_exit_is_written : (direction : List ℕ) (exit : Option ℕ) → after_commas (with_exit direction exit []) ≡ exit_as_written false direction exit
-last_exit_is_written direction exit = later_exit_is_written direction exit [] ∙ append-nil (exit_as_written false direction exit)
+last_exit_is_written : (direction : List ℕ) (exit : Option ℕ)
+    → after_commas (with_exit direction exit []) ≡ exit_as_written false direction exit
+last_exit_is_written direction exit =
+    later_exit_is_written direction exit [] ∙ append-nil (exit_as_written false direction exit)
 
 four_exits_are_joined : (north south east west : Option ℕ) →
     separated_texts (codes ", ") (with_exit (codes "north") north (with_exit (codes "south") south (with_exit (codes "east") east (with_exit (codes "west") west []))))
@@ -43,7 +46,8 @@ four_exits_are_joined None (Some s) e w =
     let to_east = ap (λ l. exit_as_written false (codes "east") e ++ l) (last_exit_is_written (codes "west") w) in
     let east = later_exit_is_written (codes "east") e (with_exit (codes "west") w []) ∙ to_east in
     ap (λ l. exit_text (codes "south") s ++ l) east
-four_exits_are_joined None None (Some e) w = ap (λ l. exit_text (codes "east") e ++ l) (last_exit_is_written (codes "west") w)
+four_exits_are_joined None None (Some e) w =
+    ap (λ l. exit_text (codes "east") e ++ l) (last_exit_is_written (codes "west") w)
 four_exits_are_joined None None None (Some w) = append-nil (exit_text (codes "west") w)
 four_exits_are_joined None None None None = refl
 

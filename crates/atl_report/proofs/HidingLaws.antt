@@ -43,7 +43,8 @@ same_truth false true f g = g refl
 same_truth false false f g = refl
 
 -- the first number of a list, or a later one, is listed: for `listed_if`
-listed_cons : (q n : ℕ) (ns : List ℕ) (b : Bool) → eq_by_cmp nat_cmp q n ≡ b → (is_listed q ns ≡ true → IsListed q ns) → (b || is_listed q ns) ≡ true → IsListed q (n ∷ ns)
+listed_cons : (q n : ℕ) (ns : List ℕ) (b : Bool) → eq_by_cmp nat_cmp q n ≡ b → (is_listed q ns ≡ true → IsListed q ns)
+    → (b || is_listed q ns) ≡ true → IsListed q (n ∷ ns)
 listed_cons q n ns true is rest h = inl (same_key q n is)
 listed_cons q n ns false is rest h = inr (rest h)
 
@@ -55,14 +56,19 @@ listed_if q (n ∷ ns) h = listed_cons q n ns (eq_by_cmp nat_cmp q n) refl (list
 -- a number on a list passes the test `is_listed`
 if_listed : (q : ℕ) (ns : List ℕ) → IsListed q ns → is_listed q ns ≡ true
 if_listed q [] h = absurd h
-if_listed q (n ∷ ns) (inl same) = ap (λ k. eq_by_cmp nat_cmp q k || is_listed q ns) (sym same) ∙ ap (λ b. b || is_listed q ns) (key_itself q)
+if_listed q (n ∷ ns) (inl same) =
+    ap (λ k. eq_by_cmp nat_cmp q k || is_listed q ns) (sym same) ∙ ap (λ b. b || is_listed q ns) (key_itself q)
 if_listed q (n ∷ ns) (inr rest) = or_right (eq_by_cmp nat_cmp q n) (is_listed q ns) (if_listed q ns rest)
 
 -- a number of a list passes the test `p`, if it is the number `q` for which this is known: for `listed-filter`
-filtered : (p : ℕ → Bool) (q n : ℕ) (ns : List ℕ) (b t : Bool) → eq_by_cmp nat_cmp q n ≡ b → p n ≡ t → is_listed q (filter p ns) ≡ (p q && is_listed q ns)
+filtered : (p : ℕ → Bool) (q n : ℕ) (ns : List ℕ) (b t : Bool) → eq_by_cmp nat_cmp q n ≡ b → p n ≡ t
+    → is_listed q (filter p ns) ≡ (p q && is_listed q ns)
     → is_listed q (cond t (n ∷ filter p ns) (filter p ns)) ≡ (p q && (b || is_listed q ns))
-filtered p q n ns true true is t rest = ap (λ b. b || is_listed q (filter p ns)) is ∙ sym (ap (λ b. b && true) (ap p (same_key q n is) ∙ t))
-filtered p q n ns true false is t rest = rest ∙ ap (λ b. b && is_listed q ns) (ap p (same_key q n is) ∙ t) ∙ sym (ap (λ b. b && true) (ap p (same_key q n is) ∙ t))
+filtered p q n ns true true is t rest =
+    ap (λ b. b || is_listed q (filter p ns)) is ∙ sym (ap (λ b. b && true) (ap p (same_key q n is) ∙ t))
+filtered p q n ns true false is t rest =
+    rest ∙ ap (λ b. b && is_listed q ns) (ap p (same_key q n is) ∙ t)
+    ∙ sym (ap (λ b. b && true) (ap p (same_key q n is) ∙ t))
 filtered p q n ns false true is t rest = ap (λ b. b || is_listed q (filter p ns)) is ∙ rest
 filtered p q n ns false false is t rest = rest
 
@@ -90,19 +96,23 @@ module _ {V : Type 0} (p : V → Bool) (m : FinMap nat_cmp V) (q : ℕ) where
 
   -- a number is on the list of those whose values pass exactly if it has a value that passes
   listed-where : is_listed q (numbers_where p m) ≡ option_map_or p (get m q) false
-  listed-where = same_truth (is_listed q (numbers_where p m)) (option_map_or p (get m q) false) (passes (get m q) refl) (passed (get m q) refl)
+  listed-where =
+      same_truth (is_listed q (numbers_where p m)) (option_map_or p (get m q) false) (passes (get m q) refl)
+      (passed (get m q) refl)
 
 -- ---- the numbers gathered
 
 -- to look for one number among two gives the same, one after the other or at once: for `get-with_numbers`
-one_or_other : (a b : Bool) (o : Option (Prim.Unit {0})) → cond a (Some tt) (cond b (Some tt) o) ≡ cond (b || a) (Some tt) o
+one_or_other : (a b : Bool) (o : Option (Prim.Unit {0}))
+    → cond a (Some tt) (cond b (Some tt) o) ≡ cond (b || a) (Some tt) o
 one_or_other true true o = refl
 one_or_other true false o = refl
 one_or_other false true o = refl
 one_or_other false false o = refl
 
 -- a set with the numbers of a list added has those of the list and its own
-get-with_numbers : (q : ℕ) (ns : List ℕ) (seen : FinMap nat_cmp (Prim.Unit {0})) → get (with_numbers seen ns) q ≡ cond (is_listed q ns) (Some tt) (get seen q)
+get-with_numbers : (q : ℕ) (ns : List ℕ) (seen : FinMap nat_cmp (Prim.Unit {0}))
+    → get (with_numbers seen ns) q ≡ cond (is_listed q ns) (Some tt) (get seen q)
 get-with_numbers q [] seen = refl
 get-with_numbers q (n ∷ ns) seen =
     get-with_numbers q ns (insert seen n tt)
@@ -114,14 +124,19 @@ abbrev is_within : ℕ → ℕ → List (ℕ × List ℕ) → Bool
 is_within q observation es = list_any (λ e. nat_le e.0 observation && is_listed q e.1) es
 
 -- a set with the numbers of a list added, if its level is at most the given one, has those and its own
-get-with_level : (q observation : ℕ) (seen : FinMap nat_cmp (Prim.Unit {0})) (level : ℕ) (ns : List ℕ) → get (with_level observation seen level ns) q ≡ cond (nat_le level observation && is_listed q ns) (Some tt) (get seen q)
-get-with_level q observation seen level ns = elim (nat_le level observation) as (λ b. get (cond b (with_numbers seen ns) seen) q ≡ cond (b && is_listed q ns) (Some tt) (get seen q)) [
-  | true ↦ get-with_numbers q ns seen
-  | false ↦ refl
-]
+get-with_level : (q observation : ℕ) (seen : FinMap nat_cmp (Prim.Unit {0})) (level : ℕ) (ns : List ℕ)
+    → get (with_level observation seen level ns) q
+    ≡ cond (nat_le level observation && is_listed q ns) (Some tt) (get seen q)
+get-with_level q observation seen level ns =
+    elim (nat_le level observation) as
+    (λ b. get (cond b (with_numbers seen ns) seen) q ≡ cond (b && is_listed q ns) (Some tt) (get seen q)) [
+      | true ↦ get-with_numbers q ns seen
+      | false ↦ refl
+    ]
 
 -- a set with the numbers of those lists added whose level is at most the given one has those and its own
-get-with_levels : (q observation : ℕ) (es : List (ℕ × List ℕ)) (seen : FinMap nat_cmp (Prim.Unit {0})) → get (with_levels observation seen es) q ≡ cond (is_within q observation es) (Some tt) (get seen q)
+get-with_levels : (q observation : ℕ) (es : List (ℕ × List ℕ)) (seen : FinMap nat_cmp (Prim.Unit {0}))
+    → get (with_levels observation seen es) q ≡ cond (is_within q observation es) (Some tt) (get seen q)
 get-with_levels q observation [] seen = refl
 get-with_levels q observation (e ∷ es) seen =
     get-with_levels q observation es (with_level observation seen e.0 e.1)
@@ -132,7 +147,8 @@ get-with_levels q observation (e ∷ es) seen =
 
 module _ (q observation hides : ℕ) (here : Bool) where
   -- for `within_one`: the first list, or the later ones
-  first_or_later : (level : ℕ) (ns : List ℕ) (b found : Bool) → eq_by_cmp nat_cmp hides level ≡ b → is_listed q ns ≡ ((hides == level) && here)
+  first_or_later : (level : ℕ) (ns : List ℕ) (b found : Bool) → eq_by_cmp nat_cmp hides level ≡ b
+      → is_listed q ns ≡ ((hides == level) && here)
       → ((nat_le level observation && is_listed q ns) || (nat_le hides observation && (here && found))) ≡ (nat_le hides observation && (here && (b || found)))
   first_or_later level ns true found is listed =
       let same : (hides == level) ≡ true = ap (λ k. hides == k) (sym (same_key hides level is)) ∙ equal_itself hides in
@@ -172,16 +188,17 @@ module _ (q observation hides : ℕ) (here : Bool) where
       chosen false ns o = refl
 
   -- the list of the level at which the number hides is there, if the number is on it
-  has_list : (levels : FinMap nat_cmp (List ℕ)) (o : Option (List ℕ)) → get levels hides ≡ o → is_listed q (list_of levels hides) ≡ ((hides == hides) && here) → (here && is_some o) ≡ here
+  has_list : (levels : FinMap nat_cmp (List ℕ)) (o : Option (List ℕ)) → get levels hides ≡ o
+      → is_listed q (list_of levels hides) ≡ ((hides == hides) && here) → (here && is_some o) ≡ here
   has_list levels (Some ns) is listed = and-true here
-
   has_list levels None is listed =
       let empty_list : is_listed q (list_of levels hides) ≡ false = ap (λ o. is_listed q (unwrap_or o [])) is in
       let nowhere : here ≡ false = sym (ap (λ b. b && here) (equal_itself hides)) ∙ sym listed ∙ empty_list in
       and-false here ∙ sym nowhere
 
 -- a number that is on no list is on none up to a level of observation
-none_within : (q observation : ℕ) (es : List (ℕ × List ℕ)) → EachEntry (λ level ns. is_listed q ns ≡ false) es → is_within q observation es ≡ false
+none_within : (q observation : ℕ) (es : List (ℕ × List ℕ)) → EachEntry (λ level ns. is_listed q ns ≡ false) es
+    → is_within q observation es ≡ false
 none_within q observation [] h = refl
 none_within q observation (e ∷ es) h =
     ap (λ b. (nat_le e.0 observation && b) || is_within q observation es) h.0
@@ -189,7 +206,8 @@ none_within q observation (e ∷ es) h =
     ∙ none_within q observation es h.1
 
 -- a unit's hiding level is at most a level of observation exactly if it guards, or its level of stealth is at most that
-hidden_or_not : (g : Bool) (stealth observation : ℕ) → nat_le (cond g 0 stealth) observation ≡ (g || nat_le stealth observation)
+hidden_or_not : (g : Bool) (stealth observation : ℕ)
+    → nat_le (cond g 0 stealth) observation ≡ (g || nat_le stealth observation)
 hidden_or_not true stealth observation = grind (arith, nat_tests)
 hidden_or_not false stealth observation = refl
 
@@ -212,14 +230,17 @@ module _ (w : WorldValue) (c : CampaignValue) (watch : Watch) (levels : FinMap n
   seen_at n = is_seen_there w watch (get c.units n)
 
   -- a number is on a level's list exactly if its unit has this hiding level and is in the region
-  listed_at : (q level : ℕ) → is_listed q (list_of levels level) ≡ (hides_at w level (get c.units q) && is_in watch.region (get c.units q))
+  listed_at : (q level : ℕ)
+      → is_listed q (list_of levels level) ≡ (hides_at w level (get c.units q) && is_in watch.region (get c.units q))
   listed_at q level =
       ap (is_listed q) (are level)
       ∙ listed-filter (λ n. hides_at w level (get c.units n)) q (numbers_in_region watch.region c.units)
       ∙ ap (λ b. hides_at w level (get c.units q) && b) (listed-where (λ (u : Unit). u.region == watch.region) c.units q)
 
   -- a number is on the faction's list exactly if its unit is in the region and the faction's
-  listed_own : (q : ℕ) → is_listed q (own_units_in c watch.faction watch.region) ≡ (is_in watch.region (get c.units q) && option_map_or (λ u. u.faction == watch.faction) (get c.units q) false)
+  listed_own : (q : ℕ)
+      → is_listed q (own_units_in c watch.faction watch.region)
+      ≡ (is_in watch.region (get c.units q) && option_map_or (λ u. u.faction == watch.faction) (get c.units q) false)
   listed_own q =
       listed-filter (λ n. is_in watch.region (get c.units n)) q (numbers_of_faction watch.faction c.units)
       ∙ ap (λ b. is_in watch.region (get c.units q) && b) (listed-where (λ (u : Unit). u.faction == watch.faction) c.units q)
@@ -249,7 +270,8 @@ module _ (w : WorldValue) (c : CampaignValue) (watch : Watch) (levels : FinMap n
       ∙ ap (λ b. cond (here && ((u.faction == watch.faction) || b)) (Some tt) None) (hidden_or_not (guards u) (level_in_any u.holding w.rules.stealth) watch.observation)
 
   -- the numbers gathered from a region's lists are those of the units that the faction sees there, in ascending order
-  pub entries-numbers_seen : entries (numbers_seen (own_units_in c watch.faction watch.region) levels watch.observation) ≡ map (λ e. (e.0, tt)) (filter (λ e. is_seen_there w watch (get c.units e.0)) (entries c.units))
+  pub entries-numbers_seen : entries (numbers_seen (own_units_in c watch.faction watch.region) levels watch.observation)
+      ≡ map (λ e. (e.0, tt)) (filter (λ e. is_seen_there w watch (get c.units e.0)) (entries c.units))
   entries-numbers_seen = chosen_numbers c.units seen_at (numbers_seen (own_units_in c watch.faction watch.region) levels watch.observation) (λ q.
       get-with_levels q watch.observation (entries levels) (with_numbers empty (own_units_in c watch.faction watch.region))
       ∙ ap (cond (is_within q watch.observation (entries levels)) (Some tt)) (get-with_numbers q (own_units_in c watch.faction watch.region) empty ∙ ap (cond (is_listed q (own_units_in c watch.faction watch.region)) (Some tt)) (get-empty nat_cmp q))
@@ -280,7 +302,8 @@ module _ (w : WorldValue) (c : CampaignValue) (watch : Watch) where
   next_seen e es ns false s h = h
 
   -- for `seen_of`: the views of numbers, of which the next is in the region (r) or isn't
-  next_shown : (n : ℕ) (ns : List ℕ) (r : Bool) (o : Option Unit) → get c.units n ≡ o → cond r (cons_option (seen_unit w c watch n o) (shown ns)) (shown ns) ≡ shown (cond r (n ∷ ns) ns)
+  next_shown : (n : ℕ) (ns : List ℕ) (r : Bool) (o : Option Unit) → get c.units n ≡ o
+      → cond r (cons_option (seen_unit w c watch n o) (shown ns)) (shown ns) ≡ shown (cond r (n ∷ ns) ns)
   next_shown n ns true o is = ap (λ o. cons_option (seen_unit w c watch n o) (shown ns)) (sym is)
   next_shown n ns false o is = refl
 
@@ -310,5 +333,7 @@ pub gathered_are_seen : {E : Type 0} (r : Result (FinMap nat_cmp (Prim.Unit {0})
     → AreLevels w c watch.region levels → own ≡ own_units_in c watch.faction watch.region
     → IfOk r (λ seen. seen ≡ numbers_seen own levels watch.observation)
     → IfOk r (λ seen. entries seen ≡ map (λ e. (e.0, tt)) (filter (λ e. is_seen_there w watch (get c.units e.0)) (entries c.units)))
-gathered_are_seen (Ok seen) w c watch own levels are is gathered = ap entries (gathered ∙ ap (λ ns. numbers_seen ns levels watch.observation) is) ∙ entries-numbers_seen w c watch levels are
+gathered_are_seen (Ok seen) w c watch own levels are is gathered =
+    ap entries (gathered ∙ ap (λ ns. numbers_seen ns levels watch.observation) is)
+    ∙ entries-numbers_seen w c watch levels are
 gathered_are_seen (Err e) w c watch own levels are is gathered = tt

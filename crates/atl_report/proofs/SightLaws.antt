@@ -27,7 +27,9 @@ use Rattle.atl_campaign.proofs.SortedMapLaws.{above_compares_unequal}
 module _ {X : Type 0} (p : X → Bool) (g : Option X → Bool) where
   -- an entry in front, whose number is below all of `es`, makes no difference to whether `g` holds of some value looked
   -- up by the number of an entry of `es` that passes `p`
-  past : (k : ℕ) (v : X) (fs es : List (ℕ × X)) → below_all nat_cmp k es ≡ true → list_any (λ n. g (find nat_cmp n ((k, v) ∷ fs))) (numbers_among p es) ≡ list_any (λ n. g (find nat_cmp n fs)) (numbers_among p es)
+  past : (k : ℕ) (v : X) (fs es : List (ℕ × X)) → below_all nat_cmp k es ≡ true
+      → list_any (λ n. g (find nat_cmp n ((k, v) ∷ fs))) (numbers_among p es)
+      ≡ list_any (λ n. g (find nat_cmp n fs)) (numbers_among p es)
   past k v fs [] h = refl
   past k v fs (e ∷ es) h =
       let rest = past k v fs es (and_parts _ _ h).1 in
@@ -41,7 +43,8 @@ module _ {X : Type 0} (p : X → Bool) (g : Option X → Bool) where
 
   -- in a sorted list `g` holds of some value looked up by the number of an entry that passes `p`, just where some entry
   -- passes both `p` and `g`
-  some_found : (es : List (ℕ × X)) → is_sorted nat_cmp es ≡ true → list_any (λ n. g (find nat_cmp n es)) (numbers_among p es) ≡ list_any (λ e. p e.1 && g (Some e.1)) es
+  some_found : (es : List (ℕ × X)) → is_sorted nat_cmp es ≡ true
+      → list_any (λ n. g (find nat_cmp n es)) (numbers_among p es) ≡ list_any (λ e. p e.1 && g (Some e.1)) es
   some_found [] h = refl
   some_found (e ∷ es) h =
       let rest = past e.0 e.1 es es (and_parts _ _ h).0 ∙ some_found es (and_parts _ _ h).1 in
@@ -52,8 +55,11 @@ module _ {X : Type 0} (p : X → Bool) (g : Option X → Bool) where
         | false ↦ rest
       ]
 
-  some_where : (m : FinMap nat_cmp X) → list_any (λ n. g (get m n)) (numbers_where p m) ≡ list_any (λ e. p e.1 && g (Some e.1)) (entries m)
-  some_where m = ap (λ (f : ℕ → Option X). list_any (λ n. g (f n)) (numbers_where p m)) (λ i n. get-entries m n i) ∙ some_found (entries m) (is_true _ (entries_sorted m))
+  some_where : (m : FinMap nat_cmp X)
+      → list_any (λ n. g (get m n)) (numbers_where p m) ≡ list_any (λ e. p e.1 && g (Some e.1)) (entries m)
+  some_where m =
+      ap (λ (f : ℕ → Option X). list_any (λ n. g (f n)) (numbers_where p m)) (λ i n. get-entries m n i)
+      ∙ some_found (entries m) (is_true _ (entries_sorted m))
 
 -- ---- who watches where
 
@@ -72,7 +78,8 @@ regrouped false m e true h = refl
 regrouped false m e false h = refl
 
 -- a faction sees a region exactly if one of its units with men is in it
-region_is_seen_by_unit : (c : CampaignValue) (f q : ℕ) → list_any (λ n. watches_in f q (get c.units n)) (numbers_of_faction f c.units) ≡ sees_region c f q
+region_is_seen_by_unit : (c : CampaignValue) (f q : ℕ)
+    → list_any (λ n. watches_in f q (get c.units n)) (numbers_of_faction f c.units) ≡ sees_region c f q
 region_is_seen_by_unit c f q =
     some_where (λ (u : Unit). u.faction == f) (watches_in f q) c.units
     ∙ ap (λ (t : ℕ × Unit → Bool). list_any t (entries c.units)) (λ i e. regrouped (e.1.faction == f) (nat_lt 0 e.1.holding.men) (eq_by_cmp nat_cmp q e.1.region) (e.1.region == q) (key_equality_is_symmetric q e.1.region) i)
@@ -88,12 +95,15 @@ abbrev number_alone : {V : Type 0} → ℕ × V → ℕ × Prim.Unit {0}
 number_alone e = (e.0, tt)
 
 module _ {V : Type 0} where
-  find-alone : (q : ℕ) (es : List (ℕ × V)) → find nat_cmp q (map number_alone es) ≡ option_map forget_value (find nat_cmp q es)
+  find-alone : (q : ℕ) (es : List (ℕ × V))
+      → find nat_cmp q (map number_alone es) ≡ option_map forget_value (find nat_cmp q es)
   find-alone q [] = refl
-  find-alone q (e ∷ es) = elim (is_eq (nat_cmp q e.0)) as (λ b. cond b (Some tt) (find nat_cmp q (map number_alone es)) ≡ option_map forget_value (cond b (Some e.1) (find nat_cmp q es))) [
-    | true ↦ refl
-    | false ↦ find-alone q es
-  ]
+  find-alone q (e ∷ es) =
+      elim (is_eq (nat_cmp q e.0)) as
+      (λ b. cond b (Some tt) (find nat_cmp q (map number_alone es)) ≡ option_map forget_value (cond b (Some e.1) (find nat_cmp q es))) [
+        | true ↦ refl
+        | false ↦ find-alone q es
+      ]
 
   below-alone : (k : ℕ) (es : List (ℕ × V)) → below_all nat_cmp k (map number_alone es) ≡ below_all nat_cmp k es
   below-alone k [] = refl
@@ -101,11 +111,14 @@ module _ {V : Type 0} where
 
   sorted-alone : (es : List (ℕ × V)) → is_sorted nat_cmp (map number_alone es) ≡ is_sorted nat_cmp es
   sorted-alone [] = refl
-  sorted-alone (e ∷ es) = ap (λ b. b && is_sorted nat_cmp (map number_alone es)) (below-alone e.0 es) ∙ ap (λ b. below_all nat_cmp e.0 es && b) (sorted-alone es)
+  sorted-alone (e ∷ es) =
+      ap (λ b. b && is_sorted nat_cmp (map number_alone es)) (below-alone e.0 es)
+      ∙ ap (λ b. below_all nat_cmp e.0 es && b) (sorted-alone es)
 
   -- to replace a value by `tt`, after a choice between it and None or before it, gives the same: for
   -- `entries-with_all_watched`
-  alone_chosen : (b : Bool) (o : Option V) → option_map forget_value (cond b o None) ≡ cond b (option_map forget_value o) None
+  alone_chosen : (b : Bool) (o : Option V)
+      → option_map forget_value (cond b o None) ≡ cond b (option_map forget_value o) None
   alone_chosen true o = refl
   alone_chosen false o = refl
 
@@ -115,25 +128,33 @@ module _ (c : CampaignValue) (f q : ℕ) where
 
   -- after region `k` is added to the gathered regions, `q` is one of them if it was (b), or if it is `k` and the
   -- campaign has it
-  one_region : (seen : FinMap nat_cmp (Prim.Unit {0})) (k : ℕ) (b : Bool) (o : Option Region) → get c.regions k ≡ o → get seen q ≡ cond b (there q) None → get (with_region seen k o) q ≡ cond (eq_by_cmp nat_cmp q k || b) (there q) None
-  one_region seen k b None is was = was ∙ elim (nat_cmp q k) as (λ o. nat_cmp q k ≡ o → cond b (there q) None ≡ cond (is_eq o || b) (there q) None) [
-    | Less ↦ λ _. refl
-    | Equal ↦ λ e. absent b (there q) (ap there (nat_cmp-IsAntisymmetric q k e) ∙ ap (option_map forget_value) is)
-    | Greater ↦ λ _. refl
-  ] refl
+  one_region : (seen : FinMap nat_cmp (Prim.Unit {0})) (k : ℕ) (b : Bool) (o : Option Region) → get c.regions k ≡ o
+      → get seen q ≡ cond b (there q) None
+      → get (with_region seen k o) q ≡ cond (eq_by_cmp nat_cmp q k || b) (there q) None
+  one_region seen k b None is was =
+      was ∙ elim (nat_cmp q k) as (λ o. nat_cmp q k ≡ o → cond b (there q) None ≡ cond (is_eq o || b) (there q) None) [
+        | Less ↦ λ _. refl
+        | Equal ↦ λ e. absent b (there q) (ap there (nat_cmp-IsAntisymmetric q k e) ∙ ap (option_map forget_value) is)
+        | Greater ↦ λ _. refl
+      ] refl
     where
       -- if o is None, the choice by b between o and None is o: for `one_region`, of a region that the campaign doesn't
       -- have
       absent : (b : Bool) (o : Option (Prim.Unit {0})) → o ≡ None → cond b o None ≡ o
       absent true o h = refl
       absent false o h = sym h
-  one_region seen k b (Some r) is was = get-insert nat_cmp_total seen k tt q ∙ elim (nat_cmp q k) as (λ o. nat_cmp q k ≡ o → cond (is_eq o) (Some tt) (get seen q) ≡ cond (is_eq o || b) (there q) None) [
-    | Less ↦ λ _. was
-    | Equal ↦ λ e. sym (ap there (nat_cmp-IsAntisymmetric q k e) ∙ ap (option_map forget_value) is)
-    | Greater ↦ λ _. was
-  ] refl
+  one_region seen k b (Some r) is was =
+      get-insert nat_cmp_total seen k tt q
+      ∙ elim (nat_cmp q k) as
+      (λ o. nat_cmp q k ≡ o → cond (is_eq o) (Some tt) (get seen q) ≡ cond (is_eq o || b) (there q) None) [
+        | Less ↦ λ _. was
+        | Equal ↦ λ e. sym (ap there (nat_cmp-IsAntisymmetric q k e) ∙ ap (option_map forget_value) is)
+        | Greater ↦ λ _. was
+      ] refl
 
-  one_watched : (seen : FinMap nat_cmp (Prim.Unit {0})) (b : Bool) (o : Option Unit) → get seen q ≡ cond b (there q) None → get (with_watched c f seen o) q ≡ cond (watches_in f q o || b) (there q) None
+  one_watched : (seen : FinMap nat_cmp (Prim.Unit {0})) (b : Bool) (o : Option Unit)
+      → get seen q ≡ cond b (there q) None
+      → get (with_watched c f seen o) q ≡ cond (watches_in f q o || b) (there q) None
   one_watched seen b None was = was
   one_watched seen b (Some u) was =
       elim (is_watching f (Some u)) as (λ w. get (cond w (with_region seen u.region (get c.regions u.region)) seen) q ≡ cond ((w && eq_by_cmp nat_cmp q u.region) || b) (there q) None) [
@@ -156,7 +177,8 @@ module _ (c : CampaignValue) (f q : ℕ) where
       all_watched ns (with_watched c f seen (get c.units n)) (watches_in f q (get c.units n) || b) (one_watched seen b (get c.units n) was)
       ∙ ap (λ t. cond t (there q) None) (or_order (list_any (λ n. watches_in f q (get c.units n)) ns) (watches_in f q (get c.units n)) b)
 
-  get-with_all_watched : get (with_all_watched c f (numbers_of_faction f c.units) empty) q ≡ cond (sees_region c f q) (there q) None
+  get-with_all_watched : get (with_all_watched c f (numbers_of_faction f c.units) empty) q
+      ≡ cond (sees_region c f q) (there q) None
   get-with_all_watched =
       all_watched (numbers_of_faction f c.units) empty false (get-empty nat_cmp q)
       ∙ ap (λ t. cond t (there q) None) (or-false (list_any (λ n. watches_in f q (get c.units n)) (numbers_of_faction f c.units)) ∙ region_is_seen_by_unit c f q)
@@ -176,8 +198,12 @@ chosen_numbers {V} m t seen are =
     ∙ entries-from_sorted nat_cmp numbers sorted
 
 -- the numbers gathered from the faction's units are those of the regions that it sees, in rising order
-pub entries-with_all_watched : (c : CampaignValue) (f : ℕ) → entries (with_all_watched c f (numbers_of_faction f c.units) empty) ≡ map (λ e. (e.0, tt)) (filter (λ e. sees_region c f e.0) (entries c.regions))
-entries-with_all_watched c f = chosen_numbers c.regions (sees_region c f) (with_all_watched c f (numbers_of_faction f c.units) empty) (λ q. get-with_all_watched c f q)
+pub entries-with_all_watched : (c : CampaignValue) (f : ℕ)
+    → entries (with_all_watched c f (numbers_of_faction f c.units) empty)
+    ≡ map (λ e. (e.0, tt)) (filter (λ e. sees_region c f e.0) (entries c.regions))
+entries-with_all_watched c f =
+    chosen_numbers c.regions (sees_region c f) (with_all_watched c f (numbers_of_faction f c.units) empty)
+    (λ q. get-with_all_watched c f q)
 
 -- values looked up by the numbers of chosen entries
 module _ {A V : Type 0} (m : FinMap nat_cmp V) (make : ℕ → V → A) where
@@ -194,5 +220,7 @@ module _ {A V : Type 0} (m : FinMap nat_cmp V) (make : ℕ → V → A) where
 
 -- to look up in a map the values of those entries that pass `p`, by number, and apply `make` to each, gives what `make`
 -- gives of these entries
-pub values_looked_up : {A V : Type 0} (m : FinMap nat_cmp V) (make : ℕ → V → A) (p : ℕ × V → Bool) → filter_map (λ (e : ℕ × Prim.Unit {0}). option_map (make e.0) (get m e.0)) (map (λ e. (e.0, tt)) (filter p (entries m))) ≡ map (λ e. make e.0 e.1) (filter p (entries m))
+pub values_looked_up : {A V : Type 0} (m : FinMap nat_cmp V) (make : ℕ → V → A) (p : ℕ × V → Bool)
+    → filter_map (λ (e : ℕ × Prim.Unit {0}). option_map (make e.0) (get m e.0)) (map (λ e. (e.0, tt)) (filter p (entries m)))
+    ≡ map (λ e. make e.0 e.1) (filter p (entries m))
 values_looked_up m make p = looked_up m make p (entries m) (each-from_every (λ n v. get m n ≡ Some v) m (λ n v is. is))

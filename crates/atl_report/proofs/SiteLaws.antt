@@ -46,7 +46,8 @@ site_goes_on sites n s es region =
 
 -- where there are no lists, each key's list is empty
 pub no_lists : (m : FinMap nat_cmp (List ℕ)) → m ≡ empty → (key : ℕ) → list_of m key ≡ []
-no_lists m h key = ap (λ (m : FinMap nat_cmp (List ℕ)). list_of m key) h ∙ ap (λ o. unwrap_or o []) (get-empty nat_cmp key)
+no_lists m h key =
+    ap (λ (m : FinMap nat_cmp (List ℕ)). list_of m key) h ∙ ap (λ o. unwrap_or o []) (get-empty nat_cmp key)
 
 -- ---- units by a key of theirs
 
@@ -69,10 +70,13 @@ module _ (units : FinMap nat_cmp Unit) (key : Unit → ℕ) (k : ℕ) where
 
   -- after the numbers of some units are added, each to the list of its key, a key's list has in addition those of the
   -- numbers whose units have this key
-  list_of-with_all_keyed : (ns : List ℕ) (lists : FinMap nat_cmp (List ℕ)) → list_of (with_all_keyed units key lists ns) k ≡ list_of lists k ++ of_key ns
+  list_of-with_all_keyed : (ns : List ℕ) (lists : FinMap nat_cmp (List ℕ))
+      → list_of (with_all_keyed units key lists ns) k ≡ list_of lists k ++ of_key ns
   list_of-with_all_keyed [] lists = sym (append-nil (list_of lists k))
-  list_of-with_all_keyed (n ∷ ns) lists = list_of-with_all_keyed ns (with_keyed key lists n (get units n)) ∙ next_keyed lists n ns (get units n) refl
+  list_of-with_all_keyed (n ∷ ns) lists =
+      list_of-with_all_keyed ns (with_keyed key lists n (get units n)) ∙ next_keyed lists n ns (get units n) refl
 
   -- lists to which the numbers of some units were added, from none, have under a key the numbers whose units have it
-  pub listed_by_key : (ns : List ℕ) → list_of (with_all_keyed units key empty ns) k ≡ filter (λ n. has_key (get units n)) ns
+  pub listed_by_key : (ns : List ℕ)
+      → list_of (with_all_keyed units key empty ns) k ≡ filter (λ n. has_key (get units n)) ns
   listed_by_key ns = list_of-with_all_keyed ns empty ∙ ap (λ l. l ++ of_key ns) (no_lists empty refl k)

@@ -27,28 +27,39 @@ use Rattle.atl_campaign.proofs.HasLaws.{is_same_key}
 
 -- ---- each row
 
-rows_each : (P : StoredBooks → Type 0) (es : List (Account × ℤ)) → AllByRecursion (λ x. P (books_row x.0.0 x.0.1 x.1)) es → AllByRecursion P (amounts_rows es)
+rows_each : (P : StoredBooks → Type 0) (es : List (Account × ℤ))
+    → AllByRecursion (λ x. P (books_row x.0.0 x.0.1 x.1)) es → AllByRecursion P (amounts_rows es)
 rows_each P [] h = tt
 rows_each P (x ∷ es) h = (h.0, rows_each P es h.1)
 
-each_row : (P : StoredBooks → Type 0) (es : List (Account × ℤ)) → AllByRecursion P (amounts_rows es) → AllByRecursion (λ x. P (books_row x.0.0 x.0.1 x.1)) es
+each_row : (P : StoredBooks → Type 0) (es : List (Account × ℤ)) → AllByRecursion P (amounts_rows es)
+    → AllByRecursion (λ x. P (books_row x.0.0 x.0.1 x.1)) es
 each_row P [] h = tt
 each_row P (x ∷ es) h = (h.0, each_row P es h.1)
 
 module _ (books : BooksValue) where
-  pub lines_each : (P : StoredBooks → Type 0) → ((e : BooksEntry) (t : Thing) (z : ℤ) → get books.amounts (e, t) ≡ Some z → P (books_row e t z)) → AllByRecursion P (books_rows books)
-  lines_each P h = rows_each P (entries books.amounts) (each_amount (λ a z. P (books_row a.0 a.1 z)) books.amounts (λ a z is. h a.0 a.1 z is))
+  pub lines_each : (P : StoredBooks → Type 0)
+      → ((e : BooksEntry) (t : Thing) (z : ℤ) → get books.amounts (e, t) ≡ Some z → P (books_row e t z))
+      → AllByRecursion P (books_rows books)
+  lines_each P h =
+      rows_each P (entries books.amounts)
+      (each_amount (λ a z. P (books_row a.0 a.1 z)) books.amounts (λ a z is. h a.0 a.1 z is))
 
-  pub line_at : (P : StoredBooks → Type 0) → AllByRecursion P (books_rows books) → (e : BooksEntry) (t : Thing) (z : ℤ) → get books.amounts (e, t) ≡ Some z → P (books_row e t z)
-  line_at P h e t z is = amount_of_each (λ a y. P (books_row a.0 a.1 y)) books.amounts (each_row P (entries books.amounts) h) (e, t) z is
+  pub line_at : (P : StoredBooks → Type 0) → AllByRecursion P (books_rows books) → (e : BooksEntry) (t : Thing) (z : ℤ)
+      → get books.amounts (e, t) ≡ Some z → P (books_row e t z)
+  line_at P h e t z is =
+      amount_of_each (λ a y. P (books_row a.0 a.1 y)) books.amounts (each_row P (entries books.amounts) h) (e, t) z is
 
 -- ---- books whose rows are the same are the same
 
-pub listed_amount_is_amount_in : (books : BooksValue) (e : BooksEntry) (t : Thing) (z : ℤ) → get books.amounts (e, t) ≡ Some z → amount_in books e t ≡ z
+pub listed_amount_is_amount_in : (books : BooksValue) (e : BooksEntry) (t : Thing) (z : ℤ)
+    → get books.amounts (e, t) ≡ Some z → amount_in books e t ≡ z
 listed_amount_is_amount_in books e t z is = ap (λ o. unwrap_or o (pos 0)) is
 
 abbrev HaveAmountOf : BooksValue → StoredBooks → Type 0
-HaveAmountOf books r = (e : BooksEntry) (t : Thing) → r.entry ≡ pos (entry_index e + 1) → r.thing ≡ pos (thing_index t) → amount_in books e t ≡ r.amount
+HaveAmountOf books r =
+    (e : BooksEntry) (t : Thing) → r.entry ≡ pos (entry_index e + 1) → r.thing ≡ pos (thing_index t) → amount_in books e
+    t ≡ r.amount
 
 says_itself : (books : BooksValue) → AllByRecursion (HaveAmountOf books) (books_rows books)
 says_itself books =
@@ -58,10 +69,14 @@ says_itself books =
     sym (ap (λ (a : Account). amount_in books a.0 a.1) one) ∙ listed_amount_is_amount_in books e t z is)
 
 -- if books a and b have the same rows, in any order, each amount listed in a is also what b has for its entry and thing
-listed_amounts_agree : (a b : BooksValue) → IsPermutation (books_rows a) (books_rows b) → (e : BooksEntry) (t : Thing) (z : ℤ) → get a.amounts (e, t) ≡ Some z → amount_in b e t ≡ z
-listed_amounts_agree a b h e t z is = line_at a (HaveAmountOf b) (each_back (HaveAmountOf b) (books_rows a) (books_rows b) h (says_itself b)) e t z is e t refl refl
+listed_amounts_agree : (a b : BooksValue) → IsPermutation (books_rows a) (books_rows b)
+    → (e : BooksEntry) (t : Thing) (z : ℤ) → get a.amounts (e, t) ≡ Some z → amount_in b e t ≡ z
+listed_amounts_agree a b h e t z is =
+    line_at a (HaveAmountOf b) (each_back (HaveAmountOf b) (books_rows a) (books_rows b) h (says_itself b)) e t z is e t
+    refl refl
 
-same_amounts : (a b : BooksValue) → IsPermutation (books_rows a) (books_rows b) → (e : BooksEntry) (t : Thing) → amount_in a e t ≡ amount_in b e t
+same_amounts : (a b : BooksValue) → IsPermutation (books_rows a) (books_rows b) → (e : BooksEntry) (t : Thing)
+    → amount_in a e t ≡ amount_in b e t
 same_amounts a b h e t =
     elim (get a.amounts (e, t)) as (λ o. get a.amounts (e, t) ≡ o → unwrap_or o (pos 0) ≡ amount_in b e t) [
       | Some z ↦ λ is. sym (listed_amounts_agree a b h e t z is)
@@ -76,7 +91,8 @@ same_amounts a b h e t =
 not_less_than_itself : (a : Account) → is_lt (account_cmp a a) ≡ false
 not_less_than_itself a = ap is_lt (tied_itself account_total a)
 
-others_apart : (x : Account × ℤ) (es : List (Account × ℤ)) → below_all account_cmp x.0 es ≡ true → AllByRecursion (λ r. is_same_key (books_key (books_row x.0.0 x.0.1 x.1)) (books_key r) ≡ false) (amounts_rows es)
+others_apart : (x : Account × ℤ) (es : List (Account × ℤ)) → below_all account_cmp x.0 es ≡ true
+    → AllByRecursion (λ r. is_same_key (books_key (books_row x.0.0 x.0.1 x.1)) (books_key r) ≡ false) (amounts_rows es)
 others_apart x [] h = tt
 others_apart x (y ∷ es) h =
     let parts = and_parts (is_lt (account_cmp x.0 y.0)) (below_all account_cmp x.0 es) h in (
@@ -87,7 +103,8 @@ others_apart x (y ∷ es) h =
       others_apart x es parts.1,
     )
 
-entries_apart : (es : List (Account × ℤ)) → is_sorted account_cmp es ≡ true → IsDistinct (λ a b. is_same_key (books_key a) (books_key b)) (amounts_rows es)
+entries_apart : (es : List (Account × ℤ)) → is_sorted account_cmp es ≡ true
+    → IsDistinct (λ a b. is_same_key (books_key a) (books_key b)) (amounts_rows es)
 unfolding IsDistinct
 entries_apart [] h = tt
 entries_apart (x ∷ es) h = let parts = and_parts (below_all account_cmp x.0 es) (is_sorted account_cmp es) h in (others_apart x es parts.0, entries_apart es parts.1)
@@ -110,7 +127,9 @@ module _ (things : ℕ) (few : things ≤ 4294967294) (books : BooksValue) (are 
 
   module _ (rows : List StoredBooks) (h : IsPermutation (books_rows books) rows) where
     pub books_keys : HaveDistinctKeys books_key rows
-    books_keys = keys_permuted books_key (books_rows books) rows h (entries_apart (entries books.amounts) (amounts_sorted books.amounts))
+    books_keys =
+        keys_permuted books_key (books_rows books) rows h
+        (entries_apart (entries books.amounts) (amounts_sorted books.amounts))
 
     pub all_booked : AllByRecursion (IsBooked things) rows
     all_booked = each_permuted (IsBooked things) (books_rows books) rows h lines_booked

@@ -28,19 +28,27 @@ module _ {X R : Type 0} (P : R → Type 0) (f : X → List R) where
 -- ---- the rows of all groups
 
 module _ {U R : Type 0} (f : ℕ × U → List R) (P : R → Type 0) where
-  of_each : (es : List (ℕ × U)) → EachEntry (λ n u. AllByRecursion P (f (n, u))) es → AllByRecursion (λ e. AllByRecursion P (f e)) es
+  of_each : (es : List (ℕ × U)) → EachEntry (λ n u. AllByRecursion P (f (n, u))) es
+      → AllByRecursion (λ e. AllByRecursion P (f e)) es
   of_each [] h = tt
   of_each (e ∷ es) h = (h.0, of_each es h.1)
 
-  each_of : (es : List (ℕ × U)) → AllByRecursion (λ e. AllByRecursion P (f e)) es → EachEntry (λ n u. AllByRecursion P (f (n, u))) es
+  each_of : (es : List (ℕ × U)) → AllByRecursion (λ e. AllByRecursion P (f e)) es
+      → EachEntry (λ n u. AllByRecursion P (f (n, u))) es
   each_of [] h = tt
   each_of (e ∷ es) h = (h.0, each_of es h.1)
 
-  pub groups_each : (units : FinMap nat_cmp U) → Every (λ n u. AllByRecursion P (f (n, u))) units → AllByRecursion P (flat_map f (entries units))
-  groups_each units h = flat_each P f (entries units) (of_each (entries units) (each-from_every (λ n u. AllByRecursion P (f (n, u))) units h))
+  pub groups_each : (units : FinMap nat_cmp U) → Every (λ n u. AllByRecursion P (f (n, u))) units
+      → AllByRecursion P (flat_map f (entries units))
+  groups_each units h =
+      flat_each P f (entries units)
+      (of_each (entries units) (each-from_every (λ n u. AllByRecursion P (f (n, u))) units h))
 
-  pub each_group : (units : FinMap nat_cmp U) → AllByRecursion P (flat_map f (entries units)) → Every (λ n u. AllByRecursion P (f (n, u))) units
-  each_group units h = every-from_each (λ n u. AllByRecursion P (f (n, u))) units (each_of (entries units) (each_flat P f (entries units) h))
+  pub each_group : (units : FinMap nat_cmp U) → AllByRecursion P (flat_map f (entries units))
+      → Every (λ n u. AllByRecursion P (f (n, u))) units
+  each_group units h =
+      every-from_each (λ n u. AllByRecursion P (f (n, u))) units
+      (each_of (entries units) (each_flat P f (entries units) h))
 
 -- ---- the rows of a group: of each amount that is not 0
 
@@ -50,13 +58,18 @@ module _ {R : Type 0} (none : R → Bool) (row : ℕ → ℕ → R) (m : FinMap 
   lines = filter (λ r. not (none r)) (rows_by row (entries m))
 
   pub lines_each : (P : R → Type 0) → Every (λ i a. none (row i a) ≡ false → P (row i a)) m → AllByRecursion P lines
-  lines_each P h = kept (λ r. not (none r)) P (rows_by row (entries m)) (rows_every row (λ r. not (none r) ≡ true → P r) m (λ i a is some. h i a is (not-true (none (row i a)) some)))
+  lines_each P h =
+      kept (λ r. not (none r)) P (rows_by row (entries m))
+      (rows_every row (λ r. not (none r) ≡ true → P r) m (λ i a is some. h i a is (not-true (none (row i a)) some)))
 
   pub each_line : (P : R → Type 0) → AllByRecursion P lines → Every (λ i a. none (row i a) ≡ false → P (row i a)) m
-  each_line P h i a is some = every_row row (λ r. not (none r) ≡ true → P r) m (unkept (λ r. not (none r)) P (rows_by row (entries m)) h) i a is (not_from_false (none (row i a)) some)
+  each_line P h i a is some =
+      every_row row (λ r. not (none r) ≡ true → P r) m (unkept (λ r. not (none r)) P (rows_by row (entries m)) h) i a is
+      (not_from_false (none (row i a)) some)
 
   pub lines_apart : (e : R → R → Bool) → ((i k a b : ℕ) → i < k → e (row i a) (row k b) ≡ false) → IsDistinct e lines
-  lines_apart e apart = filter_apart (λ r. not (none r)) e (rows_by row (entries m)) (rows_apart row e apart (entries m) (entries_rise m))
+  lines_apart e apart =
+      filter_apart (λ r. not (none r)) e (rows_by row (entries m)) (rows_apart row e apart (entries m) (entries_rise m))
 
 -- ---- the amounts of a group
 
@@ -66,8 +79,10 @@ module _ {R : Type 0} (thing amount : R → ℕ) (mine : R → Bool) (m : FinMap
 
   -- The map `m` is read back from the rows that pass the test `mine`. This supposes that their things are distinct,
   -- that `m` has their amounts, and that each amount of `m` has such a row.
-  pub amounts_back : HaveDistinctNumbers thing (filter mine rows) → AllByRecursion (λ r. mine r ≡ true → IsIn m r) listed
-      → ((P : R → Type 0) → AllByRecursion (λ r. mine r ≡ true → P r) listed → Every (λ i a. (r : R) × (thing r ≡ i) × (amount r ≡ a) × P r) m) → by_number thing amount (filter mine rows) ≡ m
+  pub amounts_back : HaveDistinctNumbers thing (filter mine rows)
+      → AllByRecursion (λ r. mine r ≡ true → IsIn m r) listed
+      → ((P : R → Type 0) → AllByRecursion (λ r. mine r ≡ true → P r) listed → Every (λ i a. (r : R) × (thing r ≡ i) × (amount r ≡ a) × P r) m)
+      → by_number thing amount (filter mine rows) ≡ m
   amounts_back apart of there =
       let said = by_number thing amount (filter mine rows) in
       let found = each_back (λ r. mine r ≡ true → IsIn said r) listed rows same (unkept mine (IsIn said) rows (rows_found thing amount (filter mine rows) apart)) in

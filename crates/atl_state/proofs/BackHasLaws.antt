@@ -32,29 +32,41 @@ has_zero_amount r = is_zero r.amount
 abbrev goods_rows : ℕ × Unit → List StoredHas
 goods_rows e = held_rows e.0 e.1.holding
 
-sort_apart : (n sort : ℕ) (m : FinMap nat_cmp ℕ) → IsDistinct (λ a b. is_same_key (has_key a) (has_key b)) (rows_of_sort n sort (entries m))
+sort_apart : (n sort : ℕ) (m : FinMap nat_cmp ℕ)
+    → IsDistinct (λ a b. is_same_key (has_key a) (has_key b)) (rows_of_sort n sort (entries m))
 sort_apart n sort m =
     lines_apart has_zero_amount (has_row n sort) m (λ a b. is_same_key (has_key a) (has_key b)) (λ i k a b l. apart_keys (has_key (has_row n sort i a)) (has_key (has_row n sort k b)) (λ keys. let one = pos_is_injective i k keys.third in omega arith))
 
 module _ (units : FinMap nat_cmp Unit) where
   -- if P holds for the row of each amount, not 0, that a unit of the map has, it holds for each row of `has` of the map
-  pub has_each : (P : StoredHas → Type 0) → Every (λ n u. (s : ℕ) → s < 2 → Every (λ i a. is_zero (pos a) ≡ false → P (has_row n s i a)) (goods_of s u)) units → AllByRecursion P (has_rows (entries units))
+  pub has_each : (P : StoredHas → Type 0)
+      → Every (λ n u. (s : ℕ) → s < 2 → Every (λ i a. is_zero (pos a) ≡ false → P (has_row n s i a)) (goods_of s u)) units
+      → AllByRecursion P (has_rows (entries units))
   has_each P h = groups_each goods_rows P units (λ n u is.
       all_append P (rows_of_sort n 0 (entries u.holding.items)) (rows_of_sort n 1 (entries u.holding.days)) (lines_each has_zero_amount (has_row n 0) u.holding.items P (h n u is 0 (omega arith))) (lines_each has_zero_amount (has_row n 1) u.holding.days P (h n u is 1 (omega arith))))
 
-  pub each_had : (P : StoredHas → Type 0) → AllByRecursion P (has_rows (entries units)) → Every (λ n u. (s : ℕ) → s < 2 → Every (λ i a. is_zero (pos a) ≡ false → P (has_row n s i a)) (goods_of s u)) units
-  each_had P h n u is = of_sort (each_appended P (rows_of_sort n 0 (entries u.holding.items)) (rows_of_sort n 1 (entries u.holding.days)) (each_group goods_rows P units h n u is))
+  pub each_had : (P : StoredHas → Type 0) → AllByRecursion P (has_rows (entries units))
+      → Every (λ n u. (s : ℕ) → s < 2 → Every (λ i a. is_zero (pos a) ≡ false → P (has_row n s i a)) (goods_of s u)) units
+  each_had P h n u is =
+      of_sort
+      (each_appended P (rows_of_sort n 0 (entries u.holding.items)) (rows_of_sort n 1 (entries u.holding.days)) (each_group goods_rows P units h n u is))
     where
-      of_sort : AllByRecursion P (rows_of_sort n 0 (entries u.holding.items)) × AllByRecursion P (rows_of_sort n 1 (entries u.holding.days)) → (s : ℕ) → s < 2 → Every (λ i a. is_zero (pos a) ≡ false → P (has_row n s i a)) (goods_of s u)
+      of_sort : AllByRecursion P (rows_of_sort n 0 (entries u.holding.items))
+          × AllByRecursion P (rows_of_sort n 1 (entries u.holding.days))
+          → (s : ℕ) → s < 2 → Every (λ i a. is_zero (pos a) ≡ false → P (has_row n s i a)) (goods_of s u)
       of_sort both zero l = each_line has_zero_amount (has_row n 0) u.holding.items P both.0
       of_sort both (suc zero) l = each_line has_zero_amount (has_row n 1) u.holding.days P both.1
       of_sort both (suc (suc s)) l = absurd (omega arith)
 
-  sorts_differ : (a : StoredHas) (ys : List StoredHas) → a.sort ≡ pos 0 → AllByRecursion (λ b. b.sort ≡ pos 1) ys → AllByRecursion (λ b. is_same_key (has_key a) (has_key b) ≡ false) ys
+  sorts_differ : (a : StoredHas) (ys : List StoredHas) → a.sort ≡ pos 0 → AllByRecursion (λ b. b.sort ≡ pos 1) ys
+      → AllByRecursion (λ b. is_same_key (has_key a) (has_key b) ≡ false) ys
   sorts_differ a [] item h = tt
-  sorts_differ a (b ∷ ys) item h = (apart_keys (has_key a) (has_key b) (λ k. let one = pos_is_injective 0 1 (sym item ∙ k.second ∙ h.0) in omega arith), sorts_differ a ys item h.1)
+  sorts_differ a (b ∷ ys) item h =
+      (apart_keys (has_key a) (has_key b) (λ k. let one = pos_is_injective 0 1 (sym item ∙ k.second ∙ h.0) in omega arith), sorts_differ a ys item h.1)
 
-  all_differ : (xs ys : List StoredHas) → AllByRecursion (λ a. a.sort ≡ pos 0) xs → AllByRecursion (λ b. b.sort ≡ pos 1) ys → AllByRecursion (λ a. AllByRecursion (λ b. is_same_key (has_key a) (has_key b) ≡ false) ys) xs
+  all_differ : (xs ys : List StoredHas) → AllByRecursion (λ a. a.sort ≡ pos 0) xs
+      → AllByRecursion (λ b. b.sort ≡ pos 1) ys
+      → AllByRecursion (λ a. AllByRecursion (λ b. is_same_key (has_key a) (has_key b) ≡ false) ys) xs
   all_differ [] ys h k = tt
   all_differ (a ∷ xs) ys h k = (sorts_differ a ys h.0 k, all_differ xs ys h.1 k)
 
@@ -98,7 +110,8 @@ module _ (units : FinMap nat_cmp Unit) where
       unit : k ≡ n
       kind : s ≡ sort
 
-    of_row : (n sort k s i a : ℕ) → k ≤ most_u32 → s < 2 → is_of_unit_and_sort n sort (has_row k s i a) ≡ true → IsSameUnitAndSort n sort k s
+    of_row : (n sort k s i a : ℕ) → k ≤ most_u32 → s < 2 → is_of_unit_and_sort n sort (has_row k s i a) ≡ true
+        → IsSameUnitAndSort n sort k s
     of_row n sort k s i a few l e =
         let both = and_parts (as_u32 (pos k) == n) (as_u32 (pos s) == sort) e in
         record { unit = sym (written_is_read k few) ∙ is_equal (as_u32 (pos k)) n both.0; kind = sym (written_is_read s (omega arith)) ∙ is_equal (as_u32 (pos s)) sort both.1 }

@@ -26,7 +26,8 @@ has_zero_stock m = is_zero m.stock
 abbrev stock_rows_of_region : ℕ × Region → List StoredMarket
 stock_rows_of_region e = stock_rows e.0 (entries e.1.stocks)
 
-region_apart : (n : ℕ) (stocks : FinMap nat_cmp ℕ) → IsDistinct (λ a b. is_same_key (market_key a) (market_key b)) (stock_rows n (entries stocks))
+region_apart : (n : ℕ) (stocks : FinMap nat_cmp ℕ)
+    → IsDistinct (λ a b. is_same_key (market_key a) (market_key b)) (stock_rows n (entries stocks))
 region_apart n stocks =
     lines_apart has_zero_stock (market_row n) stocks (λ a b. is_same_key (market_key a) (market_key b)) (λ i k a b l. apart_keys (market_key (market_row n i a)) (market_key (market_row n k b)) (λ keys. let one = pos_is_injective i k keys.second in omega arith))
 
@@ -40,11 +41,17 @@ row_is_of_its_region : (n i a : ℕ) → n ≤ most_u32 → is_row_of_region n (
 row_is_of_its_region n i a few = let e = written_is_read n few in grind (arith, nat_tests)
 
 module _ (regions : FinMap nat_cmp Region) where
-  pub stocks_each : (P : StoredMarket → Type 0) → Every (λ n r. Every (λ i a. is_zero (pos a) ≡ false → P (market_row n i a)) r.stocks) regions → AllByRecursion P (market_rows Second (entries regions))
-  stocks_each P h = groups_each stock_rows_of_region P regions (λ n r is. lines_each has_zero_stock (market_row n) r.stocks P (h n r is))
+  pub stocks_each : (P : StoredMarket → Type 0)
+      → Every (λ n r. Every (λ i a. is_zero (pos a) ≡ false → P (market_row n i a)) r.stocks) regions
+      → AllByRecursion P (market_rows Second (entries regions))
+  stocks_each P h =
+      groups_each stock_rows_of_region P regions
+      (λ n r is. lines_each has_zero_stock (market_row n) r.stocks P (h n r is))
 
-  each_stock : (P : StoredMarket → Type 0) → AllByRecursion P (market_rows Second (entries regions)) → Every (λ n r. Every (λ i a. is_zero (pos a) ≡ false → P (market_row n i a)) r.stocks) regions
-  each_stock P h n r is = each_line has_zero_stock (market_row n) r.stocks P (each_group stock_rows_of_region P regions h n r is)
+  each_stock : (P : StoredMarket → Type 0) → AllByRecursion P (market_rows Second (entries regions))
+      → Every (λ n r. Every (λ i a. is_zero (pos a) ≡ false → P (market_row n i a)) r.stocks) regions
+  each_stock P h n r is =
+      each_line has_zero_stock (market_row n) r.stocks P (each_group stock_rows_of_region P regions h n r is)
 
   stocks_apart : IsDistinct (λ a b. is_same_key (market_key a) (market_key b)) (market_rows Second (entries regions))
   stocks_apart =

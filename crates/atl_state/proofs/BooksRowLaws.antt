@@ -29,7 +29,8 @@ use Rattle.atl_campaign.proofs.HasLaws.{FitsU32, is_same_key, ties_itself}
 -- ---- one more amount
 
 -- putting an amount under an account that has none yet adds this account and amount to the list; the order may differ
-put_new : (a : Account) (z : ℤ) (es : List (Account × ℤ)) → find account_cmp a es ≡ None → IsPermutation (put account_cmp a z es) ((a, z) ∷ es)
+put_new : (a : Account) (z : ℤ) (es : List (Account × ℤ)) → find account_cmp a es ≡ None
+    → IsPermutation (put account_cmp a z es) ((a, z) ∷ es)
 put_new a z [] h = IsPermutation-refl ((a, z) ∷ [])
 put_new a z (e ∷ es) h =
     elim (account_cmp a e.0) as (λ o. cond (is_eq o) (Some e.1) (find account_cmp a es) ≡ None → IsPermutation (by_order o ((a, z) ∷ e ∷ es) ((e.0, z) ∷ es) (e ∷ put account_cmp a z es)) ((a, z) ∷ e ∷ es)) [
@@ -43,7 +44,8 @@ abbrev row_of_amount : Account × ℤ → StoredBooks
 row_of_amount x = books_row x.0.0 x.0.1 x.1
 
 -- setting an amount other than 0 where there is none adds one row to those of the books; their order may differ
-one_amount : (books : BooksValue) (a : Account) (z : ℤ) → get books.amounts a ≡ None → z ≢ pos 0 → IsPermutation (books_rows (with_amount books a.0 a.1 z)) (row_of_amount (a, z) ∷ books_rows books)
+one_amount : (books : BooksValue) (a : Account) (z : ℤ) → get books.amounts a ≡ None → z ≢ pos 0
+    → IsPermutation (books_rows (with_amount books a.0 a.1 z)) (row_of_amount (a, z) ∷ books_rows books)
 one_amount books a z none some =
     let m = books.amounts in
     let is : entries (with_amount books a.0 a.1 z).amounts ≡ put account_cmp a z (entries m) = ap (λ b. entries (cond b (remove m a) (insert m a z))) (nonzero_fails_is_zero z some) ∙ entries-insert account_total m a z in
@@ -65,7 +67,8 @@ one_up n i h e = omega arith
 
 -- A row is read as an account (IsBooked) if its entry is from 1 to entry_count, its thing is below `things`, both fit
 -- 32 bits, and its amount is not 0.
-pub booked_row : (things : ℕ) (r : StoredBooks) → FitsU32 r.entry → FitsU32 r.thing → 1 ≤ as_u32 r.entry → as_u32 r.entry ≤ entry_count → as_u32 r.thing < things → r.amount ≢ pos 0 → IsBooked things r
+pub booked_row : (things : ℕ) (r : StoredBooks) → FitsU32 r.entry → FitsU32 r.thing → 1 ≤ as_u32 r.entry
+    → as_u32 r.entry ≤ entry_count → as_u32 r.thing < things → r.amount ≢ pos 0 → IsBooked things r
 booked_row things r entry thing least most there some =
     let (e, at) = entry_at (as_u32 r.entry - 1) (omega arith) in
     let number = one_up (as_u32 r.entry) (entry_index e) least at in
@@ -83,7 +86,8 @@ booked_row things r entry thing least most there some =
 pub account_there : (things : ℕ) (r : StoredBooks) (h : IsBooked things r) → thing_index h.account.1 < things
 account_there things r h = let is = sym (ap thing_index h.numbered) ∙ index_of_thing_at (as_u32 r.thing) in omega (arith, is, h.there)
 
-pub with_booked_row : (things : ℕ) (books : BooksValue) (r : StoredBooks) → AreBooks things books → (h : IsBooked things r) → with_books_row books r ≡ with_amount books h.account.0 h.account.1 r.amount
+pub with_booked_row : (things : ℕ) (books : BooksValue) (r : StoredBooks) → AreBooks things books
+    → (h : IsBooked things r) → with_books_row books r ≡ with_amount books h.account.0 h.account.1 r.amount
 with_booked_row things books r are h =
     let few : nat_lt (as_u32 r.thing) books.things ≡ true = let l : as_u32 r.thing < books.things = omega (arith, are.count, h.there) in grind (arith, nat_tests) in
     ap (λ o. option_map_or (λ e. cond (nat_lt (as_u32 r.thing) books.things) (with_amount books e (thing_at (as_u32 r.thing)) r.amount) books) o books) h.named
@@ -96,7 +100,8 @@ key_of a = books_key (books_row a.0 a.1 (pos 0))
 its_key : (things : ℕ) (r : StoredBooks) (h : IsBooked things r) → ◌≡◌ {A = Key} (key_of h.account) (books_key r)
 its_key things r h = ap books_key h.row
 
-accounts_apart : (things : ℕ) (r s : StoredBooks) (h : IsBooked things r) (k : IsBooked things s) → is_same_key (books_key r) (books_key s) ≡ false → eq_by_cmp account_cmp k.account h.account ≡ false
+accounts_apart : (things : ℕ) (r s : StoredBooks) (h : IsBooked things r) (k : IsBooked things s)
+    → is_same_key (books_key r) (books_key s) ≡ false → eq_by_cmp account_cmp k.account h.account ≡ false
 accounts_apart things r s h k differ =
     elim (cases_account k.account h.account) [
       | inl one ↦ absurd (false≢true (sym (ap (is_same_key (books_key r)) (sym (its_key things r h) ∙ ap key_of (sym one) ∙ its_key things s k) ∙ differ) ∙ ties_itself (books_key r)))
@@ -107,7 +112,9 @@ accounts_apart things r s h k differ =
 abbrev IsFree : ℕ → BooksValue → StoredBooks → Type 0
 IsFree things books r = (h : IsBooked things r) → get books.amounts h.account ≡ None
 
-stay_free : (things : ℕ) (books : BooksValue) (r : StoredBooks) (h : IsBooked things r) (rows : List StoredBooks) → AllByRecursion (λ y. is_same_key (books_key r) y ≡ false) (map books_key rows) → AllByRecursion (IsFree things books) rows
+stay_free : (things : ℕ) (books : BooksValue) (r : StoredBooks) (h : IsBooked things r) (rows : List StoredBooks)
+    → AllByRecursion (λ y. is_same_key (books_key r) y ≡ false) (map books_key rows)
+    → AllByRecursion (IsFree things books) rows
     → AllByRecursion (IsFree things (with_amount books h.account.0 h.account.1 r.amount)) rows
 stay_free things books r h [] d free = tt
 stay_free things books r h (s ∷ rows) d free = (
@@ -116,9 +123,14 @@ stay_free things books r h (s ∷ rows) d free = (
 )
 
 -- putting rows with distinct keys, whose accounts have no amount yet (IsFree), into books adds just these rows
-putting_adds_rows : (things : ℕ) (rows : List StoredBooks) (books : BooksValue) → AreBooks things books → AllByRecursion (IsBooked things) rows → IsDistinct is_same_key (map books_key rows) → AllByRecursion (IsFree things books) rows → IsPermutation (books_rows books ++ rows) (books_rows (with_books_rows rows books))
+putting_adds_rows : (things : ℕ) (rows : List StoredBooks) (books : BooksValue) → AreBooks things books
+    → AllByRecursion (IsBooked things) rows → IsDistinct is_same_key (map books_key rows)
+    → AllByRecursion (IsFree things books) rows
+    → IsPermutation (books_rows books ++ rows) (books_rows (with_books_rows rows books))
 unfolding IsDistinct
-putting_adds_rows things [] books are all d free = subst (λ xs. IsPermutation xs (books_rows books)) (sym (append-nil (books_rows books))) (IsPermutation-refl (books_rows books))
+putting_adds_rows things [] books are all d free =
+    subst (λ xs. IsPermutation xs (books_rows books)) (sym (append-nil (books_rows books)))
+    (IsPermutation-refl (books_rows books))
 putting_adds_rows things (r ∷ rows) books are all d free =
     let h = all.0 in
     let new = with_amount books h.account.0 h.account.1 r.amount in
@@ -135,7 +147,9 @@ all_free things [] = tt
 all_free things (r ∷ rows) = (λ h. get-empty {X = ℤ} account_cmp h.account, all_free things rows)
 
 -- books assembled from rows with distinct keys, each read as an account (IsBooked), have just these rows, in some order
-pub assembled_books_have_rows : (things : ℕ) (rows : List StoredBooks) → AllByRecursion (IsBooked things) rows → IsDistinct is_same_key (map books_key rows) → IsPermutation (books_rows (with_books_rows rows (no_amounts things))) rows
+pub assembled_books_have_rows : (things : ℕ) (rows : List StoredBooks) → AllByRecursion (IsBooked things) rows
+    → IsDistinct is_same_key (map books_key rows)
+    → IsPermutation (books_rows (with_books_rows rows (no_amounts things))) rows
 assembled_books_have_rows things rows all d =
     let last = books_rows (with_books_rows rows (no_amounts things)) in
     let order = putting_adds_rows things rows (no_amounts things) (AreBooks-no_amounts things) all d (all_free things rows) in

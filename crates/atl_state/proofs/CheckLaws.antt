@@ -60,7 +60,9 @@ later_entry n l small h =
     let most = from_le (as_u32 (pos (n + 1))) first_entry_count (and_parts (nat_le 1 (as_u32 (pos (n + 1)))) (nat_le (as_u32 (pos (n + 1))) first_entry_count) h).1 in
     absurd (omega (arith, read, most))
 
-no_amount : (books : BooksValue) → AllByRecursion (λ (r : StoredBooks). is_entry_in First (as_u32 r.entry) ≡ true) (books_rows books) → (e : BooksEntry) (t : Thing) → first_entry_count ≤ entry_index e → amount_in books e t ≡ pos 0
+no_amount : (books : BooksValue)
+    → AllByRecursion (λ (r : StoredBooks). is_entry_in First (as_u32 r.entry) ≡ true) (books_rows books)
+    → (e : BooksEntry) (t : Thing) → first_entry_count ≤ entry_index e → amount_in books e t ≡ pos 0
 no_amount books listed e t l =
     elim (get books.amounts (e, t)) as (λ o. get books.amounts (e, t) ≡ o → unwrap_or o (pos 0) ≡ pos 0) [
       | None ↦ λ _. refl
@@ -71,14 +73,16 @@ module _ (f : Format) (w : WorldValue) (p : Parts) where
   pub below_first : KeepsRulesBelow f w p 1
   below_first r h = absurd (omega (arith, rule_number_is_positive r))
 
-  pub below_next : (r : Rule) → KeepsRulesBelow f w p (rule_number r) → KeepsRule f w p r → KeepsRulesBelow f w p (rule_number r + 1)
+  pub below_next : (r : Rule) → KeepsRulesBelow f w p (rule_number r) → KeepsRule f w p r
+      → KeepsRulesBelow f w p (rule_number r + 1)
   below_next r before holds s h =
       elim (cases_eq (rule_number s) (rule_number r)) [
         | inl e ↦ subst (KeepsRule f w p) (sym (same_rule s r e)) holds
         | inr apart ↦ before s (omega arith)
       ]
 
-  pub first_broken : (r : Rule) (b : Bool) → KeepsRulesBelow f w p (rule_number r) → Decides b (KeepsRule f w p r) → b ≡ false → IsFirstBroken f w p r
+  pub first_broken : (r : Rule) (b : Bool) → KeepsRulesBelow f w p (rule_number r) → Decides b (KeepsRule f w p r)
+      → b ≡ false → IsFirstBroken f w p r
   first_broken r b before d e = record { before = before; broken = λ holds. false≢true (sym e ∙ d.1 holds) }
 
   -- if the world keeps the rules of worlds, rows that keep rules 1 to 11 keep those by which they are just the rows of
@@ -108,7 +112,8 @@ module _ (f : Format) (w : WorldValue) (p : Parts) where
   no_stocks is rows =
       by_number-every (λ r. as_u32 r.number) (region_of p.markets) (λ n r. r.stocks ≡ empty) region_in_range (λ r good. ap (stocks_of (as_u32 r.number)) (none_in_first f w p rows is)) p.regions (ranges f w p rows).regions
 
-  first_entries : f ≡ First → RowsKeep f w p → (e : BooksEntry) (t : Thing) → first_entry_count ≤ entry_index e → amount_in (campaign_of w p).books e t ≡ pos 0
+  first_entries : f ≡ First → RowsKeep f w p → (e : BooksEntry) (t : Thing) → first_entry_count ≤ entry_index e
+      → amount_in (campaign_of w p).books e t ≡ pos 0
   unfolding campaign_of
   first_entries is rows =
       no_amount (with_books_rows p.books (no_amounts (thing_count w))) (each_back (λ r. is_entry_in First (as_u32 r.entry) ≡ true) (books_rows (with_books_rows p.books (no_amounts (thing_count w)))) p.books (books_said f w p rows)
@@ -154,13 +159,15 @@ module _ (f : Format) (w : WorldValue) (p : Parts) where
   pub books-said : KeepsRulesBelow f w p 11 → AreBooks (thing_count w) (campaign_of w p).books
   books-said k = (AreInRange-said w p (k Ranges (omega arith))).books
 
-  pub items-said : KeepsRulesBelow f w p 11 → Every (λ n u. Every (λ i amount. i < length w.items) u.holding.items) (campaign_of w p).units
+  pub items-said : KeepsRulesBelow f w p 11
+      → Every (λ n u. Every (λ i amount. i < length w.items) u.holding.items) (campaign_of w p).units
   items-said k n u is = ((k Known (omega arith)).0.units n u is).items
 
   pub stocks-said : KeepsRulesBelow f w p 11 → Every (λ n r. AreOfMarkets w n r.stocks) (campaign_of w p).regions
   stocks-said k = (k Known (omega arith)).0.markets
 
-  pub places-said : KeepsRulesBelow f w p 8 → Every (λ n u. HasValue (campaign_of w p).regions u.region) (campaign_of w p).units
+  pub places-said : KeepsRulesBelow f w p 8
+      → Every (λ n u. HasValue (campaign_of w p).regions u.region) (campaign_of w p).units
   places-said k n u is = ((k Known (omega arith)).0.units n u is).region
 
   pub one-said : KeepsRulesBelow f w p 4 → length p.campaign ≡ 1

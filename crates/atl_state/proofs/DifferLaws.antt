@@ -8,7 +8,9 @@ use Rattle.atl_state.specs.Deciding.{JoinedNamesDiffer}
 use Rattle.atl_records.specs.Every.{Every}
 use Rattle.atl_records.proofs.EveryLaws.{none_some, each_of, later, first, not_below, sorted}
 
-names_in_entries_differ : (es : List (ℕ × Faction)) → is_sorted nat_cmp es ≡ true → ((n k : ℕ) (f g : Faction) → find nat_cmp n es ≡ Some f → find nat_cmp k es ≡ Some g → f.joined_as ≡ g.joined_as → n ≡ k) → JoinedNamesDiffer es
+names_in_entries_differ : (es : List (ℕ × Faction)) → is_sorted nat_cmp es ≡ true
+    → ((n k : ℕ) (f g : Faction) → find nat_cmp n es ≡ Some f → find nat_cmp k es ≡ Some g → f.joined_as ≡ g.joined_as → n ≡ k)
+    → JoinedNamesDiffer es
 names_in_entries_differ [] s h = tt
 names_in_entries_differ (e ∷ es) s h = (
   each_of (λ _ f. e.1.joined_as ≢ f.joined_as) es (and_parts _ _ s).1 (λ n f is same.
@@ -22,4 +24,6 @@ abbrev pub AllDiffer : FinMap nat_cmp Faction → Type 0
 AllDiffer m = Every (λ n f. Every (λ k g. f.joined_as ≡ g.joined_as → n ≡ k) m) m
 
 pub entries_differ : (m : FinMap nat_cmp Faction) → AllDiffer m → JoinedNamesDiffer (entries m)
-entries_differ m every = names_in_entries_differ (entries m) (sorted m) (λ n k f g is js same. every n f (get-entries m n ∙ is) k g (get-entries m k ∙ js) same)
+entries_differ m every =
+    names_in_entries_differ (entries m) (sorted m)
+    (λ n k f g is js same. every n f (get-entries m n ∙ is) k g (get-entries m k ∙ js) same)

@@ -47,13 +47,16 @@ use Rattle.atl_campaign.proofs.MarketLaws.{market_known}
 -- ---- numbers in a good campaign
 
 -- each number of a map is from 1 to `most`, if the map is numbered from 1 without a gap, and has at most `most` values
-few_numbered : {V : Type 0} (m : FinMap nat_cmp V) (next most : ℕ) → IsNumbered m next → len m ≤ most → Every (λ n v. (1 ≤ n) × (n ≤ most)) m
+few_numbered : {V : Type 0} (m : FinMap nat_cmp V) (next most : ℕ) → IsNumbered m next → len m ≤ most
+    → Every (λ n v. (1 ≤ n) × (n ≤ most)) m
 few_numbered m next most is few n v there = let range = every-from_each (λ n v. (1 ≤ n) × (n < next)) m (each_numbered m next is) n v there in (range.0, omega (arith, range.1, is.count, few))
 
-few_before : {V : Type 0} (m : FinMap nat_cmp V) (next most : ℕ) → ((n : ℕ) → next ≤ n → get m n ≡ None) → next ≤ most + 1 → Every (λ n v. n ≤ most) m
+few_before : {V : Type 0} (m : FinMap nat_cmp V) (next most : ℕ) → ((n : ℕ) → next ≤ n → get m n ≡ None)
+    → next ≤ most + 1 → Every (λ n v. n ≤ most) m
 few_before m next most free few n v there = let low = every_before m next free n v there in omega (arith, low, few)
 
-small_enough : {V : Type 0} (m : FinMap nat_cmp V) (most : ℕ) → most ≤ most_u32 → Every (λ n v. n ≤ most) m → Every (λ n v. n ≤ most_u32) m
+small_enough : {V : Type 0} (m : FinMap nat_cmp V) (most : ℕ) → most ≤ most_u32 → Every (λ n v. n ≤ most) m
+    → Every (λ n v. n ≤ most_u32) m
 small_enough m most few every n v there = let here = every n v there in omega (arith, few, here)
 
 -- ---- one row
@@ -71,7 +74,8 @@ faction_back n f few is =
     let gone = flag_back f.gone in
     λ i. record { number = number i; joined_as = f.joined_as; name = f.name; pass = f.pass; gone = gone i }
 
-region_back : (markets : List StoredMarket) (n : ℕ) (r : Region) → n ≤ most_u32 → r.peasants ≤ most_u32 → r.money ≤ most_u32 → stocks_of n markets ≡ r.stocks → region_of markets (region_row n r) ≡ r
+region_back : (markets : List StoredMarket) (n : ℕ) (r : Region) → n ≤ most_u32 → r.peasants ≤ most_u32
+    → r.money ≤ most_u32 → stocks_of n markets ≡ r.stocks → region_of markets (region_row n r) ≡ r
 region_back markets n r few p m stocks =
     let peasants = written_is_read r.peasants p in
     let money = written_is_read r.money m in
@@ -101,7 +105,8 @@ pub record UnitFits (u : Unit) : Type 0 where
   pub men : u.holding.men ≤ most_u32
   pub money : u.holding.money ≤ most_u32
 
-unit_back : (has : List StoredHas) (n : ℕ) (u : Unit) → n ≤ most_u32 → UnitFits u → things_had n 0 has ≡ u.holding.items → things_had n 1 has ≡ u.holding.days → unit_of has (unit_row n u) ≡ u
+unit_back : (has : List StoredHas) (n : ℕ) (u : Unit) → n ≤ most_u32 → UnitFits u → things_had n 0 has ≡ u.holding.items
+    → things_had n 1 has ≡ u.holding.days → unit_of has (unit_row n u) ≡ u
 unit_back has n u few h items days =
     let faction = written_is_read u.faction h.faction in
     let region = written_is_read u.region h.region in
@@ -117,13 +122,19 @@ unit_back has n u few h items days =
 
 module _ {V R : Type 0} (row : ℕ → V → R) (key : R → ℤ) (value : R → V) (keyed : (n : ℕ) (v : V) → key (row n v) ≡ pos n) (m : FinMap nat_cmp V) (few : Every (λ n v. n ≤ most_u32) m) (rows : List R) (h : IsPermutation (rows_by row (entries m)) rows) where
   apart : (n k : ℕ) (v u : V) → n < k → is_same_key (one_key (key (row n v))) (one_key (key (row k u))) ≡ false
-  apart n k v u l = ap (λ z. is_same_key (one_key z) (one_key (key (row k u)))) (keyed n v) ∙ ap (λ z. is_same_key (one_key (pos n)) (one_key z)) (keyed k u) ∙ apart_numbers n k l
+  apart n k v u l =
+      ap (λ z. is_same_key (one_key z) (one_key (key (row k u)))) (keyed n v)
+      ∙ ap (λ z. is_same_key (one_key (pos n)) (one_key z)) (keyed k u) ∙ apart_numbers n k l
 
   pub table_keys : HaveDistinctKeys (λ r. one_key (key r)) rows
-  table_keys = keys_permuted (λ r. one_key (key r)) (rows_by row (entries m)) rows h (rows_apart row (λ a b. is_same_key (one_key (key a)) (one_key (key b))) apart (entries m) (entries_rise m))
+  table_keys =
+      keys_permuted (λ r. one_key (key r)) (rows_by row (entries m)) rows h
+      (rows_apart row (λ a b. is_same_key (one_key (key a)) (one_key (key b))) apart (entries m) (entries_rise m))
 
   whole : AllByRecursion (λ r. FitsU32 (key r)) rows
-  whole = rows_so row (λ r. FitsU32 (key r)) m rows h (λ n v is. subst FitsU32 (sym (keyed n v)) (written_fits_u32 n (few n v is)))
+  whole =
+      rows_so row (λ r. FitsU32 (key r)) m rows h
+      (λ n v is. subst FitsU32 (sym (keyed n v)) (written_fits_u32 n (few n v is)))
 
   -- the map `m` is read back from its rows, made by `row`, in any order, if each value is read back from its own row
   pub table_back : Every (λ n v. value (row n v) ≡ v) m → by_number (λ r. as_u32 (key r)) value rows ≡ m
@@ -133,13 +144,15 @@ module _ {V R : Type 0} (row : ℕ → V → R) (key : R → ℤ) (value : R →
 
 -- ---- the campaign's own row
 
-list_of_one_row : {R : Type 0} (x : R) (rows : List R) → length rows ≡ 1 → AllByRecursion (λ r. r ≡ x) rows → rows ≡ x ∷ []
+list_of_one_row : {R : Type 0} (x : R) (rows : List R) → length rows ≡ 1 → AllByRecursion (λ r. r ≡ x) rows
+    → rows ≡ x ∷ []
 list_of_one_row x [] l all = absurd (omega (arith, l))
 list_of_one_row x (r ∷ []) l all = ap (λ s. s ∷ []) all.0
 list_of_one_row x (r ∷ s ∷ rows) l all = absurd (omega (arith, l))
 
 pub only_row : {R : Type 0} (x : R) (rows : List R) → IsPermutation (x ∷ []) rows → rows ≡ x ∷ []
-only_row x rows h = list_of_one_row x rows (length_permutation (x ∷ []) rows h) (each_permuted (λ r. r ≡ x) (x ∷ []) rows h (refl, tt))
+only_row x rows h =
+    list_of_one_row x rows (length_permutation (x ∷ []) rows h) (each_permuted (λ r. r ≡ x) (x ∷ []) rows h (refl, tt))
 
 pub none_listed : {R : Type 0} (rows : List R) → IsPermutation [] rows → rows ≡ []
 none_listed [] h = refl
@@ -147,10 +160,13 @@ none_listed (r ∷ rows) h = let count = length_permutation [] (r ∷ rows) h in
 
 -- ---- what is so of a good campaign's numbers
 
-unit_small_enough : (u : Unit) → u.faction ≤ last_faction → u.region ≤ last_region → u.structure ≤ most_structures → u.holding.men ≤ men_limit → u.holding.money ≤ holding_limit → UnitFits u
-unit_small_enough u f r s m y = record { faction = omega (arith, f); region = omega (arith, r); structure = omega (arith, s); men = omega (arith, m); money = omega (arith, y) }
+unit_small_enough : (u : Unit) → u.faction ≤ last_faction → u.region ≤ last_region → u.structure ≤ most_structures
+    → u.holding.men ≤ men_limit → u.holding.money ≤ holding_limit → UnitFits u
+unit_small_enough u f r s m y =
+    record { faction = omega (arith, f); region = omega (arith, r); structure = omega (arith, s); men = omega (arith, m); money = omega (arith, y) }
 
-structure_small_enough : (w : WorldValue) → IsWorld w → (s : Structure) → s.kind < length w.kinds → s.region ≤ last_region → s.done ≤ size_of w s.kind → s.owner ≤ last_unit → StructureFits s
+structure_small_enough : (w : WorldValue) → IsWorld w → (s : Structure) → s.kind < length w.kinds
+    → s.region ≤ last_region → s.done ≤ size_of w s.kind → s.owner ≤ last_unit → StructureFits s
 structure_small_enough w world s k r d o =
     let kinds = world.few_kinds in
     let size = small_size w world s.kind in
@@ -158,8 +174,10 @@ structure_small_enough w world s k r d o =
 
 -- A unit's items and skills have numbers of 32 bits, and amounts from 1 to most_u32. This supposes that the items and
 -- skills are of the world, and that the unit's men, amounts of items and days of skills are within their limits.
-goods_fit : (w : WorldValue) → IsWorld w → (u : Unit) → Every (λ i a. i < length w.items) u.holding.items → Every (λ i a. i < length w.skills) u.holding.days → AreAmounts u.holding.items → u.holding.men ≤ men_limit
-    → Every (λ i a. (1 ≤ a) × (a ≤ most_days * u.holding.men)) u.holding.days → (s : ℕ) → s < 2 → Every (λ i a. (i ≤ most_u32) × (1 ≤ a) × (a ≤ most_u32)) (goods_of s u)
+goods_fit : (w : WorldValue) → IsWorld w → (u : Unit) → Every (λ i a. i < length w.items) u.holding.items
+    → Every (λ i a. i < length w.skills) u.holding.days → AreAmounts u.holding.items → u.holding.men ≤ men_limit
+    → Every (λ i a. (1 ≤ a) × (a ≤ most_days * u.holding.men)) u.holding.days → (s : ℕ) → s < 2
+    → Every (λ i a. (i ≤ most_u32) × (1 ≤ a) × (a ≤ most_u32)) (goods_of s u)
 goods_fit w world u items skills amounts men days zero l i a is =
     let few = world.few_items in
     let at = items i a is in
@@ -173,13 +191,18 @@ goods_fit w world u items skills amounts men days (suc s) l i a is =
 
 module _ (w : WorldValue) (world : IsWorld w) (c : CampaignValue) (good : IsGood w c) where
   pub few_factions : Every (λ n f. (1 ≤ n) × (n ≤ last_faction)) c.factions
-  few_factions = few_numbered c.factions c.next_faction last_faction good.sound.steady.next.factions good.sound.steady.numbers.few_factions
+  few_factions =
+      few_numbered c.factions c.next_faction last_faction good.sound.steady.next.factions
+      good.sound.steady.numbers.few_factions
 
   pub few_structures : Every (λ n s. (1 ≤ n) × (n ≤ most_structures)) c.structures
-  few_structures = few_numbered c.structures c.next_structure most_structures good.sound.steady.next.structures good.sound.steady.numbers.few_structures
+  few_structures =
+      few_numbered c.structures c.next_structure most_structures good.sound.steady.next.structures
+      good.sound.steady.numbers.few_structures
 
   pub few_units : Every (λ n u. n ≤ last_unit) c.units
-  few_units = few_before c.units c.next_unit last_unit good.sound.steady.next.units good.sound.steady.numbers.next_unit_most
+  few_units =
+      few_before c.units c.next_unit last_unit good.sound.steady.next.units good.sound.steady.numbers.next_unit_most
 
   pub region_small : (n : ℕ) → HasValue c.regions n → n ≤ last_region
   region_small n there = let known = (good.sound.steady.known.regions n).0 there in (world.regions n known.0 known.1).number_most
@@ -297,32 +320,40 @@ module _ (w : WorldValue) (world : IsWorld w) (c : CampaignValue) (good : IsGood
     reports_whole n text is = let most : n ≤ last_faction = faction_small n (good.sound.steady.known.posts.reports n text is) in omega (arith, most)
 
     factions_said : by_number (λ r. as_u32 r.number) faction_of p.factions ≡ c.factions
-    factions_said = table_back faction_row (λ r. r.number) faction_of (λ n f. refl) c.factions factions_whole p.factions factions_listed (λ n f is. faction_back n f (factions_whole n f is) (good.sound.steady.numbers.factions n f is))
+    factions_said =
+        table_back faction_row (λ r. r.number) faction_of (λ n f. refl) c.factions factions_whole p.factions
+        factions_listed (λ n f is. faction_back n f (factions_whole n f is) (good.sound.steady.numbers.factions n f is))
 
     amount_small : (n : ℕ) → n ≤ most_amount → n ≤ most_u32
     amount_small n h = omega (arith, h)
 
-    pub each_market : (P : StoredMarket → Type 0) → Every (λ n r. Every (λ i a. P (market_row n i a)) r.stocks) c.regions → AllByRecursion P p.markets
-    each_market P h = elim f as (λ g. IsPermutation (market_rows g (entries c.regions)) p.markets → AllByRecursion P p.markets) [
-      | First ↦ λ listed. subst (AllByRecursion P) (sym (none_listed p.markets listed)) tt
-      | Second ↦ λ listed. each_permuted P (market_rows Second (entries c.regions)) p.markets listed (stocks_each c.regions P (λ n r there i a is some. h n r there i a is))
-    ] markets_listed
+    pub each_market : (P : StoredMarket → Type 0)
+        → Every (λ n r. Every (λ i a. P (market_row n i a)) r.stocks) c.regions → AllByRecursion P p.markets
+    each_market P h =
+        elim f as (λ g. IsPermutation (market_rows g (entries c.regions)) p.markets → AllByRecursion P p.markets) [
+          | First ↦ λ listed. subst (AllByRecursion P) (sym (none_listed p.markets listed)) tt
+          | Second ↦ λ listed. each_permuted P (market_rows Second (entries c.regions)) p.markets listed (stocks_each c.regions P (λ n r there i a is some. h n r there i a is))
+        ] markets_listed
 
     no_keys : HaveDistinctKeys market_key []
     unfolding IsDistinct
     no_keys = tt
 
     pub markets_keyed : HaveDistinctKeys market_key p.markets
-    markets_keyed = elim f as (λ g. IsPermutation (market_rows g (entries c.regions)) p.markets → HaveDistinctKeys market_key p.markets) [
-      | First ↦ λ listed. subst (HaveDistinctKeys market_key) (sym (none_listed p.markets listed)) no_keys
-      | Second ↦ λ listed. market_keys c.regions stocked p.markets listed
-    ] markets_listed
+    markets_keyed =
+        elim f as
+        (λ g. IsPermutation (market_rows g (entries c.regions)) p.markets → HaveDistinctKeys market_key p.markets) [
+          | First ↦ λ listed. subst (HaveDistinctKeys market_key) (sym (none_listed p.markets listed)) no_keys
+          | Second ↦ λ listed. market_keys c.regions stocked p.markets listed
+        ] markets_listed
 
     stocks_said : Every (λ n r. stocks_of n p.markets ≡ r.stocks) c.regions
-    stocks_said n r is = elim f as (λ g. Fits g c → IsPermutation (market_rows g (entries c.regions)) p.markets → stocks_of n p.markets ≡ r.stocks) [
-      | First ↦ λ bare listed. ap (stocks_of n) (none_listed p.markets listed) ∙ sym (bare.stocks n r is)
-      | Second ↦ λ _ listed. stocks_back c.regions stocked p.markets listed n r is
-    ] fits markets_listed
+    stocks_said n r is =
+        elim f as
+        (λ g. Fits g c → IsPermutation (market_rows g (entries c.regions)) p.markets → stocks_of n p.markets ≡ r.stocks) [
+          | First ↦ λ bare listed. ap (stocks_of n) (none_listed p.markets listed) ∙ sym (bare.stocks n r is)
+          | Second ↦ λ _ listed. stocks_back c.regions stocked p.markets listed n r is
+        ] fits markets_listed
 
     regions_said : by_number (λ r. as_u32 r.number) (region_of p.markets) p.regions ≡ c.regions
     regions_said =
@@ -331,13 +362,19 @@ module _ (w : WorldValue) (world : IsWorld w) (c : CampaignValue) (good : IsGood
         region_back p.markets n r (regions_whole n r is) (amount_small r.peasants range.peasants) (amount_small r.money range.money) (stocks_said n r is))
 
     structures_said : by_number (λ r. as_u32 r.number) structure_of p.structures ≡ c.structures
-    structures_said = table_back structure_row (λ r. r.number) structure_of (λ n s. refl) c.structures structures_whole p.structures structures_listed (λ n s is. structure_back n s (structure_fits n s is))
+    structures_said =
+        table_back structure_row (λ r. r.number) structure_of (λ n s. refl) c.structures structures_whole p.structures
+        structures_listed (λ n s is. structure_back n s (structure_fits n s is))
 
     mail_said : by_number (λ r. as_u32 r.faction) (λ r. r.text) p.mail ≡ c.mail
-    mail_said = table_back mail_row (λ r. r.faction) (λ r. r.text) (λ n text. refl) c.mail mail_whole p.mail mail_listed (λ n text is. refl)
+    mail_said =
+        table_back mail_row (λ r. r.faction) (λ r. r.text) (λ n text. refl) c.mail mail_whole p.mail mail_listed
+        (λ n text is. refl)
 
     reports_said : by_number (λ r. as_u32 r.faction) (λ r. r.text) p.reports ≡ c.reports
-    reports_said = table_back report_row (λ r. r.faction) (λ r. r.text) (λ n text. refl) c.reports reports_whole p.reports reports_listed (λ n text is. refl)
+    reports_said =
+        table_back report_row (λ r. r.faction) (λ r. r.text) (λ n text. refl) c.reports reports_whole p.reports
+        reports_listed (λ n text is. refl)
 
     units_said : by_number (λ r. as_u32 r.number) (unit_of p.has) p.units ≡ c.units
     units_said =
@@ -361,13 +398,17 @@ module _ (w : WorldValue) (world : IsWorld w) (c : CampaignValue) (good : IsGood
     structure_next = let count : c.next_structure ≡ len c.structures + 1 = good.sound.steady.next.structures.count in let few : len c.structures ≤ most_structures = good.sound.steady.numbers.few_structures in omega (arith, count, few)
 
     next_faction_said : as_u32 (campaign_row_of p).next_faction ≡ c.next_faction
-    next_faction_said = ap (λ (h : StoredCampaignRow). as_u32 h.next_faction) head_said ∙ written_is_read c.next_faction (omega (arith, faction_next))
+    next_faction_said =
+        ap (λ (h : StoredCampaignRow). as_u32 h.next_faction) head_said
+        ∙ written_is_read c.next_faction (omega (arith, faction_next))
 
     next_unit_said : as_u32 (campaign_row_of p).next_unit ≡ c.next_unit
     next_unit_said = let most : c.next_unit ≤ last_unit + 1 = good.sound.steady.numbers.next_unit_most in ap (λ (h : StoredCampaignRow). as_u32 h.next_unit) head_said ∙ written_is_read c.next_unit (omega (arith, most))
 
     next_structure_said : as_u32 (campaign_row_of p).next_structure ≡ c.next_structure
-    next_structure_said = ap (λ (h : StoredCampaignRow). as_u32 h.next_structure) head_said ∙ written_is_read c.next_structure (omega (arith, structure_next))
+    next_structure_said =
+        ap (λ (h : StoredCampaignRow). as_u32 h.next_structure) head_said
+        ∙ written_is_read c.next_structure (omega (arith, structure_next))
 
     -- assembling the rows of a good campaign gives that campaign back
     pub state_back : campaign_of w p ≡ c

@@ -77,13 +77,17 @@ abbrev same_text : List ℕ → List ℕ → Bool
 same_text a b = eq_by_cmp (slice_cmp nat_cmp) a b
 
 text_apart : (a b : List ℕ) → a ≢ b → same_text a b ≡ false
-text_apart a b h = elim (same_text a b) as (λ t. same_text a b ≡ t → same_text a b ≡ false) [ true ↦ λ e. absurd (h ((bytes_eq-Decides a b).0 (sym (is_eq-slice_cmp a b) ∙ e))) | false ↦ λ e. e ] refl
+text_apart a b h =
+    elim (same_text a b) as (λ t. same_text a b ≡ t → same_text a b ≡ false)
+    [ true ↦ λ e. absurd (h ((bytes_eq-Decides a b).0 (sym (is_eq-slice_cmp a b) ∙ e))) | false ↦ λ e. e ] refl
 
-others_named : (f : Faction) (es : List (ℕ × Faction)) → EachEntry (λ n g. f.joined_as ≢ g.joined_as) es → AllByRecursion (λ (r : StoredFaction). same_text f.joined_as r.joined_as ≡ false) (rows_by faction_row es)
+others_named : (f : Faction) (es : List (ℕ × Faction)) → EachEntry (λ n g. f.joined_as ≢ g.joined_as) es
+    → AllByRecursion (λ (r : StoredFaction). same_text f.joined_as r.joined_as ≡ false) (rows_by faction_row es)
 others_named f [] h = tt
 others_named f (e ∷ es) h = (text_apart f.joined_as e.1.joined_as h.0, others_named f es h.1)
 
-named_apart : (es : List (ℕ × Faction)) → JoinedNamesDiffer es → IsDistinct (λ (a b : StoredFaction). same_text a.joined_as b.joined_as) (rows_by faction_row es)
+named_apart : (es : List (ℕ × Faction)) → JoinedNamesDiffer es
+    → IsDistinct (λ (a b : StoredFaction). same_text a.joined_as b.joined_as) (rows_by faction_row es)
 unfolding IsDistinct
 named_apart [] h = tt
 named_apart (e ∷ es) h = (others_named e.1 es h.0, named_apart es h.1)
@@ -103,10 +107,11 @@ module _ (f : Format) (w : WorldValue) (world : IsWorld w) (c : CampaignValue) (
   one_row = ap (is_one_campaign_row f) (row.its_head w world c good f fits p rows) ∙ head_true f c
 
   of_format : are_of_format f p.markets ≡ true
-  of_format = elim f as (λ g. IsPermutation (market_rows g (entries c.regions)) p.markets → are_of_format g p.markets ≡ true) [
-    | First ↦ λ listed. ap (are_of_format First) (row.none_listed p.markets listed)
-    | Second ↦ λ listed. refl
-  ] (row.markets_listed w world c good f fits p rows)
+  of_format =
+      elim f as (λ g. IsPermutation (market_rows g (entries c.regions)) p.markets → are_of_format g p.markets ≡ true) [
+        | First ↦ λ listed. ap (are_of_format First) (row.none_listed p.markets listed)
+        | Second ↦ λ listed. refl
+      ] (row.markets_listed w world c good f fits p rows)
 
   -- ---- ranges
 
@@ -188,7 +193,8 @@ module _ (f : Format) (w : WorldValue) (world : IsWorld w) (c : CampaignValue) (
 
   bound_said : books_bound p ≡ amount_bound c
   bound_said =
-      ap (λ m. most_in_month * (m + 1) + most_in_joining * length p.factions) (row.month_said w world c good f fits p rows) ∙ ap (λ n. most_in_month * (c.month + 1) + most_in_joining * n) faction_count
+      ap (λ m. most_in_month * (m + 1) + most_in_joining * length p.factions) (row.month_said w world c good f fits p rows)
+      ∙ ap (λ n. most_in_month * (c.month + 1) + most_in_joining * n) faction_count
 
   amounts_in_range : list_all (books_in_range (amount_bound c)) p.books ≡ true
   amounts_in_range =
@@ -244,15 +250,20 @@ module _ (f : Format) (w : WorldValue) (world : IsWorld w) (c : CampaignValue) (
 
   -- an entry with an amount that is not 0 in a good campaign that the format can hold is one of the format
   entry_few : (e : BooksEntry) (t : Thing) → amount_in c.books e t ≢ pos 0 → entry_index e < entries_in f
-  entry_few e t some = elim f as (λ g. Fits g c → entry_index e < entries_in g) [ First ↦ λ bare. early bare | Second ↦ λ _. entry_small e ] fits
+  entry_few e t some =
+      elim f as (λ g. Fits g c → entry_index e < entries_in g)
+      [ First ↦ λ bare. early bare | Second ↦ λ _. entry_small e ] fits
     where
       early : IsWithoutMarkets c → entry_index e < first_entry_count
-      early bare = elim (cases_lt (entry_index e) first_entry_count) [ inl few ↦ few | inr late ↦ absurd (some (bare.entries e t late)) ]
+      early bare =
+          elim (cases_lt (entry_index e) first_entry_count)
+          [ inl few ↦ few | inr late ↦ absurd (some (bare.entries e t late)) ]
 
   entry_true : (e : ℕ) → e < entries_in f → e < entry_count → is_entry_in f (as_u32 (pos (e + 1))) ≡ true
   entry_true e few small =
       let least : nat_le 1 (e + 1) ≡ true = le_true 1 (e + 1) (omega arith) in
-      ap (is_entry_in f) (written_is_read (e + 1) (omega arith)) ∙ and_true _ _ least (le_true (e + 1) (entries_in f) (omega (arith, few)))
+      ap (is_entry_in f) (written_is_read (e + 1) (omega arith))
+      ∙ and_true _ _ least (le_true (e + 1) (entries_in f) (omega (arith, few)))
 
   thing_true : (t : ℕ) → t < thing_count w → nat_lt (as_u32 (pos t)) (thing_count w) ≡ true
   thing_true t inside =
@@ -276,7 +287,8 @@ module _ (f : Format) (w : WorldValue) (world : IsWorld w) (c : CampaignValue) (
   keeps OneRow = (one_row, of_format)
   keeps Ranges = in_ranges
   keeps Names = named
-  keeps Known = (said (AreKnown w) good.sound.steady.known, said (λ s. list_all (is_of_unit s) p.has ≡ true) of_units, of_markets)
+  keeps Known =
+      (said (AreKnown w) good.sound.steady.known, said (λ s. list_all (is_of_unit s) p.has ≡ true) of_units, of_markets)
   keeps Next = said AreNumbered good.sound.steady.next
   keeps Days = said AreDays good.sound.steady.days
   keeps Gone = (said GoneHaveNone good.sound.steady.gone, said UnitlessAreGone good.sound.gone)
@@ -288,7 +300,10 @@ module _ (f : Format) (w : WorldValue) (world : IsWorld w) (c : CampaignValue) (
 
 -- an answer that `check_as` may give (`Checks`) is, for the rows of a good campaign that the format can hold, this
 -- campaign or Memory (`GivesBack`)
-pub gives_back : (f : Format) (w : WorldValue) → IsWorld w → (p : Parts) (r : Result MarkedCampaign CheckFault) → Checks f w p r → GivesBack f w p r
-gives_back f w world p (Ok m) h = λ c good fits rows. sym (row.state_back w world m.value h.good f h.fits p h.rows) ∙ row.state_back w world c good f fits p rows
+pub gives_back : (f : Format) (w : WorldValue) → IsWorld w → (p : Parts) (r : Result MarkedCampaign CheckFault)
+    → Checks f w p r → GivesBack f w p r
+gives_back f w world p (Ok m) h =
+    λ c good fits rows. sym (row.state_back w world m.value h.good f h.fits p h.rows)
+    ∙ row.state_back w world c good f fits p rows
 gives_back f w world p (Err (Damaged r)) h = λ c good fits rows. h.broken (keeps f w world c good fits p rows r)
 gives_back f w world p (Err Memory) h = tt

@@ -50,7 +50,8 @@ module _ {V : Type 0} (p : V → Bool) where
   listed : (m : FinMap nat_cmp V) (n : ℕ) (v : V) → get m n ≡ Some v → p v ≡ true → IsListed n (numbers_where p m)
   listed m n v is h = chosen_in (entries m) n v (sym (get-entries m n) ∙ is) h
 
-  of_listed : (m : FinMap nat_cmp V) (n : ℕ) → IsListed n (numbers_where p m) → (v : V) × (get m n ≡ Some v) × (p v ≡ true)
+  of_listed : (m : FinMap nat_cmp V) (n : ℕ) → IsListed n (numbers_where p m)
+      → (v : V) × (get m n ≡ Some v) × (p v ≡ true)
   of_listed m n h = let (i, l, is) = position_of n (numbers_where p m) h in subst (λ k. (v : V) × (get m k ≡ Some v) × (p v ≡ true)) is (passes-listed p m i 0 l)
 
 -- ---- the faction that guards a region, its holder
@@ -62,9 +63,11 @@ agree_true (Some x) (Some y) h = (Decides-eqb x y).1 (h x y refl refl)
 
 module _ (faction : ℕ → Option ℕ) where
   -- if a list passes one_holder with holder x, x is the faction of each of its numbers that has one
-  like_holder : (x : ℕ) (ns : List ℕ) → one_holder faction (Some x) ns ≡ true → (n y : ℕ) → IsListed n ns → faction n ≡ Some y → y ≡ x
+  like_holder : (x : ℕ) (ns : List ℕ) → one_holder faction (Some x) ns ≡ true → (n y : ℕ) → IsListed n ns
+      → faction n ≡ Some y → y ≡ x
   like_holder x [] h n y mine is = absurd mine
-  like_holder x (m ∷ ms) h n y (inl same) is = (Decides-eqb y x).0 (ap (λ o. agree o (Some x)) (sym (ap faction (sym same) ∙ is)) ∙ (and_parts _ _ h).0)
+  like_holder x (m ∷ ms) h n y (inl same) is =
+      (Decides-eqb y x).0 (ap (λ o. agree o (Some x)) (sym (ap faction (sym same) ∙ is)) ∙ (and_parts _ _ h).0)
   like_holder x (m ∷ ms) h n y (inr mine) is = like_holder x ms (and_parts _ _ h).1 n y mine is
 
   abbrev Alike : List ℕ → Type 0
@@ -72,11 +75,13 @@ module _ (faction : ℕ → Option ℕ) where
 
   -- if a list passes one_holder with its first number's faction, this is the faction of each number of the list that
   -- has one
-  first_holds : (m z : ℕ) (ms : List ℕ) → faction m ≡ Some z → one_holder faction (Some z) ms ≡ true → (n x : ℕ) → IsListed n (m ∷ ms) → faction n ≡ Some x → x ≡ z
+  first_holds : (m z : ℕ) (ms : List ℕ) → faction m ≡ Some z → one_holder faction (Some z) ms ≡ true → (n x : ℕ)
+      → IsListed n (m ∷ ms) → faction n ≡ Some x → x ≡ z
   first_holds m z ms first h n x (inl same) is = same_Some x z (sym is ∙ ap faction same ∙ first)
   first_holds m z ms first h n x (inr mine) is = like_holder z ms h n x mine is
 
-  not_first : (m : ℕ) (ms : List ℕ) → faction m ≡ None → (n x : ℕ) → IsListed n (m ∷ ms) → faction n ≡ Some x → IsListed n ms
+  not_first : (m : ℕ) (ms : List ℕ) → faction m ≡ None → (n x : ℕ) → IsListed n (m ∷ ms) → faction n ≡ Some x
+      → IsListed n ms
   not_first m ms none n x (inl same) is = none_some x (sym none ∙ ap faction (sym same) ∙ is)
   not_first m ms none n x (inr mine) is = mine
 
@@ -94,7 +99,8 @@ module _ (faction : ℕ → Option ℕ) where
 
   -- if the numbers of `m ∷ ms` are of one faction (Alike), the holder's if any (Fits), those of `ms` are of the
   -- holder's faction, or of m's without a holder
-  fits_on : (holder : Option ℕ) (m : ℕ) (ms : List ℕ) → Alike (m ∷ ms) → Fits holder (m ∷ ms) → Fits (option_or holder (faction m)) ms
+  fits_on : (holder : Option ℕ) (m : ℕ) (ms : List ℕ) → Alike (m ∷ ms) → Fits holder (m ∷ ms)
+      → Fits (option_or holder (faction m)) ms
   fits_on None m ms same fits n x y mine is first = same n m x y (inr mine) (inl refl) is first
   fits_on (Some z) m ms same fits n x y mine is held = fits n x y (inr mine) is held
 
@@ -108,22 +114,29 @@ module _ (faction : ℕ → Option ℕ) where
 
 -- ---- the guards of all regions
 
-guard_of_guarding_unit : (c : CampaignValue) (n : ℕ) (u : Unit) → get c.units n ≡ Some u → guards u ≡ true → guard_of c n ≡ Some u.faction
-guard_of_guarding_unit c n u is on = ap (option_and_then (λ (v : Unit). cond (guards v) (Some v.faction) None)) is ∙ ap (λ b. cond b (Some u.faction) None) on
+guard_of_guarding_unit : (c : CampaignValue) (n : ℕ) (u : Unit) → get c.units n ≡ Some u → guards u ≡ true
+    → guard_of c n ≡ Some u.faction
+guard_of_guarding_unit c n u is on =
+    ap (option_and_then (λ (v : Unit). cond (guards v) (Some v.faction) None)) is
+    ∙ ap (λ b. cond b (Some u.faction) None) on
 
 cond_some_means_true : (b : Bool) (f x : ℕ) → cond b (Some f) None ≡ Some x → (b ≡ true) × (f ≡ x)
 cond_some_means_true true f x e = (refl, same_Some f x e)
 cond_some_means_true false f x e = none_some x e
 
-guard_means_unit_guards : (c : CampaignValue) (n x : ℕ) (u : Unit) → get c.units n ≡ Some u → guard_of c n ≡ Some x → (guards u ≡ true) × (u.faction ≡ x)
-guard_means_unit_guards c n x u is e = cond_some_means_true (guards u) u.faction x (sym (ap (option_and_then (λ (v : Unit). cond (guards v) (Some v.faction) None)) is) ∙ e)
+guard_means_unit_guards : (c : CampaignValue) (n x : ℕ) (u : Unit) → get c.units n ≡ Some u → guard_of c n ≡ Some x
+    → (guards u ≡ true) × (u.faction ≡ x)
+guard_means_unit_guards c n x u is e =
+    cond_some_means_true (guards u) u.faction x
+    (sym (ap (option_and_then (λ (v : Unit). cond (guards v) (Some v.faction) None)) is) ∙ e)
 
 -- the guards in region r's list of units are of one faction: the list passes one_holder
 abbrev pub IsHeldByOne : CampaignValue → ℕ → Type 0
 IsHeldByOne c r = one_holder (guard_of c) None (numbers_in_region r c.units) ≡ true
 
 -- the guards of each region are of one faction, if those in each region's list are, and each unit's region exists
-pub guards_are_of_one_faction : (c : CampaignValue) → Every (λ n u. HasValue c.regions u.region) c.units → Every (λ r x. IsHeldByOne c r) c.regions → AreOfOneFaction guards c
+pub guards_are_of_one_faction : (c : CampaignValue) → Every (λ n u. HasValue c.regions u.region) c.units
+    → Every (λ r x. IsHeldByOne c r) c.regions → AreOfOneFaction guards c
 guards_are_of_one_faction c placed held n u is m v there on also same =
     let r = u.region in
     let (x, known) = placed n u is in
@@ -133,7 +146,8 @@ guards_are_of_one_faction c placed held n u is m v there on also same =
     (guard_of_guarding_unit c n u is on) (guard_of_guarding_unit c m v there also)
 
 pub lists_are_held_by_one : (c : CampaignValue) → AreOfOneFaction guards c → Every (λ r x. IsHeldByOne c r) c.regions
-lists_are_held_by_one c one r x known = hold (guard_of c) None (numbers_in_region r c.units) alike_here (λ n y z mine is e. none_some z e)
+lists_are_held_by_one c one r x known =
+    hold (guard_of c) None (numbers_in_region r c.units) alike_here (λ n y z mine is e. none_some z e)
   where
     alike_here : Alike (guard_of c) (numbers_in_region r c.units)
     alike_here n k y z a b is js =
@@ -141,4 +155,6 @@ lists_are_held_by_one c one r x known = hold (guard_of c) None (numbers_in_regio
         let (v, also, others) = of_listed (λ (w : Unit). w.region == r) c.units k b in
         let (on, own) = guard_means_unit_guards c n y u there is in
         let (off, other) = guard_means_unit_guards c k z v also js in
-        sym own ∙ one n u there k v also on off ((Decides-eqb u.region r).0 here ∙ sym ((Decides-eqb v.region r).0 others)) ∙ other
+        sym own
+        ∙ one n u there k v also on off ((Decides-eqb u.region r).0 here ∙ sym ((Decides-eqb v.region r).0 others))
+        ∙ other

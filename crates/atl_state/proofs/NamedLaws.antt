@@ -52,10 +52,14 @@ module _ (m : FinMap nat_cmp Faction) where
 
   -- if the map `m` has the faction read from a row under the row's number (`Found`), the row has the joined name of the
   -- faction that `m` has there
-  its_name : (r : StoredFaction) (n : ℕ) (f : Faction) → Found r → number r ≡ n → get m n ≡ Some f → r.joined_as ≡ f.joined_as
-  its_name r n f found e is = ap (λ (x : Faction). x.joined_as) (some_same (faction_of r) f (sym found ∙ ap (get m) e ∙ is))
+  its_name : (r : StoredFaction) (n : ℕ) (f : Faction) → Found r → number r ≡ n → get m n ≡ Some f
+      → r.joined_as ≡ f.joined_as
+  its_name r n f found e is =
+      ap (λ (x : Faction). x.joined_as) (some_same (faction_of r) f (sym found ∙ ap (get m) e ∙ is))
 
-  later_differs : (name : List ℕ) (rows : List StoredFaction) (n : ℕ) (f : Faction) → AllByRecursion (λ y. same_text name y ≡ false) (map (λ r. r.joined_as) rows) → AllByRecursion Found rows → HasNumber number rows n → get m n ≡ Some f
+  later_differs : (name : List ℕ) (rows : List StoredFaction) (n : ℕ) (f : Faction)
+      → AllByRecursion (λ y. same_text name y ≡ false) (map (λ r. r.joined_as) rows) → AllByRecursion Found rows
+      → HasNumber number rows n → get m n ≡ Some f
       → same_text name f.joined_as ≡ false
   later_differs name [] n f d all there is = absurd there
   later_differs name (r ∷ rows) n f d all (inl e) is = ap (same_text name) (sym (its_name r n f all.0 e is)) ∙ d.0
@@ -66,12 +70,18 @@ module _ (m : FinMap nat_cmp Faction) where
 
   -- Two factions with the same joined name have the same number, if both are read from rows (`Found`) whose joined
   -- names differ.
-  one_name : (rows : List StoredFaction) (n k : ℕ) (f g : Faction) → AreJoinedNamesDistinct rows → AllByRecursion Found rows → HasNumber number rows n → HasNumber number rows k → get m n ≡ Some f → get m k ≡ Some g → f.joined_as ≡ g.joined_as → n ≡ k
+  one_name : (rows : List StoredFaction) (n k : ℕ) (f g : Faction) → AreJoinedNamesDistinct rows
+      → AllByRecursion Found rows → HasNumber number rows n → HasNumber number rows k → get m n ≡ Some f
+      → get m k ≡ Some g → f.joined_as ≡ g.joined_as → n ≡ k
   unfolding IsDistinct
   one_name [] n k f g d all a b is at e = absurd a
   one_name (r ∷ rows) n k f g d all (inl x) (inl y) is at e = sym x ∙ y
-  one_name (r ∷ rows) n k f g d all (inl x) (inr y) is at e = absurd (clash r.joined_as g.joined_as (its_name r n f all.0 x is ∙ e) (later_differs r.joined_as rows k g d.0 all.1 y at))
-  one_name (r ∷ rows) n k f g d all (inr x) (inl y) is at e = absurd (clash r.joined_as f.joined_as (its_name r k g all.0 y at ∙ sym e) (later_differs r.joined_as rows n f d.0 all.1 x is))
+  one_name (r ∷ rows) n k f g d all (inl x) (inr y) is at e =
+      absurd
+      (clash r.joined_as g.joined_as (its_name r n f all.0 x is ∙ e) (later_differs r.joined_as rows k g d.0 all.1 y at))
+  one_name (r ∷ rows) n k f g d all (inr x) (inl y) is at e =
+      absurd
+      (clash r.joined_as f.joined_as (its_name r k g all.0 y at ∙ sym e) (later_differs r.joined_as rows n f d.0 all.1 x is))
   one_name (r ∷ rows) n k f g d all (inr x) (inr y) is at e = one_name rows n k f g d.1 all.1 x y is at e
 
 -- ---- amounts
@@ -83,11 +93,14 @@ passing_is_within bound (negsuc n) h = let most : suc n ≤ bound = from_le (suc
 abbrev AreAllWithin : ℕ → BooksValue → Type 0
 AreAllWithin bound books = (e : BooksEntry) (t : Thing) → IsWithin bound (amount_in books e t)
 
-within-with_amount : (bound : ℕ) (books : BooksValue) (e : BooksEntry) (t : Thing) (z : ℤ) → IsWithin bound z → AreAllWithin bound books → AreAllWithin bound (with_amount books e t z)
+within-with_amount : (bound : ℕ) (books : BooksValue) (e : BooksEntry) (t : Thing) (z : ℤ) → IsWithin bound z
+    → AreAllWithin bound books → AreAllWithin bound (with_amount books e t z)
 within-with_amount bound books e t z here old f u =
     subst (IsWithin bound) (sym (amount-with_amount books e t z f u)) (elim (eq_by_cmp account_cmp (f, u) (e, t)) as (λ b. IsWithin bound (cond b z (amount_in books f u))) [ true ↦ here | false ↦ old f u ])
 
-within-put : (things bound : ℕ) (rows : List StoredBooks) (books : BooksValue) → AreBooks things books → AllByRecursion (IsBooked things) rows → AllByRecursion (λ r. IsWithin bound r.amount) rows → AreAllWithin bound books → AreAllWithin bound (with_books_rows rows books)
+within-put : (things bound : ℕ) (rows : List StoredBooks) (books : BooksValue) → AreBooks things books
+    → AllByRecursion (IsBooked things) rows → AllByRecursion (λ r. IsWithin bound r.amount) rows
+    → AreAllWithin bound books → AreAllWithin bound (with_books_rows rows books)
 within-put things bound [] books are booked here old = old
 within-put things bound (r ∷ rows) books are booked here old =
     let a = booked.0.account in
@@ -95,7 +108,9 @@ within-put things bound (r ∷ rows) books are booked here old =
     (within-put things bound rows (with_amount books a.0 a.1 r.amount) (AreBooks-with_amount books a.0 a.1 r.amount things are (account_there things r booked.0)) booked.1 here.1 (within-with_amount bound books a.0 a.1 r.amount here.0 old))
 
 within-no_amounts : (things bound : ℕ) → AreAllWithin bound (no_amounts things)
-within-no_amounts things bound e t = subst (IsWithin bound) (sym (amount-no_amounts things e t)) (record { most = omega (arith, ints); least = omega (arith, ints) })
+within-no_amounts things bound e t =
+    subst (IsWithin bound) (sym (amount-no_amounts things e t))
+    (record { most = omega (arith, ints); least = omega (arith, ints) })
 
 module _ (f : Format) (w : WorldValue) (p : Parts) (k : RowsKeep f w p) where
   factions : FinMap nat_cmp Faction
@@ -115,7 +130,9 @@ module _ (f : Format) (w : WorldValue) (p : Parts) (k : RowsKeep f w p) where
       let found = rows_found (λ r. as_u32 r.number) faction_of p.factions (factions_apart f w p k) in
       record {
         pass = inner.0;
-        factions = by_number-every (λ r. as_u32 r.number) faction_of (λ n f. (name_ok f.joined_as ≡ true) × (name_ok f.name ≡ true) × (pass_ok f.pass ≡ true)) faction_named
+        factions =
+            by_number-every (λ r. as_u32 r.number) faction_of
+            (λ n f. (name_ok f.joined_as ≡ true) × (name_ok f.name ≡ true) × (pass_ok f.pass ≡ true)) faction_named
             (λ r e. let last = and_parts (name_ok r.joined_as && name_ok r.name) (pass_ok r.pass) e in let first = and_parts (name_ok r.joined_as) (name_ok r.name) last.0 in (first.0, first.1, last.1)) p.factions inner.1;
         joined = λ n f is m g at e.
             one_name (by_number (λ r. as_u32 r.number) faction_of p.factions) p.factions n m f g h.joined found (row_of (λ r. as_u32 r.number) faction_of p.factions n (f, is)) (row_of (λ r. as_u32 r.number) faction_of p.factions m (g, at)) is at e;
@@ -125,7 +142,9 @@ module _ (f : Format) (w : WorldValue) (p : Parts) (k : RowsKeep f w p) where
 
   same_bound : amount_bound (campaign_of w p) ≡ books_bound p
   unfolding campaign_of
-  same_bound = ap (λ n. most_in_month * (as_u32 (campaign_row_of p).month + 1) + most_in_joining * n) (same_count (λ r. as_u32 r.number) faction_of p.factions (factions_apart f w p k))
+  same_bound =
+      ap (λ n. most_in_month * (as_u32 (campaign_row_of p).month + 1) + most_in_joining * n)
+      (same_count (λ r. as_u32 r.number) faction_of p.factions (factions_apart f w p k))
 
   below : AreAllWithin (books_bound p) (with_books_rows p.books (no_amounts (thing_count w)))
   below =
@@ -135,4 +154,6 @@ module _ (f : Format) (w : WorldValue) (p : Parts) (k : RowsKeep f w p) where
 
   pub AreAmountsWithin-said : AreAmountsWithin (campaign_of w p)
   unfolding campaign_of
-  AreAmountsWithin-said e t = subst (λ bound. IsWithin bound (amount_in (with_books_rows p.books (no_amounts (thing_count w))) e t)) (sym same_bound) (below e t)
+  AreAmountsWithin-said e t =
+      subst (λ bound. IsWithin bound (amount_in (with_books_rows p.books (no_amounts (thing_count w))) e t))
+      (sym same_bound) (below e t)

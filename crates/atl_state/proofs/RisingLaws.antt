@@ -31,7 +31,8 @@ module _ {K : Type 0} {R : K → K → Ordering} (o : IsTotalOrder R) where
           (apart_from_distinct (eq_by_cmp R) (x ∷ xs) k (k + 1) x apart (omega arith) within)
 
 -- in keys that rise strictly, the key x at index i - 1 is less than the key y at index i
-pub less_at : {K : Type 0} (R : K → K → Ordering) (ks : List K) (i : ℕ) (x y : K) → 1 ≤ i → i < length ks → x ≡ get_or ks (i - 1) x → y ≡ get_or ks i y → IsStrictlySortedBy R ks → R x y ≡ Less
+pub less_at : {K : Type 0} (R : K → K → Ordering) (ks : List K) (i : ℕ) (x y : K) → 1 ≤ i → i < length ks
+    → x ≡ get_or ks (i - 1) x → y ≡ get_or ks i y → IsStrictlySortedBy R ks → R x y ≡ Less
 less_at R ks i x y some within x_is y_is rise =
     let first : get_or ks (i - 1) x ≡ x = sym x_is in
     let second : get_or ks i x ≡ y = get_or_default ks i x y within ∙ sym y_is in

@@ -77,7 +77,8 @@ one_apart x y a b d e =
 pub there_below : {V : Type 0} (m : FinMap nat_cmp V) (n most : ℕ) → Every (λ k v. k ≤ most) m → HasValue m n → n ≤ most
 there_below m n most every there = every n there.0 there.1
 
-pub none_or_below : {V : Type 0} (m : FinMap nat_cmp V) (n most : ℕ) → Every (λ k v. k ≤ most) m → (n ≢ 0 → HasValue m n) → n ≤ most
+pub none_or_below : {V : Type 0} (m : FinMap nat_cmp V) (n most : ℕ) → Every (λ k v. k ≤ most) m
+    → (n ≢ 0 → HasValue m n) → n ≤ most
 none_or_below m zero most every there = omega arith
 none_or_below m (suc n) most every there = there_below m (suc n) most every (there (λ e. absurd (omega arith)))
 
@@ -113,10 +114,13 @@ small_format First = omega arith
 small_format Second = omega arith
 
 abbrev head_as_read : Format → StoredCampaignRow → StoredCampaignRow
-head_as_read f h = record { id = pos 1; format = pos (format_number f); month = pos (as_u32 h.month); next_faction = pos (as_u32 h.next_faction); next_unit = pos (as_u32 h.next_unit); next_structure = pos (as_u32 h.next_structure); pass = h.pass }
+head_as_read f h =
+    record { id = pos 1; format = pos (format_number f); month = pos (as_u32 h.month); next_faction = pos (as_u32 h.next_faction); next_unit = pos (as_u32 h.next_unit); next_structure = pos (as_u32 h.next_structure); pass = h.pass }
 
 -- if rule 1 holds and the campaign row is in range, writing what is read of this row gives the table's one row again
-one_head : (f : Format) (rows : List StoredCampaignRow) → is_one_campaign_row f rows ≡ true → campaign_row_in_range (slice_index_or rows 0 no_campaign_row) ≡ true → head_as_read f (slice_index_or rows 0 no_campaign_row) ∷ [] ≡ rows
+one_head : (f : Format) (rows : List StoredCampaignRow) → is_one_campaign_row f rows ≡ true
+    → campaign_row_in_range (slice_index_or rows 0 no_campaign_row) ≡ true
+    → head_as_read f (slice_index_or rows 0 no_campaign_row) ∷ [] ≡ rows
 one_head f [] e r = absurd (false≢true e)
 one_head f (h ∷ []) e r =
     let both = and_parts (is_from 1 1 h.id) (is_from (format_number f) (format_number f) h.format) e in
@@ -132,7 +136,8 @@ one_head f (h ∷ other ∷ rows) e r = absurd (false≢true e)
 
 -- ---- lists of facts
 
-all_forall : {R : Type 0} (P : ℕ → R → Type 0) (rows : List R) → ((n : ℕ) → AllByRecursion (P n) rows) → AllByRecursion (λ r. (n : ℕ) → P n r) rows
+all_forall : {R : Type 0} (P : ℕ → R → Type 0) (rows : List R) → ((n : ℕ) → AllByRecursion (P n) rows)
+    → AllByRecursion (λ r. (n : ℕ) → P n r) rows
 all_forall P [] h = tt
 all_forall P (r ∷ rows) h = (λ n. (h n).0, all_forall P rows (λ n. (h n).1))
 
@@ -150,7 +155,8 @@ is_of_itself h =
     let sort : (as_u32 h.sort == as_u32 h.sort) ≡ true = grind (arith, nat_tests) in
     ap (λ b. b && (as_u32 h.sort == as_u32 h.sort)) unit ∙ sort
 
-size_small : (o : Option Kind) → ((x : Kind) → o ≡ Some x → x.size ≤ most_size) → option_map_or (λ (x : Kind). x.size) o most_size ≤ most_size
+size_small : (o : Option Kind) → ((x : Kind) → o ≡ Some x → x.size ≤ most_size)
+    → option_map_or (λ (x : Kind). x.size) o most_size ≤ most_size
 size_small None h = omega arith
 size_small (Some x) h = h x refl
 
@@ -160,21 +166,27 @@ small_size w world kind = size_small (slice_get w.kinds kind) (λ x is. (world.k
 
 -- ---- markets
 
-market_there : (regions : FinMap nat_cmp RegionPlan) (i : ℕ) (n : ℕ) (o : Option RegionPlan) → get regions n ≡ o → is_some (option_and_then (λ (q : RegionPlan). get q.markets i) o) ≡ true → (q : RegionPlan) × (m : Market) × (get regions n ≡ Some q) × (get q.markets i ≡ Some m)
+market_there : (regions : FinMap nat_cmp RegionPlan) (i : ℕ) (n : ℕ) (o : Option RegionPlan) → get regions n ≡ o
+    → is_some (option_and_then (λ (q : RegionPlan). get q.markets i) o) ≡ true
+    → (q : RegionPlan) × (m : Market) × (get regions n ≡ Some q) × (get q.markets i ≡ Some m)
 market_there regions i n None is e = absurd (false≢true e)
 market_there regions i n (Some q) is e = let found = some_there (get q.markets i) e in (q, found.0, is, found.1)
 
-limit_small : (o : Option Market) → ((m : Market) → o ≡ Some m → m.limit ≤ most_amount) → option_map_or (λ (m : Market). m.limit) o most_amount ≤ most_amount
+limit_small : (o : Option Market) → ((m : Market) → o ≡ Some m → m.limit ≤ most_amount)
+    → option_map_or (λ (m : Market). m.limit) o most_amount ≤ most_amount
 limit_small None h = omega arith
 limit_small (Some m) h = h m refl
 
 pub small_limit : (w : WorldValue) → IsWorld w → (n i : ℕ) → stock_limit w n i ≤ most_amount
-small_limit w world n i = limit_small (market_of w n i) (λ m is. of_market (market_there w.regions i n (get w.regions n) refl (ap is_some is)) m is)
+small_limit w world n i =
+    limit_small (market_of w n i)
+    (λ m is. of_market (market_there w.regions i n (get w.regions n) refl (ap is_some is)) m is)
   where
     some_same : (a b : Market) → Some a ≡ Some b → a ≡ b
     some_same a b e = cc
 
-    of_market : (found : (q : RegionPlan) × (m : Market) × (get w.regions n ≡ Some q) × (get q.markets i ≡ Some m)) (m : Market) → market_of w n i ≡ Some m → m.limit ≤ most_amount
+    of_market : (found : (q : RegionPlan) × (m : Market) × (get w.regions n ≡ Some q) × (get q.markets i ≡ Some m)) (m : Market)
+        → market_of w n i ≡ Some m → m.limit ≤ most_amount
     of_market found m is =
         let there = ap (option_and_then (λ (q : RegionPlan). get q.markets i)) found.2 in
         let one = some_same found.1 m (sym found.3 ∙ sym there ∙ is) in
@@ -189,14 +201,21 @@ module _ (f : Format) (w : WorldValue) (p : Parts) (k : RowsKeep f w p) where
   ranges = number_ranges w p k.range.numbers
 
   -- ---- factions
-  faction_number : (r : StoredFaction) → faction_in_range r ≡ true → (FitsU32 r.number) × (as_u32 r.number ≤ last_faction)
+  faction_number : (r : StoredFaction) → faction_in_range r ≡ true
+      → (FitsU32 r.number) × (as_u32 r.number ≤ last_faction)
   faction_number r h = let range = from_range 1 last_faction r.number (omega arith) (and_parts (is_from 1 last_faction r.number) (is_from 0 1 r.gone) h).0 in (range.0, range.2)
 
   pub factions_apart : HaveDistinctNumbers (λ r. as_u32 r.number) p.factions
-  factions_apart = HaveDistinctNumbers-keys faction_key (λ r. as_u32 r.number) is_same_key (λ r. FitsU32 r.number) (λ r s. one_apart r.number s.number) p.factions (each_passes faction_in_range (λ r. FitsU32 r.number) (λ r h. (faction_number r h).0) p.factions ranges.factions) k.range.keys.factions
+  factions_apart =
+      HaveDistinctNumbers-keys faction_key (λ r. as_u32 r.number) is_same_key (λ r. FitsU32 r.number)
+      (λ r s. one_apart r.number s.number) p.factions
+      (each_passes faction_in_range (λ r. FitsU32 r.number) (λ r h. (faction_number r h).0) p.factions ranges.factions)
+      k.range.keys.factions
 
   few_factions : Every (λ n f. n ≤ last_faction) (by_number (λ r. as_u32 r.number) faction_of p.factions)
-  few_factions = by_number-every (λ r. as_u32 r.number) faction_of (λ n f. n ≤ last_faction) faction_in_range (λ r h. (faction_number r h).1) p.factions ranges.factions
+  few_factions =
+      by_number-every (λ r. as_u32 r.number) faction_of (λ n f. n ≤ last_faction) faction_in_range
+      (λ r h. (faction_number r h).1) p.factions ranges.factions
 
   same_faction : (r : StoredFaction) → faction_in_range r ≡ true → faction_row (as_u32 r.number) (faction_of r) ≡ r
   same_faction r h =
@@ -204,10 +223,13 @@ module _ (f : Format) (w : WorldValue) (p : Parts) (k : RowsKeep f w p) where
       λ i. record { number = sym (faction_number r h).0 i; joined_as = r.joined_as; name = r.name; pass = r.pass; gone = gone i }
 
   factions_said : IsPermutation (rows_by faction_row (entries (by_number (λ r. as_u32 r.number) faction_of p.factions))) p.factions
-  factions_said = rows_order (λ r. as_u32 r.number) faction_of faction_row p.factions factions_apart (each_passes faction_in_range (λ r. faction_row (as_u32 r.number) (faction_of r) ≡ r) same_faction p.factions ranges.factions)
+  factions_said =
+      rows_order (λ r. as_u32 r.number) faction_of faction_row p.factions factions_apart
+      (each_passes faction_in_range (λ r. faction_row (as_u32 r.number) (faction_of r) ≡ r) same_faction p.factions ranges.factions)
 
   -- ---- regions
-  few_regions : (n : ℕ) → HasValue (by_number (λ r. as_u32 r.number) (region_of p.markets) p.regions) n → n ≤ last_region
+  few_regions : (n : ℕ) → HasValue (by_number (λ r. as_u32 r.number) (region_of p.markets) p.regions) n
+      → n ≤ last_region
   unfolding campaign_of
   few_regions n there = let known = (k.known.regions n).0 there in (k.world.regions n known.0 known.1).number_most
 
@@ -217,9 +239,12 @@ module _ (f : Format) (w : WorldValue) (p : Parts) (k : RowsKeep f w p) where
       (rows_there (λ r. as_u32 r.number) (region_of p.markets) p.regions)
 
   regions_apart : HaveDistinctNumbers (λ r. as_u32 r.number) p.regions
-  regions_apart = HaveDistinctNumbers-keys region_key (λ r. as_u32 r.number) is_same_key (λ r. FitsU32 r.number) (λ r s. one_apart r.number s.number) p.regions regions_whole k.range.keys.regions
+  regions_apart =
+      HaveDistinctNumbers-keys region_key (λ r. as_u32 r.number) is_same_key (λ r. FitsU32 r.number)
+      (λ r s. one_apart r.number s.number) p.regions regions_whole k.range.keys.regions
 
-  same_region : (r : StoredRegion) → FitsU32 r.number → region_in_range r ≡ true → region_row (as_u32 r.number) (region_of p.markets r) ≡ r
+  same_region : (r : StoredRegion) → FitsU32 r.number → region_in_range r ≡ true
+      → region_row (as_u32 r.number) (region_of p.markets r) ≡ r
   same_region r number h =
       let parts = and_parts (is_from 0 most_amount r.peasants) (is_from 0 most_amount r.money) h in
       let peasants = (from_range 0 most_amount r.peasants (omega arith) parts.0).0 in
@@ -236,12 +261,19 @@ module _ (f : Format) (w : WorldValue) (p : Parts) (k : RowsKeep f w p) where
   unit_number r h = let range = from_range 1 last_unit r.number (omega arith) (unit_ranges r h).number in (range.0, range.2)
 
   units_apart : HaveDistinctNumbers (λ r. as_u32 r.number) p.units
-  units_apart = HaveDistinctNumbers-keys unit_key (λ r. as_u32 r.number) is_same_key (λ r. FitsU32 r.number) (λ r s. one_apart r.number s.number) p.units (each_passes unit_in_range (λ r. FitsU32 r.number) (λ r h. (unit_number r h).0) p.units ranges.units) k.range.keys.units
+  units_apart =
+      HaveDistinctNumbers-keys unit_key (λ r. as_u32 r.number) is_same_key (λ r. FitsU32 r.number)
+      (λ r s. one_apart r.number s.number) p.units
+      (each_passes unit_in_range (λ r. FitsU32 r.number) (λ r h. (unit_number r h).0) p.units ranges.units)
+      k.range.keys.units
 
   few_units : Every (λ n u. n ≤ last_unit) (by_number (λ r. as_u32 r.number) (unit_of p.has) p.units)
-  few_units = by_number-every (λ r. as_u32 r.number) (unit_of p.has) (λ n u. n ≤ last_unit) unit_in_range (λ r h. (unit_number r h).1) p.units ranges.units
+  few_units =
+      by_number-every (λ r. as_u32 r.number) (unit_of p.has) (λ n u. n ≤ last_unit) unit_in_range
+      (λ r h. (unit_number r h).1) p.units ranges.units
 
-  structure_number : (r : StoredStructure) → structure_in_range w r ≡ true → (FitsU32 r.number) × (as_u32 r.number ≤ most_structures)
+  structure_number : (r : StoredStructure) → structure_in_range w r ≡ true
+      → (FitsU32 r.number) × (as_u32 r.number ≤ most_structures)
   structure_number r h = let range = from_range 1 most_structures r.number (omega arith) (and_parts (is_from 1 most_structures r.number) (is_from 1 (size_of w (as_u16 r.kind)) r.done) h).0 in (range.0, range.2)
 
   structures_apart : HaveDistinctNumbers (λ r. as_u32 r.number) p.structures
@@ -250,10 +282,13 @@ module _ (f : Format) (w : WorldValue) (p : Parts) (k : RowsKeep f w p) where
       k.range.keys.structures
 
   few_structures : Every (λ n s. n ≤ most_structures) (by_number (λ r. as_u32 r.number) structure_of p.structures)
-  few_structures = by_number-every (λ r. as_u32 r.number) structure_of (λ n s. n ≤ most_structures) (structure_in_range w) (λ r h. (structure_number r h).1) p.structures ranges.structures
+  few_structures =
+      by_number-every (λ r. as_u32 r.number) structure_of (λ n s. n ≤ most_structures) (structure_in_range w)
+      (λ r h. (structure_number r h).1) p.structures ranges.structures
 
   -- ---- units
-  same_unit : (r : StoredUnit) → unit_in_range r ≡ true → IsPlaced w (campaign_of w p) (unit_of p.has r) → unit_row (as_u32 r.number) (unit_of p.has r) ≡ r
+  same_unit : (r : StoredUnit) → unit_in_range r ≡ true → IsPlaced w (campaign_of w p) (unit_of p.has r)
+      → unit_row (as_u32 r.number) (unit_of p.has r) ≡ r
   unfolding campaign_of
   same_unit r h placed =
       let parts = unit_ranges r h in
@@ -270,7 +305,9 @@ module _ (f : Format) (w : WorldValue) (p : Parts) (k : RowsKeep f w p) where
 
   units_placed : AllByRecursion (λ r. IsPlaced w (campaign_of w p) (unit_of p.has r)) p.units
   unfolding campaign_of
-  units_placed = each_row (λ r. as_u32 r.number) (unit_of p.has) (λ n u. IsPlaced w (campaign_of w p) u) p.units units_apart k.known.units
+  units_placed =
+      each_row (λ r. as_u32 r.number) (unit_of p.has) (λ n u. IsPlaced w (campaign_of w p) u) p.units units_apart
+      k.known.units
 
   units_said : IsPermutation (rows_by unit_row (entries (by_number (λ r. as_u32 r.number) (unit_of p.has) p.units))) p.units
   units_said =
@@ -278,7 +315,8 @@ module _ (f : Format) (w : WorldValue) (p : Parts) (k : RowsKeep f w p) where
       (each_follows_from_two (λ r. unit_in_range r ≡ true) (λ r. IsPlaced w (campaign_of w p) (unit_of p.has r)) (λ r. unit_row (as_u32 r.number) (unit_of p.has r) ≡ r) same_unit p.units (each_passes unit_in_range (λ r. unit_in_range r ≡ true) (λ r h. h) p.units ranges.units) units_placed)
 
   -- ---- structures
-  same_structure : (r : StoredStructure) → structure_in_range w r ≡ true → IsBuilt w (campaign_of w p) (structure_of r) → structure_row (as_u32 r.number) (structure_of r) ≡ r
+  same_structure : (r : StoredStructure) → structure_in_range w r ≡ true → IsBuilt w (campaign_of w p) (structure_of r)
+      → structure_row (as_u32 r.number) (structure_of r) ≡ r
   unfolding campaign_of
   same_structure r h built =
       let small = small_size w k.world (as_u16 r.kind) in
@@ -294,7 +332,9 @@ module _ (f : Format) (w : WorldValue) (p : Parts) (k : RowsKeep f w p) where
 
   structures_built : AllByRecursion (λ r. IsBuilt w (campaign_of w p) (structure_of r)) p.structures
   unfolding campaign_of
-  structures_built = each_row (λ r. as_u32 r.number) structure_of (λ n s. IsBuilt w (campaign_of w p) s) p.structures structures_apart k.known.structures
+  structures_built =
+      each_row (λ r. as_u32 r.number) structure_of (λ n s. IsBuilt w (campaign_of w p) s) p.structures structures_apart
+      k.known.structures
 
   structures_said : IsPermutation (rows_by structure_row (entries (by_number (λ r. as_u32 r.number) structure_of p.structures))) p.structures
   structures_said =
@@ -348,13 +388,19 @@ module _ (f : Format) (w : WorldValue) (p : Parts) (k : RowsKeep f w p) where
       ]
 
   their_items : Every (λ n u. u.holding.items ≡ things_had n 0 p.has) units
-  their_items = by_number-every (λ r. as_u32 r.number) (unit_of p.has) (λ n u. u.holding.items ≡ things_had n 0 p.has) unit_in_range (λ r h. refl) p.units ranges.units
+  their_items =
+      by_number-every (λ r. as_u32 r.number) (unit_of p.has) (λ n u. u.holding.items ≡ things_had n 0 p.has)
+      unit_in_range (λ r h. refl) p.units ranges.units
 
   their_days : Every (λ n u. u.holding.days ≡ things_had n 1 p.has) units
-  their_days = by_number-every (λ r. as_u32 r.number) (unit_of p.has) (λ n u. u.holding.days ≡ things_had n 1 p.has) unit_in_range (λ r h. refl) p.units ranges.units
+  their_days =
+      by_number-every (λ r. as_u32 r.number) (unit_of p.has) (λ n u. u.holding.days ≡ things_had n 1 p.has)
+      unit_in_range (λ r h. refl) p.units ranges.units
 
   their_men : Every (λ n u. u.holding.men ≤ men_limit) units
-  their_men = by_number-every (λ r. as_u32 r.number) (unit_of p.has) (λ n u. u.holding.men ≤ men_limit) unit_in_range (λ r h. (in_range 1 men_limit most_u32 r.men (omega arith) (unit_ranges r h).men).1) p.units ranges.units
+  their_men =
+      by_number-every (λ r. as_u32 r.number) (unit_of p.has) (λ n u. u.holding.men ≤ men_limit) unit_in_range
+      (λ r h. (in_range 1 men_limit most_u32 r.men (omega arith) (unit_ranges r h).men).1) p.units ranges.units
 
   -- the item or skill of a row of `has` is among what all rows of `has` of this sort (0 items, 1 skills) give unit n
   abbrev ThingThere : ℕ → ℕ → StoredHas → Type 0
@@ -366,9 +412,12 @@ module _ (f : Format) (w : WorldValue) (p : Parts) (k : RowsKeep f w p) where
 
   held_units : AllByRecursion (λ h. HasValue units (as_u32 h.unit)) p.has
   unfolding campaign_of
-  held_units = each_passes (is_of_unit (campaign_of w p)) (λ h. HasValue units (as_u32 h.unit)) (λ h e. some_there (get units (as_u32 h.unit)) e) p.has k.held
+  held_units =
+      each_passes (is_of_unit (campaign_of w p)) (λ h. HasValue units (as_u32 h.unit))
+      (λ h e. some_there (get units (as_u32 h.unit)) e) p.has k.held
 
-  few_things : (n sort thing : ℕ) → HasValue units n → (sort ≡ 1) ⊎ (sort ≡ 0) → HasValue (things_had n sort p.has) thing → thing < most_u32
+  few_things : (n sort thing : ℕ) → HasValue units n → (sort ≡ 1) ⊎ (sort ≡ 0)
+      → HasValue (things_had n sort p.has) thing → thing < most_u32
   unfolding campaign_of
   few_things n sort thing there (inl skill) (v, is) =
       let placed = k.known.units n there.0 there.1 in
@@ -389,7 +438,8 @@ module _ (f : Format) (w : WorldValue) (p : Parts) (k : RowsKeep f w p) where
 
   -- The unit, sort and thing of a row of `has` fit 32 bits, if the row is in range, its unit exists, and its thing is
   -- read for its unit (ThingThere).
-  keyed : (h : StoredHas) → (HasValue units (as_u32 h.unit)) × (has_in_range h ≡ true) → ((n : ℕ) → (sort : ℕ) → is_of_unit_and_sort n sort h ≡ true → ThingThere n sort h) → KeyFitsU32 h
+  keyed : (h : StoredHas) → (HasValue units (as_u32 h.unit)) × (has_in_range h ≡ true)
+      → ((n : ℕ) → (sort : ℕ) → is_of_unit_and_sort n sort h ≡ true → ThingThere n sort h) → KeyFitsU32 h
   keyed h (there, range) thing =
       let unit_few = there_below units (as_u32 h.unit) last_unit few_units there in
       let sort = sort_of h range in
@@ -400,10 +450,15 @@ module _ (f : Format) (w : WorldValue) (p : Parts) (k : RowsKeep f w p) where
   Placed h = (HasValue units (as_u32 h.unit)) × (has_in_range h ≡ true)
 
   all_placed : AllByRecursion Placed p.has
-  all_placed = each_follows_from_two (λ h. HasValue units (as_u32 h.unit)) (λ h. has_in_range h ≡ true) Placed (λ h a b. (a, b)) p.has held_units (each_passes has_in_range (λ h. has_in_range h ≡ true) (λ h e. e) p.has ranges.has)
+  all_placed =
+      each_follows_from_two (λ h. HasValue units (as_u32 h.unit)) (λ h. has_in_range h ≡ true) Placed (λ h a b. (a, b))
+      p.has held_units (each_passes has_in_range (λ h. has_in_range h ≡ true) (λ h e. e) p.has ranges.has)
 
   all_keyed : AllByRecursion KeyFitsU32 p.has
-  all_keyed = each_follows_from_two Placed (λ h. (n : ℕ) → (sort : ℕ) → is_of_unit_and_sort n sort h ≡ true → ThingThere n sort h) KeyFitsU32 keyed p.has all_placed things_there
+  all_keyed =
+      each_follows_from_two Placed
+      (λ h. (n : ℕ) → (sort : ℕ) → is_of_unit_and_sort n sort h ≡ true → ThingThere n sort h) KeyFitsU32 keyed p.has
+      all_placed things_there
 
   abbrev IsFound : ℕ → ℕ → StoredHas → Type 0
   IsFound n sort h = get (things_had n sort p.has) (as_u32 h.thing) ≡ Some (as_u32 h.amount)
@@ -412,7 +467,9 @@ module _ (f : Format) (w : WorldValue) (p : Parts) (k : RowsKeep f w p) where
   all_found = all_forall (λ n h. (sort : ℕ) → is_of_unit_and_sort n sort h ≡ true → IsFound n sort h) p.has (λ n. all_forall (λ sort h. is_of_unit_and_sort n sort h ≡ true → IsFound n sort h) p.has (λ sort.
       unkept (is_of_unit_and_sort n sort) (IsFound n sort) p.has (rows_found (λ h. as_u32 h.thing) (λ h. as_u32 h.amount) (filter (is_of_unit_and_sort n sort) p.has) (things_apart n sort p.has all_keyed k.range.keys.has))))
 
-  exact_of : (h : StoredHas) → HasValue units (as_u32 h.unit) → SortOf h → ((n : ℕ) → (sort : ℕ) → is_of_unit_and_sort n sort h ≡ true → IsFound n sort h) → FitsU32 h.amount × (is_zero h.amount ≡ false)
+  exact_of : (h : StoredHas) → HasValue units (as_u32 h.unit) → SortOf h
+      → ((n : ℕ) → (sort : ℕ) → is_of_unit_and_sort n sort h ≡ true → IsFound n sort h)
+      → FitsU32 h.amount × (is_zero h.amount ≡ false)
   unfolding campaign_of
   exact_of h there (inl skill) found =
       let n = as_u32 h.unit in
@@ -430,21 +487,28 @@ module _ (f : Format) (w : WorldValue) (p : Parts) (k : RowsKeep f w p) where
 
   -- A row of `has` that is in range, has a unit that exists and a key of 32 bits (`KeyedPlaced`), and whose amount is
   -- found (`IsFound`) is exact (`IsExactGoods`). The numbers of an exact row fit 32 bits, and its amount is not 0.
-  exact : (h : StoredHas) → KeyedPlaced h → ((n : ℕ) → (sort : ℕ) → is_of_unit_and_sort n sort h ≡ true → IsFound n sort h) → IsExactGoods h
+  exact : (h : StoredHas) → KeyedPlaced h
+      → ((n : ℕ) → (sort : ℕ) → is_of_unit_and_sort n sort h ≡ true → IsFound n sort h) → IsExactGoods h
   exact h (keys, (there, range)) found = let amount = exact_of h there (sort_of h range).1 found in record { keys = keys; amount = amount.0; some = amount.1 }
 
   all_exact : AllByRecursion IsExactGoods p.has
-  all_exact = each_follows_from_two KeyedPlaced (λ h. (n : ℕ) → (sort : ℕ) → is_of_unit_and_sort n sort h ≡ true → IsFound n sort h) IsExactGoods exact p.has (each_follows_from_two KeyFitsU32 Placed KeyedPlaced (λ h a b. (a, b)) p.has all_keyed all_placed) all_found
+  all_exact =
+      each_follows_from_two KeyedPlaced
+      (λ h. (n : ℕ) → (sort : ℕ) → is_of_unit_and_sort n sort h ≡ true → IsFound n sort h) IsExactGoods exact p.has
+      (each_follows_from_two KeyFitsU32 Placed KeyedPlaced (λ h a b. (a, b)) p.has all_keyed all_placed) all_found
 
   of_units : (h : StoredHas) → Placed h → IsOfUnits p.units h
-  of_units h (there, range) = (row_of (λ r. as_u32 r.number) (unit_of p.has) p.units (as_u32 h.unit) there, turned h (sort_of h range).1)
+  of_units h (there, range) =
+      (row_of (λ r. as_u32 r.number) (unit_of p.has) p.units (as_u32 h.unit) there, turned h (sort_of h range).1)
     where
       turned : (h : StoredHas) → SortOf h → (as_u32 h.sort ≡ 0) ⊎ (as_u32 h.sort ≡ 1)
       turned h (inl skill) = inr skill
       turned h (inr item) = inl item.0
 
   has_said : IsPermutation (has_rows (entries units)) p.has
-  has_said = has_rows_are_rewritten p.has p.units units_apart (each_follows Placed (IsOfUnits p.units) of_units p.has all_placed) all_exact k.range.keys.has
+  has_said =
+      has_rows_are_rewritten p.has p.units units_apart
+      (each_follows Placed (IsOfUnits p.units) of_units p.has all_placed) all_exact k.range.keys.has
 
   -- ---- what regions have in stock
   abbrev regions : FinMap nat_cmp Region
@@ -498,7 +562,8 @@ module _ (f : Format) (w : WorldValue) (p : Parts) (k : RowsKeep f w p) where
       let most = few_entries f in
       (from_le 1 n parts.0, omega (arith, few, most))
 
-  its_account : (r : StoredBooks) → is_booked f w r ≡ true → books_in_range (books_bound p) r ≡ true → IsBooked (thing_count w) r
+  its_account : (r : StoredBooks) → is_booked f w r ≡ true → books_in_range (books_bound p) r ≡ true
+      → IsBooked (thing_count w) r
   its_account r h range =
       let parts = and_parts (is_entry_in f (as_u32 r.entry)) (nat_lt (as_u32 r.thing) (thing_count w)) h in
       let entry = an_entry (as_u32 r.entry) parts.0 in

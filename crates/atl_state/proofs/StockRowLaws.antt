@@ -45,20 +45,27 @@ its_region : (n : ℕ) (m : StoredMarket) → IsStockIn n m → m.region ≡ pos
 its_region n m (keys, of) = keys.region ∙ ap pos (is_equal (as_u32 m.region) n of)
 
 same_row : (n : ℕ) (m : StoredMarket) → IsStockIn n m → FitsU32 m.stock → market_row n (item_of m) (stock_of m) ≡ m
-same_row n m here stock = λ i. record { region = sym (its_region n m here) i; item = sym here.0.item i; stock = sym stock i }
+same_row n m here stock =
+    λ i. record { region = sym (its_region n m here) i; item = sym here.0.item i; stock = sym stock i }
 
-same_key : (n : ℕ) (m k : StoredMarket) → IsStockIn n m → IsStockIn n k → item_of m ≡ item_of k → ◌≡◌ {A = Key} (market_key k) (market_key m)
+same_key : (n : ℕ) (m k : StoredMarket) → IsStockIn n m → IsStockIn n k → item_of m ≡ item_of k
+    → ◌≡◌ {A = Key} (market_key k) (market_key m)
 same_key n m k a b e =
     let region = its_region n k b ∙ sym (its_region n m a) in
     let item = b.0.item ∙ sym (ap pos e) ∙ sym a.0.item in
     λ i. (region i, item i, pos 0)
 
-pub items_apart : (n : ℕ) (markets : List StoredMarket) → AllByRecursion HasWholeKey markets → IsDistinct is_same_key (map market_key markets) → HaveDistinctNumbers item_of (filter (is_row_of_region n) markets)
-items_apart n = group.things_apart market_key is_same_key ties_itself item_of (is_row_of_region n) HasWholeKey (same_key n)
+pub items_apart : (n : ℕ) (markets : List StoredMarket) → AllByRecursion HasWholeKey markets
+    → IsDistinct is_same_key (map market_key markets)
+    → HaveDistinctNumbers item_of (filter (is_row_of_region n) markets)
+items_apart n =
+    group.things_apart market_key is_same_key ties_itself item_of (is_row_of_region n) HasWholeKey (same_key n)
 
--- if all rows are exact (`IsExactMarket`) and their keys differ, the stocks read for region n are written as its rows, in
--- some order
-stocks_are_written_as_rows : (n : ℕ) (markets : List StoredMarket) → AllByRecursion IsExactMarket markets → IsDistinct is_same_key (map market_key markets) → IsPermutation (stock_rows n (entries (stocks_of n markets))) (filter (is_row_of_region n) markets)
+-- if all rows are exact (`IsExactMarket`) and their keys differ, the stocks read for region n are written as its rows,
+-- in some order
+stocks_are_written_as_rows : (n : ℕ) (markets : List StoredMarket) → AllByRecursion IsExactMarket markets
+    → IsDistinct is_same_key (map market_key markets)
+    → IsPermutation (stock_rows n (entries (stocks_of n markets))) (filter (is_row_of_region n) markets)
 stocks_are_written_as_rows n markets all d =
     lines_order item_of stock_of (market_row n) (λ m. not (is_zero m.stock)) (filter (is_row_of_region n) markets) (items_apart n markets (each_follows IsExactMarket HasWholeKey (λ m one. one.keys) markets all) d)
     (each_follows (λ m. IsExactMarket m × (is_row_of_region n m ≡ true)) (λ m. (market_row n (item_of m) (stock_of m) ≡ m) × (not (is_zero m.stock) ≡ true)) (λ m here. (same_row n m (here.0.keys, here.1) here.0.stock, ap not here.0.some)) (filter (is_row_of_region n) markets) (group.all_mine market_key is_same_key ties_itself item_of (is_row_of_region n) IsExactMarket markets all))
@@ -66,9 +73,12 @@ stocks_are_written_as_rows n markets all d =
 abbrev region_lines : ℕ × Region → List StoredMarket
 region_lines e = stock_rows e.0 (entries e.1.stocks)
 
--- if rows of `market` are exact (`IsExactMarket`), of listed regions, and differ in keys, the regions read with them are
--- written as these rows, in some order
-pub regions_are_written_as_rows : (markets : List StoredMarket) (regions : List StoredRegion) → HaveDistinctNumbers (λ r. as_u32 r.number) regions → AllByRecursion (λ m. HasNumber (λ r. as_u32 r.number) regions (as_u32 m.region)) markets → AllByRecursion IsExactMarket markets → IsDistinct is_same_key (map market_key markets)
+-- if rows of `market` are exact (`IsExactMarket`), of listed regions, and differ in keys, the regions read with them
+-- are written as these rows, in some order
+pub regions_are_written_as_rows : (markets : List StoredMarket) (regions : List StoredRegion)
+    → HaveDistinctNumbers (λ r. as_u32 r.number) regions
+    → AllByRecursion (λ m. HasNumber (λ r. as_u32 r.number) regions (as_u32 m.region)) markets
+    → AllByRecursion IsExactMarket markets → IsDistinct is_same_key (map market_key markets)
     → IsPermutation (market_rows Second (entries (by_number (λ r. as_u32 r.number) (region_of markets) regions))) markets
 regions_are_written_as_rows markets regions apart of all d =
     let lines = λ (r : StoredRegion). region_lines (as_u32 r.number, region_of markets r) in

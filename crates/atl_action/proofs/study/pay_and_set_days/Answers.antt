@@ -6,7 +6,9 @@ use Rattle.atl_action.specs.Study.{with_study}
 use Rattle.atl_action.proofs.study.pay_and_set_days.Goals as goal
 
 pub returns-in_default : goal.returns-in_default
-returns-in_default c = nobody_changes c.args.campaign.now c.args.unit (λ h. with_study h c.args.skill c.args.cost c.args.days) (sym c.in_default.ensures)
+returns-in_default c =
+    nobody_changes c.args.campaign.now c.args.unit (λ h. with_study h c.args.skill c.args.cost c.args.days)
+    (sym c.in_default.ensures)
 
 pub returns : goal.returns
 returns c =

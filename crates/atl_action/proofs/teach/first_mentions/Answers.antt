@@ -10,7 +10,8 @@ use Rattle.atl_action.proofs.teach.first_mentions.Goals.{then-is_none+in_ok-inse
 pub loop-number-init : goal.loop-number-init
 loop-number-init c =
     let all = first_mentions c.args.numbers.now in
-    ap (λ l. l ++ filter (is_new c.new-seen.result) all) c.new-list.ensures.items ∙ ap (λ seen. filter (is_new seen) all) c.new-seen.ensures ∙ all_new all
+    ap (λ l. l ++ filter (is_new c.new-seen.result) all) c.new-list.ensures.items
+    ∙ ap (λ seen. filter (is_new seen) all) c.new-seen.ensures ∙ all_new all
 
 pub loop-number-preserved : goal.loop-number-preserved
 loop-number-preserved c =
@@ -27,12 +28,15 @@ loop-number-preserved c =
           let last = filter (is_new (insert seen n n)) (first_mentions rest) in
           let pushed : c.if-is_none.list.items ≡ list ++ n ∷ [] = search rules in
           let noted : c.if-is_none.seen ≡ insert seen n n = search rules in
-          ap (λ l. l ++ filter (is_new c.if-is_none.seen) (first_mentions rest)) pushed ∙ ap (λ s. (list ++ n ∷ []) ++ filter (is_new s) (first_mentions rest)) noted
-          ∙ append_assoc list (n ∷ []) last ∙ ap (λ l. list ++ l) (sym (more ∙ first_mention_is_kept seen n rest new)) ∙ c.loop-number.invariant
+          ap (λ l. l ++ filter (is_new c.if-is_none.seen) (first_mentions rest)) pushed
+          ∙ ap (λ s. (list ++ n ∷ []) ++ filter (is_new s) (first_mentions rest)) noted
+          ∙ append_assoc list (n ∷ []) last ∙ ap (λ l. list ++ l) (sym (more ∙ first_mention_is_kept seen n rest new))
+          ∙ c.loop-number.invariant
       | else-is_none w ↦
           let there : is_some (get seen n) ≡ true = search rules in
           let kept : c.if-is_none.list.items ≡ list = search rules in
           let same : c.if-is_none.seen ≡ seen = search rules in
-          ap (λ l. l ++ filter (is_new c.if-is_none.seen) (first_mentions rest)) kept ∙ ap (λ s. list ++ filter (is_new s) (first_mentions rest)) same
+          ap (λ l. l ++ filter (is_new c.if-is_none.seen) (first_mentions rest)) kept
+          ∙ ap (λ s. list ++ filter (is_new s) (first_mentions rest)) same
           ∙ ap (λ l. list ++ l) (sym (more ∙ later_mention_is_dropped seen n rest there)) ∙ c.loop-number.invariant
     ]

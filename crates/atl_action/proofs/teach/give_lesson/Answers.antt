@@ -5,4 +5,5 @@ use Rattle.atl_action.proofs.TeachLaws.{mentions_distinct}
 use Rattle.atl_action.proofs.teach.give_lesson.Goals as goal
 
 pub teach_men-requires : goal.teach_men-requires
-teach_men-requires c = subst (IsDistinct nat_eq) (sym (c.deref.ensures.value ∙ c.in_ok-each.ensures)) (mentions_distinct c.args.units.now)
+teach_men-requires c =
+    subst (IsDistinct nat_eq) (sym (c.deref.ensures.value ∙ c.in_ok-each.ensures)) (mentions_distinct c.args.units.now)

@@ -35,7 +35,9 @@ loop-unit-preserved c =
     (λ k apart. ap (λ m. amount_of m k) put ∙ ap (λ (o : Option ℕ). unwrap_or o 0) (get-insert_other c.loop-unit.taught n k (old n + given) apart)) in
     record {
       taught = λ k. rest_taught w old after n given here away left rest is distinct.0 k ∙ sym (ap (λ ns. old k + taught_in_lesson w old left ns k) more) ∙ c.loop-unit.invariant.taught k;
-      men = ap (λ s. (c.args.places - (left - given)) + min s (left - given)) (same_sum w old after n given here away rest distinct.0)
+      men =
+          ap (λ s. (c.args.places - (left - given)) + min s (left - given))
+          (same_sum w old after n given here away rest distinct.0)
           ∙ men_so_far c.args.places left given (untaught_men w old n) (sum_by (untaught_men w old) rest) _ c.loop-unit.invariant.left is
           (ap (λ s. (c.args.places - left) + min s left) (sym (sum_by-cons (untaught_men w old) n rest) ∙ sym (ap (sum_by (untaught_men w old)) more)) ∙ c.loop-unit.invariant.men);
       left = omega (arith, c.loop-unit.invariant.left);

@@ -22,8 +22,11 @@ loop-number-preserved c =
     elim c.if-amount-ne0.branch [
       | then-amount-ne0+in_ok-push w ↦
           let apart : z ≢ pos 0 = λ e. omega (arith, ints, w.if-amount-ne0.true, read) in
-          w.rows-is ∙ w.in_ok-push.ensures.ok ∙ ap (λ r. c.loop-number.rows ++ r ∷ []) (w.books_row.ensures ∙ ap (λ t. books_row entry t (to_z w64 (of_z w64 c.amount-amount.result))) c.of_number-thing.ensures ∙ ap (books_row entry (thing_at number)) (same ∙ read))
-          ∙ ap (λ rows. rows ++ books_row entry (thing_at number) z ∷ []) c.loop-number.invariant ∙ append_assoc c.args.rows.now (rows_under books (accounts_under number entry)) (books_row entry (thing_at number) z ∷ []) ∙ ap all (sym (rows_under-some books entry number apart))
+          w.rows-is ∙ w.in_ok-push.ensures.ok
+          ∙ ap (λ r. c.loop-number.rows ++ r ∷ []) (w.books_row.ensures ∙ ap (λ t. books_row entry t (to_z w64 (of_z w64 c.amount-amount.result))) c.of_number-thing.ensures ∙ ap (books_row entry (thing_at number)) (same ∙ read))
+          ∙ ap (λ rows. rows ++ books_row entry (thing_at number) z ∷ []) c.loop-number.invariant
+          ∙ append_assoc c.args.rows.now (rows_under books (accounts_under number entry)) (books_row entry (thing_at number) z ∷ [])
+          ∙ ap all (sym (rows_under-some books entry number apart))
       | else-amount-ne0 w ↦
           let none : z ≡ pos 0 = omega (arith, ints, w.if-amount-ne0.false, read) in
           w.rows-is ∙ c.loop-number.invariant ∙ ap all (sym (rows_under-none books entry number none))

@@ -10,8 +10,11 @@ loop-thing-preserved-in-Continue-1 c =
     let rest = rows_of_sort c.args.number c.args.sort c.next.new.self in
     let row = has_row c.args.number c.args.sort c.in-Some.thing c.in-Some.amount.now in
     let one = sort_rows_one c.args.number c.args.sort c.in-Some.thing c.in-Some.amount.now c.next.new.self apart in
-    ap (λ rows. rows ++ rest) c.in_ok-push.ensures.ok ∙ ap (λ r. (c.loop-thing.rows ++ r ∷ []) ++ rest) c.has_row.ensures ∙ append_assoc c.loop-thing.rows (row ∷ []) rest
-    ∙ ap (λ rows. c.loop-thing.rows ++ rows) (sym one) ∙ ap (λ es. c.loop-thing.rows ++ rows_of_sort c.args.number c.args.sort es) (sym c.in-Some.ensures.steps) ∙ c.loop-thing.invariant
+    ap (λ rows. rows ++ rest) c.in_ok-push.ensures.ok
+    ∙ ap (λ r. (c.loop-thing.rows ++ r ∷ []) ++ rest) c.has_row.ensures ∙ append_assoc c.loop-thing.rows (row ∷ []) rest
+    ∙ ap (λ rows. c.loop-thing.rows ++ rows) (sym one)
+    ∙ ap (λ es. c.loop-thing.rows ++ rows_of_sort c.args.number c.args.sort es) (sym c.in-Some.ensures.steps)
+    ∙ c.loop-thing.invariant
 
 pub returns : goal.returns
 returns c =

@@ -10,8 +10,11 @@ loop-item-preserved-in-Continue-1 c =
     let rest = stock_rows c.args.region c.next.new.self in
     let row = market_row c.args.region c.in-Some.item c.in-Some.stock.now in
     let one = amount_rows_one (λ r. r.stock) (market_row c.args.region) (λ i a. refl) c.in-Some.item c.in-Some.stock.now c.next.new.self apart in
-    ap (λ rows. rows ++ rest) c.in_ok-push.ensures.ok ∙ ap (λ r. (c.loop-item.rows ++ r ∷ []) ++ rest) c.market_row.ensures ∙ append_assoc c.loop-item.rows (row ∷ []) rest
-    ∙ ap (λ rows. c.loop-item.rows ++ rows) (sym one) ∙ ap (λ es. c.loop-item.rows ++ stock_rows c.args.region es) (sym c.in-Some.ensures.steps) ∙ c.loop-item.invariant
+    ap (λ rows. rows ++ rest) c.in_ok-push.ensures.ok
+    ∙ ap (λ r. (c.loop-item.rows ++ r ∷ []) ++ rest) c.market_row.ensures
+    ∙ append_assoc c.loop-item.rows (row ∷ []) rest
+    ∙ ap (λ rows. c.loop-item.rows ++ rows) (sym one)
+    ∙ ap (λ es. c.loop-item.rows ++ stock_rows c.args.region es) (sym c.in-Some.ensures.steps) ∙ c.loop-item.invariant
 
 pub returns : goal.returns
 returns c =

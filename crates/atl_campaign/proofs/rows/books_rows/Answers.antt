@@ -8,4 +8,5 @@ pub returns : goal.returns
 returns c =
     let books = c.args.books.now in
     let things = c.len-things.result in
-    c.in_ok-add_entries.ensures ∙ ap (λ rows. rows ++ rows_under books (accounts things)) c.new-rows.ensures ∙ ap amounts_rows (sym (entries-amounts things books c.len-things.ensures.books))
+    c.in_ok-add_entries.ensures ∙ ap (λ rows. rows ++ rows_under books (accounts things)) c.new-rows.ensures
+    ∙ ap amounts_rows (sym (entries-amounts things books c.len-things.ensures.books))

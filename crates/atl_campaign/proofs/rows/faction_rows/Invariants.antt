@@ -4,4 +4,5 @@ use Rattle.atl_campaign.specs.Rows.{rows_by, faction_row}
 use Rattle.atl_campaign.proofs.rows.faction_rows.Given as goal
 
 abbrev pub invariant-loop-number : goal.invariant-loop-number
-invariant-loop-number l = l.rows ++ rows_by faction_row l.number-iterator ≡ rows_by faction_row (entries l.campaign.value.factions)
+invariant-loop-number l =
+    l.rows ++ rows_by faction_row l.number-iterator ≡ rows_by faction_row (entries l.campaign.value.factions)

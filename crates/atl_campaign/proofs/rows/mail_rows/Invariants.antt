@@ -4,4 +4,5 @@ use Rattle.atl_campaign.specs.Rows.{rows_by, mail_row}
 use Rattle.atl_campaign.proofs.rows.mail_rows.Given as goal
 
 abbrev pub invariant-loop-number : goal.invariant-loop-number
-invariant-loop-number l = l.rows ++ rows_by mail_row l.number-iterator ≡ rows_by mail_row (entries l.campaign.value.mail)
+invariant-loop-number l =
+    l.rows ++ rows_by mail_row l.number-iterator ≡ rows_by mail_row (entries l.campaign.value.mail)

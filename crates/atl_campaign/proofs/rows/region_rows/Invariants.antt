@@ -4,4 +4,5 @@ use Rattle.atl_campaign.specs.Rows.{rows_by, region_row}
 use Rattle.atl_campaign.proofs.rows.region_rows.Given as goal
 
 abbrev pub invariant-loop-number : goal.invariant-loop-number
-invariant-loop-number l = l.rows ++ rows_by region_row l.number-iterator ≡ rows_by region_row (entries l.campaign.value.regions)
+invariant-loop-number l =
+    l.rows ++ rows_by region_row l.number-iterator ≡ rows_by region_row (entries l.campaign.value.regions)

@@ -4,4 +4,5 @@ use Rattle.atl_campaign.specs.Rows.{rows_by, structure_row}
 use Rattle.atl_campaign.proofs.rows.structure_rows.Given as goal
 
 abbrev pub invariant-loop-number : goal.invariant-loop-number
-invariant-loop-number l = l.rows ++ rows_by structure_row l.number-iterator ≡ rows_by structure_row (entries l.campaign.value.structures)
+invariant-loop-number l =
+    l.rows ++ rows_by structure_row l.number-iterator ≡ rows_by structure_row (entries l.campaign.value.structures)

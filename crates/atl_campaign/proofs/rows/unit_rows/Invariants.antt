@@ -4,4 +4,5 @@ use Rattle.atl_campaign.specs.Rows.{rows_by, unit_row}
 use Rattle.atl_campaign.proofs.rows.unit_rows.Given as goal
 
 abbrev pub invariant-loop-number : goal.invariant-loop-number
-invariant-loop-number l = l.rows ++ rows_by unit_row l.number-iterator ≡ rows_by unit_row (entries l.campaign.value.units)
+invariant-loop-number l =
+    l.rows ++ rows_by unit_row l.number-iterator ≡ rows_by unit_row (entries l.campaign.value.units)

@@ -11,4 +11,6 @@ returns-clause-held c =
     rw (c.set_guard.ensures.what, c.in_ok-set.ensures) (holders_set before c.args.holders.now c.args.order.unit u c.in-Some.ensures.there c.requires.held none men)
 
 pub returns-clause-marks : goal.returns-clause-marks
-returns-clause-marks c = flag_marks c.args.campaign.now c.set_guard.new.self c.args.order.unit true c.set_guard.ensures.what c.set_guard.ensures.marks
+returns-clause-marks c =
+    flag_marks c.args.campaign.now c.set_guard.new.self c.args.order.unit true c.set_guard.ensures.what
+    c.set_guard.ensures.marks

@@ -5,4 +5,6 @@ use Rattle.atl_instant.proofs.name.name_of.Goals as goal
 
 -- the bytes of a name that keeps the rule of names are UTF-8, so that `unwrap` gets a string
 pub unwrap-letters-requires : goal.unwrap-letters-requires
-unwrap-letters-requires c = c.from_utf8.ensures.succeeds (subst IsUtf8 (sym (c.into_vec.ensures ∙ c.in_ok-bytes.ensures)) (name_ok-IsUtf8 _ c.requires))
+unwrap-letters-requires c =
+    c.from_utf8.ensures.succeeds
+    (subst IsUtf8 (sym (c.into_vec.ensures ∙ c.in_ok-bytes.ensures)) (name_ok-IsUtf8 _ c.requires))

@@ -8,7 +8,9 @@ use Rattle.atl_instant.proofs.QuitLaws.{gone_marks, known_ahead, room_for_item, 
 use Rattle.atl_instant.proofs.quit.book_items.Goals as goal
 
 pub book_loss-requires-clause-room : goal.book_loss-requires-clause-room
-book_loss-requires-clause-room c = room_for_item c.args.items.now c.loop-item.item-index c.loop-item.campaign.value c.loop-item-test.true c.loop-item.invariant.room
+book_loss-requires-clause-room c =
+    room_for_item c.args.items.now c.loop-item.item-index c.loop-item.campaign.value c.loop-item-test.true
+    c.loop-item.invariant.room
 
 pub loop-item-preserved : goal.loop-item-preserved
 loop-item-preserved c =

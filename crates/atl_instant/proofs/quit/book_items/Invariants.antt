@@ -11,7 +11,8 @@ use Rattle.atl_instant.proofs.quit.book_items.Given as goal
 -- the world, the books have room for the items, and all changes are marked.
 abbrev pub invariant-loop-item : goal.invariant-loop-item
 invariant-loop-item l = record {
-  rest : fold with_item_loss l.campaign.value (drop l.item-index l.items) ≡ fold with_item_loss l.initial.campaign.value l.items;
+  rest : fold with_item_loss l.campaign.value (drop l.item-index l.items)
+      ≡ fold with_item_loss l.initial.campaign.value l.items;
   things : l.campaign.value.books.things ≡ thing_count l.world;
   known : EachEntry (λ i amount. i < length l.world.items) (drop l.item-index l.items);
   room : HaveRoom (items_bound (drop l.item-index l.items)) l.campaign.value;

@@ -10,7 +10,8 @@ use Rattle.atl_instant.proofs.quit.leave_all.Given as goal
 -- room for all that may still be booked, and all changes are marked
 abbrev pub invariant-loop-number : goal.invariant-loop-number
 invariant-loop-number l = record {
-  rest : fold after_leaving l.campaign.value (drop l.number-index l.numbers) ≡ fold after_leaving l.initial.campaign.value l.numbers;
+  rest : fold after_leaving l.campaign.value (drop l.number-index l.numbers)
+      ≡ fold after_leaving l.initial.campaign.value l.numbers;
   steady : IsSteady l.world l.campaign.value;
   room : HaveRoom (quit_remaining l.campaign.value) l.campaign.value;
   marks : MarksChanges l.initial.campaign l.campaign;

@@ -14,7 +14,8 @@ book_taken-requires-clause-there c =
     rw (ap (λ (d : CampaignValue). d.books) c.in_ok-set_item.ensures.ok) (omega (arith, can.steady.numbers.books.count, can.known))
 
 pub book_taken-requires-clause-room : goal.book_taken-requires-clause-room
-book_taken-requires-clause-room c = rw (ap (λ (d : CampaignValue). d.books) c.in_ok-set_item.ensures.ok) c.requires.can.room
+book_taken-requires-clause-room c =
+    rw (ap (λ (d : CampaignValue). d.books) c.in_ok-set_item.ensures.ok) c.requires.can.room
 
 pub returns-clause-what : goal.returns-clause-what
 returns-clause-what c =

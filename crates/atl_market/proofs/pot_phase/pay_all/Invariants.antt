@@ -11,6 +11,7 @@ use Rattle.atl_market.proofs.pot_phase.pay_all.Given as goal
 abbrev pub invariant-loop-unit : goal.invariant-loop-unit
 invariant-loop-unit g l = record {
   can : CanInTurn (g.P.PotPhase.can_pay l.phase l.items l.world) (PotMeaning.paid (g.P.PotPhase.meaning l.phase) l.items l.world) l.campaign.value l.unit-iterator;
-  what : fold (PotMeaning.paid (g.P.PotPhase.meaning l.phase) l.items l.world) l.campaign.value l.unit-iterator ≡ fold (PotMeaning.paid (g.P.PotPhase.meaning l.phase) l.items l.world) l.fn.campaign.value (entries l.given);
+  what : fold (PotMeaning.paid (g.P.PotPhase.meaning l.phase) l.items l.world) l.campaign.value l.unit-iterator
+      ≡ fold (PotMeaning.paid (g.P.PotPhase.meaning l.phase) l.items l.world) l.fn.campaign.value (entries l.given);
   marks : MarksChanges l.fn.campaign l.campaign;
 }

@@ -16,8 +16,10 @@ use Rattle.atl_market.specs.declared.trade.TradeResult.{TradeResult}
 use Rattle.atl_market.proofs.TradeLaws.{traded_books, traded_marks, traded_what}
 use Rattle.atl_market.proofs.trade.book_trade.Goals as goal
 
-goods_set : (a b c : MarkedCampaign) (n item : ℕ) (d : TradeResult) → b.value ≡ with_money a.value n d.money → b.marks ≡ mark_unit_row a n
-    → c.value ≡ with_item b.value n item d.amount → c.marks ≡ mark_item b n item d.amount → ChangesHolding a c n (λ h. with_trade_result h item d)
+goods_set : (a b c : MarkedCampaign) (n item : ℕ) (d : TradeResult) → b.value ≡ with_money a.value n d.money
+    → b.marks ≡ mark_unit_row a n
+    → c.value ≡ with_item b.value n item d.amount → c.marks ≡ mark_item b n item d.amount
+    → ChangesHolding a c n (λ h. with_trade_result h item d)
 goods_set a b c n item d b_is b_marks c_is c_marks =
     then_changes a b c n (λ h. record h { money = d.money }) (λ h. record h { items = with_amount_of h.items item d.amount })
     (money_changes a b n d.money b_is b_marks) (item_changes b c n item d.amount c_is c_marks)

@@ -12,16 +12,20 @@ use Rattle.atl_month.proofs.close.close_month.Goals as goal
 
 -- once the month is counted and the mail is removed, which `close_month` doesn't do, the campaign is good again
 pub returns-clause-good : goal.returns-clause-good
-returns-clause-good c = finished_good c.args.world.now c.args.campaign.value c.in_ok-campaign.campaign.value phases_bound phases_little c.requires.month c.in_ok-campaign.ensures.leaves c.requires.good
+returns-clause-good c =
+    finished_good c.args.world.now c.args.campaign.value c.in_ok-campaign.campaign.value phases_bound phases_little
+    c.requires.month c.in_ok-campaign.ensures.leaves c.requires.good
 
 pub returns-clause-same : goal.returns-clause-same
 returns-clause-same c = c.in_ok-campaign.ensures.leaves.same_month
 
 pub returns-clause-factions : goal.returns-clause-factions
-returns-clause-factions c = factions_stay c.args.world.now c.args.campaign.value c.in_ok-campaign.campaign.value c.in_ok-campaign.ensures.leaves
+returns-clause-factions c =
+    factions_stay c.args.world.now c.args.campaign.value c.in_ok-campaign.campaign.value c.in_ok-campaign.ensures.leaves
 
 pub returns-clause-books : goal.returns-clause-books
-returns-clause-books c = books_near c.args.world.now c.args.campaign.value c.in_ok-campaign.campaign.value c.in_ok-campaign.ensures.leaves
+returns-clause-books c =
+    books_near c.args.world.now c.args.campaign.value c.in_ok-campaign.campaign.value c.in_ok-campaign.ensures.leaves
 
 pub returns-clause-keeps : goal.returns-clause-keeps
 returns-clause-keeps c =

@@ -13,7 +13,9 @@ use Rattle.atl_month.proofs.RestockLaws.{IsMarketOf, markets_are, markets_there,
 use Rattle.atl_month.proofs.restock.restock_region.Goals as goal
 
 pub returns-in-None-clause-what : goal.returns-in-None-clause-what
-returns-in-None-clause-what c = sym (none_of c.args.world.now c.region.ensures.world c.args.region c.args.campaign.now.value (sym c.in-None.ensures.value))
+returns-in-None-clause-what c =
+    sym
+    (none_of c.args.world.now c.region.ensures.world c.args.region c.args.campaign.now.value (sym c.in-None.ensures.value))
 
 pub loop-item-init : goal.loop-item-init
 loop-item-init c =

@@ -15,7 +15,8 @@ abbrev pub invariant-loop-item : goal.invariant-loop-item
 invariant-loop-item l = record {
   can_next : (goal.iterator-loop-item).can_next l.item-iterator;
   is_finite : (goal.iterator-loop-item).is_finite l.item-iterator;
-  rest : fold (after_market_restock l.region) l.campaign.value l.item-iterator ≡ after_restock l.region l.initial.campaign.value (entries (markets_of l.world l.region));
+  rest : fold (after_market_restock l.region) l.campaign.value l.item-iterator
+      ≡ after_restock l.region l.initial.campaign.value (entries (markets_of l.world l.region));
   each : EachEntry (IsMarketOf l.world l.region) l.item-iterator;
   steady : IsSteady l.world l.campaign.value;
   room : HaveRoom (stocking_bound l.item-iterator) l.campaign.value;

@@ -27,7 +27,9 @@ add_births_and_income-requires-clause-money c =
     (c.requires.steady.numbers.regions c.args.number region (sym c.in-Some-region.ensures)).money)
 
 pub add_births_and_income-requires-clause-room : goal.add_births_and_income-requires-clause-room
-add_births_and_income-requires-clause-room c = room_less (grows_by most_amount) (season_moves most_amount) c.args.campaign.now.value (λ e t. omega arith) c.requires.room
+add_births_and_income-requires-clause-room c =
+    room_less (grows_by most_amount) (season_moves most_amount) c.args.campaign.now.value (λ e t. omega arith)
+    c.requires.room
 
 pub restock_region-requires-clause-steady : goal.restock_region-requires-clause-steady
 restock_region-requires-clause-steady c =
@@ -43,4 +45,7 @@ restock_region-requires-clause-room c =
     (room_for_second (grows_by most_amount) (stocks_by most_amount) c.args.world.now c.args.campaign.now.value _ growth c.requires.room)
 
 pub returns-clause-marks : goal.returns-clause-marks
-returns-clause-marks c = on_ok_weaker c.restock_region.result (marks-trans c.args.campaign.now c.add_births_and_income.new.campaign c.restock_region.new.campaign c.add_births_and_income.ensures.marks) c.restock_region.ensures.marks
+returns-clause-marks c =
+    on_ok_weaker c.restock_region.result
+    (marks-trans c.args.campaign.now c.add_births_and_income.new.campaign c.restock_region.new.campaign c.add_births_and_income.ensures.marks)
+    c.restock_region.ensures.marks

@@ -7,7 +7,9 @@ use Rattle.atl_month.proofs.SweepLaws.{item_passes, rest_room}
 use Rattle.atl_month.proofs.sweep.pass_items.Goals as goal
 
 pub pass_item-requires-clause-room : goal.pass_item-requires-clause-room
-pass_item-requires-clause-room c = room_for_item c.args.items.now c.loop-item.item-index c.loop-item.campaign.value c.loop-item-test.true c.loop-item.invariant.room
+pass_item-requires-clause-room c =
+    room_for_item c.args.items.now c.loop-item.item-index c.loop-item.campaign.value c.loop-item-test.true
+    c.loop-item.invariant.room
 
 pub loop-item-preserved : goal.loop-item-preserved
 loop-item-preserved c =

@@ -11,7 +11,8 @@ use Rattle.atl_month.proofs.sweep.pass_items.Given as goal
 -- have room, and all changes are marked
 abbrev pub invariant-loop-item : goal.invariant-loop-item
 invariant-loop-item l = record {
-  rest : fold (after_passing_item l.to) l.campaign.value (drop l.item-index l.items) ≡ fold (after_passing_item l.to) l.initial.campaign.value l.items;
+  rest : fold (after_passing_item l.to) l.campaign.value (drop l.item-index l.items)
+      ≡ fold (after_passing_item l.to) l.initial.campaign.value l.items;
   steady : IsSteady l.world l.campaign.value;
   known : EachEntry (λ i amount. i < length l.world.items) (drop l.item-index l.items);
   room : HaveRoom (items_bound (drop l.item-index l.items)) l.campaign.value;

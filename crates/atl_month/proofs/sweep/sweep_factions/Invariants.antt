@@ -7,6 +7,7 @@ use Rattle.atl_month.proofs.sweep.sweep_factions.Given as goal
 -- before each faction: sweeping those still to come makes what sweeping all makes, and all changes are marked
 abbrev pub invariant-loop-number : goal.invariant-loop-number
 invariant-loop-number l = record {
-  rest : fold after_sweeping_faction l.campaign.value (drop l.number-index l.numbers) ≡ fold after_sweeping_faction l.initial.campaign.value l.numbers;
+  rest : fold after_sweeping_faction l.campaign.value (drop l.number-index l.numbers)
+      ≡ fold after_sweeping_faction l.initial.campaign.value l.numbers;
   marks : MarksChanges l.initial.campaign l.campaign;
 }

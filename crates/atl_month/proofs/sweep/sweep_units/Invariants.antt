@@ -12,7 +12,8 @@ use Rattle.atl_month.proofs.sweep.sweep_units.Given as goal
 -- receivers, its books have room, and all changes are marked
 abbrev pub invariant-loop-number : goal.invariant-loop-number
 invariant-loop-number l = record {
-  rest : fold after_sweeping_unit l.campaign.value (drop l.number-index l.numbers) ≡ fold after_sweeping_unit l.initial.campaign.value l.numbers;
+  rest : fold after_sweeping_unit l.campaign.value (drop l.number-index l.numbers)
+      ≡ fold after_sweeping_unit l.initial.campaign.value l.numbers;
   steady : IsSteady l.world l.campaign.value;
   receivers : AreReceivers l.campaign.value l.receivers;
   room : HaveRoom (moved_times (length (drop l.number-index l.numbers)) (loses_by most_amount)) l.campaign.value;

@@ -10,4 +10,5 @@ returns-then-upkeep_result-eq0-clause-what c u is =
     pays_nothing c.args.campaign.now.value c.args.upkeep_result.now u is fed none
 
 pub returns-in-Some-clause-marks : goal.returns-in-Some-clause-marks
-returns-in-Some-clause-marks c = (money_changes c.args.campaign.now c.set_money.new.self c.args.upkeep_result.now.unit _ c.set_money.ensures.what c.set_money.ensures.marks).marks
+returns-in-Some-clause-marks c =
+    (money_changes c.args.campaign.now c.set_money.new.self c.args.upkeep_result.now.unit _ c.set_money.ensures.what c.set_money.ensures.marks).marks

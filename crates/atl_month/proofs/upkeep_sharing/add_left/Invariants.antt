@@ -7,6 +7,8 @@ use Rattle.atl_month.proofs.upkeep_sharing.add_left.Given as goal
 -- many units may have
 abbrev pub invariant-loop-input : goal.invariant-loop-input
 invariant-loop-input l = record {
-  each : (region faction : ℕ) → account_at l.accounts region faction ≡ opened l.maintenance l.inputs (take l.input-index l.inputs) region faction;
+  each : (region faction : ℕ)
+      → account_at l.accounts region faction
+      ≡ opened l.maintenance l.inputs (take l.input-index l.inputs) region faction;
   few : (region faction : ℕ) → (account_at l.accounts region faction).left ≤ holding_limit * l.input-index;
 }

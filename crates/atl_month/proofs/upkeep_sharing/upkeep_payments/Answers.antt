@@ -27,6 +27,7 @@ loop-input-preserved c =
     record {
       each = λ s g. rw (put, more) (upkeep_result_more m inputs (take i inputs) p old c.loop-input.invariant.each account is s g);
       list =
-          pushed ∙ ap (λ (xs : List UpkeepResult). xs ++ c.payment_of-upkeep_result.result ∷ []) c.loop-input.invariant.list
+          pushed
+          ∙ ap (λ (xs : List UpkeepResult). xs ++ c.payment_of-upkeep_result.result ∷ []) c.loop-input.invariant.list
           ∙ ap (λ (s : UpkeepResult). map upkeep_result (take i inputs) ++ s ∷ []) one ∙ sym (map_more upkeep_result inputs i none c.loop-input-test.true);
     }

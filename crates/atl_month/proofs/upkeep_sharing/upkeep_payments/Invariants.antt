@@ -8,6 +8,9 @@ use Rattle.atl_month.proofs.upkeep_sharing.upkeep_payments.Given as goal
 -- that had one
 abbrev pub invariant-loop-input : goal.invariant-loop-input
 invariant-loop-input l = record {
-  each : (region faction : ℕ) → account_at l.accounts region faction ≡ account_of l.maintenance l.inputs (take l.input-index l.inputs) region faction;
-  list : l.list.items ≡ map (λ (p : UpkeepInput). upkeep_result_among l.maintenance (peers_of p.region p.faction l.inputs) p) (take l.input-index l.inputs);
+  each : (region faction : ℕ)
+      → account_at l.accounts region faction
+      ≡ account_of l.maintenance l.inputs (take l.input-index l.inputs) region faction;
+  list : l.list.items
+      ≡ map (λ (p : UpkeepInput). upkeep_result_among l.maintenance (peers_of p.region p.faction l.inputs) p) (take l.input-index l.inputs);
 }

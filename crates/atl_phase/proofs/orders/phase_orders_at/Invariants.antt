@@ -5,4 +5,5 @@ use Rattle.atl_phase.proofs.orders.phase_orders_at.Given as goal
 
 -- before each index: the list has those orders with a verb of the phase that the indices so far name
 abbrev pub invariant-loop-placed : goal.invariant-loop-placed
-invariant-loop-placed g l = map task_of l.list.items ≡ tasks_picked g.P.PhaseVerbs.is_of l.mailings (take l.placed-index l.places)
+invariant-loop-placed g l =
+    map task_of l.list.items ≡ tasks_picked g.P.PhaseVerbs.is_of l.mailings (take l.placed-index l.places)

@@ -3,4 +3,5 @@ use Rattle.atl_report.specs.Events.{faulty_lines}
 use Rattle.atl_report.proofs.events.write_faulty_lines.Given as goal
 
 abbrev pub invariant-loop-faulty : goal.invariant-loop-faulty
-invariant-loop-faulty l = string_bytes l.out ++ faulty_lines (drop l.faulty-index l.faults) ≡ string_bytes l.fn.out ++ faulty_lines l.faults
+invariant-loop-faulty l =
+    string_bytes l.out ++ faulty_lines (drop l.faulty-index l.faults) ≡ string_bytes l.fn.out ++ faulty_lines l.faults

@@ -9,4 +9,5 @@ pub returns : goal.returns
 returns c =
     let campaign = c.args.campaign.now.value in
     let none : drop c.loop-number.number-index c.of_faction-number-items.result.now ≡ [] = drop_all c.loop-number.number-index c.of_faction-number-items.result.now c.loop-number-test.false in
-    ap entries (ap (λ ns. with_all_watched campaign c.args.faction ns c.loop-number.seen) (sym none) ∙ c.loop-number.invariant) ∙ entries-with_all_watched campaign c.args.faction
+    ap entries (ap (λ ns. with_all_watched campaign c.args.faction ns c.loop-number.seen) (sym none) ∙ c.loop-number.invariant)
+    ∙ entries-with_all_watched campaign c.args.faction

@@ -7,7 +7,9 @@ use Rattle.atl_state.proofs.CheckLaws.{below_next, first_broken, places-said}
 use Rattle.atl_state.proofs.checking.check_rules_8_to_12.Goals as goal
 
 pub are_guarded-requires : goal.are_guarded-requires
-are_guarded-requires g c = subst (λ (s : CampaignValue). Every (λ n u. HasValue s.regions u.region) s.units) (sym c.requires.0) (places-said c.args.format c.args.world.now g.rows c.requires.1.1)
+are_guarded-requires g c =
+    subst (λ (s : CampaignValue). Every (λ n u. HasValue s.regions u.region) s.units) (sym c.requires.0)
+    (places-said c.args.format c.args.world.now g.rows c.requires.1.1)
 
 pub returns-then-not-keeps_mail : goal.returns-then-not-keeps_mail
 returns-then-not-keeps_mail g c =

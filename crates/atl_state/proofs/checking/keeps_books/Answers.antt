@@ -9,10 +9,13 @@ use Rattle.atl_state.proofs.CheckLaws.{few-said, books-said, items-said, stocks-
 use Rattle.atl_state.proofs.checking.keeps_books.Goals as goal
 
 pub are_balanced-requires-clause-few : goal.are_balanced-requires-clause-few
-are_balanced-requires-clause-few g c = subst IsCountable (sym c.requires.0) (few-said c.args.format c.args.world.now g.rows c.requires.1.1)
+are_balanced-requires-clause-few g c =
+    subst IsCountable (sym c.requires.0) (few-said c.args.format c.args.world.now g.rows c.requires.1.1)
 
 pub are_balanced-requires-clause-books : goal.are_balanced-requires-clause-books
-are_balanced-requires-clause-books g c = subst (λ (s : CampaignValue). AreBooks (thing_count c.args.world.now) s.books) (sym c.requires.0) (books-said c.args.format c.args.world.now g.rows c.requires.1.1)
+are_balanced-requires-clause-books g c =
+    subst (λ (s : CampaignValue). AreBooks (thing_count c.args.world.now) s.books) (sym c.requires.0)
+    (books-said c.args.format c.args.world.now g.rows c.requires.1.1)
 
 pub are_balanced-requires-clause-items : goal.are_balanced-requires-clause-items
 are_balanced-requires-clause-items g c =

@@ -7,4 +7,5 @@ returns-then-are_mailings c =
     (λ e. (c.are_mailings.ensures.0 c.if-are_mailings.true, c.are_reported.ensures.0 e), λ k. c.are_reported.ensures.1 k.1)
 
 pub returns-else-are_mailings : goal.returns-else-are_mailings
-returns-else-are_mailings c = (λ e. absurd (false≢true (sym c.if-are_mailings.false ∙ e)), λ k. c.are_mailings.ensures.1 k.0)
+returns-else-are_mailings c =
+    (λ e. absurd (false≢true (sym c.if-are_mailings.false ∙ e)), λ k. c.are_mailings.ensures.1 k.0)

@@ -14,7 +14,8 @@ pub teach_all-requires : goal.teach_all-requires
 teach_all-requires c = (c.args.world.now, c.requires.read)
 
 pub carry_out_orders-requires-clause-read : goal.carry_out_orders-requires-clause-read
-carry_out_orders-requires-clause-read c = λ f r is. c.requires.read f r (ap (λ m. get m f) (sym c.in_ok-taught.ensures.readings) ∙ is)
+carry_out_orders-requires-clause-read c =
+    λ f r is. c.requires.read f r (ap (λ m. get m f) (sym c.in_ok-taught.ensures.readings) ∙ is)
 
 pub returns-clause-keeps : goal.returns-clause-keeps
 returns-clause-keeps c =

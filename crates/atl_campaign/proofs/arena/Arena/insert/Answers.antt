@@ -5,7 +5,9 @@ use Rattle.atl_campaign.proofs.SlotLaws.{values_added, IsArena-added, nothing_ch
 use Rattle.atl_campaign.proofs.arena.Arena.insert.Goals as goal
 
 pub returns-in_err-slot-clause-err : goal.returns-in_err-slot-clause-err
-returns-in_err-slot-clause-err g c = on_err c.from_residual.result (nothing_changed c.self.inside.index c.self.inside.slots c.insert.new.self (λ j. ap (λ s. slab.get s j) c.in_err-slot.ensures.err) ∙ c.self.view_is)
+returns-in_err-slot-clause-err g c =
+    on_err c.from_residual.result
+    (nothing_changed c.self.inside.index c.self.inside.slots c.insert.new.self (λ j. ap (λ s. slab.get s j) c.in_err-slot.ensures.err) ∙ c.self.view_is)
 
 pub invariant_of-self-in-Ok : goal.invariant_of-self-in-Ok
 invariant_of-self-in-Ok g c =
@@ -22,4 +24,6 @@ returns-in-Err-clause-err g c =
     rw c.in-Err.ensures.err (nothing_changed c.self.inside.index c.self.inside.slots c.remove.new.self (put_back c.self.inside.slots c.insert.new.self c.remove.new.self c.in_ok-slot.slot _ c.in_ok-slot.ensures.was_vacant c.in_ok-slot.ensures.updates c.remove.ensures.updates) ∙ c.self.view_is)
 
 pub insert-requires-2 : goal.insert-requires-2
-insert-requires-2 g c = unindexed c.self.inside.index c.self.inside.slots c.args.number c.self.invariant.slots_used (ap (λ m. get m c.args.number) c.self.view_is ∙ c.requires)
+insert-requires-2 g c =
+    unindexed c.self.inside.index c.self.inside.slots c.args.number c.self.invariant.slots_used
+    (ap (λ m. get m c.args.number) c.self.view_is ∙ c.requires)

@@ -11,7 +11,9 @@ invariant_of-self g c =
     rw c.in-Some.ensures.taken (IsArena-removed c.self.inside.index c.self.inside.slots c.remove-in-Some.new.self c.args.number c.in-Some.slot c.remove-in-Some.ensures.updates c.remove-in-Some.ensures.len (sym c.in-Some.ensures.slot) c.self.invariant)
 
 pub invariant_of-self-in-None : goal.invariant_of-self-in-None
-invariant_of-self-in-None g c = rw (c.in-None.ensures.taken, remove_none c.self.inside.index c.args.number (sym c.in-None.ensures.slot)) c.self.invariant
+invariant_of-self-in-None g c =
+    rw (c.in-None.ensures.taken, remove_none c.self.inside.index c.args.number (sym c.in-None.ensures.slot))
+    c.self.invariant
 
 pub returns-in-Some : goal.returns-in-Some
 returns-in-Some g c =

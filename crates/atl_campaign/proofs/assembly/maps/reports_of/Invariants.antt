@@ -5,6 +5,7 @@ use Rattle.atl_campaign.proofs.assembly.maps.reports_of.Given as goal
 
 abbrev pub invariant-loop-row : goal.invariant-loop-row
 invariant-loop-row l = record {
-  put : put_rows (λ r. as_u32 r.faction) (λ r. r.text) (into_iter_items l.row-iterator) l.reports ≡ by_number (λ r. as_u32 r.faction) (λ r. r.text) l.fn.rows;
+  put : put_rows (λ r. as_u32 r.faction) (λ r. r.text) (into_iter_items l.row-iterator) l.reports
+      ≡ by_number (λ r. as_u32 r.faction) (λ r. r.text) l.fn.rows;
   count : into_iter_len l.row-iterator ≡ length (into_iter_items l.row-iterator);
 }

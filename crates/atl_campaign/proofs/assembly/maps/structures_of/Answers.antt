@@ -15,4 +15,5 @@ loop-row-preserved c =
     let rest = drop (c.loop-row.row-index + 1) c.args.rows.now in
     let put = λ (rows : List StoredStructure) (m : FinMap nat_cmp Structure). put_rows (λ r. as_u32 r.number) structure_of rows m in
     ap (put rest) (c.in_ok-insert.ensures.ok ∙ ap (λ k. insert c.loop-row.structures k c.in_ok-structure.structure) (c.as_u32.ensures ∙ ap as_u32 same) ∙ ap (insert c.loop-row.structures (as_u32 row.number)) c.in_ok-structure.ensures)
-    ∙ ap (λ rows. put rows c.loop-row.structures) (sym (next_of c.args.rows.now c.loop-row.row-index row c.loop-row-test.true c.row-item.is)) ∙ c.loop-row.invariant
+    ∙ ap (λ rows. put rows c.loop-row.structures) (sym (next_of c.args.rows.now c.loop-row.row-index row c.loop-row-test.true c.row-item.is))
+    ∙ c.loop-row.invariant

@@ -3,4 +3,6 @@ use Rattle.atl_campaign.specs.FromRows.{as_u32, by_number, put_rows, structure_o
 use Rattle.atl_campaign.proofs.assembly.maps.structures_of.Given as goal
 
 abbrev pub invariant-loop-row : goal.invariant-loop-row
-invariant-loop-row l = put_rows (λ r. as_u32 r.number) structure_of (drop l.row-index l.rows) l.structures ≡ by_number (λ r. as_u32 r.number) structure_of l.rows
+invariant-loop-row l =
+    put_rows (λ r. as_u32 r.number) structure_of (drop l.row-index l.rows) l.structures ≡ by_number
+    (λ r. as_u32 r.number) structure_of l.rows

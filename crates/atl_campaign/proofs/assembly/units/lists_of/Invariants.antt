@@ -7,4 +7,6 @@ use Rattle.atl_campaign.proofs.assembly.units.lists_of.Given as goal
 
 -- the lists so far by region, faction and structure are those of the units done, and all other units are still to come
 abbrev pub invariant-loop-number : goal.invariant-loop-number
-invariant-loop-number l = (done : FinMap nat_cmp Unit) × (entries done ++ l.number-iterator ≡ entries l.units.values) × AreUnitLists done l.lists
+invariant-loop-number l =
+    (done : FinMap nat_cmp Unit) × (entries done ++ l.number-iterator ≡ entries l.units.values) × AreUnitLists done
+    l.lists

@@ -16,6 +16,7 @@ returns c =
     let u = c.in-Some.unit.now in
     let there : get c.args.self.now.value.units n ≡ Some u = sym (c.in-Some.ensures ∙ ap (λ (m : MarkedCampaign). get m.value.units n) c.self.view_is) in
     let is =
-    c.hand_over.ensures ∙ ap (λ m. handed_marked m u.structure n c.heir-heir.result) c.take_unit.ensures ∙ ap (handed_marked (taken_marked c.args.self.now n) u.structure n) c.heir-heir.ensures
+    c.hand_over.ensures ∙ ap (λ m. handed_marked m u.structure n c.heir-heir.result) c.take_unit.ensures
+    ∙ ap (handed_marked (taken_marked c.args.self.now n) u.structure n) c.heir-heir.ensures
     ∙ gone_some c.args.self.now n u there in
     record { what = ap (λ (m : MarkedCampaign). m.value) is ∙ gone-what c.args.self.now n; marks = ap (λ (m : MarkedCampaign). m.marks) is }

@@ -5,4 +5,6 @@ use Rattle.atl_campaign.proofs.OwnerLaws.{taken_none}
 use Rattle.atl_campaign.proofs.campaign.Campaign.take_unit.Goals as goal
 
 pub returns-in-None : goal.returns-in-None
-returns-in-None c = taken_none c.args.self.now c.args.number (sym (c.in-None.ensures ∙ ap (λ (m : MarkedCampaign). get m.value.units c.args.number) c.self.view_is))
+returns-in-None c =
+    taken_none c.args.self.now c.args.number
+    (sym (c.in-None.ensures ∙ ap (λ (m : MarkedCampaign). get m.value.units c.args.number) c.self.view_is))

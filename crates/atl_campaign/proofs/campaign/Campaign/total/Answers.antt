@@ -9,4 +9,6 @@ pub regions_total-requires : goal.regions_total-requires
 regions_total-requires c = omega (arith, len-entries c.self.inside.regions.values, rw (← c.self.view_is) at c.requires)
 
 pub overflow_add-result : goal.overflow_add-result
-overflow_add-result c = omega (arith, len-entries c.self.inside.units.values, len-entries c.self.inside.regions.values, rw (← c.self.view_is) at c.requires)
+overflow_add-result c =
+    omega
+    (arith, len-entries c.self.inside.units.values, len-entries c.self.inside.regions.values, rw (← c.self.view_is) at c.requires)

@@ -20,7 +20,8 @@ book-requires-2-clause-fits c =
     let people = c.regions_total-people.result in
     let books = c.in_ok-books.books in
     let none : amount_in c.book.new.self Founding People ≡ pos 0 =
-    ap (λ b. amount_in b Founding People) c.book.ensures ∙ other_amount books Founding Money (amount_in books Founding Money +ℤ to_z w64 c.regions_total-money.result) Founding People refl
+    ap (λ b. amount_in b Founding People) c.book.ensures
+    ∙ other_amount books Founding Money (amount_in books Founding Money +ℤ to_z w64 c.regions_total-money.result) Founding People refl
     ∙ ap (λ b. amount_in b Founding People) c.in_ok-books.ensures ∙ amount-no_amounts c.args.things Founding People in
     let read : to_z w64 people ≡ pos people = to_z_pos w64 people (omega (arith, c.regions_total-people.ensures.fits, c.requires.few)) in
     rw (none, read) (first_fits people (omega (arith, c.regions_total-people.ensures.fits, c.requires.few)))

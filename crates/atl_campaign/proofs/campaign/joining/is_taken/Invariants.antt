@@ -6,4 +6,6 @@ use Rattle.atl_campaign.proofs.campaign.joining.is_taken.Given as goal
 
 -- one of the factions left joined under the name exactly if one of all factions did
 abbrev pub invariant-loop-faction : goal.invariant-loop-faction
-invariant-loop-faction l = list_any (λ e. pointwise nat_eq e.1.joined_as l.name) l.faction-iterator ≡ list_any (λ e. pointwise nat_eq e.1.joined_as l.name) (entries l.factions.values)
+invariant-loop-faction l =
+    list_any (λ e. pointwise nat_eq e.1.joined_as l.name) l.faction-iterator ≡ list_any
+    (λ e. pointwise nat_eq e.1.joined_as l.name) (entries l.factions.values)

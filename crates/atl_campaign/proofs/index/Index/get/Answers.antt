@@ -15,7 +15,9 @@ returns-in-Ok c =
     let entries = c.self.inside.entries in
     let n = c.args.number in
     let is_at : IsAt (index_numbers entries) n c.in-Ok.position = rw c.as_slice-entries.ensures at c.in-Ok.ensures.found in
-    ap (λ (ps : List IndexEntry). Some (get_or ps c.in-Ok.position default_entry).slot) c.as_slice-entries.ensures ∙ sym (get-at_index entries n c.in-Ok.position default_entry c.self.invariant is_at) ∙ ap (λ m. get m n) c.self.view_is
+    ap (λ (ps : List IndexEntry). Some (get_or ps c.in-Ok.position default_entry).slot) c.as_slice-entries.ensures
+    ∙ sym (get-at_index entries n c.in-Ok.position default_entry c.self.invariant is_at)
+    ∙ ap (λ m. get m n) c.self.view_is
 
 pub returns-in-Err : goal.returns-in-Err
 returns-in-Err c =

@@ -24,4 +24,6 @@ pub returns-clause-ok : goal.returns-clause-ok
 returns-clause-ok c =
     let entries = c.self.inside.entries in
     let belongs : BelongsAt (index_numbers entries) c.args.number c.in-Err.position = rw c.as_slice.ensures at c.in-Err.ensures.missing in
-    ap as_map c.in_ok-insert-in-Err.ensures.ok ∙ map-added entries c.args.number c.in-Err.position c.args.slot c.self.invariant belongs ∙ ap (λ m. insert m c.args.number c.args.slot) c.self.view_is
+    ap as_map c.in_ok-insert-in-Err.ensures.ok
+    ∙ map-added entries c.args.number c.in-Err.position c.args.slot c.self.invariant belongs
+    ∙ ap (λ m. insert m c.args.number c.args.slot) c.self.view_is

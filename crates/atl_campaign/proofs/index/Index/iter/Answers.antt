@@ -5,4 +5,6 @@ use Rattle.atl_campaign.proofs.IndexLaws.{entries-index}
 use Rattle.atl_campaign.proofs.index.Index.iter.Goals as goal
 
 pub returns : goal.returns
-returns c = ap slots_of (c.iter.ensures.rest ∙ c.as_slice.ensures) ∙ sym (entries-index c.self.inside.entries c.self.invariant) ∙ ap entries c.self.view_is
+returns c =
+    ap slots_of (c.iter.ensures.rest ∙ c.as_slice.ensures) ∙ sym (entries-index c.self.inside.entries c.self.invariant)
+    ∙ ap entries c.self.view_is

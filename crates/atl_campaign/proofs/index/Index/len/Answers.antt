@@ -4,4 +4,5 @@ use Rattle.atl_campaign.proofs.IndexLaws.{len-index}
 use Rattle.atl_campaign.proofs.index.Index.len.Goals as goal
 
 pub returns-clause-value : goal.returns-clause-value
-returns-clause-value c = c.len.ensures.value ∙ sym (len-index c.self.inside.entries c.self.invariant) ∙ ap len c.self.view_is
+returns-clause-value c =
+    c.len.ensures.value ∙ sym (len-index c.self.inside.entries c.self.invariant) ∙ ap len c.self.view_is

@@ -5,4 +5,6 @@ use Rattle.atl_campaign.proofs.numbers.Numbers.take.Goals as goal
 
 pub invariant_of-self : goal.invariant_of-self
 unfolding take_number
-invariant_of-self c = rw (c.remove.ensures, c.first_not_below-position.ensures.position, c.as_slice.ensures, sym c.self.view_is) (IsSorted-take c.args.number c.self.inside.items c.self.invariant)
+invariant_of-self c =
+    rw (c.remove.ensures, c.first_not_below-position.ensures.position, c.as_slice.ensures, sym c.self.view_is)
+    (IsSorted-take c.args.number c.self.inside.items c.self.invariant)

@@ -9,13 +9,19 @@ use Rattle.atl_campaign.proofs.UnitLaws.{AreUnits-gone}
 use Rattle.atl_campaign.proofs.units.Units.remove.Goals as goal
 
 pub add-requires : goal.add-requires
-add-requires c = fits-marked c.self.inside.units c.self.inside.marks.numbers c.self.inside.marks.room c.args.number (sym c.if-remove.ensures.there) c.self.invariant.marks_fit
+add-requires c =
+    fits-marked c.self.inside.units c.self.inside.marks.numbers c.self.inside.marks.room c.args.number
+    (sym c.if-remove.ensures.there) c.self.invariant.marks_fit
 
 pub add-requires-then-remove : goal.add-requires-then-remove
-add-requires-then-remove c = fits-marked c.self.inside.units c.self.inside.rows.numbers c.self.inside.rows.room c.args.number (sym c.if-remove.ensures.there) c.self.invariant.rows_fit
+add-requires-then-remove c =
+    fits-marked c.self.inside.units c.self.inside.rows.numbers c.self.inside.rows.room c.args.number
+    (sym c.if-remove.ensures.there) c.self.invariant.rows_fit
 
 pub add-requires-then-remove-2 : goal.add-requires-then-remove-2
-add-requires-then-remove-2 c = fits-marked c.self.inside.units c.self.inside.goods.numbers c.self.inside.goods.room c.args.number (sym c.if-remove.ensures.there) c.self.invariant.goods_fit
+add-requires-then-remove-2 c =
+    fits-marked c.self.inside.units c.self.inside.goods.numbers c.self.inside.goods.room c.args.number
+    (sym c.if-remove.ensures.there) c.self.invariant.goods_fit
 
 pub invariant_of-self : goal.invariant_of-self
 invariant_of-self c =

@@ -22,7 +22,9 @@ returns-in_err-insert_under-clause-err c =
     (inl (rw (put_same c.self.inside.units c.args.number c.in-Some.unit.now c.in-Some.unit.now (sym c.in-Some.ensures.value) refl, c.in_err-insert_under.ensures.err) c.self.view_is))
 
 pub add-requires : goal.add-requires
-add-requires c = fits-marked c.self.inside.units c.self.inside.marks.numbers c.self.inside.marks.room c.args.number (ap is_some (sym c.in-Some.ensures.value)) c.self.invariant.marks_fit
+add-requires c =
+    fits-marked c.self.inside.units c.self.inside.marks.numbers c.self.inside.marks.room c.args.number
+    (ap is_some (sym c.in-Some.ensures.value)) c.self.invariant.marks_fit
 
 pub invariant_of-self-2 : goal.invariant_of-self-2
 invariant_of-self-2 c =

@@ -23,7 +23,9 @@ returns-in_err-insert_under-clause-err c =
     (inl (rw (put_same c.self.inside.units c.args.number c.in-Some.unit.now c.in-Some.unit.now (sym c.in-Some.ensures.value) refl, c.in_err-insert_under.ensures.err) c.self.view_is))
 
 pub add-requires : goal.add-requires
-add-requires c = fits-marked c.self.inside.units c.self.inside.marks.numbers c.self.inside.marks.room c.args.number (ap is_some (sym c.in-Some.ensures.value)) c.self.invariant.marks_fit
+add-requires c =
+    fits-marked c.self.inside.units c.self.inside.marks.numbers c.self.inside.marks.room c.args.number
+    (ap is_some (sym c.in-Some.ensures.value)) c.self.invariant.marks_fit
 
 pub invariant_of-self-2 : goal.invariant_of-self-2
 invariant_of-self-2 c =
@@ -41,7 +43,10 @@ returns-clause-err c =
     on_err_weaker c.set_amount.result (λ e. inr (rw (← c.self.view_is, c.in_ok-insert_under.ensures.ok, c.add.ensures, ← c.in-Some.ensures.value, ← c.if-has_amount.ensures) (marked _ e))) units
 
 pub invariant_of-self-then-has_amount : goal.invariant_of-self-then-has_amount
-invariant_of-self-then-has_amount c = rw (put_same c.self.inside.units c.args.number c.in-Some.unit.now c.in-Some.unit.now (sym c.in-Some.ensures.value) refl) c.self.invariant
+invariant_of-self-then-has_amount c =
+    rw
+    (put_same c.self.inside.units c.args.number c.in-Some.unit.now c.in-Some.unit.now (sym c.in-Some.ensures.value) refl)
+    c.self.invariant
 
 pub returns-then-has_amount-clause-ok : goal.returns-then-has_amount-clause-ok
 returns-then-has_amount-clause-ok c =

@@ -27,7 +27,8 @@ pub formings-requires : goal.formings-requires
 formings-requires c = (c.args._world.now, c.requires.read)
 
 pub form_one-requires : goal.form_one-requires
-form_one-requires c = record { free = free_number c.args._world.now c.loop-order.campaign.value c.loop-order.invariant.well.holds_still }
+form_one-requires c =
+    record { free = free_number c.args._world.now c.loop-order.campaign.value c.loop-order.invariant.well.holds_still }
 
 pub loop-order-preserved : goal.loop-order-preserved
 loop-order-preserved c =
@@ -61,7 +62,9 @@ returns-clause-meaning c =
     ∙ all_formed c.args._world.now c.args.campaign.value c.args.month
 
 pub returns-clause-leaves : goal.returns-clause-leaves
-returns-clause-leaves c = leaves_well c.args._world.now c.args.campaign.value c.loop-order.campaign.value (λ e t. omega arith) c.loop-order.invariant.well
+returns-clause-leaves c =
+    leaves_well c.args._world.now c.args.campaign.value c.loop-order.campaign.value (λ e t. omega arith)
+    c.loop-order.invariant.well
 
 pub returns-clause-keeps : goal.returns-clause-keeps
 returns-clause-keeps c = c.loop-order.invariant.stays

@@ -12,7 +12,8 @@ use Rattle.atl_instant.specs.Forming.{form_by_copy}
 -- and in balance, each unit that was there and the readings are unchanged, and all changes are marked.
 abbrev pub invariant-loop-order : goal.invariant-loop-order
 invariant-loop-order l = record {
-  orders : fold form_by_copy (l.campaign.value, l.month) (drop l.order-index l.order-items) ≡ fold form_by_copy (l.fn.campaign.value, l.fn.month) l.order-items;
+  orders : fold form_by_copy (l.campaign.value, l.month) (drop l.order-index l.order-items)
+      ≡ fold form_by_copy (l.fn.campaign.value, l.fn.month) l.order-items;
   readings : l.month.readings ≡ l.fn.month.readings;
   well : StepsWell IsEarly nothing_remaining l._world l.fn.campaign.value l.campaign.value;
   stays : Every (λ n u. get l.campaign.value.units n ≡ Some u) l.fn.campaign.value.units;

@@ -78,7 +78,9 @@ returns-clause-meaning c =
     ∙ ap (λ p. fold step p (orders_by_unit is_guarding m)) none
 
 pub returns-clause-leaves : goal.returns-clause-leaves
-returns-clause-leaves c = leaves_well c.args._world.now c.args.campaign.value c.loop-order.campaign.value (λ e t. omega arith) c.loop-order.invariant.well
+returns-clause-leaves c =
+    leaves_well c.args._world.now c.args.campaign.value c.loop-order.campaign.value (λ e t. omega arith)
+    c.loop-order.invariant.well
 
 pub returns-clause-keeps : goal.returns-clause-keeps
 unfolding meaning_by_orders

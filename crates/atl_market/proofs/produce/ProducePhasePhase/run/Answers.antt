@@ -11,7 +11,9 @@ pub share_out-requires-clause-asks : goal.share_out-requires-clause-asks
 share_out-requires-clause-asks c = λ k d l. tt
 
 pub share_out-requires-clause-can : goal.share_out-requires-clause-can
-share_out-requires-clause-can c = can_share_out c.args.world.now c.args.campaign.value c.world_is_well_formed.ensures c.requires.needs (map task_of c.deref.result.now) c.requires.room
+share_out-requires-clause-can c =
+    can_share_out c.args.world.now c.args.campaign.value c.world_is_well_formed.ensures c.requires.needs
+    (map task_of c.deref.result.now) c.requires.room
 
 pub returns-clause-leaves : goal.returns-clause-leaves
 returns-clause-leaves c =

@@ -19,7 +19,9 @@ share_out-requires-clause-asks c =
     (each_order c.args.world.now m.aliases m.readings c.requires.read is_recruit ByUnit (λ t. asks_count t.order_value.operands ≡ true) (λ t of_phase fit. recruit_asks t.order_value.verb t.order_value.operands of_phase fit.shape))
 
 pub share_out-requires-clause-can : goal.share_out-requires-clause-can
-share_out-requires-clause-can c = can_share_out c.args.world.now c.args.campaign.value c.requires.needs (map task_of c.deref.result.now) c.requires.room
+share_out-requires-clause-can c =
+    can_share_out c.args.world.now c.args.campaign.value c.requires.needs (map task_of c.deref.result.now)
+    c.requires.room
 
 pub returns-clause-leaves : goal.returns-clause-leaves
 returns-clause-leaves c =

@@ -44,7 +44,8 @@ returns-clause-what c =
     rw (← c.men.ensures.value, ← c.money.ensures.value) (changed_held _ old.value c.set_money.new.self.value n set.value u there) in
     c.book_taken.ensures.what
     ∙ ap (λ (d : CampaignValue). with_booking d Recruiting Money (neg_ℤ (pos cost))) (c.set_peasants.ensures.what ∙ ap (λ (d : CampaignValue). with_peasants d u.region (q.peasants - c.args.share)) held)
-    ∙ ap (λ (p : ℕ). with_recruits_booked old.value n u q c.args.share (c.args.share * p)) price ∙ sym (recruited_is c.args.world.now old.value (n, c.args.share) u q there around)
+    ∙ ap (λ (p : ℕ). with_recruits_booked old.value n u q c.args.share (c.args.share * p)) price
+    ∙ sym (recruited_is c.args.world.now old.value (n, c.args.share) u q there around)
 
 pub returns-clause-marks : goal.returns-clause-marks
 returns-clause-marks c =

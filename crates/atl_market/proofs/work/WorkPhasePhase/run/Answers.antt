@@ -8,7 +8,8 @@ use Rattle.atl_market.proofs.WorkLaws.{can_share_out, work_keeps_units, work_lea
 use Rattle.atl_market.proofs.work.WorkPhasePhase.run.Goals as goal
 
 pub share_out-requires : goal.share_out-requires
-share_out-requires c = record { needs = c.requires.needs; asks = λ k d l. tt; can = can_share_out c.args.world.now c.args.campaign.value c.requires.needs (map task_of c.deref.result.now) c.requires.room }
+share_out-requires c =
+    record { needs = c.requires.needs; asks = λ k d l. tt; can = can_share_out c.args.world.now c.args.campaign.value c.requires.needs (map task_of c.deref.result.now) c.requires.room }
 
 pub returns-clause-leaves : goal.returns-clause-leaves
 returns-clause-leaves c =
@@ -16,4 +17,6 @@ returns-clause-leaves c =
     (work_leaves_well c.args.world.now c.args.campaign.value c.requires.needs (map task_of c.deref.result.now) c.requires.room)
 
 pub returns-clause-keeps : goal.returns-clause-keeps
-returns-clause-keeps c = subst (λ d. AreNoWorse c.args.campaign.value d) (sym c.in_ok-events.ensures.what) (work_keeps_units c.args.world.now c.args.campaign.value (map task_of c.deref.result.now))
+returns-clause-keeps c =
+    subst (λ d. AreNoWorse c.args.campaign.value d) (sym c.in_ok-events.ensures.what)
+    (work_keeps_units c.args.world.now c.args.campaign.value (map task_of c.deref.result.now))

@@ -7,7 +7,8 @@ use Rattle.atl_state.proofs.RisingLaws.{rise_if_distinct}
 use Rattle.atl_state.proofs.row_rules.keys.are_distinct.Goals as goal
 
 pub returns-then-are_sorted : goal.returns-then-are_sorted
-returns-then-are_sorted g c = (λ _. IsDistinct-from_sorted g.K.Ord.cmp c.args.keys.now (c.are_sorted.ensures.0 c.if-are_sorted.true), λ _. refl)
+returns-then-are_sorted g c =
+    (λ _. IsDistinct-from_sorted g.K.Ord.cmp c.args.keys.now (c.are_sorted.ensures.0 c.if-are_sorted.true), λ _. refl)
 
 -- the sorted values rise exactly if they are distinct, and then the values in any other order are distinct, too
 pub returns : goal.returns

@@ -10,7 +10,8 @@ pub loop-i-init : goal.loop-i-init
 loop-i-init g c = λ d k l. absurd (omega (arith, l))
 
 pub returns : goal.returns
-returns g c = (λ _. rises g.met.K.Ord.total c.args.keys.now c.loop-i.i c.loop-i-test.false c.loop-i.invariant, λ _. refl)
+returns g c =
+    (λ _. rises g.met.K.Ord.total c.args.keys.now c.loop-i.i c.loop-i-test.false c.loop-i.invariant, λ _. refl)
 
 pub loop-i-preserved : goal.loop-i-preserved
 loop-i-preserved g c =

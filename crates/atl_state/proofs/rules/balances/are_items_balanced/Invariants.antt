@@ -6,4 +6,5 @@ use Rattle.atl_state.proofs.rules.balances.are_items_balanced.Given as goal
 
 -- the total of each item below `item`, the loop's number, equals the sum booked of it
 abbrev pub invariant-loop-item : goal.invariant-loop-item
-invariant-loop-item l = (i : ℕ) → i < l.item → pos (total l.campaign.value (Item i)) ≡ booked l.campaign.value.books (Item i)
+invariant-loop-item l =
+    (i : ℕ) → i < l.item → pos (total l.campaign.value (Item i)) ≡ booked l.campaign.value.books (Item i)

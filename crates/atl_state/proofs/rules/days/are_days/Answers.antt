@@ -10,4 +10,6 @@ abbrev HasDays : ℕ → Unit → Type 0
 HasDays n u = Every (λ s days. (1 ≤ days) × (days ≤ most_days * u.holding.men)) u.holding.days
 
 pub returns : goal.returns
-returns c = every_by_all HasDays _ _ _ c.all.ensures.ran c.args.campaign.now.value.units (search rules) (λ x q k. search (rules, tests)) (λ x q k. search (rules, tests))
+returns c =
+    every_by_all HasDays _ _ _ c.all.ensures.ran c.args.campaign.now.value.units (search rules)
+    (λ x q k. search (rules, tests)) (λ x q k. search (rules, tests))

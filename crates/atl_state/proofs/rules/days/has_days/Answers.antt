@@ -8,4 +8,6 @@ abbrev AreDaysInRange : ℕ → ℕ → Type 0
 AreDaysInRange men days = (1 ≤ days) × (days ≤ most_days * men)
 
 pub returns : goal.returns
-returns c = every_by_all (λ _ days. AreDaysInRange c.args.holding.now.men days) _ _ _ c.all.ensures.ran c.args.holding.now.days (search rules) (λ x q k. search (rules, tests)) (λ x q k. search (rules, tests))
+returns c =
+    every_by_all (λ _ days. AreDaysInRange c.args.holding.now.men days) _ _ _ c.all.ensures.ran c.args.holding.now.days
+    (search rules) (λ x q k. search (rules, tests)) (λ x q k. search (rules, tests))

@@ -12,12 +12,15 @@ use Rattle.atl_campaign.proofs.RuleLaws.{every_by_all}
 use Rattle.atl_state.proofs.rules.gone.are_gone.Goals as goal
 
 abbrev IsGoneIffUnitless : FinMap nat_cmp Unit → ℕ → Faction → Type 0
-IsGoneIffUnitless units n f = (f.gone ≡ true → numbers_of_faction n units ≡ []) × (numbers_of_faction n units ≡ [] → f.gone ≡ true)
+IsGoneIffUnitless units n f =
+    (f.gone ≡ true → numbers_of_faction n units ≡ []) × (numbers_of_faction n units ≡ [] → f.gone ≡ true)
 
-gone_iff_gives_both : (c : CampaignValue) → Every (IsGoneIffUnitless c.units) c.factions → GoneHaveNone c × UnitlessAreGone c
+gone_iff_gives_both : (c : CampaignValue) → Every (IsGoneIffUnitless c.units) c.factions
+    → GoneHaveNone c × UnitlessAreGone c
 gone_iff_gives_both c every = (λ n f is. (every n f is).0, λ n f is. (every n f is).1)
 
-both_give_gone_iff : (c : CampaignValue) → GoneHaveNone c × UnitlessAreGone c → Every (IsGoneIffUnitless c.units) c.factions
+both_give_gone_iff : (c : CampaignValue) → GoneHaveNone c × UnitlessAreGone c
+    → Every (IsGoneIffUnitless c.units) c.factions
 both_give_gone_iff c both n f is = (both.0 n f is, both.1 n f is)
 
 pub returns : goal.returns

@@ -5,4 +5,7 @@ use Rattle.atl_campaign.proofs.RuleLaws.{every_by_all}
 use Rattle.atl_state.proofs.rules.known.are_structures_known.Goals as goal
 
 pub returns : goal.returns
-returns c = every_by_all (λ n s. IsBuilt c.args.world.now c.args.campaign.now.value s) _ _ _ c.all.ensures.ran c.args.campaign.now.value.structures (search rules) (λ x q k. search (rules, tests)) (λ x q k. search (rules, tests))
+returns c =
+    every_by_all (λ n s. IsBuilt c.args.world.now c.args.campaign.now.value s) _ _ _ c.all.ensures.ran
+    c.args.campaign.now.value.structures (search rules) (λ x q k. search (rules, tests))
+    (λ x q k. search (rules, tests))

@@ -3,4 +3,6 @@ use Rattle.atl_campaign.proofs.RuleLaws.{Decides-there, copied_some}
 use Rattle.atl_state.proofs.rules.known.is_of_world.Goals as goal
 
 pub returns : goal.returns
-returns c = Decides-there c.args.world.now.regions c.args.number c.is_some.result (c.is_some.ensures ∙ sym (copied_some c.region.result) ∙ ap is_some c.region.ensures.value)
+returns c =
+    Decides-there c.args.world.now.regions c.args.number c.is_some.result
+    (c.is_some.ensures ∙ sym (copied_some c.region.result) ∙ ap is_some c.region.ensures.value)

@@ -3,4 +3,6 @@ use Rattle.atl_campaign.proofs.RuleLaws.{Decides-there, copied_some}
 use Rattle.atl_state.proofs.rules.known.is_unit.Goals as goal
 
 pub returns : goal.returns
-returns c = Decides-there c.args.campaign.now.value.units c.args.number c.is_some.result (c.is_some.ensures ∙ sym (copied_some c.unit.result) ∙ ap is_some c.unit.ensures)
+returns c =
+    Decides-there c.args.campaign.now.value.units c.args.number c.is_some.result
+    (c.is_some.ensures ∙ sym (copied_some c.unit.result) ∙ ap is_some c.unit.ensures)

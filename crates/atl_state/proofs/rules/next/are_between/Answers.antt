@@ -4,4 +4,6 @@ use Rattle.atl_campaign.proofs.RuleLaws.{each_by_all}
 use Rattle.atl_state.proofs.rules.next.are_between.Goals as goal
 
 pub returns : goal.returns
-returns g c = each_by_all (λ n v. (c.args.least ≤ n) × (n < c.args.next)) _ _ _ c.all.ensures.ran c.args.entries (search rules) (λ x q k. search (rules, tests)) (λ x q k. search (rules, tests))
+returns g c =
+    each_by_all (λ n v. (c.args.least ≤ n) × (n < c.args.next)) _ _ _ c.all.ensures.ran c.args.entries (search rules)
+    (λ x q k. search (rules, tests)) (λ x q k. search (rules, tests))

@@ -11,4 +11,6 @@ abbrev IsWithOwner : FinMap nat_cmp Structure → ℕ → Unit → Type 0
 IsWithOwner structures m u = (s : Structure) → get structures u.structure ≡ Some s → s.owner ≢ 0
 
 pub returns : goal.returns
-returns c = every_by_all (IsWithOwner c.args.campaign.now.value.structures) _ _ _ c.all.ensures.ran c.args.campaign.now.value.units (search rules) (λ x q k. search (rules, tests)) (λ x q k. search (rules, tests))
+returns c =
+    every_by_all (IsWithOwner c.args.campaign.now.value.structures) _ _ _ c.all.ensures.ran
+    c.args.campaign.now.value.units (search rules) (λ x q k. search (rules, tests)) (λ x q k. search (rules, tests))

@@ -20,4 +20,5 @@ returns-in-Some c =
     )
 
 pub returns-in-None : goal.returns-in-None
-returns-in-None c = (λ e. absurd (false≢true e), λ inside. let (u, there, same) = inside.owned c.if-structure-eq0.false in none_some u (c.in-None.ensures ∙ there))
+returns-in-None c =
+    (λ e. absurd (false≢true e), λ inside. let (u, there, same) = inside.owned c.if-structure-eq0.false in none_some u (c.in-None.ensures ∙ there))

@@ -11,4 +11,6 @@ abbrev IsAfloat : WorldValue → ℕ → Structure → Type 0
 IsAfloat w n s = is_land_at w s.region ≡ false → (is_ship w s ≡ true) × (s.done ≡ size_of w s.kind)
 
 pub returns : goal.returns
-returns c = every_by_all (IsAfloat c.args.world.now) _ _ _ c.all.ensures.ran c.args.campaign.now.value.structures (search rules) (λ x q k. search (rules, tests)) (λ x q k. search (rules, tests))
+returns c =
+    every_by_all (IsAfloat c.args.world.now) _ _ _ c.all.ensures.ran c.args.campaign.now.value.structures (search rules)
+    (λ x q k. search (rules, tests)) (λ x q k. search (rules, tests))

@@ -12,4 +12,6 @@ abbrev IsAfloat : WorldValue → CampaignValue → ℕ → Unit → Type 0
 IsAfloat w c n u = is_land_at w u.region ≡ false → IsAboard w c u
 
 pub returns : goal.returns
-returns c = every_by_all (IsAfloat c.args.world.now c.args.campaign.now.value) _ _ _ c.all.ensures.ran c.args.campaign.now.value.units (search rules) (λ x q k. search (rules, tests)) (λ x q k. search (rules, tests))
+returns c =
+    every_by_all (IsAfloat c.args.world.now c.args.campaign.now.value) _ _ _ c.all.ensures.ran
+    c.args.campaign.now.value.units (search rules) (λ x q k. search (rules, tests)) (λ x q k. search (rules, tests))
