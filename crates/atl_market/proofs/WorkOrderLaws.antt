@@ -185,8 +185,8 @@ module _ (c : CampaignValue) where
 
 -- ---- who has an order
 
--- A unit is in a map with the writers of some orders put in exactly if it was before, or if its own faction wrote one
--- of the orders for it.
+-- After the writers of some orders are put into a map, it has unit n exactly if it had it before, or if n's own faction
+-- wrote one of these orders for it.
 writes_own : (c : CampaignValue) (os : List Task) (n : ℕ) (u : Unit) → get c.units n ≡ Some u → (m : FinMap nat_cmp ℕ)
     → is_some (get (with_entries m (flat_map (own_unit c) os)) n) ≡ (has_own_order os n u || is_some (get m n))
 writes_own c [] n u is m = refl
