@@ -45,10 +45,6 @@ decode_integer low high v = of_integer (ranged low high) v
 abbrev pub most_u32 : ℕ
 most_u32 = 4294967295
 
--- the largest number of 16 bits
-abbrev pub most_u16 : ℕ
-most_u16 = 65535
-
 -- a number from 0 to `most` as it is, and `most` for any other
 abbrev pub clamp : ℕ → ℤ → ℕ
 clamp most (pos n) = min n most

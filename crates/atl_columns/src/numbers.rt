@@ -2,7 +2,7 @@
 ghost use Rattle.std.specs.Prelude.{◌≡◌, ◌<◌, IsTrue, Some, refl};
 ghost use Rattle.sqlite_value.specs.declared.value.Value.TheVariants.{Int as SqlInt};
 ghost use Rattle.sqlite_schema.specs.declared.schema.Kind.TheVariants as kinds;
-ghost use Rattle.atl_columns.specs.Forms.{int, is_from, ranged, clamp, most_u16, most_u32, is_integer, decode_integer, decode_reference, decode_signed};
+ghost use Rattle.atl_columns.specs.Forms.{int, is_from, ranged, clamp, most_u32, is_integer, decode_integer, decode_reference, decode_signed};
 ghost use Rattle.atl_columns.specs.FormLaws.{cast_integer, integer_back, integer_same, reference_back, reference_same, signed_same};
 ghost use Rattle.std.specs.Prelude.{pos};
 
@@ -120,63 +120,6 @@ impl Form for Reference {
     }
 
     fn encode(field: &u32) -> ValueRef<'_> {
-        ValueRef::Int(i64::from(*field))
-    }
-}
-
-/// The number of a kind of structure. Any integer is read: one that isn't below `u16::MAX` as
-/// `u16::MAX`, which is above all limits.
-#[derive(Clone, Copy, Debug)]
-pub struct Reference16 {}
-
-/// An integer as a number of 16 bits; a negative or larger one is read as the largest.
-fn clamped_16(n: i64) -> u16
-    ensures { result ≡ clamp most_u16 n }
-{
-    if 0 <= n && n < i64::from(u16::MAX) {
-        n as u16
-    } else {
-        u16::MAX
-    }
-}
-
-impl Form for Reference16 {
-    type Value = u16;
-
-    ghost encode = { λ n. int n };
-
-    ghost decode = { λ v. decode_reference most_u16 v };
-
-    ghost fits = { λ n. n < most_u16 };
-
-    ghost kind = { kinds.Integer };
-
-    ghost has_type = { λ v. is_integer v };
-
-    ghost is_bound = { λ n. refl };
-
-    ghost is_stored = { λ n. cast_integer (pos n) };
-
-    ghost back = { λ n fits. reference_back most_u16 n fits };
-
-    ghost same = { λ v n is fits. reference_same most_u16 v n is fits };
-
-    fn decode(_alloc: Global, value: ValueRef<'_>) -> Result<Option<u16>, AllocError> {
-        match value {
-            ValueRef::Int(n) => Ok(Some(clamped_16(n))),
-            _ => Ok(None),
-        }
-    }
-
-    fn kind() -> Kind {
-        Kind::Integer
-    }
-
-    fn has_type(value: ValueRef<'_>) -> bool {
-        matches!(value, ValueRef::Int(_))
-    }
-
-    fn encode(field: &u16) -> ValueRef<'_> {
         ValueRef::Int(i64::from(*field))
     }
 }

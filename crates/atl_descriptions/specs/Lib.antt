@@ -1,1 +1,5 @@
 pub mod Records
+pub mod Sets
+pub mod Tables
+pub mod Statements
+pub mod PartSelects

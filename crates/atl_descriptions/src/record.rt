@@ -2,9 +2,9 @@
 ghost use Rattle.std.specs.Prelude.{◌≡◌, ◌<◌, ◌^◌, ◌++◌, IfOk, OnOk, length, map};
 ghost use Rattle.sqlite.specs.Values.{bound};
 ghost use Rattle.atl_columns.specs.Fields.{strict_columns};
-ghost use Rattle.atl_sql.specs.Reading.{select_of_part};
-ghost use Rattle.atl_sql.specs.Statements.{column_names, deletion, upsert};
-ghost use Rattle.atl_sql.specs.Tables.{Part, creation_of, key_width_of, table_of};
+ghost use Rattle.atl_descriptions.specs.PartSelects.{select_of_part};
+ghost use Rattle.atl_descriptions.specs.Statements.{column_names, deletion, upsert};
+ghost use Rattle.atl_descriptions.specs.Tables.{Part, creation_of, key_width_of, table_of};
 ghost use Rattle.atl_descriptions.specs.Records.{read_row};
 
 use crate::table::{Statements, Table};

@@ -17,7 +17,7 @@ use Rattle.atl_store.specs.declared.fault.CreateFault.{CreateFault}
 use Rattle.atl_store.specs.declared.fault.CreateFault.TheVariants as create
 use Rattle.atl_service.specs.declared.command.Cause.{Cause}
 use Rattle.atl_service.specs.declared.command.Cause.TheVariants.{World as BadWorld, BadPassText, NotEmpty, NotACampaign, OldFormat, NotOld, Damaged, Differs, Store, Memory}
-use Rattle.atl_sql.specs.Statements.{Statements}
+use Rattle.atl_descriptions.specs.Statements.{Statements}
 use Rattle.atl_service.specs.Causes.{OfFoundingBy, GivesOtherError, LacksMemory}
 use Rattle.atl_service.specs.Service.{ServiceValue, text_in}
 

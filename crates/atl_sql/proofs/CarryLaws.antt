@@ -13,9 +13,9 @@ use Rattle.sqlite_rules.specs.Keys.{shares}
 use Rattle.sqlite_schema.specs.Rules.{guards}
 use Rattle.sqlite_rules.specs.Action.{works, Work, work_for}
 use Rattle.sqlite.specs.Effect.{Database}
-use Rattle.atl_sql.specs.Sets.{Set}
+use Rattle.atl_descriptions.specs.Sets.{Set}
 use Rattle.atl_sql.proofs.Made.{Makes}
-use Rattle.atl_sql.specs.Tables.{all_tables, all_tables_and_others, all_trees, IsSoundDatabase}
+use Rattle.atl_descriptions.specs.Tables.{all_tables, all_tables_and_others, all_trees, IsSoundDatabase}
 use Rattle.atl_sql.specs.Inside.{HasTables, Carries, Alters, DoesAndKeeps}
 use Rattle.atl_sql.proofs.ListLaws.{has_map}
 

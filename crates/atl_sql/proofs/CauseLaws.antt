@@ -14,7 +14,7 @@ use Rattle.sqlite.specs.Order.{Row}
 use Rattle.sqlite.specs.State.{State, HasCleanDisk, Survives, KeepsCommit, ExecutesIn, IsNotRun, Fails, HasCause, store_error, shows_rows}
 use Rattle.sqlite.proofs.InsideLemmas.{keeps_then}
 use Rattle.atl_sql.specs.Errors.{is_memory}
-use Rattle.atl_sql.specs.Statements.{Statements}
+use Rattle.atl_descriptions.specs.Statements.{Statements}
 use Rattle.atl_sql.specs.Causes.{IsGiven, IsBroken, IsRefused, Gives, Leads, IsReached}
 
 more_later : (a b c : ℕ) → b ≤ c → MoreFaults a b → MoreFaults a c

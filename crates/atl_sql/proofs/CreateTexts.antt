@@ -17,9 +17,9 @@ use Rattle.sqlite.specs.Table.{Table}
 use Rattle.sqlite.specs.Command.TheVariants.{CreateTable}
 use Rattle.sqlite.specs.State.{State, Executes}
 use Rattle.sqlite.proofs.Callers.{IsPlain, command_of, statement_of}
-use Rattle.atl_sql.specs.Tables.{Part, Own, all_parts, creation_of, table_count, table_of}
+use Rattle.atl_descriptions.specs.Tables.{Part, Own, all_parts, creation_of, table_count, table_of}
 use Rattle.atl_sql.specs.Writes.{Writes, RunsStatement}
-use Rattle.atl_sql.specs.Statements.{OneStatement, Creations}
+use Rattle.atl_descriptions.specs.Statements.{OneStatement, Creations}
 use Rattle.atl_sql.proofs.Made.{CreatesTable, Extends}
 use Rattle.atl_sql.proofs.CreateLaws.{creates}
 use Rattle.atl_sql.proofs.ListLaws.{has_map}

@@ -28,7 +28,7 @@ use Rattle.sqlite_rules.proofs.TableLemmas.{has_put, put_has, put_all_keeps}
 use Rattle.sqlite.specs.Effect.{Answers}
 use Rattle.sqlite.specs.Rows.{Edited, Written, Task, Deletes, Tries, Puts, Clears, Judged}
 use Rattle.sqlite.proofs.Callers.{one_step}
-use Rattle.atl_sql.specs.Sets.{AreKeyedByRowid}
+use Rattle.atl_descriptions.specs.Sets.{AreKeyedByRowid}
 use Rattle.atl_sql.proofs.ListLaws.{keyed_without, keyed_put, has_map, map_has, AreFound, stays, was_there}
 
 pub ok_step_did : {B E R : Type 0} {b : B} {Stops : E → Type 0} → ((stop : E) × Stops stop × (Ok b ≡ Err stop)) ⊎ R → R

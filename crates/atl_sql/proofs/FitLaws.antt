@@ -17,8 +17,8 @@ use Rattle.sqlite_schema.specs.declared.schema.Column.{Column}
 use Rattle.sqlite_schema.specs.Names.{place_of}
 use Rattle.sqlite_rules.specs.Cast.{cast, cast_all, cast_row}
 use Rattle.sqlite_trees.proofs.ListLemmas.{map-map}
-use Rattle.atl_sql.specs.Sets.{table, visible_row}
-use Rattle.atl_sql.specs.Tables.{integer_column}
+use Rattle.atl_descriptions.specs.Sets.{table, visible_row}
+use Rattle.atl_descriptions.specs.Tables.{integer_column}
 use Rattle.atl_sql.specs.Shown.{int}
 use Rattle.atl_sql.proofs.Terms.{cast_null, cast_int}
 

@@ -32,8 +32,8 @@ use Rattle.sqlite_rules.specs.declared.error.Rowids.TheVariants.{Chosen}
 use Rattle.sqlite_rules.proofs.ListLemmas.{all_has, some_from}
 use Rattle.sqlite_rules.proofs.RuleLemmas.{keeps_at}
 use Rattle.atl_sql.specs.Inside.{DoesInside, HasTables, Puts, Drops}
-use Rattle.atl_sql.specs.Sets.{table, visible_row}
-use Rattle.atl_sql.specs.Tables.{all_tables, all_indexes, all_tables_and_others, IsSoundDatabase}
+use Rattle.atl_descriptions.specs.Sets.{table, visible_row}
+use Rattle.atl_descriptions.specs.Tables.{all_tables, all_indexes, all_tables_and_others, IsSoundDatabase}
 use Rattle.atl_sql.proofs.CarryLaws.{among_all, write_checks_no_reference, none_share, sound_under, done_with}
 use Rattle.atl_sql.proofs.EditLaws.{delete_query, found_by}
 use Rattle.atl_sql.proofs.KeyLaws.{cons_is, or_with_false}

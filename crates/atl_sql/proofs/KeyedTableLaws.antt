@@ -14,9 +14,9 @@ use Rattle.sqlite_sql.specs.declared.ops.CompareOp.TheVariants.{Eq}
 use Rattle.sqlite_value.specs.Keys.{first_key}
 use Rattle.sqlite_schema.specs.declared.schema.Constraint.TheVariants.{Datatype, NotNull}
 use Rattle.sqlite_schema.specs.Rules.{passes}
-use Rattle.atl_sql.specs.Tables.{Part, Goods, Books, Markets, has_table, has_unique, books_table, books_unique, market_table, market_unique, table_of, key_width_of}
+use Rattle.atl_descriptions.specs.Tables.{Part, Goods, Books, Markets, has_table, has_unique, books_table, books_unique, market_table, market_unique, table_of, key_width_of}
 use Rattle.atl_sql.specs.Shown.{int, has_key, has_row, books_key, books_row, market_key, market_row}
-use Rattle.atl_sql.specs.Statements.{deletion, upsert}
+use Rattle.atl_descriptions.specs.Statements.{deletion, upsert}
 use Rattle.atl_sql.proofs.KeyLaws.{strict_integer_is_int, cons_is}
 use Rattle.atl_sql.proofs.KeyedRowLaws.{AreInts, HasKey, MeansUpsert, MeansDelete, MakesValues, puts_keyed, drops_keyed}
 use Rattle.atl_sql.proofs.PairRowLaws.{pair_ints, makes_pair}

@@ -22,7 +22,7 @@ use Rattle.sqlite_rules.specs.Edit.{is_taken}
 use Rattle.sqlite_rules.proofs.ListLemmas.{all_from, some_from}
 use Rattle.sqlite_trees.proofs.TreeLemmas.{all-put_row}
 use Rattle.sqlite_catalog.proofs.LayoutLemmas.{ascending_filter}
-use Rattle.atl_sql.specs.Sets.{AreKeyedByRowid}
+use Rattle.atl_descriptions.specs.Sets.{AreKeyedByRowid}
 
 -- ---- membership in a map
 

@@ -5,8 +5,8 @@ use Rattle.sqlite.specs.State.{State}
 use Rattle.sqlite_rules.specs.Lists.{Has}
 use Rattle.sqlite_schema.specs.declared.schema.Schema.{Schema}
 use Rattle.sqlite_schema.specs.declared.schema.Table.{Table}
-use Rattle.atl_sql.specs.Sets.{Set, HasExactly, rows_in}
-use Rattle.atl_sql.specs.Tables.{IsSoundDatabase}
+use Rattle.atl_descriptions.specs.Sets.{Set, HasExactly, rows_in}
+use Rattle.atl_descriptions.specs.Tables.{IsSoundDatabase}
 
 -- A statement wrote one table: its rows are now the set `S`, and every other table is unchanged. The database is sound
 -- under its schema.

@@ -18,8 +18,8 @@ use Rattle.sqlite_sql.specs.Program.{overlay}
 use Rattle.sqlite.specs.Effect.{Database, IsDatabase}
 use Rattle.sqlite.specs.State.{State, Writes}
 use Rattle.sqlite.specs.Does.{Does}
-use Rattle.atl_sql.specs.Sets.{visible_row, rows_in, HasExactly, put, drop_key, AreKeyedByRowid}
-use Rattle.atl_sql.specs.Tables.{all_tables, IsSoundDatabase}
+use Rattle.atl_descriptions.specs.Sets.{visible_row, rows_in, HasExactly, put, drop_key, AreKeyedByRowid}
+use Rattle.atl_descriptions.specs.Tables.{all_tables, IsSoundDatabase}
 use Rattle.atl_sql.proofs.Made.{Makes}
 use Rattle.atl_sql.proofs.ListLaws.{has_map, map_has, one_rowid}
 use Rattle.atl_sql.proofs.EditLaws.{Swaps, Loses}

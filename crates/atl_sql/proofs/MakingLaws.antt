@@ -8,9 +8,9 @@ use Rattle.sqlite.specs.Table.{Table}
 use Rattle.sqlite.specs.State.{State}
 use Rattle.sqlite_rules.specs.Lists.{Has}
 use Rattle.sqlite_rules.proofs.ListLemmas.{has_either}
-use Rattle.atl_sql.specs.Sets.{AreKeyedByRowid, visible_row}
+use Rattle.atl_descriptions.specs.Sets.{AreKeyedByRowid, visible_row}
 use Rattle.atl_sql.proofs.Made.{CreatesTable, AreBare, Extends}
-use Rattle.atl_sql.specs.Tables.{all_indexes, all_tables, no_tables, table_count}
+use Rattle.atl_descriptions.specs.Tables.{all_indexes, all_tables, no_tables, table_count}
 use Rattle.atl_sql.specs.Inside.{DoesInside, IsBlank}
 use Rattle.atl_sql.specs.Making.{AreEmpty}
 

@@ -26,11 +26,11 @@ use Rattle.sqlite_rules.proofs.ListLemmas.{all_has}
 use Rattle.sqlite_sql.specs.declared.ops.BinaryOp.TheVariants.{Compare}
 use Rattle.sqlite_sql.specs.declared.ops.CompareOp.TheVariants.{Eq}
 use Rattle.sqlite.specs.Collation.TheVariants.{Binary}
-use Rattle.atl_sql.specs.Sets.{table, visible_row}
-use Rattle.atl_sql.specs.Tables.{integer_column, all_tables, all_indexes, all_tables_and_others}
+use Rattle.atl_descriptions.specs.Sets.{table, visible_row}
+use Rattle.atl_descriptions.specs.Tables.{integer_column, all_tables, all_indexes, all_tables_and_others}
 use Rattle.atl_sql.specs.Shown.{int}
 use Rattle.atl_sql.specs.Inside.{DoesInside, HasTables, Puts, Drops}
-use Rattle.atl_sql.specs.Statements.{deletion, upsert}
+use Rattle.atl_descriptions.specs.Statements.{deletion, upsert}
 use Rattle.atl_sql.proofs.UpsertLaws.{Upserted, update_query, conflict_clause}
 use Rattle.atl_sql.proofs.StatementLaws.{AlwaysPlain, PutsRow, DropsKey, upserting, removes, done_by}
 use Rattle.atl_sql.proofs.CarryLaws.{among_all, write_checks_no_reference, none_share, sound_under, done_with}

@@ -3,7 +3,7 @@ use Rattle.std.proofs.Common.{ℕ, [], ◌∷◌, length, drop, nat_eq, unwrap_o
 use Rattle.sqlite_tied.specs.Compute.{everything}
 use Rattle.sqlite.specs.Listing.{understood}
 use Rattle.sqlite.specs.Order.{Row}
-use Rattle.atl_sql.specs.Tables.{Part, Own, Goods, Books, Markets, IsNumberedPart, table_of, all_parts}
+use Rattle.atl_descriptions.specs.Tables.{Part, Own, Goods, Books, Markets, IsNumberedPart, table_of, all_parts}
 use Rattle.atl_sql.specs.Shown.{int}
 use Rattle.atl_sql.proofs.FitLaws.{Fits}
 use Rattle.atl_sql.proofs.NumberedLaws.{IsNumberedTable, puts_numbered, drops_numbered}

@@ -22,8 +22,8 @@ use Rattle.sqlite_rules.specs.Cast.{cast_row}
 use Rattle.sqlite_rules.specs.Edit.{with_rowid}
 use Rattle.sqlite_rules.specs.declared.error.Rowids.TheVariants.{Chosen}
 use Rattle.sqlite_rules.proofs.ListLemmas.{all_has}
-use Rattle.atl_sql.specs.Sets.{visible_row, rows_in, HasExactly}
-use Rattle.atl_sql.specs.Tables.{Own, campaign_table, all_tables_and_others, all_tables}
+use Rattle.atl_descriptions.specs.Sets.{visible_row, rows_in, HasExactly}
+use Rattle.atl_descriptions.specs.Tables.{Own, campaign_table, all_tables_and_others, all_tables}
 use Rattle.atl_sql.specs.Shown.{CampaignRowValue, int, campaign_row, campaign_row_values}
 use Rattle.atl_sql.specs.Inside.{HasTables, Carries, Puts}
 use Rattle.atl_sql.proofs.ListLaws.{has_map, map_has}

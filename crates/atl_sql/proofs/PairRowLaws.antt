@@ -8,8 +8,8 @@ use Rattle.sqlite.specs.Schema.{Schema}
 use Rattle.sqlite.specs.Table.{Table}
 use Rattle.sqlite_schema.specs.declared.schema.Constraint.TheVariants.{Datatype, NotNull}
 use Rattle.sqlite_schema.specs.Rules.{passes}
-use Rattle.atl_sql.specs.Sets.{table}
-use Rattle.atl_sql.specs.Tables.{integer_column}
+use Rattle.atl_descriptions.specs.Sets.{table}
+use Rattle.atl_descriptions.specs.Tables.{integer_column}
 use Rattle.atl_sql.specs.Shown.{int}
 use Rattle.atl_sql.proofs.KeyLaws.{strict_integer_is_int, cons_is}
 use Rattle.atl_sql.proofs.KeyedRowLaws.{AreInts, MakesValues}

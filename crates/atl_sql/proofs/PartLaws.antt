@@ -6,7 +6,7 @@ use Rattle.std.proofs.lemmas.Option.{same_Some}
 use Rattle.std.proofs.lemmas.Bool.{or_cases}
 use Rattle.sqlite_rules.specs.Lists.{Has}
 use Rattle.sqlite_rules.proofs.ListLemmas.{some_from, test_has}
-use Rattle.atl_sql.specs.Tables.{Part, Own, table_of, all_parts, all_tables}
+use Rattle.atl_descriptions.specs.Tables.{Part, Own, table_of, all_parts, all_tables}
 use Rattle.atl_sql.proofs.ListLaws.{has_map}
 
 -- the number of the tree of a part's table

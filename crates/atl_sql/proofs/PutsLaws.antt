@@ -6,8 +6,8 @@ use Rattle.sqlite.specs.Table.{Table}
 use Rattle.sqlite.specs.Effect.{Database}
 use Rattle.sqlite.specs.State.{State}
 use Rattle.sqlite_rules.specs.Lists.{Has}
-use Rattle.atl_sql.specs.Sets.{Set, rows_in, put, puts}
-use Rattle.atl_sql.specs.Tables.{all_tables}
+use Rattle.atl_descriptions.specs.Sets.{Set, rows_in, put, puts}
+use Rattle.atl_descriptions.specs.Tables.{all_tables}
 use Rattle.atl_sql.specs.Inside.{DoesInside, HasTables, Puts, PutsRows}
 use Rattle.atl_sql.proofs.CarryLaws.{carries_then, carries_none}
 

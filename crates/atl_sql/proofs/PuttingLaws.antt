@@ -10,7 +10,7 @@ use Rattle.sqlite.specs.Table.{Table}
 use Rattle.sqlite_rules.specs.Lists.{Has}
 use Rattle.sqlite_rules.proofs.ListLemmas.{has_left, has_right}
 use Rattle.atl_sql.specs.Inside.{DoesInside, HasTables}
-use Rattle.atl_sql.specs.Statements.{upsert, RowStatements}
+use Rattle.atl_descriptions.specs.Statements.{upsert, RowStatements}
 use Rattle.atl_sql.specs.Writes.{Writes, WritesRow, WritesRows}
 use Rattle.atl_sql.proofs.PutsLaws.{IsPartlyPut, inside_rows, inside_both, none_yet, none_put, one_put, all_put}
 use Rattle.atl_sql.proofs.WriteLaws.{HandsOn, HasDone, begins, goes_on, stops, stops_second, two_steps, weaker, writes_among_more, among_each}

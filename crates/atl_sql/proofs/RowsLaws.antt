@@ -8,7 +8,7 @@ use Rattle.sqlite.specs.Held.{Held, state}
 use Rattle.sqlite.specs.Order.{Row}
 use Rattle.sqlite.specs.State.{State, Shown}
 use Rattle.atl_world.specs.declared.format.Format.{Format}
-use Rattle.atl_sql.specs.Tables.{HasTablesOf}
+use Rattle.atl_descriptions.specs.Tables.{HasTablesOf}
 use Rattle.atl_sql.specs.Stored.{Form, first_columns}
 use Rattle.atl_sql.specs.Reading.{IsAsked, ReadsRows, GivesTable}
 use Rattle.atl_sql.specs.declared.fault.ReadFault.{ReadFault}

@@ -14,7 +14,7 @@ use Rattle.sqlite_schema.specs.Rules.{guards}
 use Rattle.sqlite_rules.specs.Lists.{Has}
 use Rattle.sqlite_rules.proofs.ListLemmas.{all_has, all_from, has_left, has_either}
 use Rattle.sqlite_trees.proofs.ListLemmas.{all-append}
-use Rattle.atl_sql.specs.Tables.{all_tables, all_indexes, all_trees, IsHarmless, AreTables, AreIndexes, Begins}
+use Rattle.atl_descriptions.specs.Tables.{all_tables, all_indexes, all_trees, IsHarmless, AreTables, AreIndexes, Begins}
 
 pub only_one : {A : Type 0} (xs : List A) (x d : A) → 1 ≤ length xs → length xs < 2 → d ≡ get_or xs 0 d → d ≡ x → xs ≡ x ∷ []
 only_one [] x d least most is same = absurd (omega (arith, least))

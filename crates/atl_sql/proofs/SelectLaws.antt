@@ -22,8 +22,8 @@ use Rattle.sqlite_sql.specs.Term.{eval_all}
 use Rattle.sqlite_trees.specs.Tree.{Trees}
 use Rattle.atl_world.specs.declared.format.Format.{Format}
 use Rattle.atl_world.specs.declared.format.Format.TheVariants.{First, Second}
-use Rattle.atl_sql.specs.Tables.{Part, Own, Goods, Books, Markets, has_table, books_table, table_of, market_table, market_unique, all_tables, first_tables_and_others, table_count_in, index_count_in, IsHarmless, HasTablesOf}
-use Rattle.atl_sql.specs.Reading.{select_of_part}
+use Rattle.atl_descriptions.specs.Tables.{Part, Own, Goods, Books, Markets, has_table, books_table, table_of, market_table, market_unique, all_tables, first_tables_and_others, table_count_in, index_count_in, IsHarmless, HasTablesOf}
+use Rattle.atl_descriptions.specs.PartSelects.{select_of_part}
 use Rattle.atl_sql.specs.Stored.{first_columns}
 use Rattle.atl_sql.proofs.ReadLaws.{all_query, all_shown}
 use Rattle.atl_sql.proofs.RowsLaws.{Reads}

@@ -22,12 +22,12 @@ use Rattle.sqlite.specs.State.{State, ExecutesInside}
 use Rattle.sqlite.proofs.Callers.{IsPlain}
 use Rattle.sqlite_schema.specs.declared.schema.Index.{Index}
 use Rattle.atl_sql.specs.Inside.{DoesInside, HasTables, Puts, Drops}
-use Rattle.atl_sql.specs.Statements.{deletion, upsert, OneStatement}
-use Rattle.atl_sql.specs.Tables.{all_tables_and_others}
+use Rattle.atl_descriptions.specs.Statements.{deletion, upsert, OneStatement}
+use Rattle.atl_descriptions.specs.Tables.{all_tables_and_others}
 use Rattle.sqlite.specs.Effect.{Database, Answers, value_rows}
 use Rattle.sqlite.specs.Rows.{Written, Task, Then, Gives, TriesEach, Counts, InsertsOr, count_of, nothing, mended, shown}
 use Rattle.sqlite.specs.Does.{Tally, Does, AtPlace, OnRows, Concludes}
-use Rattle.atl_sql.specs.Sets.{table, AreKeyedByRowid}
+use Rattle.atl_descriptions.specs.Sets.{table, AreKeyedByRowid}
 use Rattle.sqlite_trees.specs.declared.store.Store.{Ghosts}
 use Rattle.sqlite.specs.declared.error.Error.{Error}
 use Rattle.sqlite.specs.Held.{Held}

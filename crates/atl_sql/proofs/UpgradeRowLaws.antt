@@ -7,10 +7,10 @@ use Rattle.sqlite.specs.Listing.{understood}
 use Rattle.sqlite.specs.Order.{Row, column}
 use Rattle.sqlite_trees.specs.Tree.{rowid}
 use Rattle.atl_world.specs.declared.format.Format.TheVariants.{First}
-use Rattle.atl_sql.specs.Sets.{visible_row}
-use Rattle.atl_sql.specs.Tables.{campaign_table}
+use Rattle.atl_descriptions.specs.Sets.{visible_row}
+use Rattle.atl_descriptions.specs.Tables.{campaign_table}
 use Rattle.atl_sql.specs.Shown.{CampaignRowValue, int, campaign_row, campaign_row_in, campaign_row_values}
-use Rattle.atl_sql.specs.Statements.{upgrading_upsert}
+use Rattle.atl_descriptions.specs.Statements.{upgrading_upsert}
 use Rattle.atl_sql.specs.PutsCampaignRow.{UpgradesCampaignRow}
 use Rattle.atl_sql.proofs.OwnRowLaws.{MeansOwn, changed_to, puts_own}
 use Rattle.atl_sql.proofs.StatementLaws.{DoneBy, done_by}

@@ -40,7 +40,7 @@ use Rattle.sqlite_schema.specs.declared.command.Conflict.TheVariants.{Abort}
 use Rattle.sqlite_rules.specs.Action.{works}
 use Rattle.sqlite_rules.specs.declared.error.Rowids.TheVariants.{Given}
 use Rattle.sqlite.specs.Rows.{Written, Task, Updates, Tries, Judged, Upserts, Meets, Clears, Puts, Edited, shown}
-use Rattle.atl_sql.specs.Sets.{AreKeyedByRowid}
+use Rattle.atl_descriptions.specs.Sets.{AreKeyedByRowid}
 use Rattle.atl_sql.proofs.ListLaws.{eq_sym, AreFound, stays, was_there, keyed_put, keyed_without}
 use Rattle.atl_sql.proofs.EditLaws.{delete_query, Swaps, puts, ok_step_did, same_value}
 use mathlib.Core.Bool.{and-true}

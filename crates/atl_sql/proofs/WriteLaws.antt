@@ -12,8 +12,8 @@ use Rattle.sqlite.specs.Order.{Row}
 use Rattle.sqlite.specs.State.{State, HasCleanDisk, Survives, KeepsCommit, ExecutesInside}
 use Rattle.sqlite.proofs.InsideLemmas.{inside_keeps}
 use Rattle.atl_sql.specs.Writes.{Writes, RunsStatement}
-use Rattle.atl_sql.specs.Sets.{Set}
-use Rattle.atl_sql.specs.Statements.{Statements, OneStatement, RowStatements}
+use Rattle.atl_descriptions.specs.Sets.{Set}
+use Rattle.atl_descriptions.specs.Statements.{Statements, OneStatement, RowStatements}
 use Rattle.atl_sql.proofs.CauseLaws.{gives, gives_after, gives_among, reached_then, reached_among, property_of_equal_error}
 use Rattle.atl_sql.proofs.KeepLaws.{survives_more, keeps_more, on_ok, if_err}
 

@@ -10,7 +10,7 @@ use Rattle.sqlite.specs.Order.{Row}
 use Rattle.sqlite.specs.State.{State, KeepsCommit, IsUnchanged, ExecutesInside}
 use Rattle.sqlite.specs.Steps.{FailsToCommit}
 use Rattle.atl_sql.specs.Errors.{is_memory}
-use Rattle.atl_sql.specs.Statements.{Statements}
+use Rattle.atl_descriptions.specs.Statements.{Statements}
 
 -- from one state to the next, one statement of the set `own` ran inside a transaction, without an error
 abbrev pub RunsOne : Statements → State → State → Type 0

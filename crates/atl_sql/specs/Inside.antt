@@ -7,8 +7,8 @@ use Rattle.sqlite_rules.specs.Lists.{Has}
 use Rattle.sqlite.specs.Effect.{Database}
 use Rattle.sqlite.specs.State.{State}
 use Rattle.sqlite_trees.specs.Tree.{Trees}
-use Rattle.atl_sql.specs.Sets.{Set, HasExactly, rows_in, put, puts, drop_key}
-use Rattle.atl_sql.specs.Tables.{Part, table_of, no_tables, all_tables, all_trees, HasAll, IsSoundDatabase}
+use Rattle.atl_descriptions.specs.Sets.{Set, HasExactly, rows_in, put, puts, drop_key}
+use Rattle.atl_descriptions.specs.Tables.{Part, table_of, no_tables, all_tables, all_trees, HasAll, IsSoundDatabase}
 
 -- the schema begins with the tables of a campaign, and the trees are sound under it (`IsSoundDatabase`)
 pub record HasTables (db : Database) : Type 0 where

@@ -1,12 +1,9 @@
-pub mod Sets
-pub mod Tables
 pub mod Inside
 pub mod Writes
 pub mod Making
 pub mod Shown
 pub mod PutsCampaignRow
 pub mod Written
-pub mod Statements
 pub mod Causes
 pub mod Stored
 pub mod Reading

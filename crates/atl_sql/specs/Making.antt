@@ -6,8 +6,8 @@ use Rattle.sqlite.specs.Schema.{Schema}
 use Rattle.sqlite.specs.Table.{Table}
 use Rattle.sqlite.specs.Effect.{Database}
 use Rattle.sqlite_rules.specs.Lists.{Has}
-use Rattle.atl_sql.specs.Sets.{rows_in}
-use Rattle.atl_sql.specs.Tables.{all_tables}
+use Rattle.atl_descriptions.specs.Sets.{rows_in}
+use Rattle.atl_descriptions.specs.Tables.{all_tables}
 
 -- after the step none of the ten tables has a row, whatever there was before
 abbrev pub AreEmpty : Database → Database → Type 0

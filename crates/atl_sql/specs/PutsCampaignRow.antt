@@ -2,8 +2,8 @@
 use Rattle.std.specs.Prelude.{◌≡◌, List, ℕ, []}
 use Rattle.sqlite.specs.Effect.{Database}
 use Rattle.atl_world.specs.declared.format.Format.TheVariants.{First}
-use Rattle.atl_sql.specs.Sets.{rows_in, HasExactly}
-use Rattle.atl_sql.specs.Tables.{campaign_table}
+use Rattle.atl_descriptions.specs.Sets.{rows_in, HasExactly}
+use Rattle.atl_descriptions.specs.Tables.{campaign_table}
 use Rattle.atl_sql.specs.Shown.{CampaignRowValue, campaign_row, campaign_row_in}
 use Rattle.atl_sql.specs.Inside.{Puts}
 

@@ -1,18 +1,14 @@
--- What reading all rows of a table gives, and with which SELECT each table is read.
-use Rattle.std.specs.Prelude.{◌≡◌, ◌≢◌, ◌≤◌, ◌⊎◌, ◌++◌, ℕ, List, [], ◌∷◌, codes, length, map, IsTrue, IsPermutation, false, Option, Result, IfOk, IfErr, IfSome, OnOk}
+-- What reading all rows of a table gives.
+use Rattle.std.specs.Prelude.{◌≡◌, ◌≢◌, ◌≤◌, ◌⊎◌, ◌++◌, ℕ, List, [], ◌∷◌, length, map, IsTrue, IsPermutation, false, Option, Result, IfOk, IfErr, IfSome, OnOk}
 use Rattle.std.specs.declared.vec.Vec.{Vec}
 use Rattle.sqlite_trees.specs.declared.store.Store.{Ghosts}
-use Rattle.sqlite_trees.specs.Tree.{Trees, rowid}
+use Rattle.sqlite_trees.specs.Tree.{Trees}
 use Rattle.sqlite.specs.declared.error.Error.{Error}
 use Rattle.sqlite.specs.Held.{Held, state}
 use Rattle.sqlite.specs.Order.{Row}
 use Rattle.sqlite.specs.State.{State, HasCleanDisk, Survives, Shown, FailsToQuery}
-use Rattle.sqlite.specs.Table.{Table}
-use Rattle.atl_sql.specs.Sets.{rows_in, visible_row}
-use Rattle.atl_sql.specs.Statements.{column_names, selection, selection_with_ids}
 use Rattle.atl_world.specs.declared.format.Format.{Format}
-use Rattle.atl_world.specs.declared.format.Format.TheVariants.{First, Second}
-use Rattle.atl_sql.specs.Tables.{Part, Goods, Books, Markets, has_table, books_table, market_table, table_of, HasTablesOf}
+use Rattle.atl_descriptions.specs.Tables.{HasTablesOf}
 use Rattle.atl_sql.specs.Errors.{read_fault}
 use Rattle.atl_sql.specs.Stored.{Form, first_columns, AreTyped, IsTyped}
 use Rattle.atl_sql.specs.declared.fault.ReadFault.{ReadFault}
@@ -130,41 +126,3 @@ GivesTable g since in_table shown result old new =
     HasCleanDisk (state g new)
     → HasTablesOf since old.schema
     → IfOk result (λ all. IsPermutation (in_table (state g old).now.trees) (map shown all.items))
-
--- the rows of a table without an INTEGER PRIMARY KEY, each with its rowid as a last column
-abbrev pub rows_with_ids_in : Table → Trees → List Row
-rows_with_ids_in table db = map (λ r. visible_row table r ++ rowid r ∷ []) (db table.tree)
-
--- ---- the SELECT of each part
-
--- how a part is read: the first format that has it, the names of the columns, the SELECT, and the rows that it shows
-pub record PartSelect : Type 0 where
-  -- the first format that has the part
-  pub since : Format
-  -- the names of the columns that the SELECT shows
-  pub names : List (List ℕ)
-  -- the text of the SELECT that reads the part
-  pub select : List ℕ
-  -- the rows that the SELECT shows, computed from the trees
-  pub in_table : Trees → List Row
-
--- how to read all columns of a table whose key is its first `key` columns
-abbrev pub select_all_columns : Format → Table → ℕ → PartSelect
-select_all_columns since t key = record { since = since; names = column_names t; select = selection t key; in_table = rows_in t }
-
--- how to read all columns of a table whose key is its first `key` columns, and each row's rowid as a last column
-abbrev pub select_all_columns_with_ids : Format → Table → ℕ → PartSelect
-select_all_columns_with_ids since t key =
-    record {
-      since = since;
-      names = column_names t ++ codes "rowid" ∷ [];
-      select = selection_with_ids t key;
-      in_table = rows_with_ids_in t;
-    }
-
--- how each part is read: goods, books and stocks with their rowids, all others without
-abbrev pub select_of_part : Part → PartSelect
-select_of_part Goods = select_all_columns_with_ids First has_table 3
-select_of_part Books = select_all_columns_with_ids First books_table 2
-select_of_part Markets = select_all_columns_with_ids Second market_table 2
-select_of_part part = select_all_columns First (table_of part) 1

@@ -10,7 +10,7 @@ use Rattle.sqlite.specs.State.{State, HasCleanDisk, Survives, KeepsCommit, Execu
 use Rattle.sqlite_rules.specs.Lists.{Has}
 use Rattle.sqlite.specs.Table.{Table}
 use Rattle.atl_sql.specs.Inside.{Commits, LeavesOff, MayLeave, DoesInside, HasTables, Puts, PutsRows, Drops}
-use Rattle.atl_sql.specs.Statements.{deletion, upsert, Statements, OneStatement, RowStatements}
+use Rattle.atl_descriptions.specs.Statements.{deletion, upsert, Statements, OneStatement, RowStatements}
 use Rattle.atl_sql.specs.Causes.{Gives, IsReached}
 
 -- A step inside a transaction: with Ok it did `Does` by statements of `own` alone.

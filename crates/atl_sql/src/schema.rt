@@ -1,7 +1,7 @@
 //! Tests whether a schema begins with the tables of a campaign. See docs/FORMATS.md, "Tables".
 ghost use Rattle.std.specs.Prelude.{◌≡◌, ◌≤◌, [], length, ◌↔◌, IsTrue};
 ghost use Rattle.std.specs.List.{AllByRecursion};
-ghost use Rattle.atl_sql.specs.Tables.{IsFirstFormatOnly, all_tables, all_indexes, AreTables, Begins, HasAll, HasTablesOf};
+ghost use Rattle.atl_descriptions.specs.Tables.{IsFirstFormatOnly, all_tables, all_indexes, AreTables, Begins, HasAll, HasTablesOf};
 
 pub(crate) mod checks;
 mod columns;

@@ -1,6 +1,6 @@
 //! Runs one statement inside a transaction: all writes of this crate go through `run`.
 ghost use Rattle.sqlite.specs.Values.{bound};
-ghost use Rattle.atl_sql.specs.Statements.{OneStatement};
+ghost use Rattle.atl_descriptions.specs.Statements.{OneStatement};
 ghost use Rattle.atl_sql.specs.Writes.{Writes, RunsStatement};
 
 use sqlite::types::ValueRef;

@@ -1,7 +1,7 @@
 //! Makes the tables of a campaign, and tests a schema for them. See docs/FORMATS.md, "Tables".
 ghost use Rattle.std.specs.Prelude.{◌≡◌, ◌≤◌, [], length, map, slice_get, take, ◌↔◌, IsTrue};
-ghost use Rattle.atl_sql.specs.Tables.{Markets, all_parts, all_tables, campaign_table, creation_of, faction_table};
-ghost use Rattle.atl_sql.specs.Statements.{OneStatement, Creations};
+ghost use Rattle.atl_descriptions.specs.Tables.{Markets, all_parts, all_tables, campaign_table, creation_of, faction_table};
+ghost use Rattle.atl_descriptions.specs.Statements.{OneStatement, Creations};
 ghost use Rattle.atl_sql.specs.Writes.{Writes, RunsStatement};
 ghost use Rattle.atl_sql.specs.Inside.{DoesInside, IsBlank};
 ghost use Rattle.atl_sql.specs.Making.{AreEmpty};

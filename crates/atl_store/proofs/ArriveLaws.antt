@@ -16,13 +16,13 @@ use Rattle.atl_records.specs.declared.records.Unit.{Unit}
 use Rattle.atl_records.proofs.AccountLaws.{same_account}
 use Rattle.atl_records.proofs.EveryLaws.{get-insert_other}
 use Rattle.atl_sql.specs.declared.rows.has.ThingKind.{ThingKind}
-use Rattle.atl_sql.specs.Sets.{Set, HasExactly, put}
-use Rattle.atl_sql.specs.Tables.{Books, books_table}
+use Rattle.atl_descriptions.specs.Sets.{Set, HasExactly, put}
+use Rattle.atl_descriptions.specs.Tables.{Books, books_table}
 use Rattle.atl_sql.specs.Shown.{int, books_key, books_row}
 use Rattle.atl_store.specs.Rows.{RowsOf, HasRowsOf, BooksRowsOf, things_of}
 use Rattle.atl_store.specs.GroupedRows.{amount_lines}
 use Rattle.atl_store.specs.Arriving.{rows_with_amount, WritesAmount}
-use Rattle.atl_sql.specs.Statements.{deletion, upsert}
+use Rattle.atl_descriptions.specs.Statements.{deletion, upsert}
 use Rattle.atl_store.specs.OwnStatements.{OfAmount, puts_amount, drops_amount, OfChange, changes_row, puts_row, drops_row}
 use Rattle.atl_store.proofs.EntryLaws.{same_number}
 use Rattle.atl_store.proofs.HasTableLaws.{optional_has, has_optional}

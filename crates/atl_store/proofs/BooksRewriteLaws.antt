@@ -18,7 +18,7 @@ use Rattle.atl_campaign.specs.Campaign.{MarkedCampaign}
 use Rattle.atl_records.specs.declared.books.BooksEntry.{BooksEntry}
 use Rattle.atl_records.specs.declared.books.Thing.{Thing}
 use Rattle.atl_records.proofs.AccountLaws.{same_account}
-use Rattle.atl_sql.specs.Tables.{books_table}
+use Rattle.atl_descriptions.specs.Tables.{books_table}
 use Rattle.atl_sql.specs.Shown.{int, books_key, books_row}
 use Rattle.atl_store.specs.Rows.{BooksRowsOf}
 use Rattle.atl_store.specs.GroupedRows.{amount_lines}

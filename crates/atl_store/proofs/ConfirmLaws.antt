@@ -13,8 +13,8 @@ use Rattle.atl_store.specs.Gathering.{IsCommitted, FailsToConfirm}
 use Rattle.atl_sql.specs.Errors.{is_memory}
 use Rattle.atl_store.specs.Faults.{load_fault}
 use Rattle.atl_store.specs.Loading.{TablesStay}
-use Rattle.atl_sql.specs.Statements.{selection_with_ids}
-use Rattle.atl_sql.specs.Tables.{HasTablesOf, books_table}
+use Rattle.atl_descriptions.specs.Statements.{selection_with_ids}
+use Rattle.atl_descriptions.specs.Tables.{HasTablesOf, books_table}
 use Rattle.atl_store.specs.declared.fault.LoadFault.{LoadFault}
 use Rattle.atl_store.specs.declared.fault.LoadFault.TheVariants as load
 use Rattle.atl_sql.proofs.StreamLaws.{fails_stay}

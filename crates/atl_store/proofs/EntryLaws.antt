@@ -12,7 +12,7 @@ use Rattle.atl_world.proofs.TrackLaws.{is_true}
 use Rattle.sqlite.specs.Order.{Row}
 use Rattle.sqlite_rules.specs.Lists.{Has}
 use Rattle.sqlite_rules.proofs.ListLemmas.{has_either, has_left, has_right}
-use Rattle.atl_sql.specs.Sets.{Set, HasExactly, put, puts}
+use Rattle.atl_descriptions.specs.Sets.{Set, HasExactly, put, puts}
 use Rattle.atl_sql.specs.Shown.{int}
 use Rattle.atl_store.specs.Rows.{RowsOf, rows_in_order}
 use Rattle.atl_store.specs.GroupedRows.{DifferInKey}

@@ -8,8 +8,8 @@ use Rattle.sqlite.specs.Effect.{Database}
 use Rattle.sqlite.specs.State.{State}
 use Rattle.sqlite_rules.specs.Lists.{Has}
 use Rattle.atl_campaign.specs.Campaign.{CampaignValue}
-use Rattle.atl_sql.specs.Sets.{HasExactly, put, puts, rows_in}
-use Rattle.atl_sql.specs.Tables.{Part, Own, Books, table_of, all_parts, campaign_table, books_table}
+use Rattle.atl_descriptions.specs.Sets.{HasExactly, put, puts, rows_in}
+use Rattle.atl_descriptions.specs.Tables.{Part, Own, Books, table_of, all_parts, campaign_table, books_table}
 use Rattle.atl_sql.specs.Shown.{int}
 use Rattle.atl_store.specs.Rows.{campaign_row_of, row_of_campaign, RowsOf, rows_for, rows_in_order}
 use Rattle.atl_store.specs.GroupedRows.{AreGroups, groups_of, things_lines}

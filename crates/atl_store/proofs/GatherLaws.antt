@@ -14,9 +14,10 @@ use Rattle.atl_world.specs.declared.format.Format.{Format}
 use Rattle.atl_world.specs.declared.format.Format.TheVariants.{First, Second}
 use Rattle.atl_store.specs.Gathering.{IsCommitted, rows_or_none, ReadRows, AreRows, AreAllRows, AreOfFormat, AreNone, second_format_parts, selects_by, FoundBySelects, AnswersOne, FailsToRead, ReadsSome}
 use Rattle.atl_store.specs.Loading.{TablesStay, AfterReads, SelectShows, AllSelectsShow, AllSelectsShowTyped, HasOtherType, RefusesOne, other_parts, other_selects}
-use Rattle.atl_sql.specs.Reading.{ReadsRows, GivesTable, Rests, Selects, RefusesToSelect, select_of_part}
+use Rattle.atl_sql.specs.Reading.{ReadsRows, GivesTable, Rests, Selects, RefusesToSelect}
+use Rattle.atl_descriptions.specs.PartSelects.{select_of_part}
 use Rattle.atl_sql.specs.Stored.{Form, AreTyped}
-use Rattle.atl_sql.specs.Tables.{Part, parts_in}
+use Rattle.atl_descriptions.specs.Tables.{Part, parts_in}
 use Rattle.atl_sql.specs.declared.fault.ReadFault.{ReadFault}
 use Rattle.atl_sql.specs.declared.fault.ReadFault.TheVariants as read
 use Rattle.atl_store.specs.declared.fault.LoadFault.{LoadFault}

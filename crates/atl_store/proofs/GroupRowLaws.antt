@@ -11,12 +11,12 @@ use Rattle.sqlite.specs.State.{State}
 use Rattle.sqlite.specs.Table.{Table}
 use Rattle.sqlite_rules.specs.Lists.{Has}
 use Rattle.atl_campaign.specs.Campaign.{CampaignValue}
-use Rattle.atl_sql.specs.Sets.{Set, HasExactly, puts, rows_in}
-use Rattle.atl_sql.specs.Tables.{Part, key_width_of, table_of}
+use Rattle.atl_descriptions.specs.Sets.{Set, HasExactly, puts, rows_in}
+use Rattle.atl_descriptions.specs.Tables.{Part, key_width_of, table_of}
 use Rattle.atl_sql.specs.Shown.{int}
 use Rattle.atl_store.specs.GroupedRows.{DifferInKey, AreGroups, groups_of}
 use Rattle.atl_store.specs.Rows.{rows_for}
-use Rattle.atl_sql.specs.Statements.{upsert}
+use Rattle.atl_descriptions.specs.Statements.{upsert}
 use Rattle.atl_store.specs.OwnStatements.{OfRow, puts_row}
 use Rattle.atl_sql.specs.Inside.{DoesInside, HasTables, DoesBoth, Drops, PutsRows}
 use Rattle.atl_store.specs.Marked.{first_column_passes}

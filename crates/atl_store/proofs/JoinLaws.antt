@@ -22,8 +22,8 @@ use Rattle.atl_records.specs.declared.records.Faction.{Faction}
 use Rattle.atl_records.specs.declared.records.Unit.{Unit}
 use Rattle.atl_sql.specs.declared.rows.has.ThingKind.{ThingKind}
 use Rattle.atl_sql.specs.declared.rows.has.ThingKind.TheVariants.{Item, Skill}
-use Rattle.atl_sql.specs.Sets.{HasExactly, Set, put, visible_row, rows_in}
-use Rattle.atl_sql.specs.Tables.{Part, Own, Factions, Units, Goods, Mail, Reports, Books, table_of, campaign_table, faction_table, unit_table, has_table, mail_table, report_table, books_table, all_tables}
+use Rattle.atl_descriptions.specs.Sets.{HasExactly, Set, put, visible_row, rows_in}
+use Rattle.atl_descriptions.specs.Tables.{Part, Own, Factions, Units, Goods, Mail, Reports, Books, table_of, campaign_table, faction_table, unit_table, has_table, mail_table, report_table, books_table, all_tables}
 use Rattle.atl_sql.specs.Shown.{CampaignRowValue, campaign_row, mail_row, report_row}
 use Rattle.atl_store.specs.Rows.{campaign_row_of, row_of_campaign, row_of_faction, row_of_unit, RowsOf, HasRowsOf, rows_for, things_of, Holds}
 use Rattle.atl_sql.specs.PutsCampaignRow.{PutsCampaignRow}

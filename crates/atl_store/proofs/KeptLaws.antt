@@ -9,11 +9,11 @@ use Rattle.sqlite.specs.Order.{Row}
 use Rattle.sqlite_rules.specs.Lists.{Has}
 use Rattle.atl_campaign.specs.Campaign.{CampaignValue, MarkedCampaign}
 use Rattle.atl_campaign.specs.Marks.{Marks}
-use Rattle.atl_sql.specs.Sets.{Set, HasExactly, rows_in}
-use Rattle.atl_sql.specs.Tables.{Part, Own, Goods, Books, Markets, IsNumberedPart, key_width_of, table_of}
+use Rattle.atl_descriptions.specs.Sets.{Set, HasExactly, rows_in}
+use Rattle.atl_descriptions.specs.Tables.{Part, Own, Goods, Books, Markets, IsNumberedPart, key_width_of, table_of}
 use Rattle.atl_sql.specs.Shown.{int}
 use Rattle.atl_store.specs.Rows.{RowsOf, rows_in_order, rows_for}
-use Rattle.atl_sql.specs.Statements.{deletion, upsert}
+use Rattle.atl_descriptions.specs.Statements.{deletion, upsert}
 use Rattle.atl_store.specs.OwnStatements.{OfRow, OfChange, puts_row, drops_row}
 use Rattle.atl_sql.specs.Inside.{PutsRows}
 use Rattle.atl_store.specs.Filling.{FillsPart}

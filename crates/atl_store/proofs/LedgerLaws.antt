@@ -16,7 +16,7 @@ use Rattle.atl_records.specs.declared.books.Thing.{Thing}
 use Rattle.atl_records.proofs.AccountLaws.{index_of_thing_at, thing_at_index}
 use Rattle.atl_records.proofs.BookLaws.{none_past}
 use Rattle.atl_records.proofs.EveryEntryLaws.{entry_there}
-use Rattle.atl_sql.specs.Sets.{HasExactly, puts}
+use Rattle.atl_descriptions.specs.Sets.{HasExactly, puts}
 use Rattle.atl_sql.specs.Shown.{books_key, books_row}
 use Rattle.atl_store.specs.Rows.{BooksRowsOf}
 use Rattle.atl_store.specs.GroupedRows.{DifferInKey, amount_lines, entries_lines, things_lines}

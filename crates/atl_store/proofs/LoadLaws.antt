@@ -11,7 +11,7 @@ use Rattle.sqlite_trees.specs.Tree.{rowid, IsAscending}
 use Rattle.sqlite_trees.specs.View.{is_int}
 use Rattle.sqlite_trees.proofs.ListLemmas.{all-permutation}
 use Rattle.atl_store.specs.Gathering.{HaveDistinctIntegers}
-use Rattle.atl_sql.specs.Sets.{AreKeyedByRowid}
+use Rattle.atl_descriptions.specs.Sets.{AreKeyedByRowid}
 
 all_mapped : (f : Row → Row) (P Q : Row → Type 0) (rows : List Row) → ((r : Row) → P (f r) → Q r) → AllByRecursion P (map f rows) → AllByRecursion Q rows
 all_mapped f P Q [] so all = tt

@@ -30,10 +30,10 @@ use Rattle.atl_store.specs.Gathering.{IsCommitted, FailsWithout, FoundBySelects,
 use Rattle.atl_store.specs.Keeps.{Keeps, Stores}
 use Rattle.atl_store.specs.Loading.{HaveRows, rows_read, own_stored, KeepsOneRow, BreaksRule, MayReturnDamaged, RefusesToLoadIn, KeepsIn, LoadsIn, Loads, LeavesAlone, AfterReads, AreMade, AllSelectsShowTyped, MayReturnMemory, FailedMeanwhile, RefusesAgain, shows_rowids, tables_with_rowids, other_parts, other_selects}
 use Rattle.atl_store.specs.Rows.{HoldsIn}
-use Rattle.atl_sql.specs.Statements.{selection}
-use Rattle.atl_sql.specs.Reading.{select_of_part}
-use Rattle.atl_sql.specs.Sets.{AreKeyedByRowid, rows_in}
-use Rattle.atl_sql.specs.Tables.{Part, Own, IsSoundDatabase, HasTablesOf, campaign_table, table_of, parts_in}
+use Rattle.atl_descriptions.specs.Statements.{selection}
+use Rattle.atl_descriptions.specs.PartSelects.{select_of_part}
+use Rattle.atl_descriptions.specs.Sets.{AreKeyedByRowid, rows_in}
+use Rattle.atl_descriptions.specs.Tables.{Part, Own, IsSoundDatabase, HasTablesOf, campaign_table, table_of, parts_in}
 use Rattle.atl_store.specs.WorldText.{world_text}
 use Rattle.atl_store.specs.declared.fault.LoadFault.{LoadFault}
 use Rattle.atl_store.specs.declared.fault.LoadFault.TheVariants.{Store, Damaged, NotACampaign, OtherFormat, Memory}

@@ -12,7 +12,7 @@ use Rattle.sqlite.specs.State.{State}
 use Rattle.sqlite_value.specs.declared.value.Value.TheVariants.{Int}
 use Rattle.atl_campaign.specs.Campaign.{CampaignValue}
 use Rattle.atl_sql.specs.Shown.{int, market_key, market_row}
-use Rattle.atl_sql.specs.Tables.{market_table}
+use Rattle.atl_descriptions.specs.Tables.{market_table}
 use Rattle.atl_sql.specs.Inside.{DoesInside, HasTables, Puts, Drops}
 use Rattle.atl_store.specs.Marked.{region_and_item_pass}
 use Rattle.atl_store.specs.Rewriting.{FindsByNumbers, RewritesChosenStocks, is_owner_and_thing}

@@ -14,15 +14,15 @@ use Rattle.atl_rows.specs.declared.parts.StoredCampaignRow.{StoredCampaignRow}
 use Rattle.atl_store.specs.Gathering.{campaign_row_fault, IsOwnRow, Judges, JudgesOwn, JudgesRows, JudgesFormat, OwnRead}
 use Rattle.atl_store.specs.Loading.{own_stored, AreOwnRow, RefusesToLoadIn}
 use Rattle.atl_sql.specs.Reading.{Selects, RefusesToSelect}
-use Rattle.atl_sql.specs.Statements.{selection}
-use Rattle.atl_sql.specs.Sets.{rows_in}
+use Rattle.atl_descriptions.specs.Statements.{selection}
+use Rattle.atl_descriptions.specs.Sets.{rows_in}
 use Rattle.atl_sql.specs.Stored.{first_columns, AreTyped, IsTyped}
 use Rattle.atl_sql.specs.Shown.{campaign_stored, campaign_forms}
 use Rattle.atl_sql.specs.declared.fault.ReadFault.{ReadFault}
 use Rattle.atl_sql.specs.declared.fault.ReadFault.TheVariants as read
 use Rattle.atl_store.specs.declared.fault.LoadFault.{LoadFault}
 use Rattle.atl_store.specs.declared.fault.LoadFault.TheVariants.{Store, Damaged, NotACampaign, OtherFormat, Memory}
-use Rattle.atl_sql.specs.Tables.{Own, campaign_table}
+use Rattle.atl_descriptions.specs.Tables.{Own, campaign_table}
 use Rattle.atl_sql.specs.declared.rows.campaign.StoredCampaign.{StoredCampaign}
 use Rattle.atl_world.specs.declared.format.Format.TheVariants.{First}
 use Rattle.atl_sql.proofs.RowsLaws.{asked_rows}

@@ -8,7 +8,7 @@ use Rattle.sqlite_trees.specs.declared.store.Store.{Ghosts}
 use Rattle.atl_campaign.specs.Campaign.{CampaignValue}
 use Rattle.atl_store.specs.Keeps.{Keeps, LeavesAfterFault, Stores, HoldsCampaign}
 use Rattle.atl_store.specs.Reopening.{Reopens}
-use Rattle.atl_sql.specs.Tables.{HasAll}
+use Rattle.atl_descriptions.specs.Tables.{HasAll}
 use Rattle.atl_store.proofs.SchemaTableLaws.{one_schema}
 
 module _ {S : Type 0} (g : Ghosts S) where

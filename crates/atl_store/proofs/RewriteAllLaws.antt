@@ -6,8 +6,8 @@ use Rattle.sqlite.specs.Order.{Row}
 use Rattle.sqlite.specs.State.{State}
 use Rattle.sqlite_rules.specs.Lists.{Has}
 use Rattle.atl_campaign.specs.Campaign.{MarkedCampaign}
-use Rattle.atl_sql.specs.Sets.{rows_in}
-use Rattle.atl_sql.specs.Tables.{Part, Own, table_of, all_parts, campaign_table}
+use Rattle.atl_descriptions.specs.Sets.{rows_in}
+use Rattle.atl_descriptions.specs.Tables.{Part, Own, table_of, all_parts, campaign_table}
 use Rattle.atl_sql.specs.Shown.{campaign_row}
 use Rattle.atl_store.specs.Rows.{campaign_row_of, rows_for}
 use Rattle.atl_sql.specs.PutsCampaignRow.{PutsCampaignRow}

@@ -13,8 +13,8 @@ use Rattle.sqlite.specs.State.{State}
 use Rattle.sqlite.specs.Table.{Table}
 use Rattle.sqlite_rules.specs.Lists.{Has}
 use Rattle.sqlite_value.specs.declared.value.Value.TheVariants.{Int}
-use Rattle.atl_sql.specs.Sets.{Set, rows_in}
-use Rattle.atl_sql.specs.Tables.{all_tables}
+use Rattle.atl_descriptions.specs.Sets.{Set, rows_in}
+use Rattle.atl_descriptions.specs.Tables.{all_tables}
 use Rattle.atl_sql.specs.Shown.{int}
 use Rattle.atl_store.specs.Rows.{RowsOf}
 use Rattle.atl_sql.specs.Inside.{DoesInside, HasTables, Puts, Drops}

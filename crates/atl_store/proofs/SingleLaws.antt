@@ -11,7 +11,7 @@ use Rattle.sqlite.specs.Order.{Row}
 use Rattle.sqlite.specs.State.{State}
 use Rattle.sqlite.specs.Table.{Table}
 use Rattle.atl_campaign.specs.Marks.{MarkedThings}
-use Rattle.atl_sql.specs.Sets.{Set}
+use Rattle.atl_descriptions.specs.Sets.{Set}
 use Rattle.atl_sql.specs.Inside.{DoesInside, HasTables}
 use Rattle.atl_store.specs.Marked.{has_thing}
 use Rattle.atl_store.specs.Rewriting.{FindsByNumbers, Rewrites, equals_number, is_among, is_owner_and_thing, is_owner_and_listed}

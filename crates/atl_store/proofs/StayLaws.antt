@@ -12,7 +12,7 @@ use Rattle.atl_campaign.specs.Campaign.{CampaignValue}
 use Rattle.atl_store.specs.Rows.{Holds}
 use Rattle.atl_sql.specs.Inside.{HasTables, Carries, Commits, LeavesOff, MayLeave}
 use Rattle.atl_store.specs.Keeps.{Stores, Keeps, IsLater, IsReadyToCreate, FailsToCreate, BreaksOffCreation, RefusesToCreate, LeavesAfterFault, ChangesNothing, LeavesOthersAlone, MayLeaveCampaign}
-use Rattle.atl_sql.specs.Statements.{Statements}
+use Rattle.atl_descriptions.specs.Statements.{Statements}
 use Rattle.atl_store.specs.OwnStatements.{OfFounding}
 use Rattle.atl_sql.specs.Causes.{Gives, IsFaultOfError}
 use Rattle.atl_sql.specs.Errors.{is_memory}

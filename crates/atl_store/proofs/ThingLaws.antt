@@ -9,7 +9,7 @@ use Rattle.atl_campaign.specs.Campaign.{CampaignValue}
 use Rattle.atl_sql.specs.declared.rows.has.ThingKind.{ThingKind}
 use Rattle.atl_sql.specs.declared.rows.has.ThingKind.TheVariants.{Item, Skill}
 use Rattle.atl_sql.specs.Written.{sort_number}
-use Rattle.atl_sql.specs.Tables.{has_table}
+use Rattle.atl_descriptions.specs.Tables.{has_table}
 use Rattle.atl_sql.specs.Shown.{int, has_key, has_row}
 use Rattle.atl_store.specs.Rows.{HasRowsOf, amount_under}
 use Rattle.atl_sql.specs.Inside.{DoesInside, HasTables, Puts, Drops}

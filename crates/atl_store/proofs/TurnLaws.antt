@@ -5,8 +5,8 @@ use Rattle.sqlite.specs.Effect.{Database}
 use Rattle.sqlite.specs.Order.{Row}
 use Rattle.sqlite.specs.Table.{Table}
 use Rattle.sqlite_rules.proofs.ListLemmas.{has_either, has_left, has_right}
-use Rattle.atl_sql.specs.Sets.{Set, HasExactly, rows_in, visible_row}
-use Rattle.atl_sql.specs.Tables.{Part, table_of}
+use Rattle.atl_descriptions.specs.Sets.{Set, HasExactly, rows_in, visible_row}
+use Rattle.atl_descriptions.specs.Tables.{Part, table_of}
 use Rattle.atl_sql.specs.Inside.{Alters, Changes, InTurn}
 use Rattle.atl_sql.proofs.PartLaws.{tree_of, same_part, listed, are_apart, not_both}
 

@@ -22,7 +22,7 @@ use Rattle.atl_store.specs.Keeps.{ChangesNothing, IsLater}
 use Rattle.atl_store.specs.Loading.{LeavesAlone, LoadsIn, RefusesToLoadIn}
 use Rattle.atl_store.specs.OwnStatements.{OfUpgrade}
 use Rattle.atl_store.specs.Rows.{Holds, HoldsIn}
-use Rattle.atl_sql.specs.Tables.{HasTablesOf, IsFirstFormatOnly}
+use Rattle.atl_descriptions.specs.Tables.{HasTablesOf, IsFirstFormatOnly}
 use Rattle.atl_store.specs.UpgradeSteps.{IsFirstFormat, WritesUpgrade}
 use Rattle.atl_store.specs.Upgrading.{BreaksOffUpgrade, FailsCheck, FailsInTransaction, HasMoreTables, HasOld, HasOtherWorld, HoldsOld, IsReadyToUpgrade, MatchesNewText, MayUpgrade, RefusesToUpgrade, Upgrades}
 use Rattle.atl_store.specs.WorldText.{world_text}

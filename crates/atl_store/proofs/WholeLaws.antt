@@ -10,7 +10,7 @@ use Rattle.sqlite.specs.State.{State, HasCleanDisk, Survives, Shows, KeepsCounts
 use Rattle.sqlite.proofs.StateLemmas.{survives_then}
 use Rattle.sqlite.proofs.Callers.{survives_begin}
 use Rattle.atl_sql.specs.Inside.{HasTables, DoesAndKeeps, DoesInside, DoesBoth, Commits, LeavesOff, MayLeave}
-use Rattle.atl_sql.specs.Statements.{Statements}
+use Rattle.atl_descriptions.specs.Statements.{Statements}
 use Rattle.atl_sql.specs.Writes.{Writes, Transacts}
 use Rattle.atl_sql.proofs.KeepLaws.{on_ok, if_err}
 use Rattle.atl_sql.proofs.CauseLaws.{gives, gives_after, gives_until, gives_begun, property_of_equal_error}

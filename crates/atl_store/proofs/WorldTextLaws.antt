@@ -3,11 +3,11 @@ use Rattle.std.proofs.Common.{◌≡◌, ℕ, List, [], ◌∷◌, refl, ap, inl
 use Rattle.sqlite.specs.Order.{Row}
 use Rattle.sqlite.specs.State.{State}
 use Rattle.atl_campaign.specs.Campaign.{CampaignValue}
-use Rattle.atl_sql.specs.Sets.{HasExactly, rows_in}
+use Rattle.atl_descriptions.specs.Sets.{HasExactly, rows_in}
 use Rattle.atl_world.specs.declared.format.Format.{Format}
 use Rattle.atl_world.specs.declared.format.Format.TheVariants.{First, Second}
 use Rattle.sqlite_rules.specs.Lists.{Has}
-use Rattle.atl_sql.specs.Tables.{Own, campaign_table, parts_in}
+use Rattle.atl_descriptions.specs.Tables.{Own, campaign_table, parts_in}
 use Rattle.atl_sql.specs.Shown.{campaign_row_in}
 use Rattle.atl_store.specs.Rows.{campaign_row_of}
 use Rattle.atl_store.specs.Keeps.{Keeps}

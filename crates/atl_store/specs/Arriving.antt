@@ -13,9 +13,9 @@ use Rattle.atl_records.specs.declared.books.Thing.{Thing}
 use Rattle.atl_records.specs.declared.books.Thing.TheVariants.{Money, People}
 use Rattle.atl_records.specs.declared.records.Faction.{Faction}
 use Rattle.atl_records.specs.declared.records.Unit.{Unit}
-use Rattle.atl_sql.specs.Sets.{Set, HasExactly, put, rows_in}
+use Rattle.atl_descriptions.specs.Sets.{Set, HasExactly, put, rows_in}
 use Rattle.atl_sql.specs.Inside.{Alters, Puts}
-use Rattle.atl_sql.specs.Tables.{Part, Own, Factions, Units, Reports, Books, table_of, campaign_table, faction_table, unit_table, mail_table, report_table, books_table}
+use Rattle.atl_descriptions.specs.Tables.{Part, Own, Factions, Units, Reports, Books, table_of, campaign_table, faction_table, unit_table, mail_table, report_table, books_table}
 use Rattle.atl_sql.specs.Shown.{CampaignRowValue, campaign_row, mail_row, report_row, books_key}
 use Rattle.atl_store.specs.GroupedRows.{amount_lines}
 use Rattle.atl_store.specs.Rows.{row_of_campaign, row_of_faction, row_of_unit}

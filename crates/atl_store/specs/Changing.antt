@@ -6,8 +6,8 @@ use Rattle.sqlite_trees.specs.Tree.{Trees}
 use Rattle.sqlite.specs.Table.{Table}
 use Rattle.sqlite_rules.specs.Lists.{Has}
 use Rattle.atl_campaign.specs.Campaign.{CampaignValue, MarkedCampaign}
-use Rattle.atl_sql.specs.Sets.{Set, HasExactly, rows_in}
-use Rattle.atl_sql.specs.Tables.{Part, campaign_table, table_of}
+use Rattle.atl_descriptions.specs.Sets.{Set, HasExactly, rows_in}
+use Rattle.atl_descriptions.specs.Tables.{Part, campaign_table, table_of}
 use Rattle.atl_sql.specs.Shown.{CampaignRowValue, campaign_row}
 use Rattle.atl_store.specs.Marked.{is_marked}
 use Rattle.atl_store.specs.Rows.{campaign_row_of, row_of_campaign, rows_for}

@@ -3,8 +3,8 @@ use Rattle.std.specs.Prelude.{◌≡◌, [], ◌∷◌, List, ℕ}
 use Rattle.sqlite.specs.Effect.{Database}
 use Rattle.sqlite.specs.Order.{Row}
 use Rattle.atl_campaign.specs.Campaign.{CampaignValue}
-use Rattle.atl_sql.specs.Sets.{HasExactly, rows_in}
-use Rattle.atl_sql.specs.Tables.{Part, campaign_table}
+use Rattle.atl_descriptions.specs.Sets.{HasExactly, rows_in}
+use Rattle.atl_descriptions.specs.Tables.{Part, campaign_table}
 use Rattle.atl_sql.specs.Inside.{Changes}
 use Rattle.atl_store.specs.Rows.{row_of_campaign, rows_for, Holds}
 

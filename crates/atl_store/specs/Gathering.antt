@@ -25,12 +25,13 @@ use Rattle.atl_rows.specs.declared.parts.Parts.{Parts}
 use Rattle.atl_rows.specs.declared.parts.StoredCampaignRow.{StoredCampaignRow}
 use Rattle.atl_sql.specs.Errors.{is_memory}
 use Rattle.atl_store.specs.Loading.{HaveRows, AreOwnRow, AreOfOtherFormat, HasOtherType, KeepsOneRow, other_parts, other_selects, shows_rowids, tables_with_rowids, rows_read, AfterReads, AllSelectsShowTyped, RefusesOne}
-use Rattle.atl_sql.specs.Reading.{Selects, select_of_part}
-use Rattle.atl_sql.specs.Statements.{selection, selection_with_ids}
-use Rattle.atl_sql.specs.Sets.{AreKeyedByRowid, rows_in}
+use Rattle.atl_sql.specs.Reading.{Selects}
+use Rattle.atl_descriptions.specs.PartSelects.{select_of_part}
+use Rattle.atl_descriptions.specs.Statements.{selection, selection_with_ids}
+use Rattle.atl_descriptions.specs.Sets.{AreKeyedByRowid, rows_in}
 use Rattle.atl_sql.specs.Shown.{campaign_stored}
 use Rattle.atl_sql.specs.Stored.{Form}
-use Rattle.atl_sql.specs.Tables.{Part, all_parts, campaign_table, books_table, table_of, parts_in, HasTablesOf}
+use Rattle.atl_descriptions.specs.Tables.{Part, all_parts, campaign_table, books_table, table_of, parts_in, HasTablesOf}
 use Rattle.atl_sql.specs.declared.fault.ReadFault.{ReadFault}
 use Rattle.atl_sql.specs.declared.fault.ReadFault.TheVariants as read
 use Rattle.atl_store.specs.declared.fault.LoadFault.{LoadFault}

@@ -14,7 +14,7 @@ use Rattle.atl_records.specs.declared.records.Region.{Region}
 use Rattle.atl_records.specs.declared.records.Unit.{Unit}
 use Rattle.atl_sql.specs.declared.rows.has.ThingKind.{ThingKind}
 use Rattle.atl_sql.specs.declared.rows.has.ThingKind.TheVariants.{Item, Skill}
-use Rattle.atl_sql.specs.Sets.{Set}
+use Rattle.atl_descriptions.specs.Sets.{Set}
 use Rattle.atl_sql.specs.Shown.{int, has_row, books_row, market_row}
 use Rattle.atl_sql.specs.Written.{sort_number}
 

@@ -11,7 +11,7 @@ use Rattle.atl_world.specs.Worlds.{WorldValue}
 use Rattle.atl_campaign.specs.Campaign.{CampaignValue, with_report}
 use Rattle.atl_campaign.specs.Joining.{after_join}
 use Rattle.atl_campaign.specs.Good.{IsGood}
-use Rattle.atl_sql.specs.Tables.{HasAll, IsSoundDatabase}
+use Rattle.atl_descriptions.specs.Tables.{HasAll, IsSoundDatabase}
 use Rattle.atl_sql.specs.Inside.{HasTables, Carries, IsBlank}
 use Rattle.atl_sql.specs.Making.{has_campaign}
 use Rattle.atl_store.specs.Rows.{Holds}

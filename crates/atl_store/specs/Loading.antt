@@ -29,13 +29,14 @@ use Rattle.atl_rows.specs.declared.parts.StoredCampaignRow.{StoredCampaignRow}
 use Rattle.atl_rows.specs.declared.parts.StoredMarket.{StoredMarket}
 use Rattle.atl_sql.specs.Errors.{is_memory}
 use Rattle.atl_store.specs.Keeps.{ChangesNothing, HoldsCampaign}
-use Rattle.atl_sql.specs.Reading.{Selects, RefusesToSelect, select_of_part}
+use Rattle.atl_sql.specs.Reading.{Selects, RefusesToSelect}
+use Rattle.atl_descriptions.specs.PartSelects.{select_of_part}
 use Rattle.atl_store.specs.Rows.{HoldsIn}
 use Rattle.atl_sql.specs.Shown.{int, campaign_row_stored, faction_stored, region_stored, unit_stored, structure_stored, mail_stored, report_stored, campaign_forms, faction_forms, region_forms, unit_forms, has_forms, structure_forms, mail_forms, report_forms, books_forms, market_forms}
-use Rattle.atl_sql.specs.Statements.{selection, selection_with_ids}
-use Rattle.atl_sql.specs.Sets.{rows_in, AreKeyedByRowid}
+use Rattle.atl_descriptions.specs.Statements.{selection, selection_with_ids}
+use Rattle.atl_descriptions.specs.Sets.{rows_in, AreKeyedByRowid}
 use Rattle.atl_sql.specs.Stored.{Form, first_columns, AreTyped}
-use Rattle.atl_sql.specs.Tables.{Part, Own, Factions, Regions, Units, Goods, Structures, Mail, Reports, Books, Markets, campaign_table, books_table, table_of, parts_in, HasTablesOf}
+use Rattle.atl_descriptions.specs.Tables.{Part, Own, Factions, Regions, Units, Goods, Structures, Mail, Reports, Books, Markets, campaign_table, books_table, table_of, parts_in, HasTablesOf}
 use Rattle.atl_store.specs.WorldText.{world_text}
 use Rattle.atl_sql.specs.declared.fault.ReadFault.{ReadFault}
 use Rattle.atl_sql.specs.declared.fault.ReadFault.TheVariants as read

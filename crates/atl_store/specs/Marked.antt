@@ -10,7 +10,7 @@ use Rattle.atl_records.specs.Limits.{entry_count}
 use Rattle.atl_campaign.specs.Marks.{Marks, MarkedThings}
 use Rattle.atl_sql.specs.declared.rows.has.ThingKind.{ThingKind}
 use Rattle.atl_sql.specs.declared.rows.has.ThingKind.TheVariants.{Item, Skill}
-use Rattle.atl_sql.specs.Tables.{Part, Own, Factions, Regions, Units, Goods, Structures, Mail, Reports, Books, Markets}
+use Rattle.atl_descriptions.specs.Tables.{Part, Own, Factions, Regions, Units, Goods, Structures, Mail, Reports, Books, Markets}
 use Rattle.atl_sql.specs.Written.{sort_number}
 
 -- whether the first column of a row is a natural number for which the test `is_so`, the first argument, is true

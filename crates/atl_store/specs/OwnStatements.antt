@@ -12,8 +12,8 @@ use Rattle.atl_records.specs.declared.records.Faction.{Faction}
 use Rattle.atl_records.specs.declared.records.Unit.{Unit}
 use Rattle.atl_sql.specs.Shown.{int, campaign_row_values, mail_row, report_row, books_key, books_row}
 use Rattle.atl_store.specs.Rows.{campaign_row_of, row_of_faction, row_of_unit, rows_for}
-use Rattle.atl_sql.specs.Statements.{Statements, OneStatement, Creations, campaign_upsert, upgrading_upsert, deletion, upsert}
-use Rattle.atl_sql.specs.Tables.{Part, Markets, books_table, creation_of, faction_table, IsGroupedPart, key_width_of, mail_table, report_table, table_of, unit_table}
+use Rattle.atl_descriptions.specs.Statements.{Statements, OneStatement, Creations, campaign_upsert, upgrading_upsert, deletion, upsert}
+use Rattle.atl_descriptions.specs.Tables.{Part, Markets, books_table, creation_of, faction_table, IsGroupedPart, key_width_of, mail_table, report_table, table_of, unit_table}
 
 -- the statement that writes an amount of the books: puts the amount's row, or deletes the row if the amount is 0
 pub data OfAmount (c : CampaignValue) (entry : BooksEntry) (thing : Thing) : List ℕ → Row → Type 0 where

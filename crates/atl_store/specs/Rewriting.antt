@@ -13,9 +13,9 @@ use Rattle.atl_campaign.specs.Campaign.{CampaignValue, MarkedCampaign}
 use Rattle.atl_campaign.specs.Marks.{Marks, MarkedThings}
 use Rattle.atl_sql.specs.declared.rows.has.ThingKind.{ThingKind}
 use Rattle.atl_sql.specs.declared.rows.has.ThingKind.TheVariants.{Item, Skill}
-use Rattle.atl_sql.specs.Sets.{Set, HasExactly, rows_in}
+use Rattle.atl_descriptions.specs.Sets.{Set, HasExactly, rows_in}
 use Rattle.atl_sql.specs.Inside.{Alters, Changes}
-use Rattle.atl_sql.specs.Tables.{Part, campaign_table, has_table, books_table, market_table}
+use Rattle.atl_descriptions.specs.Tables.{Part, campaign_table, has_table, books_table, market_table}
 use Rattle.atl_sql.specs.Shown.{CampaignRowValue, campaign_row}
 use Rattle.atl_store.specs.Rows.{RowsOf, HasRowsOf, BooksRowsOf, MarketRowsOf, rows_for}
 use Rattle.atl_store.specs.Marked.{first_column_passes, entry_and_thing_pass, unit_and_thing_pass, region_and_item_pass, begins_marked, goods_marked, stocks_marked, amount_marked, is_marked}

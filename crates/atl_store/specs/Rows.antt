@@ -16,8 +16,8 @@ use Rattle.atl_records.specs.declared.records.Structure.{Structure}
 use Rattle.atl_records.specs.declared.records.Unit.{Unit}
 use Rattle.atl_sql.specs.declared.rows.has.ThingKind.{ThingKind}
 use Rattle.atl_sql.specs.declared.rows.has.ThingKind.TheVariants.{Item, Skill}
-use Rattle.atl_sql.specs.Sets.{Set, HasExactly, rows_in}
-use Rattle.atl_sql.specs.Tables.{Part, Own, Factions, Regions, Units, Goods, Structures, Mail, Reports, Books, Markets, table_of, parts_in}
+use Rattle.atl_descriptions.specs.Sets.{Set, HasExactly, rows_in}
+use Rattle.atl_descriptions.specs.Tables.{Part, Own, Factions, Regions, Units, Goods, Structures, Mail, Reports, Books, Markets, table_of, parts_in}
 use Rattle.atl_world.specs.declared.format.Format.{Format}
 use Rattle.sqlite_rules.specs.Lists.{Has}
 use Rattle.atl_sql.specs.Shown.{CampaignRowValue, campaign_row, campaign_row_in, faction_row, region_row, unit_row, has_row, structure_row, mail_row, report_row, books_row, market_row}

@@ -8,8 +8,8 @@ use Rattle.atl_world.specs.declared.format.Format.TheVariants.{First}
 use Rattle.atl_campaign.specs.Campaign.{CampaignValue}
 use Rattle.atl_campaign.specs.Good.{HasNoStocks}
 use Rattle.atl_store.specs.Rows.{Holds, HoldsIn}
-use Rattle.atl_sql.specs.Sets.{AreKeyedByRowid}
-use Rattle.atl_sql.specs.Tables.{IsFirstFormatOnly, market_table, parts_in, table_of}
+use Rattle.atl_descriptions.specs.Sets.{AreKeyedByRowid}
+use Rattle.atl_descriptions.specs.Tables.{IsFirstFormatOnly, market_table, parts_in, table_of}
 
 -- The database has exactly the tables of the first format, and its trees list and obey the schema.
 -- The rowids of each table are integers, no two alike.

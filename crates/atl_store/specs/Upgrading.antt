@@ -21,7 +21,7 @@ use Rattle.atl_store.specs.Keeps.{HoldsCampaign, Stores, ChangesNothing}
 use Rattle.atl_store.specs.Loading.{LeavesAlone, LoadsIn, RefusesToLoadIn}
 use Rattle.atl_store.specs.OwnStatements.{OfUpgrade}
 use Rattle.atl_store.specs.Rows.{HoldsIn}
-use Rattle.atl_sql.specs.Tables.{HasTablesOf, IsFirstFormatOnly}
+use Rattle.atl_descriptions.specs.Tables.{HasTablesOf, IsFirstFormatOnly}
 
 -- the tables hold this campaign, which is good, in the first format, with a text of this world
 pub record HoldsOld (s : State) (w : WorldValue) (c : CampaignValue) : Type 0 where

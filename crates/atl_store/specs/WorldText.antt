@@ -4,8 +4,8 @@ use Rattle.sqlite.specs.declared.types.Value.{Value}
 use Rattle.sqlite.specs.declared.types.Value.TheVariants.{Null, Int, Real, Text, Blob}
 use Rattle.sqlite.specs.Order.{Row, column}
 use Rattle.sqlite.specs.State.{State}
-use Rattle.atl_sql.specs.Sets.{rows_in}
-use Rattle.atl_sql.specs.Tables.{campaign_table}
+use Rattle.atl_descriptions.specs.Sets.{rows_in}
+use Rattle.atl_descriptions.specs.Tables.{campaign_table}
 
 -- the bytes of a value that is a text, and nothing for any other value
 abbrev pub text_of : Value → List ℕ

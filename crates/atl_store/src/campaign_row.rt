@@ -5,7 +5,7 @@ ghost use Rattle.atl_sql.specs.PutsCampaignRow.{PutsCampaignRow, UpgradesCampaig
 ghost use Rattle.atl_store.specs.Rewriting.{RewritesCampaignRow};
 ghost use Rattle.atl_sql.specs.Shown.{campaign_row_values};
 ghost use Rattle.atl_sql.specs.Written.{head_shown};
-ghost use Rattle.atl_sql.specs.Statements.{campaign_upsert, upgrading_upsert, OneStatement};
+ghost use Rattle.atl_descriptions.specs.Statements.{campaign_upsert, upgrading_upsert, OneStatement};
 ghost use Rattle.atl_store.specs.OwnStatements.{OfChange};
 ghost use Rattle.atl_sql.specs.Writes.{Writes};
 ghost use Rattle.atl_sql.specs.Inside.{DoesInside, HasTables};

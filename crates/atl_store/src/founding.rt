@@ -1,7 +1,7 @@
 //! Creates the tables and writes a whole campaign into them. See docs/FORMATS.md, "Tables".
 ghost use Rattle.std.specs.Prelude.{◌≡◌, ◌≤◌, false, IsTrue, OnOk, OnErr, IfErr, ◌↔◌};
 ghost use Rattle.sqlite.specs.Held.{state};
-ghost use Rattle.atl_sql.specs.Tables.{no_tables};
+ghost use Rattle.atl_descriptions.specs.Tables.{no_tables};
 ghost use Rattle.atl_records.specs.Limits.{most_things};
 ghost use Rattle.atl_campaign.specs.Marks.{no_marks};
 ghost use Rattle.atl_store.specs.OwnStatements.{OfFounding};

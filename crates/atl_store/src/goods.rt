@@ -1,6 +1,6 @@
 //! Writes what units have, one row for each item and each skill of a unit.
 ghost use Rattle.std.specs.Prelude.{refl};
-ghost use Rattle.atl_sql.specs.Tables.{Goods, has_table};
+ghost use Rattle.atl_descriptions.specs.Tables.{Goods, has_table};
 ghost use Rattle.atl_sql.specs.Shown.{has_row};
 ghost use Rattle.atl_sql.specs.Written.{sort_number};
 ghost use Rattle.atl_store.specs.Rows.{HasRowsOf};

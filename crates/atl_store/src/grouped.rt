@@ -3,7 +3,7 @@ ghost use Rattle.std.specs.Prelude.{◌≡◌, ℕ, suc, List, [], ◌∷◌};
 ghost use Rattle.std.specs.Ordering.{nat_cmp};
 ghost use Rattle.std.specs.FinSet.{FinSet};
 ghost use Rattle.sqlite.specs.Order.{Row as SqlRow};
-ghost use Rattle.atl_sql.specs.Tables.{Part, IsGroupedPart, key_width_of, table_of};
+ghost use Rattle.atl_descriptions.specs.Tables.{Part, IsGroupedPart, key_width_of, table_of};
 ghost use Rattle.atl_store.specs.Rows.{rows_for};
 ghost use Rattle.atl_sql.specs.Shown.{int};
 ghost use Rattle.atl_store.specs.GroupedRows.{AreGroups};

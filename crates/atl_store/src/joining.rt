@@ -5,7 +5,7 @@ ghost use Rattle.sqlite.specs.State.{HasCleanDisk};
 ghost use Rattle.atl_campaign.specs.Campaign.{CampaignValue};
 ghost use Rattle.atl_records.specs.declared.books.BooksEntry.TheVariants.{Joining};
 ghost use Rattle.atl_records.specs.declared.books.Thing.TheVariants.{Money, People};
-ghost use Rattle.atl_sql.specs.Tables.{faction_table, unit_table, report_table};
+ghost use Rattle.atl_descriptions.specs.Tables.{faction_table, unit_table, report_table};
 ghost use Rattle.atl_sql.specs.Shown.{report_row};
 ghost use Rattle.atl_store.specs.Rows.{campaign_row_of, row_of_faction, row_of_unit};
 ghost use Rattle.atl_sql.specs.PutsCampaignRow.{PutsCampaignRow};

@@ -3,7 +3,7 @@ ghost use Rattle.std.specs.Prelude.{◌<◌, ◌≤◌, map};
 ghost use Rattle.std.specs.List.{range_with_len};
 ghost use Rattle.atl_records.specs.Limits.{most_things};
 ghost use Rattle.atl_records.specs.Books.{AreBooks, entry_index, thing_index};
-ghost use Rattle.atl_sql.specs.Tables.{books_table};
+ghost use Rattle.atl_descriptions.specs.Tables.{books_table};
 ghost use Rattle.atl_store.specs.GroupedRows.{amount_lines, entries_lines, things_lines};
 ghost use Rattle.atl_store.specs.OwnStatements.{OfAmount, OfChange};
 ghost use Rattle.atl_sql.specs.Writes.{Writes, WritesRows};

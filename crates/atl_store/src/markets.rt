@@ -1,6 +1,6 @@
 //! Writes the stocks of markets, one row for each region and item whose stock is not 0.
 ghost use Rattle.std.specs.Prelude.{refl};
-ghost use Rattle.atl_sql.specs.Tables.{Markets, market_table};
+ghost use Rattle.atl_descriptions.specs.Tables.{Markets, market_table};
 ghost use Rattle.atl_sql.specs.Shown.{market_row};
 ghost use Rattle.atl_store.specs.Marked.{region_and_item_pass};
 ghost use Rattle.atl_store.specs.Rows.{MarketRowsOf};

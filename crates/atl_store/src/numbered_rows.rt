@@ -7,7 +7,7 @@ ghost use Rattle.std.specs.FinMap.{FinMap, entries, get};
 ghost use Rattle.std.specs.FinSet.{FinSet};
 ghost use Rattle.sqlite.specs.Order.{Row as SqlRow};
 ghost use Rattle.atl_sql.specs.Shown.{int};
-ghost use Rattle.atl_sql.specs.Tables.{Part, IsNumberedPart, table_of, unit_table};
+ghost use Rattle.atl_descriptions.specs.Tables.{Part, IsNumberedPart, table_of, unit_table};
 ghost use Rattle.atl_store.specs.Rows.{RowsOf, rows_in_order, rows_for, row_of_unit};
 ghost use Rattle.atl_store.specs.Marked.{begins_marked, is_marked};
 ghost use Rattle.atl_sql.specs.Writes.{WritesRow, WritesRows, TakesOut};

@@ -1,6 +1,6 @@
 //! Writes the rows of marked numbers, in tables with one row for each number, as of factions or
 //! units: the row is put, or deleted if nothing has the number any more.
-ghost use Rattle.atl_sql.specs.Tables.{table_of};
+ghost use Rattle.atl_descriptions.specs.Tables.{table_of};
 ghost use Rattle.atl_store.specs.OwnStatements.{OfChange};
 ghost use Rattle.atl_sql.specs.Writes.{Writes};
 ghost use Rattle.atl_sql.specs.Inside.{DoesInside, HasTables};

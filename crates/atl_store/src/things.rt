@@ -2,7 +2,7 @@
 ghost use Rattle.std.specs.Prelude.{◌≡◌};
 ghost use Rattle.atl_store.specs.Rows.{HasRowsOf, amount_under};
 ghost use Rattle.atl_store.specs.OwnStatements.{OfChange};
-ghost use Rattle.atl_sql.specs.Tables.{has_table};
+ghost use Rattle.atl_descriptions.specs.Tables.{has_table};
 ghost use Rattle.atl_sql.specs.Writes.{Writes};
 ghost use Rattle.atl_sql.specs.Inside.{DoesInside, HasTables};
 ghost use Rattle.atl_store.specs.Marked.{unit_and_thing_pass};

@@ -1,7 +1,7 @@
 //! Writes the parts of a campaign but the campaign row, each into its table, one after another.
 ghost use Rattle.std.specs.Prelude.{◌≤◌, ◌++◌, List, [], ◌∷◌};
 ghost use Rattle.atl_records.specs.Limits.{most_things};
-ghost use Rattle.atl_sql.specs.Tables.{Part, Units, Goods, Books, Markets};
+ghost use Rattle.atl_descriptions.specs.Tables.{Part, Units, Goods, Books, Markets};
 ghost use Rattle.atl_store.specs.OwnStatements.{OfRow, OfChange};
 ghost use Rattle.atl_sql.specs.Writes.{Writes};
 ghost use Rattle.atl_sql.specs.Inside.{DoesInside, HasTables, InTurn};

@@ -1,7 +1,7 @@
 //! The table `books`: a row for each entry and thing with an amount.
 ghost use Rattle.std.specs.Prelude.{refl};
 ghost use Rattle.std.proofs.Common.{lit<};
-ghost use Rattle.atl_sql.specs.Tables.{Books};
+ghost use Rattle.atl_descriptions.specs.Tables.{Books};
 
 use crate::record::{Record, Written};
 use crate::table;

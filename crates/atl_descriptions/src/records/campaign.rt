@@ -2,7 +2,7 @@
 //! check.
 ghost use Rattle.std.specs.Prelude.{refl};
 ghost use Rattle.std.proofs.Common.{lit<};
-ghost use Rattle.atl_sql.specs.Tables.{Own};
+ghost use Rattle.atl_descriptions.specs.Tables.{Own};
 
 use crate::record::Record;
 use crate::table::Table;

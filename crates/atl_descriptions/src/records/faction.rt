@@ -2,7 +2,7 @@
 //! factions join under one name.
 ghost use Rattle.std.specs.Prelude.{refl};
 ghost use Rattle.std.proofs.Common.{lit<};
-ghost use Rattle.atl_sql.specs.Tables.{Factions};
+ghost use Rattle.atl_descriptions.specs.Tables.{Factions};
 
 use crate::record::{Record, Written};
 use crate::table::{Statements, Table};

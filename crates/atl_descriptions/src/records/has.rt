@@ -1,7 +1,7 @@
 //! The table `has` of what units have: a row for each item and each skill of a unit.
 ghost use Rattle.std.specs.Prelude.{refl};
 ghost use Rattle.std.proofs.Common.{lit<};
-ghost use Rattle.atl_sql.specs.Tables.{Goods};
+ghost use Rattle.atl_descriptions.specs.Tables.{Goods};
 
 use crate::record::{Record, Written};
 use crate::table;

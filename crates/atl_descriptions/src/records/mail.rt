@@ -1,7 +1,7 @@
 //! The table `mail`: a row for each faction that sent a mailing.
 ghost use Rattle.std.specs.Prelude.{refl};
 ghost use Rattle.std.proofs.Common.{lit<};
-ghost use Rattle.atl_sql.specs.Tables.{Mail};
+ghost use Rattle.atl_descriptions.specs.Tables.{Mail};
 
 use crate::record::{Record, Written};
 use crate::table;

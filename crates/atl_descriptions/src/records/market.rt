@@ -1,7 +1,7 @@
 //! The table `market`: a row for each item of a region that is in stock.
 ghost use Rattle.std.specs.Prelude.{refl};
 ghost use Rattle.std.proofs.Common.{lit<};
-ghost use Rattle.atl_sql.specs.Tables.{Markets};
+ghost use Rattle.atl_descriptions.specs.Tables.{Markets};
 
 use crate::record::{Record, Written};
 use crate::table;

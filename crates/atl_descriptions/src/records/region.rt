@@ -1,7 +1,7 @@
 //! The table `region`: a row for each region.
 ghost use Rattle.std.specs.Prelude.{refl};
 ghost use Rattle.std.proofs.Common.{lit<};
-ghost use Rattle.atl_sql.specs.Tables.{Regions};
+ghost use Rattle.atl_descriptions.specs.Tables.{Regions};
 
 use crate::record::{Record, Written};
 use crate::table;

@@ -1,7 +1,7 @@
 //! The table `report`: a row for each faction that has a report.
 ghost use Rattle.std.specs.Prelude.{refl};
 ghost use Rattle.std.proofs.Common.{lit<};
-ghost use Rattle.atl_sql.specs.Tables.{Reports};
+ghost use Rattle.atl_descriptions.specs.Tables.{Reports};
 
 use crate::record::{Record, Written};
 use crate::table;

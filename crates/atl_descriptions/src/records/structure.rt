@@ -1,12 +1,12 @@
 //! The table `structure`: a row for each structure.
 ghost use Rattle.std.specs.Prelude.{refl};
 ghost use Rattle.std.proofs.Common.{lit<};
-ghost use Rattle.atl_sql.specs.Tables.{Structures};
+ghost use Rattle.atl_descriptions.specs.Tables.{Structures};
 
 use crate::record::{Record, Written};
 use crate::table;
 use crate::table::{Statements, Table};
-use atl_columns::numbers::{Integer, Reference, Reference16};
+use atl_columns::numbers::{Integer, Reference};
 use atl_columns::parameters::{AsText, Parameters};
 use atl_columns::texts::{AnyText, Text};
 use atl_records::MOST_STRUCTURES;
@@ -24,7 +24,7 @@ pub struct StructureRecord {
     /// The structure's number.
     pub number: u32,
     /// The index of the structure's kind in the world's list of kinds, from 0.
-    pub kind: u16,
+    pub kind: u32,
     /// The name that the structure shows.
     pub name: Sequence<u8>,
     /// The number of the region where the structure is.
@@ -39,7 +39,7 @@ impl Record for StructureRecord {
     type Fields = (
         Integer<1, MOST_STRUCTURES>,
         (
-            Reference16,
+            Reference,
             (Text<AnyText>, (Reference, (Reference, (Reference, ())))),
         ),
     );
@@ -67,7 +67,7 @@ impl Record for StructureRecord {
     fn of_fields(
         (number, (kind, (name, (region, (done, (owner, ())))))): (
             u32,
-            (u16, (Sequence<u8>, (u32, (u32, (u32, ()))))),
+            (u32, (Sequence<u8>, (u32, (u32, (u32, ()))))),
         ),
     ) -> StructureRecord {
         StructureRecord {
@@ -90,7 +90,7 @@ impl Written for StructureRecord {
         (
             self.number,
             (
-                u32::from(self.kind),
+                self.kind,
                 (
                     AsText {
                         bytes: self.name.as_slice(),

@@ -1,7 +1,7 @@
 //! The table `unit`: a row for each unit.
 ghost use Rattle.std.specs.Prelude.{refl};
 ghost use Rattle.std.proofs.Common.{lit<};
-ghost use Rattle.atl_sql.specs.Tables.{Units};
+ghost use Rattle.atl_descriptions.specs.Tables.{Units};
 
 use crate::record::{Record, Written};
 use crate::table;

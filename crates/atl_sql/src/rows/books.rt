@@ -1,6 +1,6 @@
 //! The rows of the table `books`: signed amounts by entry and thing. See docs/FORMATS.md, "Books".
 ghost use Rattle.std.specs.Prelude.{refl};
-ghost use Rattle.atl_sql.specs.Tables.{Books, books_table};
+ghost use Rattle.atl_descriptions.specs.Tables.{Books, books_table};
 ghost use Rattle.atl_sql.specs.Shown.{books_key, books_stored, books_forms};
 ghost use Rattle.atl_sql.specs.Written.{books_shown};
 ghost use Rattle.atl_sql.specs.Writes.{WritesRow, TakesOut};

@@ -2,11 +2,11 @@
 ghost use Rattle.std.specs.Prelude.{◌≡◌, false, not, IsTrue, IfOk, IfErr, refl};
 ghost use Rattle.atl_sql.specs.Errors.{is_memory};
 ghost use Rattle.atl_sql.specs.Stored.{first_columns, IsTyped};
-ghost use Rattle.atl_sql.specs.Tables.{Own, campaign_table};
+ghost use Rattle.atl_descriptions.specs.Tables.{Own, campaign_table};
 ghost use Rattle.atl_sql.specs.Written.{head_shown};
 ghost use Rattle.atl_sql.specs.PutsCampaignRow.{PutsCampaignRow, UpgradesCampaignRow};
 ghost use Rattle.atl_sql.specs.Shown.{campaign_row_values, campaign_row_stored, campaign_row_forms, campaign_stored, campaign_forms};
-ghost use Rattle.atl_sql.specs.Statements.{campaign_upsert, selection, upgrading_upsert, OneStatement};
+ghost use Rattle.atl_descriptions.specs.Statements.{campaign_upsert, selection, upgrading_upsert, OneStatement};
 ghost use Rattle.atl_sql.specs.Writes.{Writes};
 ghost use Rattle.atl_sql.specs.Inside.{DoesInside, HasTables};
 ghost use Rattle.atl_sql.specs.Reading.{Asks};

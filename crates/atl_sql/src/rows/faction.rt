@@ -1,6 +1,6 @@
 //! The rows of the table `faction`: a row for each faction, gone or not.
 ghost use Rattle.std.specs.Prelude.{refl};
-ghost use Rattle.atl_sql.specs.Tables.{Factions, faction_table};
+ghost use Rattle.atl_descriptions.specs.Tables.{Factions, faction_table};
 ghost use Rattle.atl_sql.specs.Shown.{faction_stored, faction_forms};
 ghost use Rattle.atl_sql.specs.Written.{faction_shown};
 ghost use Rattle.atl_sql.specs.Writes.{WritesRow};

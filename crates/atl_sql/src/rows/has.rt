@@ -1,6 +1,6 @@
 //! The rows of the table `has`: each has an amount of an item, or days of a skill, of one unit.
 ghost use Rattle.std.specs.Prelude.{◌≡◌, [], ◌∷◌, refl};
-ghost use Rattle.atl_sql.specs.Tables.{Goods, has_table};
+ghost use Rattle.atl_descriptions.specs.Tables.{Goods, has_table};
 ghost use Rattle.atl_sql.specs.Shown.{int, has_key, has_stored, has_forms};
 ghost use Rattle.atl_sql.specs.Written.{has_shown, sort_number};
 ghost use Rattle.atl_sql.specs.Writes.{WritesRow, TakesOut};

@@ -1,6 +1,6 @@
 //! The rows of the table `mail`: the mailing of each faction that sent one.
 ghost use Rattle.std.specs.Prelude.{refl};
-ghost use Rattle.atl_sql.specs.Tables.{Mail, mail_table};
+ghost use Rattle.atl_descriptions.specs.Tables.{Mail, mail_table};
 ghost use Rattle.atl_sql.specs.Shown.{mail_row, mail_stored, mail_forms};
 ghost use Rattle.atl_sql.specs.Writes.{WritesRow};
 

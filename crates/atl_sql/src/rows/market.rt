@@ -1,6 +1,6 @@
 //! The rows of the table `market`: each has the stock of one item in a region's market.
 ghost use Rattle.std.specs.Prelude.{[], ◌∷◌, refl};
-ghost use Rattle.atl_sql.specs.Tables.{Markets, market_table};
+ghost use Rattle.atl_descriptions.specs.Tables.{Markets, market_table};
 ghost use Rattle.atl_sql.specs.Shown.{int, market_key, market_row, market_stored, market_forms};
 ghost use Rattle.atl_sql.specs.Writes.{WritesRow, TakesOut};
 

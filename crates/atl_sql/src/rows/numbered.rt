@@ -1,8 +1,8 @@
 //! The six tables whose key is a number, such as `faction`: how a row is deleted by it.
 ghost use Rattle.std.specs.Prelude.{◌≡◌, [], ◌∷◌};
 ghost use Rattle.atl_sql.specs.Shown.{int};
-ghost use Rattle.atl_sql.specs.Tables.{IsNumberedPart, table_of};
-ghost use Rattle.atl_sql.specs.Statements.{deletion};
+ghost use Rattle.atl_descriptions.specs.Tables.{IsNumberedPart, table_of};
+ghost use Rattle.atl_descriptions.specs.Statements.{deletion};
 ghost use Rattle.atl_sql.specs.Writes.{TakesOut};
 
 use crate::rows::stored::HasSelect;

@@ -1,6 +1,6 @@
 //! The rows of the table `region`: a row for each region.
 ghost use Rattle.std.specs.Prelude.{refl};
-ghost use Rattle.atl_sql.specs.Tables.{Regions, region_table};
+ghost use Rattle.atl_descriptions.specs.Tables.{Regions, region_table};
 ghost use Rattle.atl_sql.specs.Shown.{region_row, region_stored, region_forms};
 ghost use Rattle.atl_sql.specs.Writes.{WritesRow};
 

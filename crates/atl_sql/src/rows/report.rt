@@ -1,6 +1,6 @@
 //! The rows of the table `report`: the last report of each faction.
 ghost use Rattle.std.specs.Prelude.{refl};
-ghost use Rattle.atl_sql.specs.Tables.{Reports, report_table};
+ghost use Rattle.atl_descriptions.specs.Tables.{Reports, report_table};
 ghost use Rattle.atl_sql.specs.Shown.{report_row, report_stored, report_forms};
 ghost use Rattle.atl_sql.specs.Writes.{WritesRow};
 

@@ -4,9 +4,10 @@ ghost use Rattle.sqlite.specs.Given.{IsPlain};
 ghost use Rattle.sqlite.specs.Listing.{understood};
 ghost use Rattle.sqlite.specs.Order.{Row as SqlRow};
 ghost use Rattle.atl_sql.specs.Errors.{is_memory};
-ghost use Rattle.atl_sql.specs.Reading.{AddsRow, Asks, GivesTable, ReadsRows, Streams, select_of_part};
+ghost use Rattle.atl_sql.specs.Reading.{AddsRow, Asks, GivesTable, ReadsRows, Streams};
+ghost use Rattle.atl_descriptions.specs.PartSelects.{select_of_part};
 ghost use Rattle.atl_sql.specs.Stored.{Form, first_columns, IsTyped, AreTyped};
-ghost use Rattle.atl_sql.specs.Tables.{Part, HasTablesOf};
+ghost use Rattle.atl_descriptions.specs.Tables.{Part, HasTablesOf};
 ghost use Rattle.atl_sql.specs.declared.fault.ReadFault.TheVariants.{Memory, OtherType};
 
 use crate::fault::{ReadFault, fault_of_value};

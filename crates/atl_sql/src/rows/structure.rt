@@ -1,6 +1,6 @@
 //! The rows of the table `structure`: a row for each structure.
 ghost use Rattle.std.specs.Prelude.{refl};
-ghost use Rattle.atl_sql.specs.Tables.{Structures, structure_table};
+ghost use Rattle.atl_descriptions.specs.Tables.{Structures, structure_table};
 ghost use Rattle.atl_sql.specs.Shown.{structure_stored, structure_forms};
 ghost use Rattle.atl_sql.specs.Written.{structure_shown};
 ghost use Rattle.atl_sql.specs.Writes.{WritesRow};

@@ -1,6 +1,6 @@
 //! The rows of the table `unit`: a row for each unit.
 ghost use Rattle.std.specs.Prelude.{refl};
-ghost use Rattle.atl_sql.specs.Tables.{Units, unit_table};
+ghost use Rattle.atl_descriptions.specs.Tables.{Units, unit_table};
 ghost use Rattle.atl_sql.specs.Shown.{unit_stored, unit_forms};
 ghost use Rattle.atl_sql.specs.Written.{unit_shown};
 ghost use Rattle.atl_sql.specs.Writes.{WritesRow};

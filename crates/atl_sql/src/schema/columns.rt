@@ -1,6 +1,6 @@
 //! Compares the columns of a table of a schema with the names and kinds that they should have.
 ghost use Rattle.std.specs.Prelude.{◌≡◌, map, ◌↔◌, IsTrue};
-ghost use Rattle.atl_sql.specs.Sets.{strict_column};
+ghost use Rattle.atl_columns.specs.Fields.{strict_column};
 
 use sqlite_schema::schema::{Column, Kind};
 use sqlite_value::keys::Collation;

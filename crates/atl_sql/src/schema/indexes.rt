@@ -3,7 +3,7 @@ ghost use Rattle.std.specs.Prelude.{◌≡◌, ◌==◌, ◌≤◌, ◌++◌, tr
 ghost use Rattle.std.specs.List.{AllByRecursion, list_any};
 ghost use Rattle.std.specs.Fmt.{decimal};
 ghost use Rattle.sqlite_value.specs.Keys.{plain};
-ghost use Rattle.atl_sql.specs.Tables.{all_tables, all_indexes, IsHarmless, AreIndexes};
+ghost use Rattle.atl_descriptions.specs.Tables.{all_tables, all_indexes, IsHarmless, AreIndexes};
 
 use crate::schema::keys::is_plain;
 use crate::tables::{

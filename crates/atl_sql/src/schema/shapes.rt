@@ -1,7 +1,8 @@
 //! Compares a table of a schema with the definition of a campaign's table: its tree, name, columns
 //! and keys.
 ghost use Rattle.std.specs.Prelude.{◌≡◌, [], ◌∷◌, map, Some, None, false, ◌↔◌, IsTrue};
-ghost use Rattle.atl_sql.specs.Sets.{strict_column, table};
+ghost use Rattle.atl_columns.specs.Fields.{strict_column};
+ghost use Rattle.atl_descriptions.specs.Sets.{table};
 
 use crate::schema::columns::are_strict_columns;
 use crate::schema::keys::{has_no_unique, is_numbered, is_under, is_unique};

@@ -8,9 +8,9 @@ ghost use Rattle.atl_store.specs.declared.fault.LoadFault.TheVariants.{Store};
 ghost use Rattle.atl_world.specs.declared.format.Format.TheVariants.{First};
 ghost use Rattle.atl_store.specs.Gathering.{IsCommitted, ReadRows, AreAllRows, AreNone, AreOfFormat, ReadsSome, FailsWithout, HaveDistinctRowids, rows_or_none, second_format_parts, selects_by};
 ghost use Rattle.atl_store.specs.Loading.{other_parts};
-ghost use Rattle.atl_sql.specs.Reading.{select_of_part};
+ghost use Rattle.atl_descriptions.specs.PartSelects.{select_of_part};
 ghost use Rattle.atl_sql.specs.Stored.{Form};
-ghost use Rattle.atl_sql.specs.Tables.{Part};
+ghost use Rattle.atl_descriptions.specs.Tables.{Part};
 
 use crate::fault::{LoadFault, ReadFault};
 use atl_sql::rows::{HasSelect, RowWithId};

@@ -1,6 +1,6 @@
 //! The factions of a campaign, gone or not, as rows of `faction`.
 ghost use Rattle.std.specs.Prelude.{refl};
-ghost use Rattle.atl_sql.specs.Tables.{Factions};
+ghost use Rattle.atl_descriptions.specs.Tables.{Factions};
 ghost use Rattle.atl_store.specs.Rows.{row_of_faction};
 
 use super::{Mapped, NumberedRow};

@@ -1,6 +1,6 @@
 //! The mailings of a campaign as rows of `mail`.
 ghost use Rattle.std.specs.Prelude.{refl};
-ghost use Rattle.atl_sql.specs.Tables.{Mail};
+ghost use Rattle.atl_descriptions.specs.Tables.{Mail};
 ghost use Rattle.atl_sql.specs.Shown.{mail_row};
 
 use super::{Mapped, NumberedRow};

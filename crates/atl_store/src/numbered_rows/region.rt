@@ -1,6 +1,6 @@
 //! The regions of a campaign as rows of `region`.
 ghost use Rattle.std.specs.Prelude.{refl};
-ghost use Rattle.atl_sql.specs.Tables.{Regions};
+ghost use Rattle.atl_descriptions.specs.Tables.{Regions};
 ghost use Rattle.atl_store.specs.Rows.{row_of_region};
 
 use super::{Mapped, NumberedRow};

@@ -1,6 +1,6 @@
 //! The reports of a campaign as rows of `report`.
 ghost use Rattle.std.specs.Prelude.{refl};
-ghost use Rattle.atl_sql.specs.Tables.{Reports};
+ghost use Rattle.atl_descriptions.specs.Tables.{Reports};
 ghost use Rattle.atl_sql.specs.Shown.{report_row};
 
 use super::{Mapped, NumberedRow};

@@ -1,6 +1,6 @@
 //! The structures of a campaign as rows of `structure`.
 ghost use Rattle.std.specs.Prelude.{refl};
-ghost use Rattle.atl_sql.specs.Tables.{Structures};
+ghost use Rattle.atl_descriptions.specs.Tables.{Structures};
 ghost use Rattle.atl_store.specs.Rows.{row_of_structure};
 
 use super::{Mapped, NumberedRow};

@@ -1,6 +1,6 @@
 //! The units of a campaign as rows of `unit`.
 ghost use Rattle.std.specs.Prelude.{refl};
-ghost use Rattle.atl_sql.specs.Tables.{Units};
+ghost use Rattle.atl_descriptions.specs.Tables.{Units};
 ghost use Rattle.atl_store.specs.Rows.{row_of_unit};
 
 use super::NumberedRow;

@@ -1,5 +1,5 @@
 use Rattle.std.proofs.Common.{subst, sym, ◌∙◌}
-use Rattle.atl_sql.specs.Tables.{AreTables, AreIndexes}
+use Rattle.atl_descriptions.specs.Tables.{AreTables, AreIndexes}
 use Rattle.atl_sql.proofs.SchemaLaws.{begins_made, its_tables, its_indexes, no_views}
 use Rattle.atl_sql.proofs.schema.begins.Goals as goal
 

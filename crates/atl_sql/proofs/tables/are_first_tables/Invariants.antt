@@ -1,5 +1,5 @@
 use Rattle.std.proofs.Common.{◌≡◌, take}
-use Rattle.atl_sql.specs.Tables.{all_tables}
+use Rattle.atl_descriptions.specs.Tables.{all_tables}
 use Rattle.atl_sql.proofs.tables.are_first_tables.Given as goal
 
 -- the first `position` tables of the schema are the first `position` of the ten

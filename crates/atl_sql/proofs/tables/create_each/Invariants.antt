@@ -1,4 +1,4 @@
-use Rattle.atl_sql.specs.Statements.{Creations}
+use Rattle.atl_descriptions.specs.Statements.{Creations}
 use Rattle.atl_sql.proofs.MakingLaws.{MakesFirst}
 use Rattle.atl_sql.proofs.WriteLaws.{HasDone}
 use Rattle.atl_sql.proofs.tables.create_each.Given as goal

@@ -1,5 +1,5 @@
 use Rattle.std.proofs.Common.{[], ◌∷◌, refl}
-use Rattle.atl_sql.specs.Tables.{Own, written_parts}
+use Rattle.atl_descriptions.specs.Tables.{Own, written_parts}
 use Rattle.atl_store.specs.Rewriting.{Becomes}
 use Rattle.atl_store.proofs.TurnLaws.{in_turn_changed}
 use Rattle.atl_store.proofs.RewriteAllLaws.{own_rewritten, own_then_rewritten, all_rewritten}

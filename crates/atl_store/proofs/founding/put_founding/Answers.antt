@@ -1,5 +1,5 @@
 use Rattle.std.proofs.Common.{[], ◌∷◌, refl}
-use Rattle.atl_sql.specs.Tables.{Own, written_parts}
+use Rattle.atl_descriptions.specs.Tables.{Own, written_parts}
 use Rattle.atl_store.specs.Filling.{Fills}
 use Rattle.atl_store.specs.OwnStatements.{founds_tables, founds_head, founds_row}
 use Rattle.atl_store.proofs.FillLaws.{own_filled, own_then_filled, founding_done}

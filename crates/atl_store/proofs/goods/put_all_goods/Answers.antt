@@ -1,5 +1,5 @@
 use Rattle.std.proofs.Common.{ap}
-use Rattle.atl_sql.specs.Tables.{has_table}
+use Rattle.atl_descriptions.specs.Tables.{has_table}
 use Rattle.atl_store.specs.GroupedRows.{goods_lines, all_goods_lines}
 use Rattle.atl_sql.proofs.PuttingLaws.{putting_begins, putting_more, putting_failed, putting_ends}
 use Rattle.atl_store.proofs.goods.put_all_goods.Goals as goal

@@ -1,4 +1,4 @@
-use Rattle.atl_sql.specs.Tables.{has_table}
+use Rattle.atl_descriptions.specs.Tables.{has_table}
 use Rattle.atl_store.specs.GroupedRows.{all_goods_lines}
 use Rattle.atl_sql.proofs.PuttingLaws.{HasPutSome}
 use Rattle.atl_store.proofs.goods.put_all_goods.Given as goal

@@ -1,6 +1,6 @@
 use Rattle.std.proofs.Common.{ap}
 use Rattle.std.specs.FinMap.{entries}
-use Rattle.atl_sql.specs.Tables.{has_table}
+use Rattle.atl_descriptions.specs.Tables.{has_table}
 use Rattle.atl_sql.specs.declared.rows.has.ThingKind.TheVariants.{Item, Skill}
 use Rattle.atl_store.specs.GroupedRows.{kind_lines}
 use Rattle.atl_sql.proofs.PuttingLaws.{same_written, both_written, first_failed}

@@ -1,5 +1,5 @@
 use Rattle.atl_sql.specs.declared.rows.has.ThingKind.TheVariants.{Item, Skill}
-use Rattle.atl_sql.specs.Tables.{has_table}
+use Rattle.atl_descriptions.specs.Tables.{has_table}
 use Rattle.atl_store.specs.Rows.{HasRowsOf}
 use Rattle.atl_store.specs.Marked.{begins_marked, has_thing, unit_and_thing_pass}
 use Rattle.atl_store.proofs.HasTableLaws.{goods_grouped}

@@ -1,6 +1,6 @@
 use Rattle.std.proofs.Common.{sym, Some, ◌≡◌}
 use Rattle.std.specs.FinMap.{get}
-use Rattle.atl_sql.specs.Tables.{table_of}
+use Rattle.atl_descriptions.specs.Tables.{table_of}
 use Rattle.atl_store.specs.OwnStatements.{changes_row, drops_group}
 use Rattle.atl_store.proofs.GroupRowLaws.{lines_done, bare_done, puts_wanted}
 use Rattle.atl_sql.proofs.WriteLaws.{two_steps, stops, weaker, among_only, among_each}

@@ -1,4 +1,4 @@
-use Rattle.atl_sql.specs.Tables.{table_of}
+use Rattle.atl_descriptions.specs.Tables.{table_of}
 use Rattle.atl_store.specs.OwnStatements.{OfChange}
 use Rattle.atl_sql.specs.Inside.{DoesInside, HasTables}
 use Rattle.atl_store.proofs.RewriteLaws.{RemainingNumbers}

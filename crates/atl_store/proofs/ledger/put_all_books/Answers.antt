@@ -1,7 +1,7 @@
 use Rattle.std.proofs.Common.{◌≡◌, ◌+◌, ◌-◌, suc, ap, subst, arith}
 use Rattle.std.specs.List.{range_with_len}
 use Rattle.atl_records.specs.Books.{AreBooks, all_entries, thing_at}
-use Rattle.atl_sql.specs.Tables.{books_table}
+use Rattle.atl_descriptions.specs.Tables.{books_table}
 use Rattle.atl_store.specs.GroupedRows.{entries_lines, things_lines}
 use Rattle.atl_sql.proofs.PuttingLaws.{same_written, putting_begins, putting_more, putting_failed, putting_ends}
 use Rattle.atl_store.proofs.ledger.put_all_books.Goals as goal

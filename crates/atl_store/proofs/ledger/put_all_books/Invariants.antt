@@ -1,6 +1,6 @@
 use Rattle.std.proofs.Common.{◌-◌}
 use Rattle.std.specs.List.{range_with_len}
-use Rattle.atl_sql.specs.Tables.{books_table}
+use Rattle.atl_descriptions.specs.Tables.{books_table}
 use Rattle.atl_store.specs.GroupedRows.{things_lines}
 use Rattle.atl_sql.proofs.PuttingLaws.{HasPutSome}
 use Rattle.atl_store.proofs.ledger.put_all_books.Given as goal

@@ -1,7 +1,7 @@
 use Rattle.std.proofs.Common.{◌≡◌, pos, refl, sym, ◌∙◌, rules}
 use mir.Syntax.{w64}
 use Rattle.std.proofs.lemmas.Int.{to_z-of_z}
-use Rattle.atl_sql.specs.Tables.{books_table}
+use Rattle.atl_descriptions.specs.Tables.{books_table}
 use Rattle.atl_store.proofs.LedgerLaws.{amount_is}
 use Rattle.atl_sql.proofs.PuttingLaws.{one_written}
 use Rattle.atl_store.proofs.ledger.put_amount.Goals as goal

@@ -1,6 +1,6 @@
 use Rattle.std.proofs.Common.{◌+◌, drop, refl, ap, arith}
 use Rattle.std.proofs.lemmas.List.{drop_more, at_drop_all}
-use Rattle.atl_sql.specs.Tables.{books_table}
+use Rattle.atl_descriptions.specs.Tables.{books_table}
 use Rattle.atl_store.specs.GroupedRows.{entries_lines}
 use Rattle.atl_sql.proofs.PuttingLaws.{putting_begins, putting_more, putting_failed, putting_ends}
 use Rattle.atl_store.proofs.ledger.put_entries.Goals as goal

@@ -1,6 +1,6 @@
 use Rattle.std.proofs.Common.{sym, ◌∙◌}
 use Rattle.atl_records.specs.Books.{entry_index, thing_index}
-use Rattle.atl_sql.specs.Tables.{books_table}
+use Rattle.atl_descriptions.specs.Tables.{books_table}
 use Rattle.atl_store.specs.Rows.{BooksRowsOf}
 use Rattle.atl_store.specs.Rewriting.{equals_number, is_of_marked_amount}
 use Rattle.atl_store.proofs.ArriveLaws.{amount_changes}

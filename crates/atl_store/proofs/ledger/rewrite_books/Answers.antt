@@ -3,7 +3,7 @@ use Rattle.std.specs.List.{range_with_len}
 use Rattle.atl_records.specs.Books.{all_entries, entry_index, thing_index}
 use Rattle.atl_campaign.specs.Marks.{AreOfThings}
 use Rattle.atl_records.proofs.AccountLaws.{index_of_thing_at}
-use Rattle.atl_sql.specs.Tables.{books_table}
+use Rattle.atl_descriptions.specs.Tables.{books_table}
 use Rattle.atl_sql.specs.Inside.{DoesInside, HasTables}
 use Rattle.atl_store.specs.Rewriting.{RewritesAmounts, equals_number, is_among, is_of_marked_amount}
 use Rattle.atl_store.proofs.BooksRewriteLaws.{one_less_thing, things_rewritten}

@@ -1,7 +1,7 @@
 use Rattle.std.proofs.Common.{◌+◌, drop, refl, arith}
 use Rattle.std.proofs.lemmas.List.{drop_more, at_drop_all}
 use Rattle.atl_records.specs.Books.{thing_index}
-use Rattle.atl_sql.specs.Tables.{books_table}
+use Rattle.atl_descriptions.specs.Tables.{books_table}
 use Rattle.atl_store.specs.Rewriting.{equals_number}
 use Rattle.atl_store.proofs.BooksRewriteLaws.{one_less_entry, entries_rewritten}
 use Rattle.atl_store.proofs.RewriteLaws.{all_remaining}

@@ -1,7 +1,7 @@
 use Rattle.std.proofs.Common.{◌≡◌, pos, refl, sym, ◌∙◌, rules}
 use mir.Syntax.{w64}
 use Rattle.std.proofs.lemmas.Int.{to_z-of_z}
-use Rattle.atl_sql.specs.Tables.{books_table}
+use Rattle.atl_descriptions.specs.Tables.{books_table}
 use Rattle.atl_sql.specs.Shown.{books_key, books_row}
 use Rattle.atl_sql.specs.Inside.{HasTables, Puts, Drops}
 use Rattle.atl_store.specs.Arriving.{WritesAmount}

@@ -1,5 +1,5 @@
 use Rattle.std.proofs.Common.{ap}
-use Rattle.atl_sql.specs.Tables.{market_table}
+use Rattle.atl_descriptions.specs.Tables.{market_table}
 use Rattle.atl_store.specs.GroupedRows.{region_stock_lines, all_stocks_lines}
 use Rattle.atl_sql.proofs.PuttingLaws.{putting_begins, putting_more, putting_failed, putting_ends}
 use Rattle.atl_store.proofs.markets.put_all_stocks.Goals as goal

@@ -1,4 +1,4 @@
-use Rattle.atl_sql.specs.Tables.{market_table}
+use Rattle.atl_descriptions.specs.Tables.{market_table}
 use Rattle.atl_store.specs.GroupedRows.{all_stocks_lines}
 use Rattle.atl_sql.proofs.PuttingLaws.{HasPutSome}
 use Rattle.atl_store.proofs.markets.put_all_stocks.Given as goal

@@ -1,5 +1,5 @@
 use Rattle.std.proofs.Common.{ap}
-use Rattle.atl_sql.specs.Tables.{market_table}
+use Rattle.atl_descriptions.specs.Tables.{market_table}
 use Rattle.atl_sql.specs.Shown.{market_row}
 use Rattle.atl_store.specs.GroupedRows.{amount_rows}
 use Rattle.atl_sql.proofs.PuttingLaws.{same_written}

@@ -1,4 +1,4 @@
-use Rattle.atl_sql.specs.Tables.{market_table}
+use Rattle.atl_descriptions.specs.Tables.{market_table}
 use Rattle.atl_store.specs.Rows.{MarketRowsOf}
 use Rattle.atl_store.specs.Marked.{begins_marked, has_thing, region_and_item_pass}
 use Rattle.atl_store.proofs.MarketLaws.{finds_stocks, stocks_grouped}

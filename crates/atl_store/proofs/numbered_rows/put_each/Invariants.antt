@@ -1,4 +1,4 @@
-use Rattle.atl_sql.specs.Tables.{table_of}
+use Rattle.atl_descriptions.specs.Tables.{table_of}
 use Rattle.atl_store.specs.Rows.{rows_in_order}
 use Rattle.atl_sql.proofs.PuttingLaws.{HasPutSome}
 use Rattle.atl_store.proofs.numbered_rows.put_each.Given as goal

@@ -1,5 +1,5 @@
 use Rattle.std.proofs.Common.{[], ◌∷◌, refl, ap}
-use Rattle.atl_sql.specs.Tables.{unit_table}
+use Rattle.atl_descriptions.specs.Tables.{unit_table}
 use Rattle.atl_store.specs.Rows.{rows_in_order, row_of_unit}
 use Rattle.atl_sql.proofs.PuttingLaws.{one_written, putting_begins, putting_more, putting_failed, putting_ends}
 use Rattle.atl_store.proofs.numbered_rows.put_units.Goals as goal

@@ -1,4 +1,4 @@
-use Rattle.atl_sql.specs.Tables.{unit_table}
+use Rattle.atl_descriptions.specs.Tables.{unit_table}
 use Rattle.atl_store.specs.Rows.{rows_in_order, row_of_unit}
 use Rattle.atl_sql.proofs.PuttingLaws.{HasPutSome}
 use Rattle.atl_store.proofs.numbered_rows.put_units.Given as goal

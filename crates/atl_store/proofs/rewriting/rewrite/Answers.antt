@@ -1,5 +1,5 @@
 use Rattle.std.proofs.Common.{refl, sym}
-use Rattle.atl_sql.specs.Tables.{table_of}
+use Rattle.atl_descriptions.specs.Tables.{table_of}
 use Rattle.atl_store.specs.OwnStatements.{changes_row}
 use Rattle.atl_store.proofs.KeptLaws.{key_one, puts_line, drops_none}
 use Rattle.atl_store.proofs.RewriteLaws.{put_done, drop_done}

@@ -1,6 +1,6 @@
 use Rattle.std.proofs.Common.{refl, ap, ◌∙◌}
 use Rattle.std.specs.FinSet.{from_list}
-use Rattle.atl_sql.specs.Tables.{table_of}
+use Rattle.atl_descriptions.specs.Tables.{table_of}
 use Rattle.atl_store.specs.Rows.{RowsOf}
 use Rattle.atl_store.proofs.RewriteLaws.{all_remaining, one_less_number, numbers_rewritten}
 use Rattle.atl_sql.proofs.WriteLaws.{begins, goes_on, stops_second, weaker}

@@ -1,5 +1,5 @@
 use Rattle.std.proofs.Common.{refl}
-use Rattle.atl_sql.specs.Tables.{Goods}
+use Rattle.atl_descriptions.specs.Tables.{Goods}
 use Rattle.atl_store.specs.OwnStatements.{changes_row, puts_row, drops_row}
 use Rattle.atl_store.proofs.HasTableLaws.{amount_has_row}
 use Rattle.atl_store.proofs.ThingLaws.{zero_amount_has_no_row, thing_put, thing_dropped}

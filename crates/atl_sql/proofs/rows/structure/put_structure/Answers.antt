@@ -1,5 +1,5 @@
 use Rattle.std.proofs.Common.{rules, refl}
-use Rattle.atl_sql.specs.Tables.{Structures}
+use Rattle.atl_descriptions.specs.Tables.{Structures}
 use Rattle.atl_sql.proofs.NumberedRowLaws.{puts_part}
 use Rattle.atl_sql.proofs.StatementLaws.{runs_with}
 use Rattle.atl_sql.proofs.Terms.{cast_int}

@@ -1,5 +1,5 @@
 use Rattle.std.proofs.Common.{◌≡◌, map, take, length}
-use Rattle.atl_sql.specs.Sets.{strict_column}
+use Rattle.atl_columns.specs.Fields.{strict_column}
 use Rattle.atl_sql.proofs.schema.columns.are_strict_columns.Given as goal
 
 -- there are as many columns as fields, and the first `i` columns have the first `i` names and kinds

@@ -1,6 +1,6 @@
 use Rattle.std.proofs.Common.{◌≡◌, not, true, take, ap, sym, ◌∙◌, rules}
 use Rattle.std.proofs.lemmas.Bool.{not-true}
-use Rattle.atl_sql.specs.Tables.{all_tables}
+use Rattle.atl_descriptions.specs.Tables.{all_tables}
 use Rattle.atl_sql.proofs.SchemaLaws.{harmless_is_of_none, guards_not}
 use Rattle.atl_sql.proofs.schema.indexes.is_harmless.Goals as goal
 

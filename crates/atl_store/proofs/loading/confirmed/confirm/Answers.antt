@@ -1,7 +1,7 @@
 use Rattle.std.proofs.Common.{subst, arith}
 use Rattle.sqlite.specs.Held.{state}
-use Rattle.atl_sql.specs.Statements.{selection_with_ids}
-use Rattle.atl_sql.specs.Tables.{Books, HasTablesOf, books_table}
+use Rattle.atl_descriptions.specs.Statements.{selection_with_ids}
+use Rattle.atl_descriptions.specs.Tables.{Books, HasTablesOf, books_table}
 use Rattle.atl_store.proofs.ConfirmLaws.{unconfirmed, commits_none, shown_unchanged, shown_stays, refused_stays}
 use Rattle.atl_sql.proofs.SelectLaws.{part_plain, has_first}
 use Rattle.atl_store.proofs.loading.confirmed.confirm.Goals as goal

@@ -1,5 +1,5 @@
 use Rattle.std.proofs.Common.{refl}
-use Rattle.atl_sql.specs.Tables.{Markets}
+use Rattle.atl_descriptions.specs.Tables.{Markets}
 use Rattle.atl_store.specs.OwnStatements.{changes_row, puts_row, drops_row}
 use Rattle.atl_store.proofs.MarketLaws.{stock_has_row, no_stock, stock_put, stock_dropped}
 use Rattle.atl_sql.proofs.WriteLaws.{weaker, among_only}

@@ -1,4 +1,4 @@
-use Rattle.atl_sql.specs.Tables.{Books}
+use Rattle.atl_descriptions.specs.Tables.{Books}
 use Rattle.atl_store.specs.Filling.{FillsPart}
 use Rattle.atl_store.specs.OwnStatements.{puts_row}
 use Rattle.atl_store.proofs.FillLaws.{books_fill}

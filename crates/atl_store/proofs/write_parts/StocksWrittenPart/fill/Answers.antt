@@ -1,4 +1,4 @@
-use Rattle.atl_sql.specs.Tables.{Markets}
+use Rattle.atl_descriptions.specs.Tables.{Markets}
 use Rattle.atl_store.specs.Rows.{MarketRowsOf}
 use Rattle.atl_store.specs.GroupedRows.{region_stock_lines}
 use Rattle.atl_store.specs.Filling.{FillsPart}

@@ -1,4 +1,4 @@
-use Rattle.atl_sql.specs.Tables.{Goods}
+use Rattle.atl_descriptions.specs.Tables.{Goods}
 use Rattle.atl_store.specs.Rows.{HasRowsOf}
 use Rattle.atl_store.specs.GroupedRows.{unit_goods_lines}
 use Rattle.atl_store.specs.Filling.{FillsPart}

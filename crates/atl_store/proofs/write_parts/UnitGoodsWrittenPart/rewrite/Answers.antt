@@ -1,4 +1,4 @@
-use Rattle.atl_sql.specs.Tables.{Goods}
+use Rattle.atl_descriptions.specs.Tables.{Goods}
 use Rattle.atl_store.specs.Rewriting.{RewritesPart}
 use Rattle.atl_store.proofs.RewriteAllLaws.{part_rewritten}
 use Rattle.atl_store.proofs.TurnLaws.{in_turn_one}

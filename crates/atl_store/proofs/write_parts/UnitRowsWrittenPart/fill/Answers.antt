@@ -1,5 +1,5 @@
 use Rattle.std.proofs.Common.{refl}
-use Rattle.atl_sql.specs.Tables.{Units}
+use Rattle.atl_descriptions.specs.Tables.{Units}
 use Rattle.atl_store.specs.Rows.{row_of_unit}
 use Rattle.atl_store.specs.Filling.{FillsPart}
 use Rattle.atl_store.proofs.EntryLaws.{lines_rows}

@@ -2,8 +2,8 @@ use Rattle.std.proofs.Common.{sym, subst}
 use Rattle.atl_world.specs.declared.format.Format.{Format}
 use Rattle.sqlite.specs.Given.{IsPlain}
 use Rattle.sqlite.specs.Listing.{understood}
-use Rattle.atl_sql.specs.Reading.{select_of_part}
-use Rattle.atl_sql.specs.Tables.{HasTablesOf}
+use Rattle.atl_descriptions.specs.PartSelects.{select_of_part}
+use Rattle.atl_descriptions.specs.Tables.{HasTablesOf}
 use Rattle.atl_sql.proofs.RowsLaws.{gives_table}
 use Rattle.atl_sql.proofs.SelectLaws.{reads_part, part_plain}
 use Rattle.atl_sql.proofs.rows.stored.HasSelect.read.Goals as goal

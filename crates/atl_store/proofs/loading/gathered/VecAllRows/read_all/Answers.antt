@@ -1,4 +1,4 @@
-use Rattle.atl_sql.specs.Reading.{select_of_part}
+use Rattle.atl_descriptions.specs.PartSelects.{select_of_part}
 use Rattle.atl_store.proofs.GatherLaws.{reads_one}
 use Rattle.atl_store.proofs.loading.gathered.VecAllRows.read_all.Goals as goal
 

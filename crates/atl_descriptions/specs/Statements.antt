@@ -5,8 +5,8 @@ use Rattle.std.specs.List.{range_with_len}
 use Rattle.sqlite.specs.Table.{Table}
 use Rattle.sqlite.specs.Order.{Row}
 use Rattle.sqlite_rules.specs.Lists.{Has}
-use Rattle.atl_sql.specs.Sets.{Set}
-use Rattle.atl_sql.specs.Tables.{all_parts, creation_of}
+use Rattle.atl_descriptions.specs.Sets.{Set}
+use Rattle.atl_descriptions.specs.Tables.{all_parts, creation_of}
 
 -- the names of a table's columns, in their order
 abbrev pub column_names : Table → List (List ℕ)

@@ -19,7 +19,8 @@ use Rattle.sqlite_catalog.specs.Listing.{IsSound}
 use Rattle.sqlite_trees.specs.Tree.{Trees}
 use Rattle.atl_world.specs.declared.format.Format.{Format}
 use Rattle.atl_world.specs.declared.format.Format.TheVariants.{First, Second}
-use Rattle.atl_sql.specs.Sets.{strict_column, table, AreKeyedByRowid}
+use Rattle.atl_columns.specs.Fields.{strict_column}
+use Rattle.atl_descriptions.specs.Sets.{table, AreKeyedByRowid}
 
 -- the column of this name that holds integers, STRICT and NOT NULL
 abbrev pub integer_column : List ℕ → Column
