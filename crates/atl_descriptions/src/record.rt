@@ -1,10 +1,11 @@
 //! Records that are rows of a table of a campaign, and how all rows of a table are read as records.
-ghost use Rattle.std.specs.Prelude.{◌≡◌, ◌<◌, ◌^◌, ◌++◌, IfOk, OnOk, length, map};
+ghost use Rattle.std.specs.Prelude.{◌≡◌, ◌<◌, ◌^◌, ◌++◌, IfOk, IfSome, OnOk, length, map};
 ghost use Rattle.sqlite.specs.Values.{bound};
 ghost use Rattle.atl_columns.specs.Fields.{strict_columns};
 ghost use Rattle.atl_descriptions.specs.PartSelects.{select_of_part};
 ghost use Rattle.atl_descriptions.specs.Statements.{column_names, deletion, upsert};
 ghost use Rattle.atl_descriptions.specs.Tables.{Part, creation_of, key_width_of, table_of};
+ghost use Rattle.atl_descriptions.specs.Described.{IsIndexOf, checks_of, unique_columns};
 ghost use Rattle.atl_descriptions.specs.Records.{read_row};
 
 use crate::table::{Statements, Table};
@@ -26,10 +27,16 @@ pub trait Record: Drop + Sized {
 
     ghost to_fields: { Self → Self.Fields.Value };
 
-    /// The names of the table and of its columns, the text that makes it, and its SELECT.
+    /// The table, with the text that makes it and its SELECT.
     fn table() -> Table
+        ensures tree { result.tree ≡ (table_of part).tree }
         ensures name { result.name.now ≡ (table_of part).name }
         ensures names { map (λ n. n.now) result.names.now ≡ column_names (table_of part) }
+        ensures number { result.number ≡ (table_of part).key }
+        ensures primary { result.primary.now ≡ (table_of part).primary }
+        ensures unique { unique_columns result.unique ≡ (table_of part).uniques }
+        ensures index { IfSome result.unique (IsIndexOf (table_of part)) }
+        ensures single { checks_of result.is_single ≡ (table_of part).checks }
         ensures create { result.create.now ≡ creation_of part }
         ensures select { result.select.now ≡ (select_of_part part).select };
 

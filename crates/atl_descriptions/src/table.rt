@@ -1,11 +1,32 @@
-//! The texts of a table's statements, made of the names and types of its columns by `table!`.
+//! A table and the texts of its statements, made of the names and types of its columns by `table!`.
 
-/// A table: its name, its columns' names in their order, the text that makes it, and the SELECT of all
-/// its rows in the order of its key.
+/// A unique key of a table that isn't the row's number. The file keeps it in an index.
+#[derive(Clone, Copy, Debug)]
+pub struct UniqueKey {
+    /// The indexes of its columns in a stored row, whose first column has the index 1.
+    pub columns: &'static [usize],
+    /// The name that the database gives the index.
+    pub index: &'static str,
+    /// The number of the tree that holds the index.
+    pub tree: u32,
+}
+
+/// A table: its tree, its name, its columns' names in their order, its keys, the text that makes it,
+/// and the SELECT of all its rows in the order of its key. Tables and the indexes of their keys take
+/// the trees of a file in the order in which they are made.
 #[derive(Clone, Copy, Debug)]
 pub struct Table {
+    /// The number of the tree that holds the rows.
+    pub tree: u32,
     pub name: &'static str,
     pub names: &'static [&'static str],
+    /// The index, among the columns, of the one that is the row's number; None if the table has none.
+    pub number: Option<usize>,
+    /// The indexes of the primary key's columns in a stored row; 0 is the row's number.
+    pub primary: &'static [usize],
+    pub unique: Option<UniqueKey>,
+    /// Whether the table has the check `id = 1` of its first column, and no other; else it has none.
+    pub is_single: bool,
     pub create: &'static str,
     pub select: &'static str,
 }
@@ -19,18 +40,24 @@ pub struct Statements {
 }
 
 /// A table and its statements by its columns, each with its parameter's number, its name and its
-/// type. The key is the row's number (`number`), or several columns (`keys`); then the SELECT shows
-/// the rowid as a last column.
+/// type. Before them stands the number of the table's tree. The key is the row's number (`number`),
+/// or several columns (`keys`, with the tree of its index); then the SELECT shows the rowid as a last
+/// column.
 #[macro_export]
 macro_rules! table {
-    ($name:literal
+    ($tree:literal $name:literal
         number { $kn:literal $key:literal }
         columns { $n:literal $column:literal $kind:literal
             $(, $ns:literal $columns:literal $kinds:literal)* }) => {
         (
             Table {
+                tree: $tree,
                 name: $name,
                 names: &[$key, $column $(, $columns)*],
+                number: Some(0),
+                primary: &[0],
+                unique: None,
+                is_single: false,
                 create: concat!("CREATE TABLE ", $name, " (", $key, " INTEGER NOT NULL PRIMARY KEY, ",
                     $column, " ", $kind, " NOT NULL" $(, ", ", $columns, " ", $kinds, " NOT NULL")*, ") STRICT"),
                 select: concat!("SELECT ", $key, ", ", $column $(, ", ", $columns)*,
@@ -44,15 +71,24 @@ macro_rules! table {
             },
         )
     };
-    ($name:literal
-        keys { $kn:literal $key:literal $key_kind:literal
+    ($tree:literal $name:literal
+        keys $index:literal { $kn:literal $key:literal $key_kind:literal
             $(, $kns:literal $keys:literal $key_kinds:literal)* }
         columns { $n:literal $column:literal $kind:literal
             $(, $ns:literal $columns:literal $kinds:literal)* }) => {
         (
             Table {
+                tree: $tree,
                 name: $name,
                 names: &[$key, $($keys,)* $column $(, $columns)*],
+                number: None,
+                primary: &[$kn $(, $kns)*],
+                unique: Some(UniqueKey {
+                    columns: &[$kn $(, $kns)*],
+                    index: concat!("sqlite_autoindex_", $name, "_1"),
+                    tree: $index,
+                }),
+                is_single: false,
                 create: concat!("CREATE TABLE ", $name, " (", $key, " ", $key_kind, " NOT NULL, "
                     $(, $keys, " ", $key_kinds, " NOT NULL, ")*,
                     $column, " ", $kind, " NOT NULL" $(, ", ", $columns, " ", $kinds, " NOT NULL")*,

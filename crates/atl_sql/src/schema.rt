@@ -3,10 +3,9 @@ ghost use Rattle.std.specs.Prelude.{◌≡◌, ◌≤◌, [], length, ◌↔◌,
 ghost use Rattle.std.specs.List.{AllByRecursion};
 ghost use Rattle.atl_descriptions.specs.Tables.{IsFirstFormatOnly, all_tables, all_indexes, AreTables, Begins, HasAll, HasTablesOf};
 
-pub(crate) mod checks;
-mod columns;
+mod checks;
 mod indexes;
-pub(crate) mod keys;
+mod keys;
 pub(crate) mod shapes;
 
 use crate::tables::{FIRST_INDEXES, FIRST_TABLES, INDEXES, TABLES, are_first_tables};

@@ -5,14 +5,14 @@ ghost use Rattle.atl_descriptions.specs.Tables.{Books};
 
 use crate::record::{Record, Written};
 use crate::table;
-use crate::table::{Statements, Table};
+use crate::table::{Statements, Table, UniqueKey};
 use atl_columns::numbers::{Reference, Signed};
 use atl_columns::parameters::Parameters;
 use sqlite::types::ValueRef;
 use std::alloc::AllocError;
 
-const BOOKS: (Table, Statements) = table!("books"
-    keys { 1 "entry" "INTEGER", 2 "thing" "INTEGER" }
+const BOOKS: (Table, Statements) = table!(10 "books"
+    keys 11 { 1 "entry" "INTEGER", 2 "thing" "INTEGER" }
     columns { 3 "amount" "INTEGER" });
 
 /// A row of `books`: what is booked of a thing under an entry.

@@ -13,6 +13,7 @@ use atl_records::{LAST_MONTH, LAST_UNIT, MOST_STRUCTURES};
 use atl_world::{Sequence, let_go};
 
 const CAMPAIGN: Table = Table {
+    tree: 0,
     name: "campaign",
     names: &[
         "id",
@@ -24,6 +25,10 @@ const CAMPAIGN: Table = Table {
         "pass",
         "world",
     ],
+    number: Some(0),
+    primary: &[0],
+    unique: None,
+    is_single: true,
     create: "CREATE TABLE campaign (id INTEGER NOT NULL PRIMARY KEY CHECK (id = 1), format INTEGER NOT NULL, month INTEGER NOT NULL, next_faction INTEGER NOT NULL, next_unit INTEGER NOT NULL, next_structure INTEGER NOT NULL, pass TEXT NOT NULL, world TEXT NOT NULL) STRICT",
     select: "SELECT id, format, month, next_faction, next_unit, next_structure, pass, world FROM campaign ORDER BY id",
 };

@@ -5,7 +5,7 @@ ghost use Rattle.std.proofs.Common.{lit<};
 ghost use Rattle.atl_descriptions.specs.Tables.{Factions};
 
 use crate::record::{Record, Written};
-use crate::table::{Statements, Table};
+use crate::table::{Statements, Table, UniqueKey};
 use atl_columns::flags::Flag;
 use atl_columns::numbers::Integer;
 use atl_columns::parameters::{AsText, Parameters};
@@ -17,8 +17,17 @@ use std::alloc::AllocError;
 
 const FACTION: (Table, Statements) = (
     Table {
+        tree: 1,
         name: "faction",
         names: &["number", "joined_as", "name", "pass", "gone"],
+        number: Some(0),
+        primary: &[0],
+        unique: Some(UniqueKey {
+            columns: &[2],
+            index: "sqlite_autoindex_faction_1",
+            tree: 2,
+        }),
+        is_single: false,
         create: "CREATE TABLE faction (number INTEGER NOT NULL PRIMARY KEY, joined_as TEXT NOT NULL UNIQUE, name TEXT NOT NULL, pass TEXT NOT NULL, gone INTEGER NOT NULL) STRICT",
         select: "SELECT number, joined_as, name, pass, gone FROM faction ORDER BY number",
     },

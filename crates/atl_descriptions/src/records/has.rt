@@ -5,15 +5,15 @@ ghost use Rattle.atl_descriptions.specs.Tables.{Goods};
 
 use crate::record::{Record, Written};
 use crate::table;
-use crate::table::{Statements, Table};
+use crate::table::{Statements, Table, UniqueKey};
 use atl_columns::flags::Flag;
 use atl_columns::numbers::Reference;
 use atl_columns::parameters::Parameters;
 use sqlite::types::ValueRef;
 use std::alloc::AllocError;
 
-const HAS: (Table, Statements) = table!("has"
-    keys { 1 "unit" "INTEGER", 2 "sort" "INTEGER", 3 "thing" "INTEGER" }
+const HAS: (Table, Statements) = table!(5 "has"
+    keys 6 { 1 "unit" "INTEGER", 2 "sort" "INTEGER", 3 "thing" "INTEGER" }
     columns { 4 "amount" "INTEGER" });
 
 /// A row of `has`: what a unit has of an item or a skill.

@@ -13,7 +13,7 @@ use atl_world::Sequence;
 use sqlite::types::ValueRef;
 use std::alloc::AllocError;
 
-const MAIL: (Table, Statements) = table!("mail"
+const MAIL: (Table, Statements) = table!(8 "mail"
     number { 1 "faction" }
     columns { 2 "text" "BLOB" });
 

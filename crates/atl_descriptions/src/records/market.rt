@@ -5,14 +5,14 @@ ghost use Rattle.atl_descriptions.specs.Tables.{Markets};
 
 use crate::record::{Record, Written};
 use crate::table;
-use crate::table::{Statements, Table};
+use crate::table::{Statements, Table, UniqueKey};
 use atl_columns::numbers::Reference;
 use atl_columns::parameters::Parameters;
 use sqlite::types::ValueRef;
 use std::alloc::AllocError;
 
-const MARKET: (Table, Statements) = table!("market"
-    keys { 1 "region" "INTEGER", 2 "item" "INTEGER" }
+const MARKET: (Table, Statements) = table!(12 "market"
+    keys 13 { 1 "region" "INTEGER", 2 "item" "INTEGER" }
     columns { 3 "stock" "INTEGER" });
 
 /// A row of `market`: the stock of an item in a region.

@@ -12,7 +12,7 @@ use atl_world::limits::MOST_AMOUNT;
 use sqlite::types::ValueRef;
 use std::alloc::AllocError;
 
-const REGION: (Table, Statements) = table!("region"
+const REGION: (Table, Statements) = table!(3 "region"
     number { 1 "number" }
     columns { 2 "peasants" "INTEGER", 3 "money" "INTEGER" });
 

@@ -12,7 +12,7 @@ use atl_columns::texts::Utf8Text;
 use sqlite::types::ValueRef;
 use std::alloc::AllocError;
 
-const REPORT: (Table, Statements) = table!("report"
+const REPORT: (Table, Statements) = table!(9 "report"
     number { 1 "faction" }
     columns { 2 "text" "TEXT" });
 

@@ -14,7 +14,7 @@ use atl_world::Sequence;
 use sqlite::types::ValueRef;
 use std::alloc::AllocError;
 
-const STRUCTURE: (Table, Statements) = table!("structure"
+const STRUCTURE: (Table, Statements) = table!(7 "structure"
     number { 1 "number" }
     columns { 2 "kind" "INTEGER", 3 "name" "TEXT", 4 "region" "INTEGER", 5 "done" "INTEGER", 6 "owner" "INTEGER" });
 

@@ -15,7 +15,7 @@ use atl_world::Sequence;
 use sqlite::types::ValueRef;
 use std::alloc::AllocError;
 
-const UNIT: (Table, Statements) = table!("unit"
+const UNIT: (Table, Statements) = table!(4 "unit"
     number { 1 "number" }
     columns { 2 "faction" "INTEGER", 3 "name" "TEXT", 4 "region" "INTEGER", 5 "structure" "INTEGER", 6 "men" "INTEGER", 7 "money" "INTEGER", 8 "guard" "INTEGER" });
 

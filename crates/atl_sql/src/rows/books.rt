@@ -8,6 +8,8 @@ ghost use Rattle.atl_sql.specs.Writes.{WritesRow, TakesOut};
 use crate::rows::columns::two_integers;
 use crate::rows::stored::{HasSelect, RowWithId, Stored};
 use crate::statement::run;
+use atl_descriptions::records::books::BooksRecord;
+use atl_descriptions::{Record, Written};
 use atl_rows::parts::StoredBooks;
 use atl_world::Format;
 use sqlite::{Alter, Error, Row, Transaction, params};
@@ -31,7 +33,7 @@ pub fn put_books<S: Alter>(tx: &mut Transaction<'_, S>, row: &BooksRow) -> Resul
 {
     run(
         tx,
-        "INSERT INTO books (entry, thing, amount) VALUES (?1, ?2, ?3) ON CONFLICT (entry, thing) DO UPDATE SET amount = ?3",
+        BooksRecord::statements().upsert,
         params![row.entry, row.thing, row.amount],
     )
 }
@@ -45,11 +47,7 @@ pub fn drop_books<S: Alter>(
     ensures { TakesOut S.Store books_table 2 (books_key entry thing) result tx.old.conn
         tx.new.conn }
 {
-    run(
-        tx,
-        "DELETE FROM books WHERE entry = ?1 AND thing = ?2",
-        params![entry, thing],
-    )
+    run(tx, BooksRecord::statements().delete, params![entry, thing])
 }
 
 /// Reads the entry, the thing and the amount of a row of `books`, and its rowid, as integers.
@@ -76,9 +74,6 @@ impl HasSelect for RowWithId<StoredBooks> {
     ghost columns = { refl };
 
     fn select_of() -> (Format, &'static str) {
-        (
-            Format::First,
-            "SELECT entry, thing, amount, rowid FROM books ORDER BY entry, thing",
-        )
+        (Format::First, BooksRecord::table().select)
     }
 }

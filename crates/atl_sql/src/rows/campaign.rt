@@ -15,6 +15,8 @@ use crate::fault::ReadFault;
 use crate::rows::columns::{text_bytes, three_integers, utf8_text};
 use crate::rows::stored::{HasSelect, Stored, select};
 use crate::statement::run;
+use atl_descriptions::Record;
+use atl_descriptions::records::campaign::CampaignRecord;
 use atl_rows::parts::StoredCampaignRow;
 use atl_world::Format;
 use sqlite::{Alter, Connection, Error, Row, Transaction, params};
@@ -144,16 +146,13 @@ impl Stored for StoredCampaign {
     }
 }
 
-const SELECT_ALL: &str =
-    "SELECT id, format, month, next_faction, next_unit, next_structure, pass, world FROM campaign ORDER BY id";
-
 /// Reads the rows of `campaign` as SQL shows them, whatever their values are. Nothing is changed.
 /// A fault is Memory, Store or Refused, and never OtherType.
 pub fn select_campaign<S: Alter>(conn: &mut Connection<S>) -> Result<Vec<Row>, ReadFault>
     requires { conn.old.in_transaction ≡ false }
     ensures { Asks S.Store (selection campaign_table 1) conn.old result conn.new }
 {
-    select(conn, SELECT_ALL)
+    select(conn, CampaignRecord::table().select)
 }
 
 impl HasSelect for StoredCampaign {
@@ -162,6 +161,6 @@ impl HasSelect for StoredCampaign {
     ghost columns = { refl };
 
     fn select_of() -> (Format, &'static str) {
-        (Format::First, SELECT_ALL)
+        (Format::First, CampaignRecord::table().select)
     }
 }

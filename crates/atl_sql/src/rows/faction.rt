@@ -9,6 +9,8 @@ use crate::rows::columns::{integer, text_bytes};
 use crate::rows::numbered::NumberedTable;
 use crate::rows::stored::{HasSelect, Stored};
 use crate::statement::run;
+use atl_descriptions::records::faction::FactionRecord;
+use atl_descriptions::{Record, Written};
 use atl_rows::parts::StoredFaction;
 use atl_world::Format;
 use sqlite::{Alter, Error, Row, Transaction, params};
@@ -36,7 +38,7 @@ pub fn put_faction<S: Alter>(tx: &mut Transaction<'_, S>, row: &FactionRow<'_>) 
 {
     run(
         tx,
-        "INSERT INTO faction (number, joined_as, name, pass, gone) VALUES (?1, ?2, ?3, ?4, ?5) ON CONFLICT (number) DO UPDATE SET joined_as = ?2, name = ?3, pass = ?4, gone = ?5",
+        FactionRecord::statements().upsert,
         params![row.number, row.joined_as, row.name, row.pass, row.gone],
     )
 }
@@ -69,10 +71,7 @@ impl HasSelect for StoredFaction {
     ghost columns = { refl };
 
     fn select_of() -> (Format, &'static str) {
-        (
-            Format::First,
-            "SELECT number, joined_as, name, pass, gone FROM faction ORDER BY number",
-        )
+        (Format::First, FactionRecord::table().select)
     }
 }
 
@@ -81,6 +80,6 @@ impl NumberedTable for StoredFaction {
     ghost is_numbered = { tt };
 
     fn delete_text() -> &'static str {
-        "DELETE FROM faction WHERE number = ?1"
+        FactionRecord::statements().delete
     }
 }

@@ -8,6 +8,8 @@ ghost use Rattle.atl_sql.specs.Writes.{WritesRow, TakesOut};
 use crate::rows::columns::{three_integers, two_integers};
 use crate::rows::stored::{HasSelect, RowWithId, Stored};
 use crate::statement::run;
+use atl_descriptions::records::has::HasRecord;
+use atl_descriptions::{Record, Written};
 use atl_rows::parts::StoredHas;
 use atl_world::Format;
 use sqlite::{Alter, Error, Row, Transaction, params};
@@ -50,7 +52,7 @@ pub fn put_has<S: Alter>(tx: &mut Transaction<'_, S>, row: &HasRow) -> Result<()
     let sort = row.sort.number();
     run(
         tx,
-        "INSERT INTO has (unit, sort, thing, amount) VALUES (?1, ?2, ?3, ?4) ON CONFLICT (unit, sort, thing) DO UPDATE SET amount = ?4",
+        HasRecord::statements().upsert,
         params![row.unit, sort, row.thing, row.amount],
     )
 }
@@ -68,7 +70,7 @@ pub fn drop_has<S: Alter>(
     let sort = sort.number();
     run(
         tx,
-        "DELETE FROM has WHERE unit = ?1 AND sort = ?2 AND thing = ?3",
+        HasRecord::statements().delete,
         params![unit, sort, thing],
     )
 }
@@ -105,9 +107,6 @@ impl HasSelect for RowWithId<StoredHas> {
     ghost columns = { refl };
 
     fn select_of() -> (Format, &'static str) {
-        (
-            Format::First,
-            "SELECT unit, sort, thing, amount, rowid FROM has ORDER BY unit, sort, thing",
-        )
+        (Format::First, HasRecord::table().select)
     }
 }

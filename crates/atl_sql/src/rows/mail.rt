@@ -8,6 +8,8 @@ use crate::rows::columns::{bytes, integer};
 use crate::rows::numbered::NumberedTable;
 use crate::rows::stored::{HasSelect, Stored};
 use crate::statement::run;
+use atl_descriptions::records::mail::MailRecord;
+use atl_descriptions::{Record, Written};
 use atl_rows::parts::StoredMail;
 use atl_world::Format;
 use sqlite::{Alter, Error, Row, Transaction, params};
@@ -22,11 +24,7 @@ pub fn put_mail<S: Alter>(
     ensures { WritesRow S.Store mail_table 1 (mail_row faction text.now) result tx.old.conn
         tx.new.conn }
 {
-    run(
-        tx,
-        "INSERT INTO mail (faction, text) VALUES (?1, ?2) ON CONFLICT (faction) DO UPDATE SET text = ?2",
-        params![faction, text],
-    )
+    run(tx, MailRecord::statements().upsert, params![faction, text])
 }
 
 /// Reads a row of `mail`: the faction's number as an integer, and the text as the bytes of a blob.
@@ -48,10 +46,7 @@ impl HasSelect for StoredMail {
     ghost columns = { refl };
 
     fn select_of() -> (Format, &'static str) {
-        (
-            Format::First,
-            "SELECT faction, text FROM mail ORDER BY faction",
-        )
+        (Format::First, MailRecord::table().select)
     }
 }
 
@@ -60,6 +55,6 @@ impl NumberedTable for StoredMail {
     ghost is_numbered = { tt };
 
     fn delete_text() -> &'static str {
-        "DELETE FROM mail WHERE faction = ?1"
+        MailRecord::statements().delete
     }
 }

@@ -7,6 +7,8 @@ ghost use Rattle.atl_sql.specs.Writes.{WritesRow, TakesOut};
 use crate::rows::columns::two_integers;
 use crate::rows::stored::{HasSelect, RowWithId, Stored};
 use crate::statement::run;
+use atl_descriptions::records::market::MarketRecord;
+use atl_descriptions::{Record, Written};
 use atl_rows::parts::StoredMarket;
 use atl_world::Format;
 use sqlite::{Alter, Error, Row, Transaction, params};
@@ -24,7 +26,7 @@ pub fn put_stock<S: Alter>(
 {
     run(
         tx,
-        "INSERT INTO market (region, item, stock) VALUES (?1, ?2, ?3) ON CONFLICT (region, item) DO UPDATE SET stock = ?3",
+        MarketRecord::statements().upsert,
         params![region, item, stock],
     )
 }
@@ -38,11 +40,7 @@ pub fn drop_stock<S: Alter>(
     ensures { TakesOut S.Store market_table 2 (market_key region item) result tx.old.conn
         tx.new.conn }
 {
-    run(
-        tx,
-        "DELETE FROM market WHERE region = ?1 AND item = ?2",
-        params![region, item],
-    )
+    run(tx, MarketRecord::statements().delete, params![region, item])
 }
 
 /// Deletes all rows of this region from `market`.
@@ -78,9 +76,6 @@ impl HasSelect for RowWithId<StoredMarket> {
     ghost columns = { refl };
 
     fn select_of() -> (Format, &'static str) {
-        (
-            Format::Second,
-            "SELECT region, item, stock, rowid FROM market ORDER BY region, item",
-        )
+        (Format::Second, MarketRecord::table().select)
     }
 }

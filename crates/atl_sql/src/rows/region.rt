@@ -8,6 +8,8 @@ use crate::rows::columns::three_integers;
 use crate::rows::numbered::NumberedTable;
 use crate::rows::stored::{HasSelect, Stored};
 use crate::statement::run;
+use atl_descriptions::records::region::RegionRecord;
+use atl_descriptions::{Record, Written};
 use atl_rows::parts::StoredRegion;
 use atl_world::Format;
 use sqlite::{Alter, Error, Row, Transaction, params};
@@ -25,7 +27,7 @@ pub fn put_region<S: Alter>(
 {
     run(
         tx,
-        "INSERT INTO region (number, peasants, money) VALUES (?1, ?2, ?3) ON CONFLICT (number) DO UPDATE SET peasants = ?2, money = ?3",
+        RegionRecord::statements().upsert,
         params![number, peasants, money],
     )
 }
@@ -52,10 +54,7 @@ impl HasSelect for StoredRegion {
     ghost columns = { refl };
 
     fn select_of() -> (Format, &'static str) {
-        (
-            Format::First,
-            "SELECT number, peasants, money FROM region ORDER BY number",
-        )
+        (Format::First, RegionRecord::table().select)
     }
 }
 
@@ -64,6 +63,6 @@ impl NumberedTable for StoredRegion {
     ghost is_numbered = { tt };
 
     fn delete_text() -> &'static str {
-        "DELETE FROM region WHERE number = ?1"
+        RegionRecord::statements().delete
     }
 }

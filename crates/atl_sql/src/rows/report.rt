@@ -8,6 +8,8 @@ use crate::rows::columns::{integer, utf8_text};
 use crate::rows::numbered::NumberedTable;
 use crate::rows::stored::{HasSelect, Stored};
 use crate::statement::run;
+use atl_descriptions::records::report::ReportRecord;
+use atl_descriptions::{Record, Written};
 use atl_rows::parts::StoredReport;
 use atl_world::{Format, Text};
 use sqlite::{Alter, Error, Row, Transaction, params};
@@ -24,7 +26,7 @@ pub fn put_report<S: Alter>(
 {
     run(
         tx,
-        "INSERT INTO report (faction, text) VALUES (?1, ?2) ON CONFLICT (faction) DO UPDATE SET text = ?2",
+        ReportRecord::statements().upsert,
         params![faction, text],
     )
 }
@@ -51,10 +53,7 @@ impl HasSelect for StoredReport {
     ghost columns = { refl };
 
     fn select_of() -> (Format, &'static str) {
-        (
-            Format::First,
-            "SELECT faction, text FROM report ORDER BY faction",
-        )
+        (Format::First, ReportRecord::table().select)
     }
 }
 
@@ -63,6 +62,6 @@ impl NumberedTable for StoredReport {
     ghost is_numbered = { tt };
 
     fn delete_text() -> &'static str {
-        "DELETE FROM report WHERE faction = ?1"
+        ReportRecord::statements().delete
     }
 }

@@ -9,6 +9,8 @@ use crate::rows::columns::{text_bytes, three_integers, two_integers};
 use crate::rows::numbered::NumberedTable;
 use crate::rows::stored::{HasSelect, Stored};
 use crate::statement::run;
+use atl_descriptions::records::structure::StructureRecord;
+use atl_descriptions::{Record, Written};
 use atl_rows::parts::StoredStructure;
 use atl_world::Format;
 use sqlite::{Alter, Error, Row, Transaction, params};
@@ -42,7 +44,7 @@ pub fn put_structure<S: Alter>(
 {
     run(
         tx,
-        "INSERT INTO structure (number, kind, name, region, done, owner) VALUES (?1, ?2, ?3, ?4, ?5, ?6) ON CONFLICT (number) DO UPDATE SET kind = ?2, name = ?3, region = ?4, done = ?5, owner = ?6",
+        StructureRecord::statements().upsert,
         params![
             row.number,
             u32::from(row.kind),
@@ -80,10 +82,7 @@ impl HasSelect for StoredStructure {
     ghost columns = { refl };
 
     fn select_of() -> (Format, &'static str) {
-        (
-            Format::First,
-            "SELECT number, kind, name, region, done, owner FROM structure ORDER BY number",
-        )
+        (Format::First, StructureRecord::table().select)
     }
 }
 
@@ -92,6 +91,6 @@ impl NumberedTable for StoredStructure {
     ghost is_numbered = { tt };
 
     fn delete_text() -> &'static str {
-        "DELETE FROM structure WHERE number = ?1"
+        StructureRecord::statements().delete
     }
 }

@@ -9,6 +9,8 @@ use crate::rows::columns::{text_bytes, three_integers, two_integers};
 use crate::rows::numbered::NumberedTable;
 use crate::rows::stored::{HasSelect, Stored};
 use crate::statement::run;
+use atl_descriptions::records::unit::UnitRecord;
+use atl_descriptions::{Record, Written};
 use atl_rows::parts::StoredUnit;
 use atl_world::Format;
 use sqlite::{Alter, Error, Row, Transaction, params};
@@ -41,7 +43,7 @@ pub fn put_unit<S: Alter>(tx: &mut Transaction<'_, S>, row: &UnitRow<'_>) -> Res
 {
     run(
         tx,
-        "INSERT INTO unit (number, faction, name, region, structure, men, money, guard) VALUES (?1, ?2, ?3, ?4, ?5, ?6, ?7, ?8) ON CONFLICT (number) DO UPDATE SET faction = ?2, name = ?3, region = ?4, structure = ?5, men = ?6, money = ?7, guard = ?8",
+        UnitRecord::statements().upsert,
         params![
             row.number,
             row.faction,
@@ -84,10 +86,7 @@ impl HasSelect for StoredUnit {
     ghost columns = { refl };
 
     fn select_of() -> (Format, &'static str) {
-        (
-            Format::First,
-            "SELECT number, faction, name, region, structure, men, money, guard FROM unit ORDER BY number",
-        )
+        (Format::First, UnitRecord::table().select)
     }
 }
 
@@ -96,6 +95,6 @@ impl NumberedTable for StoredUnit {
     ghost is_numbered = { tt };
 
     fn delete_text() -> &'static str {
-        "DELETE FROM unit WHERE number = ?1"
+        UnitRecord::statements().delete
     }
 }

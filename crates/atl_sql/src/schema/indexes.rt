@@ -1,15 +1,18 @@
 //! Compares the indexes of a schema with those of the campaign's unique keys, and tests all others.
-ghost use Rattle.std.specs.Prelude.{◌≡◌, ◌==◌, ◌≤◌, ◌++◌, true, codes, length, slice_get, take, ◌↔◌, IsTrue};
+ghost use Rattle.std.specs.Prelude.{◌≡◌, ◌==◌, ◌≤◌, true, Some, length, slice_get, take, ◌↔◌, IsTrue};
 ghost use Rattle.std.specs.List.{AllByRecursion, list_any};
-ghost use Rattle.std.specs.Fmt.{decimal};
 ghost use Rattle.sqlite_value.specs.Keys.{plain};
-ghost use Rattle.atl_descriptions.specs.Tables.{all_tables, all_indexes, IsHarmless, AreIndexes};
+ghost use Rattle.atl_descriptions.specs.Described.{index_of};
+ghost use Rattle.atl_descriptions.specs.Tables.{all_tables, all_indexes, table_of, IsHarmless, AreIndexes};
 
 use crate::schema::keys::is_plain;
-use crate::tables::{
-    ALL, BOOKS, BOOKS_INDEX, BOOKS_UNIQUE, FACTION, FACTION_INDEX, FACTION_UNIQUE, HAS, HAS_INDEX,
-    HAS_UNIQUE, MARKET, MARKET_INDEX, MARKET_UNIQUE, TableDefinition,
-};
+use crate::tables::described_tables;
+use atl_descriptions::Record;
+use atl_descriptions::records::books::BooksRecord;
+use atl_descriptions::records::faction::FactionRecord;
+use atl_descriptions::records::has::HasRecord;
+use atl_descriptions::records::market::MarketRecord;
+use atl_descriptions::table::Table as Description;
 use sqlite_schema::schema::Index;
 
 fn is_index(found: &Index, name: &[u8], tree: u32, table: u32, columns: &[usize]) -> bool
@@ -31,26 +34,21 @@ fn is_index(found: &Index, name: &[u8], tree: u32, table: u32, columns: &[usize]
         && found.is_unique
 }
 
-fn is_index_of(
-    found: &Index,
-    made: &TableDefinition,
-    name: &[u8],
-    tree: u32,
-    columns: &[usize],
-) -> bool
-    requires { name.now ≡ codes "sqlite_autoindex_" ++ (made.now.name.now ++ codes "_1") }
-    ensures { IsTrue result ↔
-        (found.now ≡ record {
-          name = codes "sqlite_autoindex_"
-              ++ (made.now.name.now ++ (codes "_" ++ decimal 1));
-          tree = tree;
-          table = made.now.tree;
-          columns = columns.now;
-          order = plain;
-          is_unique = true;
-        }) }
+/// Whether an index is that of the unique key of a record's table, besides the row's number.
+fn is_index_of<R: Record>(found: &Index) -> bool
+    ensures { IsTrue result ↔ (index_of (table_of R.part) ≡ Some found.now) }
 {
-    is_index(found, name, tree, made.tree, columns)
+    let made = R::table();
+    match made.unique {
+        Some(key) => is_index(
+            found,
+            key.index.as_bytes(),
+            key.tree,
+            made.tree,
+            key.columns,
+        ),
+        None => false,
+    }
 }
 
 /// Whether an index is the one at index `position` of the four that the database makes for the
@@ -59,34 +57,10 @@ fn is_key_index(found: &Index, position: usize) -> bool
     ensures { IsTrue result ↔ (slice_get all_indexes position ≡ Some found.now) }
 {
     match position {
-        0 => is_index_of(
-            found,
-            &FACTION,
-            b"sqlite_autoindex_faction_1",
-            FACTION_INDEX,
-            &FACTION_UNIQUE,
-        ),
-        1 => is_index_of(
-            found,
-            &HAS,
-            b"sqlite_autoindex_has_1",
-            HAS_INDEX,
-            &HAS_UNIQUE,
-        ),
-        2 => is_index_of(
-            found,
-            &BOOKS,
-            b"sqlite_autoindex_books_1",
-            BOOKS_INDEX,
-            &BOOKS_UNIQUE,
-        ),
-        3 => is_index_of(
-            found,
-            &MARKET,
-            b"sqlite_autoindex_market_1",
-            MARKET_INDEX,
-            &MARKET_UNIQUE,
-        ),
+        0 => is_index_of::<FactionRecord>(found),
+        1 => is_index_of::<HasRecord>(found),
+        2 => is_index_of::<BooksRecord>(found),
+        3 => is_index_of::<MarketRecord>(found),
         _ => false,
     }
 }
@@ -103,7 +77,7 @@ fn are_first_indexes(indexes: &[Index], count: usize) -> bool
     true
 }
 
-fn is_among(tree: u32, tables: &[TableDefinition]) -> bool
+fn is_among(tree: u32, tables: &[Description]) -> bool
     ensures { result ≡ list_any (λ t. tree == t.tree) tables.now }
 {
     tables.iter().any(|table| tree == table.tree)
@@ -113,7 +87,7 @@ fn is_campaign_tree(tree: u32, count: usize) -> bool
     requires { count ≤ length all_tables }
     ensures { result ≡ list_any (λ t. tree == t.tree) (take count all_tables) }
 {
-    is_among(tree, &ALL[..count])
+    is_among(tree, &described_tables()[..count])
 }
 
 fn is_harmless(found: &Index, count: usize) -> bool

@@ -1,13 +1,17 @@
-//! Compares a table of a schema with the definition of a campaign's table: its tree, name, columns
-//! and keys.
-ghost use Rattle.std.specs.Prelude.{◌≡◌, [], ◌∷◌, map, Some, None, false, ◌↔◌, IsTrue};
-ghost use Rattle.atl_columns.specs.Fields.{strict_column};
+//! Compares a table of a schema with the description of a campaign's table: its tree, name, columns,
+//! keys and check.
+ghost use Rattle.std.specs.Prelude.{◌≡◌, [], false, ◌↔◌, IsTrue};
+ghost use Rattle.atl_descriptions.specs.Described.{checks_of, unique_columns};
 ghost use Rattle.atl_descriptions.specs.Sets.{table};
+ghost use Rattle.atl_descriptions.specs.Tables.{table_of};
 
-use crate::schema::columns::are_strict_columns;
-use crate::schema::keys::{has_no_unique, is_numbered, is_under, is_unique};
-use crate::tables::TableDefinition;
-use sqlite_schema::schema::{Stamps, Table};
+use crate::schema::checks::checks_id_is_one;
+use crate::schema::keys::has_keys;
+use atl_columns::Fields;
+use atl_descriptions::Record;
+use atl_descriptions::table::Table as Description;
+use sqlite_schema::code::Terms;
+use sqlite_schema::schema::{Column, Stamps, Table};
 
 /// Whether no column of the table has a default that reads the time.
 fn is_unstamped(stamps: &Stamps) -> bool
@@ -32,45 +36,40 @@ fn has_nothing_more(found: &Table) -> bool
         && !found.is_counted
 }
 
-/// Whether tree, name and columns are as defined, and the table has nothing more than keys and
-/// checks.
-pub(crate) fn is_strict(found: &Table, made: &TableDefinition) -> bool
+/// Whether the checks are those of a table that has the check `id = 1` (`is_single`), or of one
+/// that has none.
+fn has_check(checks: &Terms, is_single: bool) -> bool
+    ensures { IsTrue result ↔ (checks.now ≡ checks_of is_single) }
+{
+    if is_single {
+        checks_id_is_one(checks)
+    } else {
+        checks.roots.is_empty()
+    }
+}
+
+/// Whether the table is as described, whatever its columns are.
+fn is_described(found: &Table, made: &Description) -> bool
     ensures { IsTrue result ↔
-        (found.now ≡ record (table made.now.tree made.now.name.now
-        (map (λ f. strict_column f.0.now f.1) made.now.columns.now) found.now.key found.now.primary
-        found.now.uniques found.now.checks) { orders = found.now.orders }) }
+        (found.now ≡ table made.now.tree made.now.name.now found.now.columns made.now.number
+        made.now.primary.now (unique_columns made.now.unique) (checks_of made.now.is_single)) }
 {
     found.tree == made.tree
-        && found.name.as_slice() == made.name
-        && are_strict_columns(found.columns.as_slice(), made.columns)
+        && found.name.as_slice() == made.name.as_bytes()
+        && has_keys(found, made)
+        && has_check(&found.checks, made.is_single)
         && has_nothing_more(found)
 }
 
-fn is_unchecked(found: &Table, made: &TableDefinition) -> bool
-    ensures { IsTrue result ↔
-        (found.now ≡ record (table made.now.tree made.now.name.now
-        (map (λ f. strict_column f.0.now f.1) made.now.columns.now) found.now.key found.now.primary
-        found.now.uniques []) { orders = found.now.orders }) }
+fn has_columns<R: Record>(columns: &[Column]) -> bool
+    ensures { IsTrue result ↔ (columns.now ≡ (table_of R.part).columns) }
 {
-    is_strict(found, made) && found.checks.roots.is_empty()
+    R::Fields::are_columns(columns, R::table().names)
 }
 
-/// Whether the table is as defined, with its row's number as its only key and without a check.
-pub(crate) fn is_simple(found: &Table, made: &TableDefinition) -> bool
-    ensures { IsTrue result ↔
-        (found.now ≡ table made.now.tree made.now.name.now
-        (map (λ f. strict_column f.0.now f.1) made.now.columns.now) (Some 0) (0 ∷ []) [] []) }
+/// Whether a table of a schema is that of a record.
+pub(crate) fn is_table_of<R: Record>(found: &Table) -> bool
+    ensures { IsTrue result ↔ (found.now ≡ table_of R.part) }
 {
-    is_unchecked(found, made) && is_numbered(found) && has_no_unique(found)
-}
-
-/// Whether the table is as defined, with the columns at the indexes `key` of a stored row as its
-/// only key, and without a check.
-pub(crate) fn is_keyed(found: &Table, made: &TableDefinition, key: &[usize]) -> bool
-    ensures { IsTrue result ↔
-        (found.now ≡ table made.now.tree made.now.name.now
-        (map (λ f. strict_column f.0.now f.1) made.now.columns.now) None key.now (key.now ∷ [])
-        []) }
-{
-    is_unchecked(found, made) && is_under(found, key) && is_unique(found, key)
+    is_described(found, &R::table()) && has_columns::<R>(found.columns.as_slice())
 }

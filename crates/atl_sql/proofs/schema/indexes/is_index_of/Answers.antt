@@ -1,13 +1,17 @@
-use Rattle.std.proofs.Common.{◌≡◌, List, ℕ, true, subst}
-use Rattle.std.specs.Bool.{Decides}
-use Rattle.sqlite_value.specs.Keys.{plain}
-use Rattle.atl_sql.proofs.SchemaLaws.{index_name_ends_in_one}
+use Rattle.std.proofs.Common.{sym, ap, ◌∙◌}
+use Rattle.atl_descriptions.specs.Described.{unique_columns}
+use Rattle.atl_descriptions.specs.Tables.{table_of}
+use Rattle.atl_sql.proofs.SchemaLaws.{is_index, has_no_index}
 use Rattle.atl_sql.proofs.schema.indexes.is_index_of.Goals as goal
 
-pub returns : goal.returns
-returns c =
-    let found = c.args.found.now in
-    let made = c.args.made.now in
-    let key = c.args.columns.now in
-    index_name_ends_in_one made.name.now c.args.tree made.tree key found c.is_index.result
-    (subst (λ (name : List ℕ). Decides c.is_index.result (found ≡ record { name = name; tree = c.args.tree; table = made.tree; columns = key; order = plain; is_unique = true })) c.requires c.is_index.ensures)
+pub returns-in-Some : goal.returns-in-Some
+returns-in-Some g c =
+    let made = c.table-made.ensures in
+    let index = rw c.in-Some.is at made.index in
+    is_index g.R.Record.part _ _ _ _ (sym made.unique ∙ ap unique_columns c.in-Some.is) (c.as_bytes.ensures.value ∙ index.0) index.1 made.tree c.args.found.now c.is_index.result c.is_index.ensures
+
+pub returns-in-None : goal.returns-in-None
+returns-in-None g c = (
+  λ no. absurd (cc),
+  λ says. absurd (has_no_index (table_of g.R.Record.part) (sym c.table-made.ensures.unique ∙ ap unique_columns c.in-None.is) c.args.found.now says),
+)
