@@ -25,6 +25,7 @@ pub mod OwnRowLaws
 pub mod UpgradeRowLaws
 pub mod CampaignRowLaws
 pub mod ShownLaws
+pub mod ReadAsLaws
 pub mod CheckTerms
 pub mod SchemaLaws
 pub mod SelectLaws

@@ -1,5 +1,5 @@
 -- Laws on a SELECT inside a transaction: what it leaves, and what is left once the transaction is rolled back.
-use Rattle.std.proofs.Common.{◌≡◌, ◌≢◌, ◌≤◌, ◌⊎◌, ℕ, Bool, List, [], true, false, cond, IsTrue, Option, Some, None, Result, Ok, Err, IsErrAnd, IfOk, IfErr, map, length, refl, sym, ap, ◌∙◌, subst, inl, inr, arith}
+use Rattle.std.proofs.Common.{◌≡◌, ◌≢◌, ◌≤◌, ◌⊎◌, ℕ, Bool, List, [], true, false, cond, IsTrue, Option, Some, None, Result, Ok, Err, IsErrAnd, IfOk, IfErr, refl, sym, ap, ◌∙◌, subst, inl, inr, arith}
 use Rattle.std.specs.declared.vec.Vec.{Vec}
 use Rattle.sqlite_trees.specs.declared.store.Store.{Ghosts}
 use Rattle.sqlite_schema.specs.declared.command.Returning.{Returning}
@@ -11,9 +11,9 @@ use Rattle.sqlite.proofs.InsideLemmas.{unchanged_keeps}
 use Rattle.sqlite.proofs.Callers.{survives_begin}
 use Rattle.atl_sql.specs.Errors.{is_memory, is_failure, read_fault}
 use Rattle.atl_sql.specs.Reading.{Rests, IsAsked, Asks, ReadsRows, RefusesToSelect}
-use Rattle.atl_sql.specs.Stored.{Form, first_columns, AreTyped}
+use Rattle.atl_sql.specs.Stored.{Form, AreReadAs, AreTyped, HasOutOfRange}
 use Rattle.atl_sql.specs.declared.fault.ReadFault.{ReadFault}
-use Rattle.atl_sql.specs.declared.fault.ReadFault.TheVariants.{Store, Refused, Memory, OtherType}
+use Rattle.atl_sql.specs.declared.fault.ReadFault.TheVariants.{Store, Refused, Memory, OtherType, OutOfRange}
 use Rattle.atl_sql.proofs.KeepLaws.{survives_more, if_ok, if_err}
 
 module _ (old new : State) (inside : IsTrue old.in_transaction) (sql : List ℕ) (params : Row) where
@@ -105,6 +105,17 @@ not_other e same = by_memory (is_memory e) (is_failure e) same
     by_memory false true is = cc
     by_memory false false is = cc
 
+not_range : (e : Error) → read_fault e ≡ OutOfRange → ⊥
+not_range e same = by_memory (is_memory e) (is_failure e) same
+  where
+    by_memory : (a b : Bool) → cond a Memory (cond b Store Refused) ≡ OutOfRange → ⊥
+    by_memory true b is = cc
+    by_memory false true is = cc
+    by_memory false false is = cc
+
+pub never_range : {S : Type 0} (g : Ghosts S) (sql : List ℕ) (old : Held S) (fault : ReadFault) → RefusesToSelect g sql old fault → fault ≡ OutOfRange → ⊥
+never_range g sql old fault says same = not_range says.2 (sym says.5 ∙ same)
+
 pub never_other : {S : Type 0} (g : Ghosts S) (sql : List ℕ) (old : Held S) (fault : ReadFault) → RefusesToSelect g sql old fault → fault ≡ OtherType → ⊥
 never_other g sql old fault says same = not_other says.2 (sym says.5 ∙ same)
 
@@ -112,13 +123,14 @@ if_both : {A E : Type 0} (P Q : A → Type 0) (r : Result A E) → IfOk r P → 
 if_both P Q (Ok a) p q = (p, q)
 if_both P Q (Err e) p q = tt
 
-module _ {S A Z : Type 0} (g : Ghosts S) (sql : List ℕ) (old new : Held S) (forms : List Form) (shown : A → Row) where
-  pub unasked : {Y : Type 0} (fault : ReadFault) (r : Result (Vec A Z) ReadFault) → Asks g sql old {Z = Y} (Err fault) new → IsErrAnd r (λ says. says ≡ fault) → ReadsRows g sql old forms shown r new
+module _ {S A Z : Type 0} (g : Ghosts S) (sql : List ℕ) (old new : Held S) (forms : List Form) (reads : Row → A → Type 0) (is_in_range : Row → Bool) where
+  pub unasked : {Y : Type 0} (fault : ReadFault) (r : Result (Vec A Z) ReadFault) → Asks g sql old {Z = Y} (Err fault) new → IsErrAnd r (λ says. says ≡ fault) → ReadsRows g sql old forms reads is_in_range r new
   unasked fault (Ok all) asks is = absurd is
   unasked fault (Err says) asks is = record {
     rows = λ _. tt;
     other = λ clean same. absurd (never_other g sql old says (subst (RefusesToSelect g sql old) (sym is) (asks.refused clean)) same);
-    refused = λ clean _ _. subst (RefusesToSelect g sql old) (sym is) (asks.refused clean);
+    range = λ clean same. absurd (never_range g sql old says (subst (RefusesToSelect g sql old) (sym is) (asks.refused clean)) same);
+    refused = λ clean _ _ _. subst (RefusesToSelect g sql old) (sym is) (asks.refused clean);
     memory = λ clean same. inl (subst (RefusesToSelect g sql old) (sym is ∙ same) (asks.refused clean));
     rests = asks.rests;
     survives = asks.survives;
@@ -126,11 +138,13 @@ module _ {S A Z : Type 0} (g : Ghosts S) (sql : List ℕ) (old new : Held S) (fo
   }
 
   pub parsed : {Y : Type 0} (rows : Vec Row Y) (lent : List Row) (r : Result (Vec A Z) ReadFault) → Asks g sql old (Ok rows) new → lent ≡ rows.items
-      → IfOk r (λ all. map shown all.items ≡ map (first_columns (length forms)) lent) → IfOk r (λ _. AreTyped forms lent) → IfErr r (λ fault. fault ≡ OtherType → ¬ AreTyped forms lent) → IfErr r (λ fault. fault ≢ OtherType → fault ≡ Memory) → ReadsRows g sql old forms shown r new
-  parsed rows lent r asks same ok typed other which = record {
-    rows = λ clean. if_ok r (λ all says. (rows.items, asks.rows clean, says.0 ∙ ap (map (first_columns (length forms))) same, subst (λ l. AreTyped forms l) same says.1)) (if_both _ _ r ok typed);
+      → IfOk r (λ all. AreReadAs forms reads lent all.items) → IfOk r (λ _. AreTyped forms lent) → IfErr r (λ fault. fault ≡ OtherType → ¬ AreTyped forms lent) → IfErr r (λ fault. fault ≡ OutOfRange → AreTyped forms lent × HasOutOfRange forms is_in_range lent)
+      → IfErr r (λ fault. fault ≢ OtherType → fault ≢ OutOfRange → fault ≡ Memory) → ReadsRows g sql old forms reads is_in_range r new
+  parsed rows lent r asks same ok typed other range which = record {
+    rows = λ clean. if_ok r (λ all says. (rows.items, asks.rows clean, subst (λ l. AreReadAs forms reads l all.items) same says.0, subst (λ l. AreTyped forms l) same says.1)) (if_both _ _ r ok typed);
     other = λ clean. if_err r (λ fault says is. (rows.items, asks.rows clean, subst (λ l. ¬ AreTyped forms l) same (says is))) other;
-    refused = λ clean. if_err r (λ fault says no never. absurd (never (says no))) which;
+    range = λ clean. if_err r (λ fault says is. let both = says is in (rows.items, asks.rows clean, subst (λ l. AreTyped forms l) same both.0, subst (λ l. HasOutOfRange forms is_in_range l) same both.1)) range;
+    refused = λ clean. if_err r (λ fault says no not never. absurd (never (says no not))) which;
     memory = λ clean. if_err r (λ fault says is. inr (rows.items, asks.rows clean)) which;
     rests = asks.rests;
     survives = asks.survives;

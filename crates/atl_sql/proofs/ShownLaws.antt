@@ -1,17 +1,16 @@
 -- Laws on the values read of the rows that a SELECT shows: they are of all rows, and of their columns' forms.
-use Rattle.std.proofs.Common.{◌≡◌, ◌<◌, ℕ, ℤ, IsUtf8, true, false, not, IsTrue, if◌then◌else◌, List, [], ◌∷◌, ◌++◌, ◌+◌, map, length, get_or, take, ap, ◌∙◌, refl, sym, subst, inl, inr}
+use Rattle.std.proofs.Common.{◌≡◌, ◌<◌, ℕ, ℤ, IsUtf8, Result, Ok, Err, IfErr, IsErrAnd, List, [], ◌∷◌, ◌++◌, ◌+◌, map, length, get_or, take, ap, ◌∙◌, refl, sym, subst, inl, inr}
 use Rattle.std.specs.List.Sorted.{IsPermutation}
 use Rattle.std.proofs.lemmas.List.Sorted.{IsPermutation-map}
 use Rattle.sqlite.specs.Order.{Row, column}
 use Rattle.sqlite.specs.declared.types.Value.TheVariants.{Int, Text}
 use Rattle.atl_sql.specs.Shown.{campaign_row_forms, campaign_forms, report_forms}
-use Rattle.std.proofs.lemmas.List.{take_more, map-append}
-use Rattle.sqlite.specs.declared.error.Error.{Error}
+use Rattle.std.proofs.lemmas.List.{take_more}
 use Rattle.sqlite_rules.specs.Lists.{Has}
 use Rattle.sqlite_rules.proofs.ListLemmas.{has_at, has_either}
-use Rattle.atl_sql.specs.Errors.{is_memory, value_fault}
 use Rattle.atl_sql.specs.Stored.{Form, IsTyped, AreTyped}
-use Rattle.atl_sql.specs.declared.fault.ReadFault.TheVariants.{Memory, OtherType}
+use Rattle.atl_sql.specs.declared.fault.ReadFault.{ReadFault}
+use Rattle.atl_sql.specs.declared.fault.ReadFault.TheVariants.{OtherType}
 
 -- The rows that a SELECT showed, each cut by `first`, are all rows of the table. Premises: it showed all rows, and the
 -- cut changes no row that SQL shows.
@@ -22,14 +21,10 @@ whole_shown shown first whole tree rows same = subst (λ l. IsPermutation l (map
     kept [] = refl
     kept (r ∷ tree) = ap (λ x. x ∷ map first (map shown tree)) (whole r) ∙ ap (λ l. shown r ∷ l) (kept tree)
 
-other_only : (e : Error) → value_fault e ≡ OtherType → IsTrue (not (is_memory e))
-other_only e is = elim (is_memory e) as (λ b. (if b then Memory else OtherType) ≡ OtherType → not b ≡ true) [
-  | true ↦ λ same. absurd (let k = same in cc)
-  | false ↦ λ _. refl
-] is
-
-pub refuses_row : (forms : List Form) (rows : List Row) (at : ℕ) (row : Row) (e : Error) → at < length rows → row ≡ get_or rows at row → (IsTrue (not (is_memory e)) → ¬ IsTyped forms row) → value_fault e ≡ OtherType → ¬ AreTyped forms rows
-refuses_row forms rows at row e within is refused says typed = refused (other_only e says) (typed row (has_at rows at row within is))
+pub refuses_row : {B : Type 0} (forms : List Form) (rows : List Row) (at : ℕ) (row : Row) (fault : ReadFault) (r : Result B ReadFault) → IsErrAnd r (λ says. says ≡ fault) → at < length rows → row ≡ get_or rows at row → (fault ≡ OtherType → ¬ IsTyped forms row)
+    → IfErr r (λ says. says ≡ OtherType → ¬ AreTyped forms rows)
+refuses_row forms rows at row fault (Ok b) says within is refused = tt
+refuses_row forms rows at row fault (Err f) says within is refused = λ same typed. refused (sym says ∙ same) (typed row (has_at rows at row within is))
 
 typed_more : (forms : List Form) (rows more : List Row) (row : Row) → more ≡ rows ++ row ∷ [] → AreTyped forms rows → IsTyped forms row → AreTyped forms more
 typed_more forms rows more row is before typed r there = elim (has_either rows (row ∷ []) r (subst (λ l. Has l r) is there)) [
@@ -39,12 +34,6 @@ typed_more forms rows more row is before typed r there = elim (has_either rows (
 
 pub typed_next : (forms : List Form) (rows : List Row) (at : ℕ) (row : Row) → at < length rows → row ≡ get_or rows at row → AreTyped forms (take at rows) → IsTyped forms row → AreTyped forms (take (at + 1) rows)
 typed_next forms rows at row within is = typed_more forms (take at rows) (take (at + 1) rows) row (take_more rows at row within ∙ ap (λ r. take at rows ++ r ∷ []) (sym is))
-
-pub mapped_next : {A : Type 0} (shown : A → Row) (cut : Row → Row) (all more : List A) (a : A) (rows : List Row) (at : ℕ) (row : Row) → at < length rows → row ≡ get_or rows at row → more ≡ all ++ a ∷ [] → map shown all ≡ map cut (take at rows) → shown a ≡ cut row
-    → map shown more ≡ map cut (take (at + 1) rows)
-mapped_next shown cut all more a rows at row within is more_is same one =
-    ap (map shown) more_is ∙ map-append shown all (a ∷ []) ∙ ap (λ l. l ++ shown a ∷ []) same ∙ ap (λ r. map cut (take at rows) ++ r ∷ []) (one ∙ ap cut is)
-    ∙ sym (map-append cut (take at rows) (get_or rows at row ∷ [])) ∙ ap (map cut) (sym (take_more rows at row within))
 
 pub report_typed : (row : Row) (n : ℤ) (text : List ℕ) → column row 0 ≡ Int n → column row 1 ≡ Text text → IsUtf8 text → IsTyped report_forms row
 report_typed row n text first second utf8 = ((n, first), ((text, second, utf8), tt))

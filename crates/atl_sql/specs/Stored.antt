@@ -1,6 +1,6 @@
--- The forms in which columns are read, and which values are of each.
-use Rattle.std.specs.Prelude.{◌≡◌, ◌+◌, ℕ, ℤ, List, [], ◌∷◌, IsUtf8, ⊤, map}
-use Rattle.std.specs.List.{range_with_len}
+-- The forms in which columns are read, which values are of each, and what rows are read as.
+use Rattle.std.specs.Prelude.{◌≡◌, ◌+◌, ℕ, ℤ, Bool, true, false, List, [], ◌∷◌, IsUtf8, ⊤, length, map}
+use Rattle.std.specs.List.{AllZip, range_with_len}
 use Rattle.sqlite.specs.declared.types.Value.{Value}
 use Rattle.sqlite.specs.declared.types.Value.TheVariants.{Int, Text, Blob}
 use Rattle.sqlite.specs.Order.{Row, column}
@@ -40,3 +40,22 @@ IsTyped forms row = IsTypedFrom 0 forms row
 -- each value of each of the rows can be read in its column's form
 abbrev pub AreTyped : List Form → List Row → Type 0
 AreTyped forms rows = (row : Row) → Has rows row → IsTyped forms row
+
+-- ---- what rows are read as
+
+-- each row, by as many columns as there are forms, is read as the one at its place in the list
+abbrev pub AreReadAs : {A : Type 0} → List Form → (Row → A → Type 0) → List Row → List A → Type 0
+AreReadAs forms reads rows all = AllZip reads (map (first_columns (length forms)) rows) all
+
+-- one of the rows, by as many columns as there are forms, has a value out of its range
+abbrev pub HasOutOfRange : List Form → (Row → Bool) → List Row → Type 0
+HasOutOfRange forms is_in_range rows =
+    (row : Row) × Has rows row × (is_in_range (first_columns (length forms) row) ≡ false)
+
+-- a row is read as what is shown as this very row
+abbrev pub IsShownAs : {A : Type 0} → (A → Row) → Row → A → Type 0
+IsShownAs shown row one = shown one ≡ row
+
+-- no row has a value out of its range: the columns have no ranges
+abbrev pub without_ranges : Row → Bool
+without_ranges row = true

@@ -19,6 +19,8 @@ pub enum ReadFault {
     /// A value is of another type than its column, or is a text that is not UTF-8 where it has
     /// to be.
     OtherType,
+    /// All values are of the types of their columns, and one is out of its column's range.
+    OutOfRange,
 }
 
 /// Shows a fault of reading by its name, such as `Refused`.

@@ -2,7 +2,8 @@
 -- The listing of a part is the rows that its SELECT shows.
 use Rattle.std.proofs.Common.{◌≡◌, ◌≢◌, ◌++◌, ℕ, ℤ, pos, true, false, List, [], ◌∷◌, ◌⊎◌, take, map, Result, Ok, Err, IfErr, IsErrAnd, inl, inr, refl, sym, ap, ◌∙◌, subst, true≢false, arith}
 use Rattle.std.specs.Prelude.{if◌then◌else◌}
-use Rattle.std.specs.List.{AllByRecursion, IsDistinct}
+use Rattle.std.specs.List.{AllByRecursion, AllZip, IsDistinct}
+use Rattle.std.specs.declared.vec.Vec.{Vec}
 use Rattle.std.specs.List.Sorted.{IsPermutation}
 use Rattle.std.specs.Ordering.{int_eq, is_eq, nat_cmp}
 use Rattle.std.specs.FinMap.{FinMap, entries, is_sorted}
@@ -15,16 +16,17 @@ use Rattle.sqlite_value.proofs.OrderLemmas.{value_cmp-Int}
 use Rattle.sqlite_trees.specs.Tree.{Trees, rowid}
 use Rattle.sqlite_trees.specs.View.{is_int}
 use Rattle.sqlite_rules.specs.Lists.{Has}
-use Rattle.sqlite_rules.proofs.ListLemmas.{all_from, all_has}
+use Rattle.sqlite_rules.proofs.ListLemmas.{all_from, all_has, has_left, has_right}
 use Rattle.atl_world.specs.declared.format.Format.TheVariants.{Second}
 use Rattle.atl_rows.specs.declared.parts.Parts.{Parts}
 use Rattle.atl_rows.specs.declared.parts.StoredCampaignRow.{StoredCampaignRow}
-use Rattle.atl_store.specs.Gathering.{HaveDistinctRowids, AllHaveDistinctRowids, HaveDistinctIntegers, IsMadeOf, FailsWithout, ReadRows, without_ids, column_count}
-use Rattle.atl_store.specs.Loading.{shows_rowids, has_row_values, books_values, market_values, other_parts, rows_read}
+use Rattle.atl_store.specs.Gathering.{HaveDistinctRowids, AllHaveDistinctRowids, HaveDistinctIntegers, IsMadeOf, FailsWithout, ReadRows, ReadsBoth, ReadsPart, without_ids, column_count}
+use Rattle.atl_store.specs.Loading.{AreRead, shows_rowids, has_row_values, books_values, market_values, other_parts}
 use Rattle.atl_descriptions.specs.PartSelects.{select_of_part}
 use Rattle.atl_store.specs.Rows.{rows_in_order}
 use Rattle.atl_descriptions.specs.Sets.{AreKeyedByRowid, visible_row, rows_in}
 use Rattle.atl_sql.specs.Shown.{has_stored, books_stored, market_stored}
+use Rattle.atl_sql.specs.Stored.{IsShownAs}
 use Rattle.atl_descriptions.specs.Tables.{Part, Own, Goods, Books, Markets, table_of}
 use Rattle.atl_store.specs.declared.fault.LoadFault.{LoadFault}
 use Rattle.atl_store.specs.declared.fault.LoadFault.TheVariants.{Store, Damaged, NotACampaign, OtherFormat, Memory}
@@ -153,51 +155,116 @@ module _ (part : Part) (db : Trees) (rows : List Row) where
 
 -- ---- rows that were read with their rowids
 
--- A row that was read with its rowid is shown as its values and after them the rowid.
-pub record IsPlacedAs {A : Type 0} (part : Part) (stored : RowWithId A → Row) (values : A → Row) : Type 0 where
-  pub values_are : (s : RowWithId A) → take (column_count part) (stored s) ≡ values s.row
-  pub place_is : (s : RowWithId A) → column (stored s) (column_count part) ≡ Int s.rowid
+-- What a row is read as with its rowid is what the row without the rowid is read as, and the rowid.
+pub record IsPlacedAs {A : Type 0} (part : Part) (with_id : Row → RowWithId A → Type 0) (reads : Row → A → Type 0) : Type 0 where
+  pub values_are : (row : Row) (s : RowWithId A) → with_id row s → reads (take (column_count part) row) s.row
+  pub place_is : (row : Row) (s : RowWithId A) → with_id row s → column row (column_count part) ≡ Int s.rowid
 
-module _ {A : Type 0} {part : Part} {stored : RowWithId A → Row} {values : A → Row} (is : IsPlacedAs part stored values) (placed : List (RowWithId A)) where
-  pub placed_values : map values (map (λ s. s.row) placed) ≡ map (take (column_count part)) (map stored placed)
-  placed_values =
-      mapped_twice (λ (s : RowWithId A). s.row) values (λ (s : RowWithId A). values s.row) (λ s. refl) placed ∙ sym (mapped_twice stored (take (column_count part)) (λ (s : RowWithId A). values s.row) is.values_are placed)
+-- a row, and what it is read as
+abbrev ReadRow : {A : Type 0} → (Row → A → Type 0) → Type 0
+ReadRow {A} reads = (row : Row) × (one : A) × reads row one
 
-  pub placed_keys : HaveDistinctRowids placed → HaveDistinctIntegers (column_count part) (map stored placed)
-  placed_keys apart = numbers_keys stored (λ s. s.rowid) (column_count part) is.place_is placed apart
+-- the rows and what they are read as, in one list
+zipped : {A : Type 0} (reads : Row → A → Type 0) (rows : List Row) (all : List A) → AllZip reads rows all → (both : List (ReadRow reads)) × (map (λ b. b.0) both ≡ rows) × (map (λ b. b.1) both ≡ all)
+zipped reads [] [] are = ([], refl, refl)
+zipped reads [] (a ∷ all) are = absurd are
+zipped reads (row ∷ rows) [] are = absurd are
+zipped reads (row ∷ rows) (a ∷ all) are =
+    let more = zipped reads rows all are.1 in
+    ((row, a, are.0) ∷ more.0, ap (λ l. row ∷ l) more.1, ap (λ l. a ∷ l) more.2)
 
-  pub placed_apart : HaveDistinctIntegers (column_count part) (map stored placed) → HaveDistinctRowids placed
-  placed_apart keys = numbers_apart stored (λ s. s.rowid) (column_count part) is.place_is placed keys.apart
+module _ {A : Type 0} {part : Part} {with_id : Row → RowWithId A → Type 0} {reads : Row → A → Type 0} (is : IsPlacedAs part with_id reads) where
+  pub placed_values : (rows : List Row) (placed : List (RowWithId A)) → AllZip with_id rows placed → AllZip reads (map (take (column_count part)) rows) (map (λ s. s.row) placed)
+  placed_values [] [] are = tt
+  placed_values [] (s ∷ placed) are = absurd are
+  placed_values (row ∷ rows) [] are = absurd are
+  placed_values (row ∷ rows) (s ∷ placed) are = (is.values_are row s are.0, placed_values rows placed are.1)
 
-pub has_placed : IsPlacedAs Goods has_stored has_row_values
-has_placed = record { values_are = λ s. refl; place_is = λ s. refl }
+  module _ (rows : List Row) (placed : List (RowWithId A)) (are : AllZip with_id rows placed) where
+    abbrev both : List (ReadRow with_id)
+    both = (zipped with_id rows placed are).0
 
-pub books_placed : IsPlacedAs Books books_stored books_values
-books_placed = record { values_are = λ s. refl; place_is = λ s. refl }
+    abbrev number : ReadRow with_id → ℤ
+    number b = b.1.rowid
 
-pub market_placed : IsPlacedAs Markets market_stored market_values
-market_placed = record { values_are = λ s. refl; place_is = λ s. refl }
+    numbers_are : map number both ≡ map (λ s. s.rowid) placed
+    numbers_are = sym (mapped_twice (λ (b : ReadRow with_id). b.1) (λ (s : RowWithId A). s.rowid) number (λ b. refl) both) ∙ ap (map (λ (s : RowWithId A). s.rowid)) (zipped with_id rows placed are).2
+
+    pub placed_keys : HaveDistinctRowids placed → HaveDistinctIntegers (column_count part) rows
+    placed_keys apart =
+        subst (HaveDistinctIntegers (column_count part)) (zipped with_id rows placed are).1
+        (numbers_keys (λ (b : ReadRow with_id). b.0) number (column_count part) (λ b. is.place_is b.0 b.1 b.2) both (subst (IsDistinct int_eq) (sym numbers_are) apart))
+
+    pub placed_apart : HaveDistinctIntegers (column_count part) rows → HaveDistinctRowids placed
+    placed_apart keys =
+        subst (IsDistinct int_eq) numbers_are
+        (numbers_apart (λ (b : ReadRow with_id). b.0) number (column_count part) (λ b. is.place_is b.0 b.1 b.2) both
+        (subst (IsDistinct (λ a b. is_eq (value_cmp (column a (column_count part)) (column b (column_count part))))) (sym (zipped with_id rows placed are).1) keys.apart))
+
+pub has_placed : IsPlacedAs Goods (IsShownAs has_stored) (IsShownAs has_row_values)
+has_placed = record { values_are = λ row s is. ap (take 4) is; place_is = λ row s is. ap (λ r. column r 4) (sym is) }
+
+pub books_placed : IsPlacedAs Books (IsShownAs books_stored) (IsShownAs books_values)
+books_placed = record { values_are = λ row s is. ap (take 3) is; place_is = λ row s is. ap (λ r. column r 3) (sym is) }
+
+pub market_placed : IsPlacedAs Markets (IsShownAs market_stored) (IsShownAs market_values)
+market_placed = record { values_are = λ row s is. ap (take 3) is; place_is = λ row s is. ap (λ r. column r 3) (sym is) }
 
 -- ---- the rows that are to be checked
 
--- A part is made of what was read: its rows to be checked are the rows read, without their rowids.
+-- A part is made of what was read: without their rowids, the rows that were read are read as its rows to be checked.
 -- The rowids are integers, no two alike.
 pub record IsMadeAs (p : Parts) (read : Part × List Row) : Type 0 where
-  pub rows : (text : List ℕ) → rows_read text p read.0 ≡ without_ids read.0 read.1
+  pub rows : (text : List ℕ) → AreRead text p read.0 (without_ids read.0 read.1)
   pub apart : shows_rowids read.0 ≡ true → HaveDistinctIntegers (column_count read.0) read.1
 
-pub made_whole : {p : Parts} {rows : List Row} (part : Part) → shows_rowids part ≡ false → ((text : List ℕ) → rows_read text p part ≡ rows) → IsMadeAs p (part, rows)
-made_whole {p} {rows} part free are = record {
-  rows = λ text. are text ∙ sym (cut_nothing part rows free);
+pub made_whole : {p : Parts} (part : Part) → shows_rowids part ≡ false → (rows : List Row) → ((text : List ℕ) → AreRead text p part rows) → IsMadeAs p (part, rows)
+made_whole {p} part free rows are = record {
+  rows = λ text. subst (AreRead text p part) (sym (cut_nothing part rows free)) (are text);
   apart = λ placed. absurd (true≢false (sym placed ∙ free));
 }
 
-pub made_placed : {p : Parts} {A : Type 0} {part : Part} {stored : RowWithId A → Row} {values : A → Row} → IsPlacedAs part stored values → shows_rowids part ≡ true → (placed : List (RowWithId A))
-    → ((text : List ℕ) → rows_read text p part ≡ map values (map (λ s. s.row) placed)) → HaveDistinctRowids placed → IsMadeAs p (part, map stored placed)
-made_placed {p} {A} {part} {stored} {values} is has placed are apart = record {
-  rows = λ text. are text ∙ placed_values is placed ∙ sym (cut_places part (map stored placed) has);
-  apart = λ _. placed_keys is placed apart;
+pub made_placed : {p : Parts} {A : Type 0} {part : Part} {with_id : Row → RowWithId A → Type 0} {reads : Row → A → Type 0} → IsPlacedAs part with_id reads → shows_rowids part ≡ true → (placed : List (RowWithId A)) → HaveDistinctRowids placed
+    → ((text : List ℕ) (rows : List Row) → AllZip reads rows (map (λ s. s.row) placed) → AreRead text p part rows) → (rows : List Row) → AllZip with_id rows placed → IsMadeAs p (part, rows)
+made_placed {p} {A} {part} is has placed apart same rows are = record {
+  rows = λ text. subst (AreRead text p part) (sym (cut_places part rows has)) (same text (map (take (column_count part)) rows) (placed_values is rows placed are));
+  apart = λ _. placed_keys is rows placed are apart;
 }
+
+-- ---- the rows that were read of each table
+
+-- rows of this part, read as this list, are among what was read
+abbrev pub HasPart : {A : Type 0} → Part → (Row → A → Type 0) → List A → ReadRows → Type 0
+HasPart part reads all rows = (shown : List Row) × Has rows (part, shown) × AllZip reads shown all
+
+pub is_part : {A Z : Type 0} (part : Part) (reads : Row → A → Type 0) (all : Vec A Z) (rows : ReadRows) → ReadsPart part reads rows all → HasPart part reads all.items rows
+is_part part reads all rows read = (read.0, subst (λ l. Has l (part, read.0)) (sym read.1) (inl refl), read.2)
+
+module _ {X Y A : Type 0} (some : ReadRows → X → Type 0) (others : ReadRows → Y → Type 0) (part : Part) (reads : Row → A → Type 0) (all : List A) (x : X) (y : Y) where
+  pub in_first : ((rows : ReadRows) → some rows x → HasPart part reads all rows) → (rows : ReadRows) → ReadsBoth some others rows (x, y) → HasPart part reads all rows
+  in_first within rows read =
+      let has = within read.0 read.3 in
+      (has.0, subst (λ l. Has l (part, has.0)) (sym read.2) (has_left read.0 read.1 (part, has.0) has.1), has.2)
+
+  pub in_second : ((rows : ReadRows) → others rows y → HasPart part reads all rows) → (rows : ReadRows) → ReadsBoth some others rows (x, y) → HasPart part reads all rows
+  in_second within rows read =
+      let has = within read.1 read.4 in
+      (has.0, subst (λ l. Has l (part, has.0)) (sym read.2) (has_right read.0 read.1 (part, has.0) has.1), has.2)
+
+-- all that was read of some parts is made into `p`
+abbrev pub AreMadeAs : Parts → ReadRows → Type 0
+AreMadeAs p rows = AllByRecursion (IsMadeAs p) rows
+
+pub made_part : {A Z : Type 0} (p : Parts) (part : Part) (reads : Row → A → Type 0) (all : Vec A Z) → ((rows : List Row) → AllZip reads rows all.items → IsMadeAs p (part, rows)) → (rows : ReadRows) → ReadsPart part reads rows all → AreMadeAs p rows
+made_part p part reads all made rows read = subst (AreMadeAs p) (sym read.1) (made read.0 read.2, tt)
+
+pub made_both : {X Y : Type 0} (p : Parts) (some : ReadRows → X → Type 0) (others : ReadRows → Y → Type 0) (x : X) (y : Y) → ((rows : ReadRows) → some rows x → AreMadeAs p rows) → ((rows : ReadRows) → others rows y → AreMadeAs p rows)
+    → (rows : ReadRows) → ReadsBoth some others rows (x, y) → AreMadeAs p rows
+made_both p some others x y first second rows read = subst (AreMadeAs p) (sym read.2) (all_append read.0 read.1 (first read.0 read.3) (second read.1 read.4))
+  where
+    all_append : (xs ys : ReadRows) → AreMadeAs p xs → AreMadeAs p ys → AreMadeAs p (xs ++ ys)
+    all_append [] ys these those = those
+    all_append (x ∷ xs) ys these those = (these.0, all_append xs ys these.1 those)
 
 -- all parts are made of what was read (`IsMadeOf`), if each part but the campaign row is, and `head` is the only
 -- campaign row of `p`
@@ -211,14 +278,15 @@ made_of {head} {reads} {p} parts campaign all = record {
 
 -- a fault of testing the rowids of one part, Store if two are alike, or Memory, is a fault of testing those of all
 -- parts (`FailsWithout`)
-pub part_fault_is_of_all : {A B : Type 0} {part : Part} {stored : RowWithId A → Row} {values : A → Row} → IsPlacedAs part stored values → shows_rowids part ≡ true → (placed : List (RowWithId A)) (reads : ReadRows) → Has reads (part, map stored placed)
-    → (fault : LoadFault) → FailsWithout (HaveDistinctRowids placed) fault → (r : Result B LoadFault) → IsErrAnd r (λ says. says ≡ fault) → IfErr r (FailsWithout (AllHaveDistinctRowids reads))
+pub part_fault_is_of_all : {A B : Type 0} {part : Part} {with_id : Row → RowWithId A → Type 0} {reads : Row → A → Type 0} → IsPlacedAs part with_id reads → shows_rowids part ≡ true → (placed : List (RowWithId A)) (reads : ReadRows → Type 0)
+    → ((rows : ReadRows) → reads rows → HasPart part with_id placed rows) → (fault : LoadFault) → FailsWithout (HaveDistinctRowids placed) fault → (r : Result B LoadFault) → IsErrAnd r (λ says. says ≡ fault)
+    → IfErr r (λ says. (rows : ReadRows) → reads rows → FailsWithout (AllHaveDistinctRowids rows) says)
 part_fault_is_of_all is has placed reads there fault lacks (Ok b) says = tt
-part_fault_is_of_all {A} {B} {part} {stored} is has placed reads there fault lacks (Err f) says = subst (FailsWithout (AllHaveDistinctRowids reads)) (sym says) (all fault lacks)
+part_fault_is_of_all {A} {B} {part} {with_id} is has placed reads there fault lacks (Err f) says = λ rows read. subst (FailsWithout (AllHaveDistinctRowids rows)) (sym says) (all rows (there rows read) fault lacks)
   where
-    all : (fault : LoadFault) → FailsWithout (HaveDistinctRowids placed) fault → FailsWithout (AllHaveDistinctRowids reads) fault
-    all Store lacks = λ apart. lacks (placed_apart is placed (apart.each (part, map stored placed) there has))
-    all (Damaged rule) lacks = lacks
-    all NotACampaign lacks = lacks
-    all OtherFormat lacks = lacks
-    all Memory lacks = lacks
+    all : (rows : ReadRows) → HasPart part with_id placed rows → (fault : LoadFault) → FailsWithout (HaveDistinctRowids placed) fault → FailsWithout (AllHaveDistinctRowids rows) fault
+    all rows here Store lacks = λ apart. lacks (placed_apart is here.0 placed here.2 (apart.each (part, here.0) here.1 has))
+    all rows here (Damaged rule) lacks = lacks
+    all rows here NotACampaign lacks = lacks
+    all rows here OtherFormat lacks = lacks
+    all rows here Memory lacks = lacks

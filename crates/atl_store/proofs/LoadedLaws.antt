@@ -1,6 +1,6 @@
 -- Laws on `load`: from the rows that were read to the campaign that is loaded, or to the fault that refuses it.
 use Rattle.std.proofs.Common.{◌≡◌, ℕ, List, [], ◌∷◌, Bool, true, false, not, filter, map, IsTrue, IsPermutation, true≢false, Option, Result, Ok, Err, IfErr, IsErrAnd, ◌⊎◌, Some, None, inl, arith, refl, sym, ap, ◌∙◌, subst, inr, string_bytes}
-use Rattle.std.specs.List.{IsDistinct}
+use Rattle.std.specs.List.{AllZip, IsDistinct}
 use Rattle.std.proofs.lemmas.Bool.{cases_Bool}
 use Rattle.sqlite_catalog.specs.Listing.{IsSound}
 use Rattle.sqlite_rules.specs.Lists.{Has}
@@ -26,15 +26,18 @@ use Rattle.atl_state.specs.declared.checking.Rule.TheVariants.{OneRow, Ranges, N
 use Rattle.atl_rows.specs.declared.parts.Parts.{Parts}
 use Rattle.atl_rows.specs.declared.parts.StoredCampaignRow.{StoredCampaignRow}
 use Rattle.atl_store.specs.Faults.{fault_of_check}
-use Rattle.atl_store.specs.Gathering.{IsCommitted, FailsWithout, FoundBySelects, FailsToRead, FailsToConfirm, ReadRows, AreOfFormat, AllHaveDistinctRowids, HaveDistinctIntegers, without_ids, column_count, OwnRead, IsMadeOf, ReadsSome, GathersAll, IsConfirmed, IsLoaded}
+use Rattle.atl_store.specs.Gathering.{IsCommitted, FailsWithout, FoundBySelects, FailsToRead, FailsToConfirm, ReadRows, AreOfFormat, AllHaveDistinctRowids, HaveDistinctIntegers, IsOfRows, without_ids, column_count, OwnRead, IsMadeOf, ReadsSome, Gathers, GathersAll, IsConfirmed, IsLoaded}
 use Rattle.atl_store.specs.Keeps.{Keeps, Stores}
-use Rattle.atl_store.specs.Loading.{HaveRows, rows_read, own_stored, KeepsOneRow, BreaksRule, MayReturnDamaged, RefusesToLoadIn, KeepsIn, LoadsIn, Loads, LeavesAlone, AfterReads, AreMade, AllSelectsShowTyped, MayReturnMemory, FailedMeanwhile, RefusesAgain, shows_rowids, tables_with_rowids, other_parts, other_selects}
+use Rattle.atl_store.specs.Loading.{HaveRows, AreRead, own_stored, KeepsOneRow, BreaksRule, MayReturnDamaged, RefusesToLoadIn, KeepsIn, LoadsIn, Loads, LeavesAlone, AfterReads, AreMade, AllSelectsShowTyped, MayReturnMemory, FailedMeanwhile, RefusesAgain, shows_rowids, tables_with_rowids, other_parts, other_selects}
 use Rattle.atl_store.specs.Rows.{HoldsIn}
 use Rattle.atl_descriptions.specs.Statements.{selection}
 use Rattle.atl_descriptions.specs.PartSelects.{select_of_part}
 use Rattle.atl_descriptions.specs.Sets.{AreKeyedByRowid, rows_in}
+use Rattle.atl_sql.specs.Stored.{IsShownAs}
 use Rattle.atl_descriptions.specs.Tables.{Part, Own, IsSoundDatabase, HasTablesOf, campaign_table, table_of, parts_in}
 use Rattle.atl_store.specs.WorldText.{world_text}
+use Rattle.atl_store.specs.declared.loading.gathered.Found.{Found}
+use Rattle.atl_store.specs.declared.loading.gathered.Found.TheVariants as found
 use Rattle.atl_store.specs.declared.fault.LoadFault.{LoadFault}
 use Rattle.atl_store.specs.declared.fault.LoadFault.TheVariants.{Store, Damaged, NotACampaign, OtherFormat, Memory}
 use Rattle.atl_sql.specs.declared.rows.campaign.StoredCampaign.{StoredCampaign}
@@ -116,24 +119,30 @@ module _ (f : Format) {S : Type 0} (g : Ghosts S) (old : Held S) (reads : ReadRo
 
   -- the rows that are put together for the check are all rows of the tables
   module _ (head : StoredCampaignRow) (p : Parts) (made : IsMadeOf head reads p) where
-    none_read : (text : List ℕ) (part : Part) → ¬ Has (parts_in f) part → rows_read text p part ≡ []
+    none_read : (text : List ℕ) (part : Part) → ¬ Has (parts_in f) part → AreRead text p part []
     none_read text part lacks = elim (every_part part) [
       | inl own ↦ absurd (lacks (subst (Has (parts_in f)) (sym own) (has_own f)))
       | inr other ↦
           let read = read_of reads made.parts part other in
           elim (are.each read.0 read.1) [
             | inl all ↦ absurd (lacks (subst (Has (parts_in f)) (sym read.2) all.0))
-            | inr none ↦ ap (rows_read text p) read.2 ∙ made.rows text read.0 read.1 ∙ ap (without_ids read.0.0) none.1 ∙ nothing_unplaced read.0.0
+            | inr none ↦ subst (λ q. AreRead text p q []) (sym read.2) (subst (AreRead text p read.0.0) (ap (without_ids read.0.0) none.1 ∙ nothing_unplaced read.0.0) (made.rows text read.0 read.1))
           ]
     ]
 
-    rows_of_part : (text : List ℕ) → HasTablesOf f old.schema → IsPermutation (rows_in campaign_table db) (own_stored text head ∷ []) → (part : Part) → Has (parts_in f) part → IsPermutation (rows_in (table_of part) db) (rows_read text p part)
+    abbrev IsReadInto : List ℕ → Part → Type 0
+    IsReadInto text part = (rows : List Row) × IsPermutation (rows_in (table_of part) db) rows × AreRead text p part rows
+
+    rows_of_part : (text : List ℕ) → HasTablesOf f old.schema → IsPermutation (rows_in campaign_table db) (own_stored text head ∷ []) → (part : Part) → Has (parts_in f) part → IsReadInto text part
     rows_of_part text begins own part there = elim (every_part part) [
-      | inl is ↦ subst (λ q. IsPermutation (rows_in (table_of q) db) (rows_read text p q)) (sym is) (subst (λ rows. IsPermutation (rows_in campaign_table db) (map (own_stored text) rows)) (sym made.campaign) own)
+      | inl is ↦ subst (IsReadInto text) (sym is) (own_stored text head ∷ [], own, subst (AllZip (IsShownAs (own_stored text)) (own_stored text head ∷ [])) (sym made.campaign) (refl, tt))
       | inr other ↦
           let read = read_of reads made.parts part other in
-          subst (λ q. IsPermutation (rows_in (table_of q) db) (rows_read text p q)) (sym read.2)
-          (subst (IsPermutation (rows_in (table_of read.0.0) db)) (sym (made.rows text read.0 read.1)) (unplaced_all read.0.0 db read.0.1 (all_of read.0 read.1 (subst (Has (parts_in f)) read.2 there) begins)))
+          subst (IsReadInto text) (sym read.2) (
+            without_ids read.0.0 read.0.1,
+            unplaced_all read.0.0 db read.0.1 (all_of read.0 read.1 (subst (Has (parts_in f)) read.2 there) begins),
+            made.rows text read.0 read.1,
+          )
     ]
 
     have_rows : (text : List ℕ) → HasTablesOf f old.schema → IsPermutation (rows_in campaign_table db) (own_stored text head ∷ []) → HaveRows f db text p
@@ -160,7 +169,7 @@ module _ (f : Format) {S : Type 0} (g : Ghosts S) where
 
   damaged_may_be_returned : (old : Held S) (w : WorldValue) (p : Parts) → GathersAll f g old w p → HasTablesOf f old.schema → (rule : Rule) → IsFirstBroken f w p rule → MayReturnDamaged f g old rule
   damaged_may_be_returned old w p all begins OneRow first = absurd (first.broken all.first)
-  damaged_may_be_returned old w p all begins Ranges first = inr (breaks old w p all begins Ranges first)
+  damaged_may_be_returned old w p all begins Ranges first = inr (inr (breaks old w p all begins Ranges first))
   damaged_may_be_returned old w p all begins Names first = breaks old w p all begins Names first
   damaged_may_be_returned old w p all begins Known first = breaks old w p all begins Known first
   damaged_may_be_returned old w p all begins Next first = breaks old w p all begins Next first
@@ -171,6 +180,10 @@ module _ (f : Format) {S : Type 0} (g : Ghosts S) where
   damaged_may_be_returned old w p all begins Guards first = breaks old w p all begins Guards first
   damaged_may_be_returned old w p all begins Books first = breaks old w p all begins Books first
   damaged_may_be_returned old w p all begins Mail first = breaks old w p all begins Mail first
+
+  -- with the format's schema, a row that isn't read refuses the load: Damaged by the second rule
+  pub unread_row_refuses : (old : Held S) (w : WorldValue) → Gathers f g old w None → HasTablesOf f old.schema → RefusesToLoadIn f g old (Damaged Ranges)
+  unread_row_refuses old w unread begins = inr (inl (unread.0, begins, unread.1))
 
   may_return_memory : (old : Held S) → old.in_transaction ≡ false → KeepsOneRow f g old → MayReturnMemory g old
   may_return_memory old idle kept = (idle, inr (kept.rows, kept.selects))
@@ -225,26 +238,43 @@ module _ (f : Format) {S : Type 0} (g : Ghosts S) where
     unconfirmed_refuses idle typed Memory fails = may_return_memory old idle kept
 
 -- what was read of the other tables after the campaign row was read
-module _ (f : Format) {S : Type 0} (g : Ghosts S) {A : Type 0} (rows : A → ReadRows) (old mid new : Held S) (own : StoredCampaign) (w : WorldValue) (row : OwnRead g old f own w) (before : AfterReads g old mid) (r : Result (Option A) LoadFault)
-    (reads : ReadsSome g mid (other_selects f) (λ a. AreOfFormat f (state g mid).now (rows a)) r new) (o : Option A) (was : r ≡ Ok o) (clean : HasCleanDisk (state g new)) where
-  found : (says : Option A) → o ≡ says → FoundBySelects g old (other_selects f) (λ a. AreOfFormat f (state g old).now (rows a)) says
-  found says is = subst (FoundBySelects g old (other_selects f) (λ a. AreOfFormat f (state g old).now (rows a))) is (format_before g f rows old mid new before (other_selects f) r reads o was clean)
+module _ (f : Format) {S : Type 0} (g : Ghosts S) {A : Type 0} (rows : ReadRows → A → Type 0) (old mid new : Held S) (own : StoredCampaign) (w : WorldValue) (row : OwnRead g old f own w) (before : AfterReads g old mid) (r : Result (Found A) LoadFault)
+    (reads : ReadsSome g mid (other_selects f) (IsOfRows rows (AreOfFormat f (state g mid).now)) r new) (o : Found A) (was : r ≡ Ok o) (clean : HasCleanDisk (state g new)) where
+  abbrev Finds : Found A → Type 0
+  Finds = FoundBySelects g old (other_selects f) (IsOfRows rows (AreOfFormat f (state g old).now))
 
-  pub gathered_with : (a : A) → o ≡ Some a → (p : Parts) (head : StoredCampaignRow) → head ≡ own.head → IsMadeOf head (rows a) p → GathersAll f g old w p
-  gathered_with a is p head same made = let all = found (Some a) is in gathered_of f g old own w (rows a) p row all.0 all.1 head same made
+  finds : (says : Found A) → o ≡ says → Finds says
+  finds says is = subst Finds is (format_before g f rows old mid new before (other_selects f) r reads o was clean)
 
-  pub mistyped_refuses : o ≡ None → RefusesToLoadIn f g old (Damaged Ranges)
-  mistyped_refuses is = inl (own_kept f g old own w row, found None is)
+  pub gathered_with : (a : A) → o ≡ found.Rows a → (p : Parts) (head : StoredCampaignRow) → head ≡ own.head → ((reads : ReadRows) → rows reads a → IsMadeOf head reads p) → Gathers f g old w (Some p)
+  gathered_with a is p head same made = let all = finds (found.Rows a) is in gathered_of f g old own w all.1.0 p row all.0 all.1.2 head same (made all.1.0 all.1.1)
 
-  pub unmade_refuses : old.in_transaction ≡ false → (a : A) → o ≡ Some a → (fault : LoadFault) → FailsWithout (AllHaveDistinctRowids (rows a)) fault → RefusesToLoadIn f g old fault
-  unmade_refuses idle a is fault = refused fault
+  pub gathered_unread : o ≡ found.OutOfRange → Gathers f g old w None
+  gathered_unread is = (own_kept f g old own w row, finds found.OutOfRange is)
+
+  pub mistyped_refuses : o ≡ found.OtherType → RefusesToLoadIn f g old (Damaged Ranges)
+  mistyped_refuses is = inl (own_kept f g old own w row, finds found.OtherType is)
+
+  pub unmade_refuses : old.in_transaction ≡ false → (a : A) → o ≡ found.Rows a → (fault : LoadFault) → ((reads : ReadRows) → rows reads a → FailsWithout (AllHaveDistinctRowids reads) fault) → RefusesToLoadIn f g old fault
+  unmade_refuses idle a is fault lacks = let all = finds (found.Rows a) is in refused all.0 all.1.0 all.1.2 fault (lacks all.1.0 all.1.1)
     where
-      refused : (fault : LoadFault) → FailsWithout (AllHaveDistinctRowids (rows a)) fault → RefusesToLoadIn f g old fault
-      refused Store lacks = let all = found (Some a) is in inr (inr (own_kept f g old own w row, inr (all.0, inl (λ made. lacks (all_apart f g old (rows a) all.1 made)))))
-      refused (Damaged rule) lacks = absurd lacks
-      refused NotACampaign lacks = absurd lacks
-      refused OtherFormat lacks = absurd lacks
-      refused Memory lacks = may_return_memory f g old idle (own_kept f g old own w row)
+      refused : AllSelectsShowTyped g old (other_selects f) → (reads : ReadRows) → AreOfFormat f (state g old).now reads → (fault : LoadFault) → FailsWithout (AllHaveDistinctRowids reads) fault → RefusesToLoadIn f g old fault
+      refused typed reads are Store lacks = inr (inr (own_kept f g old own w row, inr (typed, inl (λ made. lacks (all_apart f g old reads are made)))))
+      refused typed reads are (Damaged rule) lacks = absurd lacks
+      refused typed reads are NotACampaign lacks = absurd lacks
+      refused typed reads are OtherFormat lacks = absurd lacks
+      refused typed reads are Memory lacks = may_return_memory f g old idle (own_kept f g old own w row)
+
+module _ (f : Format) {S : Type 0} (g : Ghosts S) (old : Held S) (w : WorldValue) where
+  -- whatever was gathered, the campaign row keeps the first rule
+  pub gathers_one : (o : Option Parts) → Gathers f g old w o → KeepsOneRow f g old
+  gathers_one None gathers = gathers.0
+  gathers_one (Some p) gathers = gathers.one
+
+  -- whatever was gathered, each value is of its column's form
+  pub gathers_typed : (o : Option Parts) → Gathers f g old w o → AllSelectsShowTyped g old (other_selects f)
+  gathers_typed None gathers = gathers.1.typed
+  gathers_typed (Some p) gathers = gathers.typed
 
 module _ {S : Type 0} (g : Ghosts S) where
   pub holds_of_error : {A : Type 0} (P : LoadFault → Type 0) (fault : LoadFault) (r : Result A LoadFault) → IsErrAnd r (λ says. says ≡ fault) → P fault → IfErr r P

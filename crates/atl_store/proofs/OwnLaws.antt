@@ -1,6 +1,6 @@
 -- Laws on reading the table `campaign`: it has one row that keeps the first rule, or a fault refuses the load.
 -- To judge the rows gives Ok with the row and its world, Damaged by the first rule, or Memory.
-use Rattle.std.proofs.Common.{◌≡◌, ℕ, false, List, [], ◌∷◌, map, length, Result, Ok, Err, IfOk, IfErr, IsPermutation, refl, sym, ap, ◌∙◌, subst, inl, inr, string_bytes}
+use Rattle.std.proofs.Common.{◌≡◌, ℕ, false, List, [], ◌∷◌, map, length, Result, Ok, Err, IfOk, IfErr, IsPermutation, true≢false, refl, sym, ap, ◌∙◌, subst, inl, inr, string_bytes}
 use Rattle.std.proofs.lemmas.Str.{IsUtf8-string_bytes}
 use Rattle.sqlite.specs.Held.{Held, state}
 use Rattle.sqlite.specs.Order.{Row, column}
@@ -16,7 +16,7 @@ use Rattle.atl_store.specs.Loading.{own_stored, AreOwnRow, RefusesToLoadIn}
 use Rattle.atl_sql.specs.Reading.{Selects, RefusesToSelect}
 use Rattle.atl_descriptions.specs.Statements.{selection}
 use Rattle.atl_descriptions.specs.Sets.{rows_in}
-use Rattle.atl_sql.specs.Stored.{first_columns, AreTyped, IsTyped}
+use Rattle.atl_sql.specs.Stored.{first_columns, AreReadAs, AreTyped, HasOutOfRange, IsShownAs, IsTyped, without_ranges}
 use Rattle.atl_sql.specs.Shown.{campaign_stored, campaign_forms}
 use Rattle.atl_sql.specs.declared.fault.ReadFault.{ReadFault}
 use Rattle.atl_sql.specs.declared.fault.ReadFault.TheVariants as read
@@ -27,7 +27,8 @@ use Rattle.atl_sql.specs.declared.rows.campaign.StoredCampaign.{StoredCampaign}
 use Rattle.atl_world.specs.declared.format.Format.TheVariants.{First}
 use Rattle.atl_sql.proofs.RowsLaws.{asked_rows}
 use Rattle.atl_sql.proofs.SelectLaws.{reads_part}
-use Rattle.atl_sql.proofs.SelectingLaws.{never_other}
+use Rattle.atl_sql.proofs.SelectingLaws.{never_other, never_range}
+use Rattle.atl_sql.proofs.ReadAsLaws.{shown_all}
 
 pub one_mapped : {A B : Type 0} (f : A → B) (xs : List A) (y : B) → map f xs ≡ y ∷ [] → (x : A) × (xs ≡ x ∷ []) × (f x ≡ y)
 one_mapped f [] y is = absurd (let k = is in cc)
@@ -103,17 +104,20 @@ judged_as Is Nothing P read lacks broken (Err (Damaged Mail)) judged = absurd ju
 
 module _ (f : Format) where
   pub judged_rows : (items : List StoredCampaign) (rows : List Row) (r : Result (StoredCampaign × WorldValue) LoadFault)
-      → map campaign_stored items ≡ map (first_columns (length campaign_forms)) rows → JudgesOwn f items r → JudgesRows f rows r
-  judged_rows items rows r shown =
+      → AreReadAs campaign_forms (IsShownAs campaign_stored) rows items → JudgesOwn f items r → JudgesRows f rows r
+  judged_rows items rows r are =
+      let shown = shown_all campaign_stored (map (first_columns (length campaign_forms)) rows) items are in
       judged_as (λ both. IsOwnRow f items both.0 both.1) ((own : StoredCampaign) (w : WorldValue) → ¬ IsOwnRow f items own w) (JudgesRows f rows) (λ both own. record { shown = sym shown ∙ ap (map campaign_stored) own.only; id = own.id; format = own.format; utf8 = IsUtf8-string_bytes both.0.world; world = own.world }) tt
       (λ none h text w own. let was = own_read f items rows h text w shown own in none was.0 w was.1) r
 
   pub unread_rows : (rows : List Row) (fault : ReadFault) → (fault ≡ read.OtherType → ¬ AreTyped campaign_forms rows)
-      → ((fault ≡ read.OtherType → ⊥) → fault ≡ read.Memory) → JudgesRows f rows (Err (campaign_row_fault fault))
-  unread_rows rows read.OtherType other which = λ h text w own. other refl (own_typed f rows h text w own)
-  unread_rows rows read.Memory other which = tt
-  unread_rows rows read.Store other which = absurd (let e = which (λ e. cc) in cc)
-  unread_rows rows read.Refused other which = absurd (let e = which (λ e. cc) in cc)
+      → (fault ≡ read.OutOfRange → AreTyped campaign_forms rows × HasOutOfRange campaign_forms without_ranges rows)
+      → ((fault ≡ read.OtherType → ⊥) → (fault ≡ read.OutOfRange → ⊥) → fault ≡ read.Memory) → JudgesRows f rows (Err (campaign_row_fault fault))
+  unread_rows rows read.OtherType other range which = λ h text w own. other refl (own_typed f rows h text w own)
+  unread_rows rows read.OutOfRange other range which = absurd (true≢false ((range refl).1.2))
+  unread_rows rows read.Memory other range which = tt
+  unread_rows rows read.Store other range which = absurd (let e = which (λ e. cc) (λ e. cc) in cc)
+  unread_rows rows read.Refused other range which = absurd (let e = which (λ e. cc) (λ e. cc) in cc)
 
 module _ (f : Format) {S : Type 0} (g : Ghosts S) (old : Held S) where
   pub refuses_own : old.in_transaction ≡ false → (rows : List Row) (r : Result (StoredCampaign × WorldValue) LoadFault) → JudgesFormat f rows r → Selects g (selection campaign_table 1) old rows
@@ -136,3 +140,4 @@ module _ (f : Format) {S : Type 0} (g : Ghosts S) (old : Held S) where
   unasked_own idle read.Memory refused = (idle, inl refused)
   unasked_own idle read.Refused refused = refused
   unasked_own idle read.OtherType refused = absurd (never_other g (selection campaign_table 1) old read.OtherType refused refl)
+  unasked_own idle read.OutOfRange refused = absurd (never_range g (selection campaign_table 1) old read.OutOfRange refused refl)

@@ -1,6 +1,6 @@
 -- Laws on tables whose rows are those of a campaign: if the rows that were read are made of it, the tables hold it.
 use Rattle.std.proofs.Common.{◌≡◌, ◌≢◌, ◌==◌, ℕ, ℤ, pos, Bool, true, false, cond, not, unwrap_or, Some, None, List, [], ◌∷◌, filter, map, refl, sym, ap, ◌∙◌, subst, inl, inr, true≢false, IsTrue}
-use Rattle.std.specs.List.{AllByRecursion}
+use Rattle.std.specs.List.{AllByRecursion, AllZip}
 use Rattle.std.specs.List.Sorted.{IsPermutation}
 use Rattle.std.specs.Ordering.{nat_cmp}
 use Rattle.std.specs.FinMap.{FinMap, entries, get}
@@ -37,10 +37,11 @@ use Rattle.atl_records.proofs.AmountListLaws.{each_amount, amount_of_each}
 use Rattle.atl_sql.specs.declared.rows.has.ThingKind.{ThingKind}
 use Rattle.atl_sql.specs.declared.rows.has.ThingKind.TheVariants.{Item, Skill}
 use Rattle.atl_store.specs.Gathering.{HaveDistinctIntegers}
-use Rattle.atl_store.specs.Loading.{HaveRows, rows_read, own_stored, has_row_values, books_values, market_values, shows_rowids, tables_with_rowids}
+use Rattle.atl_store.specs.Loading.{HaveRows, AreRead, own_stored, has_row_values, books_values, market_values, shows_rowids, tables_with_rowids}
 use Rattle.atl_store.specs.Rows.{RowsOf, rows_in_order, HasRowsOf, BooksRowsOf, MarketRowsOf, rows_for, Holds, HoldsIn, campaign_row_of, row_of_faction, row_of_region, row_of_unit, row_of_structure, things_of}
 use Rattle.atl_descriptions.specs.Sets.{HasExactly, AreKeyedByRowid, rows_in}
 use Rattle.atl_sql.specs.Shown.{flag, campaign_row_in, mail_row, report_row, faction_stored, region_stored, unit_stored, structure_stored, mail_stored, report_stored}
+use Rattle.atl_sql.specs.Stored.{IsShownAs}
 use Rattle.atl_descriptions.specs.Tables.{Part, Own, Factions, Regions, Units, Goods, Structures, Mail, Reports, Books, Markets, table_of, all_parts, parts_in}
 use Rattle.atl_sql.specs.Written.{sort_number}
 use Rattle.atl_sql.proofs.EditLaws.{has_permuted}
@@ -49,6 +50,7 @@ use Rattle.atl_store.proofs.HasTableLaws.{is_not_zero}
 use Rattle.atl_store.proofs.KeyedLaws.{mapped_twice, lines_keys, one_keys, numbers_keyed}
 use Rattle.atl_sql.proofs.ListLaws.{has_map, map_has}
 use Rattle.atl_sql.proofs.PartLaws.{all_among, is_among, not_among}
+use Rattle.atl_sql.proofs.ReadAsLaws.{shown_all}
 
 -- ---- rows of a table, rows that were read of it, and rows that are made of a campaign
 
@@ -61,6 +63,10 @@ module _ {A : Type 0} (shown : A → Row) (rows : List Row) (read made : List A)
     λ there. map_has shown made r (has_permuted rows (map shown made) r rows_made there),
     λ of. has_permuted (map shown made) rows r (IsPermutation-sym rows (map shown made) rows_made) (subst (Has (map shown made)) (sym of.2) (has_map shown made of.0 of.1)),
   )
+
+-- a table whose rows are read as what is shown as them has what is shown as these
+in_table_shown : {A : Type 0} (shown : A → Row) (in_table : List Row) (read : List A) → (rows : List Row) × IsPermutation in_table rows × AllZip (IsShownAs shown) rows read → IsPermutation in_table (map shown read)
+in_table_shown shown in_table read are = subst (IsPermutation in_table) (sym (shown_all shown are.0 read are.2)) are.1
 
 -- ---- the tables by number
 
@@ -228,16 +234,16 @@ module _ (f : Format) (db : Trees) (text : List ℕ) (p : Parts) (c : CampaignVa
   -- Each part's table has exactly the campaign's rows; these differ in the first column if it is the rowid.
   by_part : (part : Part) → Has (parts_in f) part → HasExactly (rows_in (table_of part) db) (rows_for (campaign_row_in f (campaign_row_of c) text) c part) × (shows_rowids part ≡ false → HasKeys (rows_in (table_of part) db))
   unfolding rows_of
-  by_part Own there = own_held f text c _ p.campaign (have.rows Own there) are.campaign
-  by_part Factions there = table_has_rows_of_map faction_stored made.faction_row row_of_faction faction_row_is_line (λ n v. refl) _ p.factions c.factions (have.rows Factions there) are.factions
-  by_part Regions there = table_has_rows_of_map region_stored made.region_row row_of_region (λ n v. refl) (λ n v. refl) _ p.regions c.regions (have.rows Regions there) are.regions
-  by_part Units there = table_has_rows_of_map unit_stored made.unit_row row_of_unit unit_row_is_line (λ n v. refl) _ p.units c.units (have.rows Units there) are.units
-  by_part Goods there = (goods_held _ p.has c.units (have.rows Goods there) are.has, λ number. absurd (true≢false number))
-  by_part Structures there = table_has_rows_of_map structure_stored made.structure_row row_of_structure (λ n v. refl) (λ n v. refl) _ p.structures c.structures (have.rows Structures there) are.structures
-  by_part Mail there = table_has_rows_of_map mail_stored made.mail_row mail_row (λ n v. refl) (λ n v. refl) _ p.mail c.mail (have.rows Mail there) are.mail
-  by_part Reports there = table_has_rows_of_map report_stored made.report_row report_row (λ n v. refl) (λ n v. refl) _ p.reports c.reports (have.rows Reports there) are.reports
-  by_part Books there = (books_held things c.books books _ p.books (have.rows Books there) are.books, λ number. absurd (true≢false number))
-  by_part Markets there = (stocks_held _ p.markets c.regions (have.rows Markets there) (subst (λ f. IsPermutation (made.market_rows f (entries c.regions)) p.markets) (second_by_late_part f Markets refl there) are.markets), λ number. absurd (true≢false number))
+  by_part Own there = own_held f text c _ p.campaign (in_table_shown (own_stored text) _ _ (have.rows Own there)) are.campaign
+  by_part Factions there = table_has_rows_of_map faction_stored made.faction_row row_of_faction faction_row_is_line (λ n v. refl) _ p.factions c.factions (in_table_shown faction_stored _ _ (have.rows Factions there)) are.factions
+  by_part Regions there = table_has_rows_of_map region_stored made.region_row row_of_region (λ n v. refl) (λ n v. refl) _ p.regions c.regions (in_table_shown region_stored _ _ (have.rows Regions there)) are.regions
+  by_part Units there = table_has_rows_of_map unit_stored made.unit_row row_of_unit unit_row_is_line (λ n v. refl) _ p.units c.units (in_table_shown unit_stored _ _ (have.rows Units there)) are.units
+  by_part Goods there = (goods_held _ p.has c.units (in_table_shown has_row_values _ _ (have.rows Goods there)) are.has, λ number. absurd (true≢false number))
+  by_part Structures there = table_has_rows_of_map structure_stored made.structure_row row_of_structure (λ n v. refl) (λ n v. refl) _ p.structures c.structures (in_table_shown structure_stored _ _ (have.rows Structures there)) are.structures
+  by_part Mail there = table_has_rows_of_map mail_stored made.mail_row mail_row (λ n v. refl) (λ n v. refl) _ p.mail c.mail (in_table_shown mail_stored _ _ (have.rows Mail there)) are.mail
+  by_part Reports there = table_has_rows_of_map report_stored made.report_row report_row (λ n v. refl) (λ n v. refl) _ p.reports c.reports (in_table_shown report_stored _ _ (have.rows Reports there)) are.reports
+  by_part Books there = (books_held things c.books books _ p.books (in_table_shown books_values _ _ (have.rows Books there)) are.books, λ number. absurd (true≢false number))
+  by_part Markets there = (stocks_held _ p.markets c.regions (in_table_shown market_values _ _ (have.rows Markets there)) (subst (λ f. IsPermutation (made.market_rows f (entries c.regions)) p.markets) (second_by_late_part f Markets refl there) are.markets), λ number. absurd (true≢false number))
 
   -- tables whose rows are made of the campaign hold it in the format
   pub rows_hold : HoldsIn f db text c
@@ -260,13 +266,13 @@ one_head : (f : Format) (h : StoredCampaignRow) (rows : List StoredCampaignRow) 
 one_head First h rows id format is = rw (is, id, format) refl
 one_head Second h rows id format is = rw (is, id, format) refl
 
-no_markets : (f : Format) (p : Parts) → ((text : List ℕ) (part : Part) → ¬ Has (parts_in f) part → rows_read text p part ≡ []) → IsTrue (are_of_format f p.markets)
+no_markets : (f : Format) (p : Parts) → ((text : List ℕ) (part : Part) → ¬ Has (parts_in f) part → AreRead text p part []) → IsTrue (are_of_format f p.markets)
 no_markets First p none = nothing p.markets (none [] Markets (not_among (parts_in First) Markets refl))
   where
-    nothing : (rows : List StoredMarket) → map market_values rows ≡ [] → IsTrue (are_of_format First rows)
+    nothing : (rows : List StoredMarket) → AllZip (IsShownAs market_values) [] rows → IsTrue (are_of_format First rows)
     nothing [] is = refl
-    nothing (row ∷ rows) is = absurd (let k = is in cc)
+    nothing (row ∷ rows) is = absurd is
 no_markets Second p none = refl
 
-pub keeps_one_row : (f : Format) (w : WorldValue) (p : Parts) (h : StoredCampaignRow) → h.id ≡ pos 1 → h.format ≡ pos (format_number f) → p.campaign ≡ h ∷ [] → ((text : List ℕ) (part : Part) → ¬ Has (parts_in f) part → rows_read text p part ≡ []) → KeepsRule f w p OneRow
+pub keeps_one_row : (f : Format) (w : WorldValue) (p : Parts) (h : StoredCampaignRow) → h.id ≡ pos 1 → h.format ≡ pos (format_number f) → p.campaign ≡ h ∷ [] → ((text : List ℕ) (part : Part) → ¬ Has (parts_in f) part → AreRead text p part []) → KeepsRule f w p OneRow
 keeps_one_row f w p h id format is none = (one_head f h p.campaign id format is, no_markets f p none)

@@ -2,6 +2,7 @@
 ghost use Rattle.std.specs.Prelude.{refl};
 ghost use Rattle.atl_descriptions.specs.Tables.{Books, books_table};
 ghost use Rattle.atl_sql.specs.Shown.{books_key, books_stored, books_forms};
+ghost use Rattle.atl_sql.specs.Stored.{IsShownAs, without_ranges};
 ghost use Rattle.atl_sql.specs.Written.{books_shown};
 ghost use Rattle.atl_sql.specs.Writes.{WritesRow, TakesOut};
 
@@ -54,9 +55,13 @@ pub fn drop_books<S: Alter>(
 impl Stored for RowWithId<StoredBooks> {
     ghost forms = { books_forms };
 
-    ghost shown = { books_stored };
+    ghost reads = { IsShownAs books_stored };
 
-    fn from_row(_alloc: Global, row: &Row) -> Result<RowWithId<StoredBooks>, Error> {
+    ghost is_in_range = { without_ranges };
+
+    ghost read_in_range = { λ row stored is. refl };
+
+    fn from_row(_alloc: Global, row: &Row) -> Result<Option<RowWithId<StoredBooks>>, Error> {
         let (entry, thing) = two_integers(row, 0)?;
         let (amount, rowid) = two_integers(row, 2)?;
         let row = StoredBooks {
@@ -64,7 +69,7 @@ impl Stored for RowWithId<StoredBooks> {
             thing,
             amount,
         };
-        Ok(RowWithId { row, rowid })
+        Ok(Some(RowWithId { row, rowid }))
     }
 }
 

@@ -1,7 +1,7 @@
 //! The table `campaign`, whose one row is the campaign row: how it is put and read.
 ghost use Rattle.std.specs.Prelude.{◌≡◌, false, not, IsTrue, IfOk, IfErr, refl};
 ghost use Rattle.atl_sql.specs.Errors.{is_memory};
-ghost use Rattle.atl_sql.specs.Stored.{first_columns, IsTyped};
+ghost use Rattle.atl_sql.specs.Stored.{first_columns, IsShownAs, IsTyped, without_ranges};
 ghost use Rattle.atl_descriptions.specs.Tables.{Own, campaign_table};
 ghost use Rattle.atl_sql.specs.Written.{head_shown};
 ghost use Rattle.atl_sql.specs.PutsCampaignRow.{PutsCampaignRow, UpgradesCampaignRow};
@@ -137,12 +137,16 @@ fn parse_campaign_row(alloc: Global, row: &Row) -> Result<StoredCampaignRow, Err
 impl Stored for StoredCampaign {
     ghost forms = { campaign_forms };
 
-    ghost shown = { campaign_stored };
+    ghost reads = { IsShownAs campaign_stored };
 
-    fn from_row(alloc: Global, row: &Row) -> Result<StoredCampaign, Error> {
+    ghost is_in_range = { without_ranges };
+
+    ghost read_in_range = { λ row stored is. refl };
+
+    fn from_row(alloc: Global, row: &Row) -> Result<Option<StoredCampaign>, Error> {
         let head = parse_campaign_row(alloc, row)?;
         let world = utf8_text(row, 7)?;
-        Ok(StoredCampaign { head, world })
+        Ok(Some(StoredCampaign { head, world }))
     }
 }
 

@@ -2,6 +2,7 @@
 ghost use Rattle.std.specs.Prelude.{refl};
 ghost use Rattle.atl_descriptions.specs.Tables.{Factions, faction_table};
 ghost use Rattle.atl_sql.specs.Shown.{faction_stored, faction_forms};
+ghost use Rattle.atl_sql.specs.Stored.{IsShownAs, without_ranges};
 ghost use Rattle.atl_sql.specs.Written.{faction_shown};
 ghost use Rattle.atl_sql.specs.Writes.{WritesRow};
 
@@ -47,21 +48,25 @@ pub fn put_faction<S: Alter>(tx: &mut Transaction<'_, S>, row: &FactionRow<'_>) 
 impl Stored for StoredFaction {
     ghost forms = { faction_forms };
 
-    ghost shown = { faction_stored };
+    ghost reads = { IsShownAs faction_stored };
 
-    fn from_row(alloc: Global, row: &Row) -> Result<StoredFaction, Error> {
+    ghost is_in_range = { without_ranges };
+
+    ghost read_in_range = { λ row stored is. refl };
+
+    fn from_row(alloc: Global, row: &Row) -> Result<Option<StoredFaction>, Error> {
         let number = integer(row, 0)?;
         let gone = integer(row, 4)?;
         let joined_as = text_bytes(alloc, row, 1)?;
         let name = text_bytes(alloc, row, 2)?;
         let pass = text_bytes(alloc, row, 3)?;
-        Ok(StoredFaction {
+        Ok(Some(StoredFaction {
             number,
             joined_as,
             name,
             pass,
             gone,
-        })
+        }))
     }
 }
 

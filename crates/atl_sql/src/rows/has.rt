@@ -2,6 +2,7 @@
 ghost use Rattle.std.specs.Prelude.{◌≡◌, [], ◌∷◌, refl};
 ghost use Rattle.atl_descriptions.specs.Tables.{Goods, has_table};
 ghost use Rattle.atl_sql.specs.Shown.{int, has_key, has_stored, has_forms};
+ghost use Rattle.atl_sql.specs.Stored.{IsShownAs, without_ranges};
 ghost use Rattle.atl_sql.specs.Written.{has_shown, sort_number};
 ghost use Rattle.atl_sql.specs.Writes.{WritesRow, TakesOut};
 
@@ -86,9 +87,13 @@ pub fn drop_goods<S: Alter>(tx: &mut Transaction<'_, S>, unit: u32) -> Result<()
 impl Stored for RowWithId<StoredHas> {
     ghost forms = { has_forms };
 
-    ghost shown = { has_stored };
+    ghost reads = { IsShownAs has_stored };
 
-    fn from_row(_alloc: Global, row: &Row) -> Result<RowWithId<StoredHas>, Error> {
+    ghost is_in_range = { without_ranges };
+
+    ghost read_in_range = { λ row stored is. refl };
+
+    fn from_row(_alloc: Global, row: &Row) -> Result<Option<RowWithId<StoredHas>>, Error> {
         let (unit, sort) = two_integers(row, 0)?;
         let (thing, amount, rowid) = three_integers(row, 2)?;
         let row = StoredHas {
@@ -97,7 +102,7 @@ impl Stored for RowWithId<StoredHas> {
             thing,
             amount,
         };
-        Ok(RowWithId { row, rowid })
+        Ok(Some(RowWithId { row, rowid }))
     }
 }
 

@@ -2,6 +2,7 @@
 ghost use Rattle.std.specs.Prelude.{refl};
 ghost use Rattle.atl_descriptions.specs.Tables.{Mail, mail_table};
 ghost use Rattle.atl_sql.specs.Shown.{mail_row, mail_stored, mail_forms};
+ghost use Rattle.atl_sql.specs.Stored.{IsShownAs, without_ranges};
 ghost use Rattle.atl_sql.specs.Writes.{WritesRow};
 
 use crate::rows::columns::{bytes, integer};
@@ -31,12 +32,16 @@ pub fn put_mail<S: Alter>(
 impl Stored for StoredMail {
     ghost forms = { mail_forms };
 
-    ghost shown = { mail_stored };
+    ghost reads = { IsShownAs mail_stored };
 
-    fn from_row(_alloc: Global, row: &Row) -> Result<StoredMail, Error> {
+    ghost is_in_range = { without_ranges };
+
+    ghost read_in_range = { λ row stored is. refl };
+
+    fn from_row(_alloc: Global, row: &Row) -> Result<Option<StoredMail>, Error> {
         let faction = integer(row, 0)?;
         let text = bytes(row, 1)?;
-        Ok(StoredMail { faction, text })
+        Ok(Some(StoredMail { faction, text }))
     }
 }
 

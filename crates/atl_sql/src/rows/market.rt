@@ -2,6 +2,7 @@
 ghost use Rattle.std.specs.Prelude.{[], ◌∷◌, refl};
 ghost use Rattle.atl_descriptions.specs.Tables.{Markets, market_table};
 ghost use Rattle.atl_sql.specs.Shown.{int, market_key, market_row, market_stored, market_forms};
+ghost use Rattle.atl_sql.specs.Stored.{IsShownAs, without_ranges};
 ghost use Rattle.atl_sql.specs.Writes.{WritesRow, TakesOut};
 
 use crate::rows::columns::two_integers;
@@ -54,9 +55,13 @@ pub fn drop_stocks<S: Alter>(tx: &mut Transaction<'_, S>, region: u32) -> Result
 impl Stored for RowWithId<StoredMarket> {
     ghost forms = { market_forms };
 
-    ghost shown = { market_stored };
+    ghost reads = { IsShownAs market_stored };
 
-    fn from_row(_alloc: Global, row: &Row) -> Result<RowWithId<StoredMarket>, Error> {
+    ghost is_in_range = { without_ranges };
+
+    ghost read_in_range = { λ row stored is. refl };
+
+    fn from_row(_alloc: Global, row: &Row) -> Result<Option<RowWithId<StoredMarket>>, Error> {
         let (region, item) = two_integers(row, 0)?;
         let (stock, rowid) = two_integers(row, 2)?;
         let row = StoredMarket {
@@ -64,7 +69,7 @@ impl Stored for RowWithId<StoredMarket> {
             item,
             stock,
         };
-        Ok(RowWithId { row, rowid })
+        Ok(Some(RowWithId { row, rowid }))
     }
 }
 

@@ -2,6 +2,7 @@
 ghost use Rattle.std.specs.Prelude.{refl};
 ghost use Rattle.atl_descriptions.specs.Tables.{Regions, region_table};
 ghost use Rattle.atl_sql.specs.Shown.{region_row, region_stored, region_forms};
+ghost use Rattle.atl_sql.specs.Stored.{IsShownAs, without_ranges};
 ghost use Rattle.atl_sql.specs.Writes.{WritesRow};
 
 use crate::rows::columns::three_integers;
@@ -36,15 +37,19 @@ pub fn put_region<S: Alter>(
 impl Stored for StoredRegion {
     ghost forms = { region_forms };
 
-    ghost shown = { region_stored };
+    ghost reads = { IsShownAs region_stored };
 
-    fn from_row(_alloc: Global, row: &Row) -> Result<StoredRegion, Error> {
+    ghost is_in_range = { without_ranges };
+
+    ghost read_in_range = { λ row stored is. refl };
+
+    fn from_row(_alloc: Global, row: &Row) -> Result<Option<StoredRegion>, Error> {
         let (number, peasants, money) = three_integers(row, 0)?;
-        Ok(StoredRegion {
+        Ok(Some(StoredRegion {
             number,
             peasants,
             money,
-        })
+        }))
     }
 }
 

@@ -2,6 +2,7 @@
 ghost use Rattle.std.specs.Prelude.{refl};
 ghost use Rattle.atl_descriptions.specs.Tables.{Reports, report_table};
 ghost use Rattle.atl_sql.specs.Shown.{report_row, report_stored, report_forms};
+ghost use Rattle.atl_sql.specs.Stored.{IsShownAs, without_ranges};
 ghost use Rattle.atl_sql.specs.Writes.{WritesRow};
 
 use crate::rows::columns::{integer, utf8_text};
@@ -35,15 +36,19 @@ pub fn put_report<S: Alter>(
 impl Stored for StoredReport {
     ghost forms = { report_forms };
 
-    ghost shown = { report_stored };
+    ghost reads = { IsShownAs report_stored };
 
-    fn from_row(_alloc: Global, row: &Row) -> Result<StoredReport, Error> {
+    ghost is_in_range = { without_ranges };
+
+    ghost read_in_range = { λ row stored is. refl };
+
+    fn from_row(_alloc: Global, row: &Row) -> Result<Option<StoredReport>, Error> {
         let faction = integer(row, 0)?;
         let text = utf8_text(row, 1)?;
-        Ok(StoredReport {
+        Ok(Some(StoredReport {
             faction,
             text: Text::from_string(text),
-        })
+        }))
     }
 }
 

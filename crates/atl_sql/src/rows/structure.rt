@@ -2,6 +2,7 @@
 ghost use Rattle.std.specs.Prelude.{refl};
 ghost use Rattle.atl_descriptions.specs.Tables.{Structures, structure_table};
 ghost use Rattle.atl_sql.specs.Shown.{structure_stored, structure_forms};
+ghost use Rattle.atl_sql.specs.Stored.{IsShownAs, without_ranges};
 ghost use Rattle.atl_sql.specs.Written.{structure_shown};
 ghost use Rattle.atl_sql.specs.Writes.{WritesRow};
 
@@ -60,19 +61,23 @@ pub fn put_structure<S: Alter>(
 impl Stored for StoredStructure {
     ghost forms = { structure_forms };
 
-    ghost shown = { structure_stored };
+    ghost reads = { IsShownAs structure_stored };
 
-    fn from_row(alloc: Global, row: &Row) -> Result<StoredStructure, Error> {
+    ghost is_in_range = { without_ranges };
+
+    ghost read_in_range = { λ row stored is. refl };
+
+    fn from_row(alloc: Global, row: &Row) -> Result<Option<StoredStructure>, Error> {
         let (number, kind) = two_integers(row, 0)?;
         let (region, done, owner) = three_integers(row, 3)?;
-        Ok(StoredStructure {
+        Ok(Some(StoredStructure {
             number,
             kind,
             name: text_bytes(alloc, row, 2)?,
             region,
             done,
             owner,
-        })
+        }))
     }
 }
 

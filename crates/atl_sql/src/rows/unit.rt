@@ -2,6 +2,7 @@
 ghost use Rattle.std.specs.Prelude.{refl};
 ghost use Rattle.atl_descriptions.specs.Tables.{Units, unit_table};
 ghost use Rattle.atl_sql.specs.Shown.{unit_stored, unit_forms};
+ghost use Rattle.atl_sql.specs.Stored.{IsShownAs, without_ranges};
 ghost use Rattle.atl_sql.specs.Written.{unit_shown};
 ghost use Rattle.atl_sql.specs.Writes.{WritesRow};
 
@@ -61,13 +62,17 @@ pub fn put_unit<S: Alter>(tx: &mut Transaction<'_, S>, row: &UnitRow<'_>) -> Res
 impl Stored for StoredUnit {
     ghost forms = { unit_forms };
 
-    ghost shown = { unit_stored };
+    ghost reads = { IsShownAs unit_stored };
 
-    fn from_row(alloc: Global, row: &Row) -> Result<StoredUnit, Error> {
+    ghost is_in_range = { without_ranges };
+
+    ghost read_in_range = { λ row stored is. refl };
+
+    fn from_row(alloc: Global, row: &Row) -> Result<Option<StoredUnit>, Error> {
         let (number, faction) = two_integers(row, 0)?;
         let (region, structure) = two_integers(row, 3)?;
         let (men, money, guard) = three_integers(row, 5)?;
-        Ok(StoredUnit {
+        Ok(Some(StoredUnit {
             number,
             faction,
             name: text_bytes(alloc, row, 2)?,
@@ -76,7 +81,7 @@ impl Stored for StoredUnit {
             men,
             money,
             guard,
-        })
+        }))
     }
 }
 

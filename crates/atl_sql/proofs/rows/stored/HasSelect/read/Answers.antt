@@ -15,7 +15,7 @@ pub returns-clause-table : goal.returns-clause-table
 returns-clause-table g c =
     let part = g.Self.HasSelect.part in
     let reads = rw c.select_of-since.ensures.select at c.read_all.ensures in
-    gives_table g.S.Store (select_of_part part).select c.args.conn.now c.read_all.new.conn g.Self.Stored.forms g.Self.Stored.shown c.read_all.result (select_of_part part).since (select_of_part part).in_table (reads_part part _ g.met.Self.HasSelect.columns) reads
+    gives_table g.S.Store (select_of_part part).select c.args.conn.now c.read_all.new.conn g.Self.Stored.forms g.Self.Stored.reads g.Self.Stored.is_in_range c.read_all.result (select_of_part part).since (select_of_part part).in_table (reads_part part _ g.met.Self.HasSelect.columns) reads
 
 pub read_all-requires-clause-plain : goal.read_all-requires-clause-plain
 read_all-requires-clause-plain g c has =

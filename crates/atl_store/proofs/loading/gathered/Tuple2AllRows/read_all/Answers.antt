@@ -13,4 +13,4 @@ returns-in_err-others g c =
 
 pub returns : goal.returns
 returns g c =
-    both_read g.S.Store g.X.AllRows.selects g.Y.AllRows.selects g.X.AllRows.rows g.Y.AllRows.rows c.args.conn.now c.read_all.new.conn c.read_all-2.new.conn c.read_all.result c.read_all-2.result c.read_all.ensures c.read_all-2.ensures c.in_ok-some.some c.in_ok-some.was c.in_ok-others.others c.in_ok-others.was c.zip.result c.zip.ensures
+    both_read g.S.Store g.X.AllRows.selects g.Y.AllRows.selects g.X.AllRows.reads g.Y.AllRows.reads c.args.conn.now c.read_all.new.conn c.read_all-2.new.conn c.read_all.result c.read_all-2.result c.read_all.ensures c.read_all-2.ensures c.in_ok-some.some c.in_ok-some.was c.in_ok-others.others c.in_ok-others.was c.zip.result c.zip.ensures
