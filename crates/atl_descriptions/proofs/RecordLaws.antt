@@ -20,13 +20,15 @@ module _ {X R : Type 0} (decode : Row → Option X) (encode : X → Row) (fits :
   read_is (Some x) r is = let e : of x ≡ r = cc in (x, refl, ap to (sym e) ∙ again x)
 
   -- a record that was read is written as the row's columns, if they are values that come back
-  pub encodes_row : (row : Row) (r : R) → read_row decode of width row ≡ Some r → fits (to r) → encode (to r) ≡ columns_from 0 width row
+  pub encodes_row : (row : Row) (r : R) → read_row decode of width row ≡ Some r → fits (to r)
+      → encode (to r) ≡ columns_from 0 width row
   encodes_row row r is fit =
       let one = read_is (decode (columns_from 0 width row)) r is in
       same (columns_from 0 width row) (to r) (one.1 ∙ ap Some (sym one.2)) fit
 
   -- all records that were read are written as the rows' columns
-  pub encodes_rows : (rows : List Row) (records : List R) → AreRead (read_row decode of width) rows records → AllByRecursion (λ r. fits (to r)) records
+  pub encodes_rows : (rows : List Row) (records : List R) → AreRead (read_row decode of width) rows records
+      → AllByRecursion (λ r. fits (to r)) records
       → map (λ r. encode (to r)) records ≡ map (columns_from 0 width) rows
   encodes_rows [] [] are fit = refl
   encodes_rows [] (r ∷ records) are fit = cc
@@ -40,7 +42,8 @@ module _ {X R : Type 0} (decode : Row → Option X) (encode : X → Row) (fits :
 
   -- The table's rows read as the records, each as often as it is there, if the SELECT showed all rows of the table and
   -- they were read. This is so of values that don't come back, too.
-  pub table_reads : (in_table rows : List Row) (records : List R) → IsPermutation in_table (map (columns_from 0 width) rows) → AreRead (read_row decode of width) rows records
+  pub table_reads : (in_table rows : List Row) (records : List R)
+      → IsPermutation in_table (map (columns_from 0 width) rows) → AreRead (read_row decode of width) rows records
       → IsPermutation (map (λ r. option_map of (decode r)) in_table) (map Some records)
   table_reads in_table rows records all are =
       let read = λ (r : Row). option_map of (decode r) in
@@ -48,6 +51,8 @@ module _ {X R : Type 0} (decode : Row → Option X) (encode : X → Row) (fits :
       subst (IsPermutation (map read in_table)) shown (IsPermutation-map read in_table _ all)
 
   -- The table's rows are those that the records are written as, if moreover all their values come back.
-  pub table_is : (in_table rows : List Row) (records : List R) → IsPermutation in_table (map (columns_from 0 width) rows) → AreRead (read_row decode of width) rows records
+  pub table_is : (in_table rows : List Row) (records : List R)
+      → IsPermutation in_table (map (columns_from 0 width) rows) → AreRead (read_row decode of width) rows records
       → AllByRecursion (λ r. fits (to r)) records → IsPermutation in_table (map (λ r. encode (to r)) records)
-  table_is in_table rows records all are fit = subst (IsPermutation in_table) (sym (encodes_rows rows records are fit)) all
+  table_is in_table rows records all are fit =
+      subst (IsPermutation in_table) (sym (encodes_rows rows records are fit)) all

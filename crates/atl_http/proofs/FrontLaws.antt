@@ -31,7 +31,9 @@ after_prefix_step x y w p =
       | false ↦ refl
     ]
 
-after_prefix_by : (x y : ℕ) (w p rest : List ℕ) (t : Bool) → (y == x) ≡ t → (after_prefix w p ≡ Some rest → p ≡ w ++ rest) → cond t (after_prefix w p) None ≡ Some rest → y ∷ p ≡ x ∷ (w ++ rest)
+after_prefix_by : (x y : ℕ) (w p rest : List ℕ) (t : Bool) → (y == x) ≡ t
+    → (after_prefix w p ≡ Some rest → p ≡ w ++ rest) → cond t (after_prefix w p) None ≡ Some rest
+    → y ∷ p ≡ x ∷ (w ++ rest)
 after_prefix_by x y w p rest true e ih k =
     let same : y ≡ x = grind (arith, nat_tests) in
     rw (same, ih k) refl
@@ -40,11 +42,14 @@ after_prefix_by x y w p rest false e ih k = cc
 pub after_prefix_is : (w p rest : List ℕ) → after_prefix w p ≡ Some rest → p ≡ w ++ rest
 after_prefix_is [] p rest h = cc
 after_prefix_is (x ∷ w) [] rest h = cc
-after_prefix_is (x ∷ w) (y ∷ p) rest h = after_prefix_by x y w p rest (y == x) refl (λ k. after_prefix_is w p rest k) (sym (after_prefix_step x y w p) ∙ h)
+after_prefix_is (x ∷ w) (y ∷ p) rest h =
+    after_prefix_by x y w p rest (y == x) refl (λ k. after_prefix_is w p rest k) (sym (after_prefix_step x y w p) ∙ h)
 
 -- For `lookup_after_prefix`: looking up a path past its first byte, in rows with a common prefix, looks up what follows
 -- the prefix. It finds nothing where the first bytes of path and prefix differ, or the path lacks the prefix.
-lookup_after_prefix_by : (x y : ℕ) (w p : List ℕ) (t : Rows) (v : Bool) → (y == x) ≡ v → first (prepend w t) p ≡ option_and_then (λ rest. first t rest) (after_prefix w p) → seek 0 (step y (prepend (x ∷ w) t)) p ≡ option_and_then (λ rest. first t rest) (cond v (after_prefix w p) None)
+lookup_after_prefix_by : (x y : ℕ) (w p : List ℕ) (t : Rows) (v : Bool) → (y == x) ≡ v
+    → first (prepend w t) p ≡ option_and_then (λ rest. first t rest) (after_prefix w p)
+    → seek 0 (step y (prepend (x ∷ w) t)) p ≡ option_and_then (λ rest. first t rest) (cond v (after_prefix w p) None)
 lookup_after_prefix_by x y w p t true e ih =
     let same : y ≡ x = grind (arith, nat_tests) in
     rw (same, step-hit x w t) ih
@@ -54,7 +59,8 @@ lookup_after_prefix_by x y w p t false e ih =
 
 -- looking up a path in rows with a common prefix that has no parameter (`IsText`) looks up what follows the prefix, or
 -- finds nothing if the path lacks the prefix
-pub lookup_after_prefix : (w : List ℕ) (t : Rows) (path : List ℕ) → IsText w → first (prepend w t) path ≡ option_and_then (λ rest. first t rest) (after_prefix w path)
+pub lookup_after_prefix : (w : List ℕ) (t : Rows) (path : List ℕ) → IsText w
+    → first (prepend w t) path ≡ option_and_then (λ rest. first t rest) (after_prefix w path)
 unfolding seek
 lookup_after_prefix [] t path h = ap (λ r. first r path) (prepend-nil t)
 lookup_after_prefix (x ∷ w) t [] h = own-prepend x w t
@@ -69,7 +75,9 @@ lookup_after_prefix (x ∷ w) t (y ∷ p) h =
 abbrev pub number_row : ℕ → Rows
 number_row key = (param_token ∷ [], key) ∷ []
 
-slash_step : (b : ℕ) (p : List ℕ) (t : Bool) → is_ascii_digit b ≡ t → (list_all is_ascii_digit p ≡ true → has_slash p ≡ false) → (t && list_all is_ascii_digit p) ≡ true → has_slash (b ∷ p) ≡ false
+slash_step : (b : ℕ) (p : List ℕ) (t : Bool) → is_ascii_digit b ≡ t
+    → (list_all is_ascii_digit p ≡ true → has_slash p ≡ false) → (t && list_all is_ascii_digit p) ≡ true
+    → has_slash (b ∷ p) ≡ false
 slash_step b p true e ih h =
     let differ : (b == 47) ≡ false = grind (arith, nat_tests) in
     rw differ (ih h)
@@ -79,13 +87,15 @@ no_slash : (p : List ℕ) → list_all is_ascii_digit p ≡ true → has_slash p
 no_slash [] h = refl
 no_slash (b ∷ p) h = slash_step b p (is_ascii_digit b) refl (λ k. no_slash p k) h
 
-first_digit : (b : ℕ) (p : List ℕ) (t : Bool) → is_ascii_digit b ≡ t → (t && list_all is_ascii_digit p) ≡ true → (param_token == b) ≡ false
+first_digit : (b : ℕ) (p : List ℕ) (t : Bool) → is_ascii_digit b ≡ t → (t && list_all is_ascii_digit p) ≡ true
+    → (param_token == b) ≡ false
 first_digit b p true e h = grind (arith, nat_tests)
 first_digit b p false e h = cc
 
 -- Looking up a text that isn't empty in the row of a parameter finds the row's key, if the text has no slash. Its first
 -- byte must not be `param_token`, the sign for a parameter in the router's rows.
-key_found : (key b : ℕ) (p : List ℕ) → (param_token == b) ≡ false → has_slash (b ∷ p) ≡ false → first (number_row key) (b ∷ p) ≡ Some key
+key_found : (key b : ℕ) (p : List ℕ) → (param_token == b) ≡ false → has_slash (b ∷ p) ≡ false
+    → first (number_row key) (b ∷ p) ≡ Some key
 unfolding seek
 key_found key b p e h =
     let whole : after_param (([], key) ∷ []) (b ∷ p) ≡ Some key = after_param-end [] (Some key) b p tt refl h in
@@ -109,11 +119,13 @@ end_alone key (b ∷ p) = inr (end_none key b p)
 
 -- For `one_or_none`: a path is looked up in a table that has the route's row if the test `t` is true, and else no row.
 -- Either way the lookup gives the route's key, or nothing.
-one_row_or_none_finds_key_or_none : (key b : ℕ) (p : List ℕ) (t : Bool) → IsKeyOrNone key (seek 0 (cond t (([], key) ∷ []) []) p)
+one_row_or_none_finds_key_or_none : (key b : ℕ) (p : List ℕ) (t : Bool)
+    → IsKeyOrNone key (seek 0 (cond t (([], key) ∷ []) []) p)
 one_row_or_none_finds_key_or_none key b p true = end_alone key p
 one_row_or_none_finds_key_or_none key b p false = inr (seek-empty 0 p)
 
-parameter_key_or_none : (key b : ℕ) (p : List ℕ) (t : Bool) → has_slash (b ∷ p) ≡ t → IsKeyOrNone key (after_param (([], key) ∷ []) (b ∷ p))
+parameter_key_or_none : (key b : ℕ) (p : List ℕ) (t : Bool) → has_slash (b ∷ p) ≡ t
+    → IsKeyOrNone key (after_param (([], key) ∷ []) (b ∷ p))
 parameter_key_or_none key b p true h = inr (after_param-stop [] (Some key) b p refl h)
 parameter_key_or_none key b p false h = inl (after_param-end [] (Some key) b p tt refl h)
 
@@ -130,7 +142,8 @@ none_if_not_digits true true n = refl
 none_if_not_digits true false n = refl
 none_if_not_digits false y n = refl
 
-ascii_if_test_passes : (test : ℕ → Bool) (b : ℕ) (t : Bool) → test b ≡ t → (test b ≡ true → b < 128) → (t ≡ false → ⊥) → b < 128
+ascii_if_test_passes : (test : ℕ → Bool) (b : ℕ) (t : Bool) → test b ≡ t → (test b ≡ true → b < 128) → (t ≡ false → ⊥)
+    → b < 128
 ascii_if_test_passes test b true e small h = small e
 ascii_if_test_passes test b false e small h = absurd (h refl)
 
@@ -149,15 +162,20 @@ ascii_utf8 p h = all_utf8 (λ b. ltb b 128) (λ b e. grind (arith, nat_tests)) p
 -- What looking up a text in the row of a parameter finds: the row's key, and then the text is UTF-8 or no number; or
 -- nothing, and then the text is no number.
 abbrev pub IsNumberLookup : ℕ → List ℕ → Type 0
-IsNumberLookup key rest = ((first (number_row key) rest ≡ Some key) × ((number_of rest ≡ None) ⊎ IsUtf8 rest)) ⊎ ((first (number_row key) rest ≡ None) × (number_of rest ≡ None))
+IsNumberLookup key rest =
+    ((first (number_row key) rest ≡ Some key) × ((number_of rest ≡ None) ⊎ IsUtf8 rest)) ⊎
+    ((first (number_row key) rest ≡ None) × (number_of rest ≡ None))
 
-found_or_none : (key : ℕ) (rest : List ℕ) → number_of rest ≡ None → IsKeyOrNone key (first (number_row key) rest) → IsNumberLookup key rest
+found_or_none : (key : ℕ) (rest : List ℕ) → number_of rest ≡ None → IsKeyOrNone key (first (number_row key) rest)
+    → IsNumberLookup key rest
 found_or_none key rest none (inl e) = inl (e, inl none)
 found_or_none key rest none (inr e) = inr (e, none)
 
 number_by : (key b : ℕ) (p : List ℕ) (t : Bool) → list_all is_ascii_digit (b ∷ p) ≡ t → IsNumberLookup key (b ∷ p)
 unfolding number_of
-number_by key b p true e = inl (key_found key b p (first_digit b p (is_ascii_digit b) refl e) (no_slash (b ∷ p) e), inr (digits_utf8 (b ∷ p) e))
+number_by key b p true e =
+    inl
+    (key_found key b p (first_digit b p (is_ascii_digit b) refl e) (no_slash (b ∷ p) e), inr (digits_utf8 (b ∷ p) e))
 number_by key b p false e =
     let none : number_of (b ∷ p) ≡ None = rw e (none_if_not_digits (nat_lt 0 (length (b ∷ p))) (nat_le (length (b ∷ p)) 9) (Some (digits_value 10 (b ∷ p)))) in
     found_or_none key (b ∷ p) none (one_or_none key b p)

@@ -29,7 +29,8 @@ front_within input = let e = length-take most_head input in omega (arith, e)
 
 -- ---- a whole head
 
-few_fields : (front : List ℕ) (headers : List HeaderSpan) (spans : RequestSpans) (head : RequestHead) → IsRequestAt front headers spans head → length headers ≡ most_fields → length head.fields ≤ most_fields
+few_fields : (front : List ℕ) (headers : List HeaderSpan) (spans : RequestSpans) (head : RequestHead)
+    → IsRequestAt front headers spans head → length headers ≡ most_fields → length head.fields ≤ most_fields
 few_fields front headers spans head at room =
     let same = ap length at.fields in
     let taken = length-map (take spans.headers headers) (header_bytes front) in
@@ -37,7 +38,9 @@ few_fields front headers spans head at room =
     let count = length-take spans.headers headers in
     omega (arith, same, taken, named, count, room)
 
-pub whole_head : (input : List ℕ) (headers : List HeaderSpan) (spans : RequestSpans) (head : RequestHead) → IsRequestWithin (take most_head input) headers spans → IsRequestAt (take most_head input) headers spans head → length headers ≡ most_fields → HasHead input head (drop spans.len input)
+pub whole_head : (input : List ℕ) (headers : List HeaderSpan) (spans : RequestSpans) (head : RequestHead)
+    → IsRequestWithin (take most_head input) headers spans → IsRequestAt (take most_head input) headers spans head
+    → length headers ≡ most_fields → HasHead input head (drop spans.len input)
 whole_head input headers spans head lies at room =
     let front = take most_head input in
     let long = ReadsRequest-append front head (drop spans.len front) (drop most_head input) at.reads in
@@ -49,32 +52,43 @@ whole_head input headers spans head lies at room =
       fields = few_fields front headers spans head at room;
     }
 
-pub head_stays : (input more : List ℕ) (head : RequestHead) (rest : List ℕ) → HasHead input head rest → HasHead (input ++ more) head (rest ++ more)
-head_stays input more head rest h = record { reads = ReadsRequest-append input head rest more h.reads; bytes = h.bytes; fields = h.fields }
+pub head_stays : (input more : List ℕ) (head : RequestHead) (rest : List ℕ) → HasHead input head rest
+    → HasHead (input ++ more) head (rest ++ more)
+head_stays input more head rest h =
+    record { reads = ReadsRequest-append input head rest more h.reads; bytes = h.bytes; fields = h.fields }
 
-verdict_is : (input : List ℕ) (headers : List HeaderSpan) (spans : RequestSpans) (head : RequestHead) (rest : List ℕ) → IsRequestAt (take most_head input) headers spans head → verdict_with_body (head_checks spans.version (span_bytes (take most_head input) spans.method) (span_bytes (take most_head input) spans.path) (field_pairs (take most_head input) (take spans.headers headers))) rest ≡ verdict_of head rest
+verdict_is : (input : List ℕ) (headers : List HeaderSpan) (spans : RequestSpans) (head : RequestHead) (rest : List ℕ)
+    → IsRequestAt (take most_head input) headers spans head
+    → verdict_with_body (head_checks spans.version (span_bytes (take most_head input) spans.method) (span_bytes (take most_head input) spans.path) (field_pairs (take most_head input) (take spans.headers headers))) rest
+    ≡ verdict_of head rest
 verdict_is input headers spans head rest at = rw (at.version, at.method, at.path, at.fields) refl
 
 -- ---- a refused head
 
 exceeds_stays : (input more : List ℕ) → RequestExceeds most_fields input → RequestExceeds most_fields (input ++ more)
-exceeds_stays input more (front, rest, e, head, reads, over) = (front, rest ++ more, ap (λ l. l ++ more) e ∙ append_assoc front rest more, head, reads, over)
+exceeds_stays input more (front, rest, e, head, reads, over) =
+    (front, rest ++ more, ap (λ l. l ++ more) e ∙ append_assoc front rest more, head, reads, over)
 
 -- if each head that the input may begin with, whatever bytes follow, has more than 32 fields, the same is true of the
 -- input with more bytes after it (`RequestOverflows`)
-overflows_stays : (input more : List ℕ) → RequestOverflows most_fields input → RequestOverflows most_fields (input ++ more)
-overflows_stays input more over again head rest reads = over (more ++ again) head rest (subst (λ l. ReadsRequest l head rest) (append_assoc input more again) reads)
+overflows_stays : (input more : List ℕ) → RequestOverflows most_fields input
+    → RequestOverflows most_fields (input ++ more)
+overflows_stays input more over again head rest reads =
+    over (more ++ again) head rest (subst (λ l. ReadsRequest l head rest) (append_assoc input more again) reads)
 
 pub refused_stays : (input more : List ℕ) → IsRefused input → IsRefused (input ++ more)
-refused_stays input more (inl never) = inl (λ again. subst HasNoRequest (sym (append_assoc input more again)) (never (more ++ again)))
+refused_stays input more (inl never) =
+    inl (λ again. subst HasNoRequest (sym (append_assoc input more again)) (never (more ++ again)))
 refused_stays input more (inr (exceeds, over)) = inr (exceeds_stays input more exceeds, overflows_stays input more over)
 
 pub front_refused : (input : List ℕ) → IsRefused (take most_head input) → IsRefused input
-front_refused input h = subst IsRefused (front_and_rest input) (refused_stays (take most_head input) (drop most_head input) h)
+front_refused input h =
+    subst IsRefused (front_and_rest input) (refused_stays (take most_head input) (drop most_head input) h)
 
 -- ---- a head that isn't whole
 
-pub short_front : (input : List ℕ) → length input < most_head → HasNoRequest (take most_head input) → MayBecomeRequest (take most_head input) → IsUnfinished input
+pub short_front : (input : List ℕ) → length input < most_head → HasNoRequest (take most_head input)
+    → MayBecomeRequest (take most_head input) → IsUnfinished input
 short_front input h none goes_on =
     let least : min most_head (length input) ≡ length input = omega arith in
     let e : take most_head input ≡ input = sym (take_min most_head input) ∙ ap (λ k. take k input) least ∙ take-length input in
@@ -84,9 +98,15 @@ short_front input h none goes_on =
 
 -- The input has a whole head with `rest` after it, and these results of checks lead to the verdict on this head.
 abbrev LeadsToVerdict : (input rest : List ℕ) → Result (Route × ℕ × List ℕ) Problem → Type 0
-LeadsToVerdict input rest checks = (head : RequestHead) × HasHead input head rest × ((after : List ℕ) → verdict_with_body checks after ≡ verdict_of head after)
+LeadsToVerdict input rest checks =
+    (head : RequestHead) × HasHead input head rest ×
+    ((after : List ℕ) → verdict_with_body checks after ≡ verdict_of head after)
 
-pub finds_head : (input front method target rest : List ℕ) (headers fields : List HeaderSpan) (spans : RequestSpans) → front ≡ take most_head input → IsRequestWithin front headers spans × IsRequestOf front headers spans → length headers ≡ most_fields → method ≡ span_bytes front spans.method → target ≡ span_bytes front spans.path → fields ≡ take spans.headers headers → rest ≡ drop spans.len input → LeadsToVerdict input rest (head_checks spans.version method target (field_pairs front fields))
+pub finds_head : (input front method target rest : List ℕ) (headers fields : List HeaderSpan) (spans : RequestSpans)
+    → front ≡ take most_head input → IsRequestWithin front headers spans × IsRequestOf front headers spans
+    → length headers ≡ most_fields → method ≡ span_bytes front spans.method → target ≡ span_bytes front spans.path
+    → fields ≡ take spans.headers headers → rest ≡ drop spans.len input
+    → LeadsToVerdict input rest (head_checks spans.version method target (field_pairs front fields))
 finds_head input front method target rest headers fields spans e (lies, (head, at)) room method_is target_is fields_are rest_is =
     let at_front : IsRequestAt (take most_head input) headers spans head = subst (λ l. IsRequestAt l headers spans head) e at in
     let lies_front : IsRequestWithin (take most_head input) headers spans = subst (λ l. IsRequestWithin l headers spans) e lies in
@@ -99,23 +119,30 @@ finds_head input front method target rest headers fields spans e (lies, (head, a
 
 -- a progress is right for an input with a whole head (`ComesTo`), if it is right by the checks of the head and the
 -- bytes after it (`EndsAs`)
-pub comes_whole : (input rest : List ℕ) (checks : Result (Route × ℕ × List ℕ) Problem) (progress : Progress) → LeadsToVerdict input rest checks → EndsAs checks rest progress → ComesTo input progress
+pub comes_whole : (input rest : List ℕ) (checks : Result (Route × ℕ × List ℕ) Problem) (progress : Progress)
+    → LeadsToVerdict input rest checks → EndsAs checks rest progress → ComesTo input progress
 comes_whole input rest checks (Ends outcome) (head, has, same) e = whole head rest has (e ∙ same rest)
-comes_whole input rest checks (Missing count) (head, has, same) (some, short) = (some, λ more few. whole head (rest ++ more) (head_stays input more head rest has) (sym (short more few) ∙ same (rest ++ more)))
+comes_whole input rest checks (Missing count) (head, has, same) (some, short) =
+    (some, λ more few. whole head (rest ++ more) (head_stays input more head rest has) (sym (short more few) ∙ same (rest ++ more)))
 
-pub judges_refused : (input front : List ℕ) → front ≡ take most_head input → IsRefused front → Judges input (Refused BadRequest)
+pub judges_refused : (input front : List ℕ) → front ≡ take most_head input → IsRefused front
+    → Judges input (Refused BadRequest)
 judges_refused input front e h = refused (front_refused input (subst IsRefused e h)) refl
 
-judges_more : (input front : List ℕ) → front ≡ take most_head input → length input < most_head → HasNoRequest front × MayBecomeRequest front → Judges input More
-judges_more input front e h (none, goes_on) = unfinished (short_front input h (subst HasNoRequest e none) (subst MayBecomeRequest e goes_on)) refl
+judges_more : (input front : List ℕ) → front ≡ take most_head input → length input < most_head
+    → HasNoRequest front × MayBecomeRequest front → Judges input More
+judges_more input front e h (none, goes_on) =
+    unfinished (short_front input h (subst HasNoRequest e none) (subst MayBecomeRequest e goes_on)) refl
 
 -- an input with the verdict More lacks at least one byte: with fewer than one byte more it is the same input
 short_by_one : (input : List ℕ) → Judges input More → (more : List ℕ) → length more < 1 → Judges (input ++ more) More
 short_by_one input h [] few = subst (λ l. Judges l More) (sym (append-nil input)) h
 short_by_one input h (x ∷ more) few = absurd (omega (arith, few))
 
-pub missing_one : (input front : List ℕ) → front ≡ take most_head input → length input < most_head → HasNoRequest front × MayBecomeRequest front → ComesTo input (Missing 1)
-missing_one input front e h unfinished_front = (omega arith, short_by_one input (judges_more input front e h unfinished_front))
+pub missing_one : (input front : List ℕ) → front ≡ take most_head input → length input < most_head
+    → HasNoRequest front × MayBecomeRequest front → ComesTo input (Missing 1)
+missing_one input front e h unfinished_front =
+    (omega arith, short_by_one input (judges_more input front e h unfinished_front))
 
 pub if_ok : {T E : Type 0} {P Q : T → Type 0} (r : Result T E) → ((x : T) → P x → Q x) → IfOk r P → IfOk r Q
 if_ok (Ok x) f h = f x h

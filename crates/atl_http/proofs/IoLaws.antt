@@ -15,32 +15,40 @@ use Rattle.std.proofs.Math.Seq.{take-add}
 
 -- if the bytes `seen` were read from `before` to `between`, and `piece` from there to `after`, then `seen ++ piece` was
 -- read from `before` to `after` (`Consumes`)
-pub consumes_more : (before between after : Option (List ℕ)) (seen piece : List ℕ) → Consumes before between seen → Consumes between after piece → Consumes before after (seen ++ piece)
+pub consumes_more : (before between after : Option (List ℕ)) (seen piece : List ℕ) → Consumes before between seen
+    → Consumes between after piece → Consumes before after (seen ++ piece)
 consumes_more None between after seen piece h k = tt
 consumes_more (Some xs) None after seen piece h k = absurd h
 consumes_more (Some xs) (Some ys) None seen piece h k = absurd k
-consumes_more (Some xs) (Some ys) (Some zs) seen piece h k = h ∙ ap (λ l. seen ++ l) k ∙ sym (append_assoc seen piece zs)
+consumes_more (Some xs) (Some ys) (Some zs) seen piece h k =
+    h ∙ ap (λ l. seen ++ l) k ∙ sym (append_assoc seen piece zs)
 
-pub consumes_kept : (before between after : Option (List ℕ)) (seen : List ℕ) → Consumes before between seen → Keeps between after → Consumes before after seen
+pub consumes_kept : (before between after : Option (List ℕ)) (seen : List ℕ) → Consumes before between seen
+    → Keeps between after → Consumes before after seen
 consumes_kept None between after seen h k = tt
 consumes_kept (Some xs) None after seen h k = absurd h
 consumes_kept (Some xs) (Some ys) None seen h k = absurd k
 consumes_kept (Some xs) (Some ys) (Some zs) seen h k = h ∙ ap (λ l. seen ++ l) (sym k)
 
-pub appends_more : (before between after : Option (List ℕ)) (sent piece : List ℕ) → Appends before between sent → Appends between after piece → Appends before after (sent ++ piece)
+pub appends_more : (before between after : Option (List ℕ)) (sent piece : List ℕ) → Appends before between sent
+    → Appends between after piece → Appends before after (sent ++ piece)
 appends_more None between after sent piece h k = tt
 appends_more (Some xs) None after sent piece h k = absurd h
 appends_more (Some xs) (Some ys) None sent piece h k = absurd k
 appends_more (Some xs) (Some ys) (Some zs) sent piece h k = k ∙ ap (λ l. l ++ piece) h ∙ append_assoc xs sent piece
 
-pub appends_next : (before between after : Option (List ℕ)) (bytes : List ℕ) (sent count : ℕ) → Appends before between (take sent bytes) → Appends between after (take count (drop sent bytes)) → Appends before after (take (sent + count) bytes)
+pub appends_next : (before between after : Option (List ℕ)) (bytes : List ℕ) (sent count : ℕ)
+    → Appends before between (take sent bytes) → Appends between after (take count (drop sent bytes))
+    → Appends before after (take (sent + count) bytes)
 appends_next before between after bytes sent count h k =
     let P : List ℕ → Type 0 = λ l. Appends before after l in
     subst P (sym (take-add sent count bytes)) (appends_more before between after (take sent bytes) (take count (drop sent bytes)) h k)
 
 -- ---- reading
 
-pub fault_ends_reading : (before between after : Option (List ℕ)) (seen new : List ℕ) (fault : HttpFault) → Consumes before between seen → Judges seen More → ReadsMore between after seen new (Err fault) → Receives before after new (Err fault)
+pub fault_ends_reading : (before between after : Option (List ℕ)) (seen new : List ℕ) (fault : HttpFault)
+    → Consumes before between seen → Judges seen More → ReadsMore between after seen new (Err fault)
+    → Receives before after new (Err fault)
 fault_ends_reading before between after seen new Cut h judged (kept, at_end, same) =
     (subst (λ l. Consumes before after l) (sym same) (consumes_kept before between after seen h kept), subst (λ l. Judges l More) (sym same) judged, at_end)
 fault_ends_reading before between after seen new ReadFault h judged (kept, same) =
@@ -48,23 +56,29 @@ fault_ends_reading before between after seen new ReadFault h judged (kept, same)
 fault_ends_reading before between after seen new WriteFault h judged none = absurd none
 fault_ends_reading before between after seen new Memory h judged done = tt
 
-pub collected_bytes_are_read : (before between after : Option (List ℕ)) (seen new : List ℕ) (count : ℕ) → Consumes before between seen → ReadsMore between after seen new (Ok count) → Consumes before after new
-collected_bytes_are_read before between after seen new count h (piece, is, few, more, same) = subst (λ l. Consumes before after l) (sym same) (consumes_more before between after seen piece h more)
+pub collected_bytes_are_read : (before between after : Option (List ℕ)) (seen new : List ℕ) (count : ℕ)
+    → Consumes before between seen → ReadsMore between after seen new (Ok count) → Consumes before after new
+collected_bytes_are_read before between after seen new count h (piece, is, few, more, same) =
+    subst (λ l. Consumes before after l) (sym same) (consumes_more before between after seen piece h more)
 
 -- If the bytes before the last read had the verdict More, no read was done after the request was whole or refused
 -- (`ReadsNoFurther`).
-pub read_so_far : (between after : Option (List ℕ)) (seen new : List ℕ) (count : ℕ) → Judges seen More → ReadsMore between after seen new (Ok count) → ReadsNoFurther new
-read_so_far between after seen new count h (piece, is, few, more, same) = inr (seen, piece, same, omega (arith, is, few), h)
+pub read_so_far : (between after : Option (List ℕ)) (seen new : List ℕ) (count : ℕ) → Judges seen More
+    → ReadsMore between after seen new (Ok count) → ReadsNoFurther new
+read_so_far between after seen new count h (piece, is, few, more, same) =
+    inr (seen, piece, same, omega (arith, is, few), h)
 
 -- ---- the number of missing bytes
 
-pub missing_of_equal : (seen items : List ℕ) (progress : Progress) (count : ℕ) → seen ≡ items → progress ≡ Missing count → ComesTo seen progress → ComesTo items (Missing count)
+pub missing_of_equal : (seen items : List ℕ) (progress : Progress) (count : ℕ) → seen ≡ items → progress ≡ Missing count
+    → ComesTo seen progress → ComesTo items (Missing count)
 missing_of_equal seen items progress count e f h = subst (λ l. ComesTo l (Missing count)) e (subst (ComesTo seen) f h)
 
 pub more_while_missing : (items : List ℕ) (count : ℕ) → ComesTo items (Missing count) → Judges items More
 more_while_missing items count (some, short) = subst (λ l. Judges l More) (append-nil items) (short [] some)
 
-pub short_by_less : (between after : Option (List ℕ)) (seen new : List ℕ) (missing count : ℕ) → ComesTo seen (Missing missing) → ReadsMore between after seen new (Ok count) → IsShortBy new (missing - count)
+pub short_by_less : (between after : Option (List ℕ)) (seen new : List ℕ) (missing count : ℕ)
+    → ComesTo seen (Missing missing) → ReadsMore between after seen new (Ok count) → IsShortBy new (missing - count)
 short_by_less between after seen new missing count (some, short) (piece, is, few, came, same) more fewer =
     let together : length (piece ++ more) < missing = (let k = length-append piece more in omega (arith, k, is, fewer)) in
     subst (λ l. Judges l More) (sym (append_assoc seen piece more) ∙ ap (λ l. l ++ more) (sym same)) (short (piece ++ more) together)

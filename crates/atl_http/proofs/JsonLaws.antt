@@ -8,7 +8,8 @@ use Rattle.atl_http.specs.Checks.{json_of}
 pub json_read : (body : List ℕ) → IsUtf8 body → json_of body ≡ read body
 json_read body h = ap (λ t. cond t (read body) None) (is_utf8-from_IsUtf8 body h)
 
-no_value_without_utf8 : (t : Bool) (body : List ℕ) → is_utf8 body ≡ t → (IsUtf8 body → ⊥) → cond t (read body) None ≡ None
+no_value_without_utf8 : (t : Bool) (body : List ℕ) → is_utf8 body ≡ t → (IsUtf8 body → ⊥)
+    → cond t (read body) None ≡ None
 no_value_without_utf8 true body e h = absurd (h (IsUtf8-from_is_utf8 body e))
 no_value_without_utf8 false body e h = refl
 

@@ -8,11 +8,15 @@ use Rattle.atl_http.specs.declared.listening.ListenFault.{ListenFault}
 use Rattle.atl_http.specs.declared.listening.ListenFault.TheVariants.{Net, Memory}
 use Rattle.atl_http.specs.Listening.{ServesConnection, ServesInTurn, ServesEach}
 
-pub one_more_is_served : {S : Type 0} (g : Ghosts S) (dice : Dice) (count : ℕ) (old between new : ServiceValue S) → ServesInTurn g dice count old between → ServesConnection g dice between (Ok tt) new → ServesInTurn g dice (count + 1) old new
+pub one_more_is_served : {S : Type 0} (g : Ghosts S) (dice : Dice) (count : ℕ) (old between new : ServiceValue S)
+    → ServesInTurn g dice count old between → ServesConnection g dice between (Ok tt) new
+    → ServesInTurn g dice (count + 1) old new
 one_more_is_served g dice count old between new turn h =
     let more : suc count ≡ count + 1 = omega arith in
     subst (λ n. ServesInTurn g dice n old new) more (between, turn, h)
 
-pub fault_ends_serving : {S : Type 0} (g : Ghosts S) (dice : Dice) (done count : ℕ) (old between new : ServiceValue S) (fault : ListenFault) → done < count → ServesInTurn g dice done old between → ServesConnection g dice between (Err fault) new → ServesEach g dice count old (Err fault) new
+pub fault_ends_serving : {S : Type 0} (g : Ghosts S) (dice : Dice) (done count : ℕ) (old between new : ServiceValue S) (fault : ListenFault)
+    → done < count → ServesInTurn g dice done old between → ServesConnection g dice between (Err fault) new
+    → ServesEach g dice count old (Err fault) new
 fault_ends_serving g dice done count old between new Net more turn none = absurd none
 fault_ends_serving g dice done count old between new Memory more turn h = (done, more, between, turn, h)

@@ -20,7 +20,11 @@ use Rattle.atl_http.proofs.HeadLaws.{head_stays, refused_stays}
 
 -- A final verdict on a head with its body stays the same when more bytes follow. A body that is short has the verdict
 -- More, which isn't final, so the body is whole.
-verdict_with_body_stays : (short : Bool) (route : Route) (size : ℕ) (pass rest more : List ℕ) → nat_lt (length rest) size ≡ short → IsFinal (cond short More (verdict_on_request (request_of route pass (take size rest)))) → cond (nat_lt (length (rest ++ more)) size) More (verdict_on_request (request_of route pass (take size (rest ++ more)))) ≡ cond short More (verdict_on_request (request_of route pass (take size rest)))
+verdict_with_body_stays : (short : Bool) (route : Route) (size : ℕ) (pass rest more : List ℕ)
+    → nat_lt (length rest) size ≡ short
+    → IsFinal (cond short More (verdict_on_request (request_of route pass (take size rest))))
+    → cond (nat_lt (length (rest ++ more)) size) More (verdict_on_request (request_of route pass (take size (rest ++ more))))
+    ≡ cond short More (verdict_on_request (request_of route pass (take size rest)))
 verdict_with_body_stays true route size pass rest more e final = absurd final
 verdict_with_body_stays false route size pass rest more e final =
     let long : size ≤ length rest = grind (arith, nat_tests) in
@@ -28,9 +32,11 @@ verdict_with_body_stays false route size pass rest more e final =
     ap (λ t. cond t More (verdict_on_request (request_of route pass (take size (rest ++ more))))) longer
     ∙ ap (λ body. verdict_on_request (request_of route pass body)) (take-append-le size rest more long)
 
-verdict_by_checks_stays : (wanted : Result (Route × ℕ × List ℕ) Problem) (rest more : List ℕ) → IsFinal (verdict_with_body wanted rest) → verdict_with_body wanted (rest ++ more) ≡ verdict_with_body wanted rest
+verdict_by_checks_stays : (wanted : Result (Route × ℕ × List ℕ) Problem) (rest more : List ℕ)
+    → IsFinal (verdict_with_body wanted rest) → verdict_with_body wanted (rest ++ more) ≡ verdict_with_body wanted rest
 verdict_by_checks_stays (Err problem) rest more final = refl
-verdict_by_checks_stays (Ok (route, size, pass)) rest more final = verdict_with_body_stays (nat_lt (length rest) size) route size pass rest more refl final
+verdict_by_checks_stays (Ok (route, size, pass)) rest more final =
+    verdict_with_body_stays (nat_lt (length rest) size) route size pass rest more refl final
 
 long_stays : (input more : List ℕ) → IsTooLong input → IsTooLong (input ++ more)
 long_stays input more (long, none) =
@@ -47,7 +53,8 @@ judged_still input more v (unfinished h e) final = absurd (subst IsFinal e final
 -- ---- one verdict
 
 not_refused : (input : List ℕ) (head : RequestHead) (rest : List ℕ) → HasHead input head rest → IsRefused input → ⊥
-not_refused input head rest h (inl never) = never [] head rest (subst (λ l. ReadsRequest l head rest) (sym (append-nil input)) h.reads)
+not_refused input head rest h (inl never) =
+    never [] head rest (subst (λ l. ReadsRequest l head rest) (sym (append-nil input)) h.reads)
 not_refused input head rest h (inr (exceeds, over)) =
     let many = over [] head rest (subst (λ l. ReadsRequest l head rest) (sym (append-nil input)) h.reads) in
     let few = h.fields in omega (arith, many, few)

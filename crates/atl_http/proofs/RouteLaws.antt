@@ -28,7 +28,9 @@ use Rattle.atl_http.proofs.FrontLaws.{after_prefix_is, lookup_after_prefix, numb
 abbrev number_text : List ℕ
 number_text = codes "number"
 
-text_step : (b : ℕ) (front : List ℕ) (t : Bool) → ltb b param_token ≡ t → (list_all (λ c. ltb c param_token) front ≡ true → IsText front) → (t && list_all (λ c. ltb c param_token) front) ≡ true → IsText (b ∷ front)
+text_step : (b : ℕ) (front : List ℕ) (t : Bool) → ltb b param_token ≡ t
+    → (list_all (λ c. ltb c param_token) front ≡ true → IsText front)
+    → (t && list_all (λ c. ltb c param_token) front) ≡ true → IsText (b ∷ front)
 text_step b front true e ih h = (grind (arith, nat_tests), ih h)
 text_step b front false e ih h = cc
 
@@ -38,7 +40,8 @@ is_text (b ∷ front) h = text_step b front (ltb b param_token) refl (λ k. is_t
 
 -- walking a pattern along a path that is at least as long as the pattern's prefix passes the prefix, and reaches the
 -- parameter after it
-walk_front : (front : List ℕ) (len t : ℕ) → IsText front → t + length front ≤ len → wild_from (front ++ param_token ∷ []) len t t ≡ (t + length front, t + length front)
+walk_front : (front : List ℕ) (len t : ℕ) → IsText front → t + length front ≤ len
+    → wild_from (front ++ param_token ∷ []) len t t ≡ (t + length front, t + length front)
 walk_front [] len t h l = rw (add-zero t) refl
 walk_front (b ∷ front) len t h l =
     let byte : ltb b param_token ≡ true = (let small = h.0 in grind (arith, nat_tests)) in
@@ -56,13 +59,17 @@ part_rest path n h =
 
 -- Walking a pattern along a path takes the path without its first `n` bytes as the parameter `number`. Premises: the
 -- prefix of the pattern has `n` bytes, and the pattern ends with the parameter.
-takes : (pattern text path rest : List ℕ) (start end n : ℕ) → wild_from pattern (length path) 0 0 ≡ (n, n) → (ltb n (length pattern) && (get_or pattern n 0 == param_token) && ltb (n + 1) (length pattern)) ≡ false → part_of text start end ≡ number_text → drop n path ≡ rest → n ≤ length path → walk pattern text path ((start, end) ∷ []) 0 0 ≡ (number_text, rest) ∷ []
+takes : (pattern text path rest : List ℕ) (start end n : ℕ) → wild_from pattern (length path) 0 0 ≡ (n, n)
+    → (ltb n (length pattern) && (get_or pattern n 0 == param_token) && ltb (n + 1) (length pattern)) ≡ false
+    → part_of text start end ≡ number_text → drop n path ≡ rest → n ≤ length path
+    → walk pattern text path ((start, end) ∷ []) 0 0 ≡ (number_text, rest) ∷ []
 takes pattern text path rest start end n at last named_is rest_is h =
     rw (at, last, named_is, part_rest path n h, rest_is) refl
 
 -- The route of this key takes `rest` from the path as the parameter `number`.
 abbrev TakesNumber : ℕ → List ℕ → List ℕ → Type 0
-TakesNumber key path rest = walk (kept_at key).pattern (kept_at key).text path (kept_at key).names 0 0 ≡ (number_text, rest) ∷ []
+TakesNumber key path rest =
+    walk (kept_at key).pattern (kept_at key).text path (kept_at key).names 0 0 ≡ (number_text, rest) ∷ []
 
 prefix_within : (n : ℕ) (front rest : List ℕ) → length front ≡ n → n ≤ length (front ++ rest)
 prefix_within n front rest e = let sum = length-append front rest in omega (arith, e, sum)
@@ -90,7 +97,9 @@ data Leads (path : List ℕ) : Type 0 where
   to_join : first rows path ≡ Some 1 → IsUtf8 path → route_of path ≡ Some route.Join → Leads path
   -- the router finds a route whose parameter is `rest`, and `route_of` gives that route with the number of `rest`, or
   -- none; `rest` is UTF-8 if the path is, and a path that has a route is UTF-8
-  to_number : (key : ℕ) → (rest : List ℕ) → first rows path ≡ Some key → TakesNumber key path rest → (IsUtf8 path → IsUtf8 rest) → (route_of path ≡ None) ⊎ IsUtf8 path → route_of path ≡ route_in (kept_at key).value (Some rest) → Leads path
+  to_number : (key : ℕ) → (rest : List ℕ) → first rows path ≡ Some key → TakesNumber key path rest
+      → (IsUtf8 path → IsUtf8 rest) → (route_of path ≡ None) ⊎ IsUtf8 path
+      → route_of path ≡ route_in (kept_at key).value (Some rest) → Leads path
   nowhere : first rows path ≡ None → route_of path ≡ None → Leads path
 
 -- What the lookup needs of the prefix of a route with a number. What follows the prefix in a path is the parameter. It
@@ -103,8 +112,10 @@ record IsNumberPrefix (key : ℕ) (front : List ℕ) : Type 0 where
 
 -- `IsNumberPrefix` holds of a UTF-8 prefix that ends in an ASCII byte, if what follows the prefix is the parameter, and
 -- the route is None where this is no number. What follows the prefix is then UTF-8 exactly where the path is.
-prefix_is_number_prefix : (key last : ℕ) (front : List ℕ) → length front ≡ last + 1 → IsUtf8 front → ((rest : List ℕ) → get_or (front ++ rest) last 0 < 128) → ((rest : List ℕ) → TakesNumber key (front ++ rest) rest)
-    → ((rest : List ℕ) → number_of rest ≡ None → route_in (kept_at key).value (Some rest) ≡ None) → IsNumberPrefix key front
+prefix_is_number_prefix : (key last : ℕ) (front : List ℕ) → length front ≡ last + 1 → IsUtf8 front
+    → ((rest : List ℕ) → get_or (front ++ rest) last 0 < 128) → ((rest : List ℕ) → TakesNumber key (front ++ rest) rest)
+    → ((rest : List ℕ) → number_of rest ≡ None → route_in (kept_at key).value (Some rest) ≡ None)
+    → IsNumberPrefix key front
 prefix_is_number_prefix key last front count text ascii takes_rest without = record {
   takes_rest = takes_rest;
   cut = (λ rest h.
@@ -115,20 +126,28 @@ prefix_is_number_prefix key last front count text ascii takes_rest without = rec
 }
 
 fronted_close : IsNumberPrefix 0 (codes "/close/")
-fronted_close = prefix_is_number_prefix 0 6 (codes "/close/") refl (ascii_utf8 (codes "/close/") refl) (λ rest. lit< tt) takes_close (λ rest e. ap (option_map route.Close) e)
+fronted_close =
+    prefix_is_number_prefix 0 6 (codes "/close/") refl (ascii_utf8 (codes "/close/") refl) (λ rest. lit< tt) takes_close
+    (λ rest e. ap (option_map route.Close) e)
 
 fronted_orders : IsNumberPrefix 2 (codes "/orders/")
-fronted_orders = prefix_is_number_prefix 2 7 (codes "/orders/") refl (ascii_utf8 (codes "/orders/") refl) (λ rest. lit< tt) takes_orders (λ rest e. ap (option_map route.Orders) e)
+fronted_orders =
+    prefix_is_number_prefix 2 7 (codes "/orders/") refl (ascii_utf8 (codes "/orders/") refl) (λ rest. lit< tt)
+    takes_orders (λ rest e. ap (option_map route.Orders) e)
 
 fronted_report : IsNumberPrefix 3 (codes "/report/")
-fronted_report = prefix_is_number_prefix 3 7 (codes "/report/") refl (ascii_utf8 (codes "/report/") refl) (λ rest. lit< tt) takes_report (λ rest e. ap (option_map route.Report) e)
+fronted_report =
+    prefix_is_number_prefix 3 7 (codes "/report/") refl (ascii_utf8 (codes "/report/") refl) (λ rest. lit< tt)
+    takes_report (λ rest e. ap (option_map route.Report) e)
 
 -- the route of a key with the number in the rest of a path; None if there is no rest
 abbrev route_of_found : ℕ → Option (List ℕ) → Option Route
 route_of_found key None = None
 route_of_found key (Some rest) = route_in (kept_at key).value (Some rest)
 
-leads_number : (key : ℕ) (front path rest : List ℕ) → path ≡ front ++ rest → IsNumberPrefix key front → first rows path ≡ first (number_row key) rest → route_of path ≡ route_in (kept_at key).value (Some rest) → IsNumberLookup key rest → Leads path
+leads_number : (key : ℕ) (front path rest : List ℕ) → path ≡ front ++ rest → IsNumberPrefix key front
+    → first rows path ≡ first (number_row key) rest → route_of path ≡ route_in (kept_at key).value (Some rest)
+    → IsNumberLookup key rest → Leads path
 leads_number key front path rest p f a b (inl (e, inl none)) =
     to_number key rest (a ∙ e) (subst (λ l. TakesNumber key l rest) (sym p) (f.takes_rest rest)) (λ u. f.cut rest (subst IsUtf8 p u)) (inl (b ∙ f.without rest none)) b
 leads_number key front path rest p f a b (inl (e, inr text)) =
@@ -137,15 +156,23 @@ leads_number key front path rest p f a b (inr (e, none)) = nowhere (a ∙ e) (b 
 
 -- For a path that begins with `/` and the first letter of a route with a number, the router finds the route that
 -- `route_of` gives (`Leads`). This is so whether the path has the route's prefix or not.
-leads_by : (key c : ℕ) (w q : List ℕ) (found : Option (List ℕ)) → after_prefix w q ≡ found → IsNumberPrefix key (47 ∷ c ∷ w) → first rows (47 ∷ c ∷ q) ≡ option_and_then (λ rest. first (number_row key) rest) found → route_of (47 ∷ c ∷ q) ≡ route_of_found key found → Leads (47 ∷ c ∷ q)
+leads_by : (key c : ℕ) (w q : List ℕ) (found : Option (List ℕ)) → after_prefix w q ≡ found
+    → IsNumberPrefix key (47 ∷ c ∷ w)
+    → first rows (47 ∷ c ∷ q) ≡ option_and_then (λ rest. first (number_row key) rest) found
+    → route_of (47 ∷ c ∷ q) ≡ route_of_found key found → Leads (47 ∷ c ∷ q)
 leads_by key c w q None h f a b = nowhere a b
-leads_by key c w q (Some rest) h f a b = leads_number key (47 ∷ c ∷ w) (47 ∷ c ∷ q) rest (ap (λ l. 47 ∷ c ∷ l) (after_prefix_is w q rest h)) f a b (number_says key rest)
+leads_by key c w q (Some rest) h f a b =
+    leads_number key (47 ∷ c ∷ w) (47 ∷ c ∷ q) rest (ap (λ l. 47 ∷ c ∷ l) (after_prefix_is w q rest h)) f a b
+    (number_says key rest)
 
 -- the rows of the router without the slash that each begins with
 abbrev after_slash : Rows
-after_slash = (codes "close/" ++ param_token ∷ [], 0) ∷ (codes "join", 1) ∷ (codes "orders/" ++ param_token ∷ [], 2) ∷ (codes "report/" ++ param_token ∷ [], 3) ∷ []
+after_slash =
+    (codes "close/" ++ param_token ∷ [], 0) ∷ (codes "join", 1) ∷ (codes "orders/" ++ param_token ∷ [], 2) ∷
+    (codes "report/" ++ param_token ∷ [], 3) ∷ []
 
-slash_first : (path : List ℕ) → first rows path ≡ option_and_then (λ rest. first after_slash rest) (after_prefix (codes "/") path)
+slash_first : (path : List ℕ)
+    → first rows path ≡ option_and_then (λ rest. first after_slash rest) (after_prefix (codes "/") path)
 slash_first path = lookup_after_prefix (codes "/") after_slash path (lit< tt, tt)
 
 letter_step : (c : ℕ) (q : List ℕ) → first after_slash (c ∷ q) ≡ seek 0 (step c after_slash) q
@@ -177,7 +204,8 @@ leads_report q =
 abbrev join_row : Rows
 join_row = ([], 1) ∷ []
 
-join_none : (q : List ℕ) (found : Option (List ℕ)) → after_prefix (codes "oin") q ≡ found → (q ≡ codes "oin" → ⊥) → option_and_then (λ rest. first join_row rest) found ≡ None
+join_none : (q : List ℕ) (found : Option (List ℕ)) → after_prefix (codes "oin") q ≡ found → (q ≡ codes "oin" → ⊥)
+    → option_and_then (λ rest. first join_row rest) found ≡ None
 join_none q None h n = refl
 join_none q (Some []) h n = absurd (n (after_prefix_is (codes "oin") q [] h))
 join_none q (Some (b ∷ rest)) h n = end_none 1 b rest
@@ -189,13 +217,17 @@ at_join = to_join refl (ascii_utf8 (codes "/join") refl) refl
 join_by : (q : List ℕ) (t : Bool) → bytes_eq q (codes "oin") ≡ t → Leads (47 ∷ 106 ∷ q)
 unfolding route_of
 join_by q true e = subst Leads (ap (λ l. 47 ∷ 106 ∷ l) (sym ((bytes_eq-Decides q (codes "oin")).0 e))) at_join
-join_by q false e = nowhere (letter_first 106 q ∙ lookup_after_prefix (codes "oin") join_row q (is_text (codes "oin") refl) ∙ join_none q (after_prefix (codes "oin") q) refl (λ k. let yes = (bytes_eq-Decides q (codes "oin")).1 k in cc)) (rw e refl)
+join_by q false e =
+    nowhere
+    (letter_first 106 q ∙ lookup_after_prefix (codes "oin") join_row q (is_text (codes "oin") refl) ∙ join_none q (after_prefix (codes "oin") q) refl (λ k. let yes = (bytes_eq-Decides q (codes "oin")).1 k in cc))
+    (rw e refl)
 
 leads_join : (q : List ℕ) → Leads (47 ∷ 106 ∷ q)
 leads_join q = join_by q (bytes_eq q (codes "oin")) refl
 
 -- for each path whose byte after the slash is not `c`, `j`, `o` or `r`, router and `route_of` find no route (`Leads`)
-leads_other : (c : ℕ) (q : List ℕ) → (c == 99) ≡ false → (c == 106) ≡ false → (c == 111) ≡ false → (c == 114) ≡ false → Leads (47 ∷ c ∷ q)
+leads_other : (c : ℕ) (q : List ℕ) → (c == 99) ≡ false → (c == 106) ≡ false → (c == 111) ≡ false → (c == 114) ≡ false
+    → Leads (47 ∷ c ∷ q)
 unfolding route_of
 leads_other c q one two three four =
     let first_one : (99 == c) ≡ false = grind (arith, nat_tests) in
@@ -204,13 +236,15 @@ leads_other c q one two three four =
     let first_four : (114 == c) ≡ false = grind (arith, nat_tests) in
     nowhere (letter_first c q ∙ rw (first_one, first_two, first_three, first_four) (seek-empty 0 q)) (rw (one, two, three, four) refl)
 
-letter_report : (c : ℕ) (q : List ℕ) → (c == 99) ≡ false → (c == 106) ≡ false → (c == 111) ≡ false → (t : Bool) → (c == 114) ≡ t → Leads (47 ∷ c ∷ q)
+letter_report : (c : ℕ) (q : List ℕ) → (c == 99) ≡ false → (c == 106) ≡ false → (c == 111) ≡ false → (t : Bool)
+    → (c == 114) ≡ t → Leads (47 ∷ c ∷ q)
 letter_report c q one two three true e =
     let same : 114 ≡ c = grind (arith, nat_tests) in
     subst (λ x. Leads (47 ∷ x ∷ q)) same (leads_report q)
 letter_report c q one two three false e = leads_other c q one two three e
 
-letter_orders : (c : ℕ) (q : List ℕ) → (c == 99) ≡ false → (c == 106) ≡ false → (t : Bool) → (c == 111) ≡ t → Leads (47 ∷ c ∷ q)
+letter_orders : (c : ℕ) (q : List ℕ) → (c == 99) ≡ false → (c == 106) ≡ false → (t : Bool) → (c == 111) ≡ t
+    → Leads (47 ∷ c ∷ q)
 letter_orders c q one two true e =
     let same : 111 ≡ c = grind (arith, nat_tests) in
     subst (λ x. Leads (47 ∷ x ∷ q)) same (leads_orders q)
@@ -248,7 +282,8 @@ leads (a ∷ q) = leads_begin a q (a == 47) refl
 
 -- ---- the laws that the code needs
 
-kept_first : (path : List ℕ) (found : Option ℕ) → first rows path ≡ found → first route_rows path ≡ map_key kept_at found
+kept_first : (path : List ℕ) (found : Option ℕ) → first rows path ≡ found
+    → first route_rows path ≡ map_key kept_at found
 kept_first path found e = first-rename kept_at rows path ∙ ap (map_key kept_at) e
 
 missing_by : (path : List ℕ) → first route_rows path ≡ None → Leads path → route_of path ≡ None
@@ -261,9 +296,12 @@ no_route_if_none_found path h = missing_by path h (leads path)
 
 -- The route found for a path has UTF-8 parameters, and with them gives `route_of` of the path.
 abbrev FindsRoute : (path : List ℕ) → RouteOf RouteKey → Type 0
-FindsRoute path e = AllText (walk e.pattern e.text path e.names 0 0) × (route_of path ≡ route_in e.value (named (codes "number") (walk e.pattern e.text path e.names 0 0)))
+FindsRoute path e =
+    AllText (walk e.pattern e.text path e.names 0 0) ×
+    (route_of path ≡ route_in e.value (named (codes "number") (walk e.pattern e.text path e.names 0 0)))
 
-finds_route_if_leads : (path : List ℕ) (e : RouteOf RouteKey) → IsUtf8 path → first route_rows path ≡ Some e → Leads path → FindsRoute path e
+finds_route_if_leads : (path : List ℕ) (e : RouteOf RouteKey) → IsUtf8 path → first route_rows path ≡ Some e
+    → Leads path → FindsRoute path e
 finds_route_if_leads path e text h (to_join at utf8 is) =
     let same : kept_at 1 ≡ e = (let some = kept_first path (Some 1) at in cc) in
     subst (λ x. FindsRoute path x) same (tt, is)
@@ -278,19 +316,26 @@ finds_route path e text h = finds_route_if_leads path e text h (leads path)
 -- A lookup gives the text of the parameter `number` among the parameters taken from a path, or None if there is none.
 -- This is so if all of them are UTF-8.
 abbrev GetsParameter : {A : Type 0} → (A → List ℕ) → Option A → List (List ℕ × List ℕ) → Type 0
-GetsParameter view r taken = AllText taken → MatchOption r (named number_text taken ≡ None) (λ text. named number_text taken ≡ Some (view text))
+GetsParameter view r taken =
+    AllText taken → MatchOption r (named number_text taken ≡ None) (λ text. named number_text taken ≡ Some (view text))
 
-matched_text_is : {A : Type 0} (view : A → List ℕ) (r : Option A) (text : Option (List ℕ)) → MatchOption r (text ≡ None) (λ x. text ≡ Some (view x)) → text ≡ option_map view r
+matched_text_is : {A : Type 0} (view : A → List ℕ) (r : Option A) (text : Option (List ℕ))
+    → MatchOption r (text ≡ None) (λ x. text ≡ Some (view x)) → text ≡ option_map view r
 matched_text_is view None text h = h
 matched_text_is view (Some x) text h = h
 
 -- for a UTF-8 path, the route made from the key that the router finds and the text of the parameter `number` is that of
 -- `route_of`
-pub found_route_is : {A : Type 0} (view : A → List ℕ) (r : Option A) (path given : List ℕ) (e : RouteOf RouteKey) (route : Option Route) → given ≡ path → IsUtf8 path → first route_rows path ≡ Some e → GetsParameter view r (walk e.pattern e.text given e.names 0 0) → route ≡ route_in e.value (option_map view r) → route ≡ route_of path
+pub found_route_is : {A : Type 0} (view : A → List ℕ) (r : Option A) (path given : List ℕ) (e : RouteOf RouteKey) (route : Option Route)
+    → given ≡ path → IsUtf8 path → first route_rows path ≡ Some e
+    → GetsParameter view r (walk e.pattern e.text given e.names 0 0) → route ≡ route_in e.value (option_map view r)
+    → route ≡ route_of path
 found_route_is view r path given e route same text at gets is =
     let says : FindsRoute path e = finds_route path e text at in
     let taken : GetsParameter view r (walk e.pattern e.text path e.names 0 0) = subst (λ l. GetsParameter view r (walk e.pattern e.text l e.names 0 0)) same gets in
-    is ∙ ap (λ x. route_in e.value x) (sym (matched_text_is view r (named number_text (walk e.pattern e.text path e.names 0 0)) (taken says.0))) ∙ sym says.1
+    is
+    ∙ ap (λ x. route_in e.value x) (sym (matched_text_is view r (named number_text (walk e.pattern e.text path e.names 0 0)) (taken says.0)))
+    ∙ sym says.1
 
 no_text_by : (path : List ℕ) → (IsUtf8 path → ⊥) → Leads path → route_of path ≡ None
 no_text_by path h (to_join e text is) = absurd (h text)

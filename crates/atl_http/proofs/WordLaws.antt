@@ -5,11 +5,14 @@ use Rattle.rand_pcg.specs.Lcg.{Lcg}
 use Rattle.rand_pcg.specs.Pcg.{pcg32}
 use Rattle.atl_http.specs.Dice.{word_of, next_generator, first_words}
 
-words_step : (n : ℕ) (g : Lcg) (w : ℕ) (next : Lcg) → (w, next) ≡ pcg32 g → first_words (suc n) g ≡ w ∷ first_words n next
+words_step : (n : ℕ) (g : Lcg) (w : ℕ) (next : Lcg) → (w, next) ≡ pcg32 g
+    → first_words (suc n) g ≡ w ∷ first_words n next
 unfolding first_words word_of next_generator
 words_step n g w next e = ap (λ (q : ℕ × Lcg). q.0 ∷ first_words n q.1) (sym e)
 
-pub word_more : (found : List ℕ) (count counter : ℕ) (g : Lcg) (w : ℕ) (next : Lcg) → (w, next) ≡ pcg32 g → counter < count → (found ++ w ∷ []) ++ first_words (count - (counter + 1)) next ≡ found ++ first_words (count - counter) g
+pub word_more : (found : List ℕ) (count counter : ℕ) (g : Lcg) (w : ℕ) (next : Lcg) → (w, next) ≡ pcg32 g
+    → counter < count
+    → (found ++ w ∷ []) ++ first_words (count - (counter + 1)) next ≡ found ++ first_words (count - counter) g
 word_more found count counter g w next e h =
     append_assoc found (w ∷ []) (first_words (count - (counter + 1)) next)
     ∙ ap (λ l. found ++ l) (sym (words_step (count - (counter + 1)) g w next e))

@@ -15,7 +15,8 @@ use Rattle.atl_service.specs.Left.{LeavesGood}
 use Rattle.atl_service.specs.Step.{step}
 use Rattle.atl_service.specs.Answering.{Answers}
 
-pub is_refused : {S : Type 0} (g : Ghosts S) (w : WorldValue) (c : CampaignValue) (conn : Held S) (command : Command) (why : Refusal) → step w c command ≡ (c, Refused why) → IsGood w c
+pub is_refused : {S : Type 0} (g : Ghosts S) (w : WorldValue) (c : CampaignValue) (conn : Held S) (command : Command) (why : Refusal)
+    → step w c command ≡ (c, Refused why) → IsGood w c
     → Answers g w c conn command c conn (Refused why)
 is_refused g w c conn command why is good = record {
   step_is = is;
@@ -27,7 +28,9 @@ is_refused g w c conn command why is good = record {
 
 -- if the campaigns before and after a write that ended in a fault are good, so is the one that a crash leaves
 -- (`LeavesGood`)
-pub leaves_good : (w : WorldValue) (faults : ℕ) (s : State) (text : List ℕ) (before after : CampaignValue) → IsGood w before → IsGood w after → LeavesAfterFault faults s text before after → LeavesGood w faults s text before after
+pub leaves_good : (w : WorldValue) (faults : ℕ) (s : State) (text : List ℕ) (before after : CampaignValue)
+    → IsGood w before → IsGood w after → LeavesAfterFault faults s text before after
+    → LeavesGood w faults s text before after
 leaves_good w faults s text before after good good_after stops = record {
   tables = stops;
   good = good;

@@ -35,23 +35,32 @@ module _ {S : Type 0} (g : Ghosts S) (own : Statements) (old new : Held S) where
   writes_apart is = let e = is in cc
 
   pub creation_lacked : IsFaultOfError g own create_fault old new create.Memory → GivesError g own true old new
-  creation_lacked (e, is, given) = record { error = e; memory_is = is_first create.Memory create.Store creates_apart (is_memory e) is; given = given }
+  creation_lacked (e, is, given) =
+      record { error = e; memory_is = is_first create.Memory create.Store creates_apart (is_memory e) is; given = given }
 
   pub creation_failed : IsFaultOfError g own create_fault old new create.Store → GivesError g own false old new
-  creation_failed (e, is, given) = record { error = e; memory_is = is_second create.Memory create.Store creates_apart (is_memory e) is; given = given }
+  creation_failed (e, is, given) =
+      record { error = e; memory_is = is_second create.Memory create.Store creates_apart (is_memory e) is; given = given }
 
   write_lacked_memory : IsFaultOfError g own write_fault old new write.Memory → GivesError g own true old new
-  write_lacked_memory (e, is, given) = record { error = e; memory_is = is_first write.Memory write.Store writes_apart (is_memory e) is; given = given }
+  write_lacked_memory (e, is, given) =
+      record { error = e; memory_is = is_first write.Memory write.Store writes_apart (is_memory e) is; given = given }
 
   write_gave_other_error : IsFaultOfError g own write_fault old new write.Store → GivesError g own false old new
-  write_gave_other_error (e, is, given) = record { error = e; memory_is = is_second write.Memory write.Store writes_apart (is_memory e) is; given = given }
+  write_gave_other_error (e, is, given) =
+      record { error = e; memory_is = is_second write.Memory write.Store writes_apart (is_memory e) is; given = given }
 
   -- if a write's fault reports, on a clean disk, an error of one of its calls, this error is the cause of the service's
   -- fault: out of memory for Memory, another for Store (`HasCause`)
-  pub write_has_cause : (fault : WriteFault) → (HasCleanDisk (state g new) → IsFaultOfError g own write_fault old new fault) → HasCause g own old new (fault_of_write fault)
+  pub write_has_cause : (fault : WriteFault)
+      → (HasCleanDisk (state g new) → IsFaultOfError g own write_fault old new fault)
+      → HasCause g own old new (fault_of_write fault)
   write_has_cause write.Memory says = inr (λ clean. write_lacked_memory (says clean))
   write_has_cause write.Store says = λ clean. write_gave_other_error (says clean)
 
-  pub call_has_cause : {A : Type 0} (fault : WriteFault) (r : Result A WriteFault) → IsErrAnd r (λ f. f ≡ fault) → (HasCleanDisk (state g new) → IsFaultOfError g own write_fault old new fault) → IfErr r (λ f. HasCause g own old new (fault_of_write f))
+  pub call_has_cause : {A : Type 0} (fault : WriteFault) (r : Result A WriteFault) → IsErrAnd r (λ f. f ≡ fault)
+      → (HasCleanDisk (state g new) → IsFaultOfError g own write_fault old new fault)
+      → IfErr r (λ f. HasCause g own old new (fault_of_write f))
   call_has_cause fault (Ok a) is says = tt
-  call_has_cause fault (Err f) is says = subst (λ x. HasCause g own old new (fault_of_write x)) (sym is) (write_has_cause fault says)
+  call_has_cause fault (Err f) is says =
+      subst (λ x. HasCause g own old new (fault_of_write x)) (sym is) (write_has_cause fault says)

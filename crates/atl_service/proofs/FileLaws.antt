@@ -22,7 +22,9 @@ no_doubt false is = absurd (false≢true is)
 module _ {D : Type 0} {g : disk.Ghosts D} (start : D → List ℕ) (record_of : D → List Event) where
   -- a connection over files whose calls are recorded, and whose reads are compared with digests (it is shielded), has a
   -- clean disk, or two digests have collided
-  pub shielded_is_clean : ((d : D) → g.is_fair d ≡ (replay (start d) (record_of d)).is_fair) → ((d : D) → g.is_clean d ≡ (replay (start d) (record_of d)).is_honest) → (conn : Held (FileStore D g)) → is_shielded conn.store
+  pub shielded_is_clean : ((d : D) → g.is_fair d ≡ (replay (start d) (record_of d)).is_fair)
+      → ((d : D) → g.is_clean d ≡ (replay (start d) (record_of d)).is_honest) → (conn : Held (FileStore D g))
+      → is_shielded conn.store
       → HasCleanDisk (file_state conn) ⊎ HasCollided start record_of conn.store
   shielded_is_clean fair clean conn shielded =
       elim (shield_means start record_of fair clean conn.store shielded) [

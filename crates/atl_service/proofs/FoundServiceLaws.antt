@@ -33,14 +33,18 @@ module _ {S : Type 0} (g : Ghosts S) where
   later_itself conn = record { clean = λ clean. clean; counts = omega arith; shield = λ k. k }
 
   nothing_done : (conn : Held S) (text pass : List ℕ) → FailsToFound g conn text pass conn
-  nothing_done conn text pass = record { tables = λ clean. unchanged_itself (state g conn); unfounded = λ bad. refl; crash = λ clean w is db may. inl may }
+  nothing_done conn text pass =
+      record { tables = λ clean. unchanged_itself (state g conn); unfounded = λ bad. refl; crash = λ clean w is db may. inl may }
 
   -- founding may refuse with a cause that doesn't depend on the tables (the world text, the pass text, Memory), and
   -- leave the connection unchanged (`RefusesFounding`)
-  pub refuses_unchanged : (conn : Held S) (text pass : List ℕ) (why : Cause) → ((is_there : Bool) → MayBeCause text pass is_there why) → RefusesFounding g conn text pass why conn
-  refuses_unchanged conn text pass why cause = record { cause = cause (has_campaign conn.schema); leaves = leaves why cause; later = later_itself conn }
+  pub refuses_unchanged : (conn : Held S) (text pass : List ℕ) (why : Cause)
+      → ((is_there : Bool) → MayBeCause text pass is_there why) → RefusesFounding g conn text pass why conn
+  refuses_unchanged conn text pass why cause =
+      record { cause = cause (has_campaign conn.schema); leaves = leaves why cause; later = later_itself conn }
     where
-      leaves : (why : Cause) → ((is_there : Bool) → MayBeCause text pass is_there why) → LeavesByCause g conn text pass conn why
+      leaves : (why : Cause) → ((is_there : Bool) → MayBeCause text pass is_there why)
+          → LeavesByCause g conn text pass conn why
       leaves (BadWorld fault) is = refl
       leaves BadPassText is = refl
       leaves none.NotEmpty is = refl
@@ -54,7 +58,9 @@ module _ {S : Type 0} (g : Ghosts S) where
 
   -- an open service is consistent if its connection is in no transaction, its campaign is good, and on a clean disk the
   -- tables hold the campaign and a text of its world
-  pub founded_consistent : (conn : Held S) (w : WorldValue) (c : CampaignValue) (text : List ℕ) → conn.in_transaction ≡ false → IsGood w c → world_of text ≡ Ok w → HoldsCampaign g conn text c → IsConsistent g conn w c true
+  pub founded_consistent : (conn : Held S) (w : WorldValue) (c : CampaignValue) (text : List ℕ)
+      → conn.in_transaction ≡ false → IsGood w c → world_of text ≡ Ok w → HoldsCampaign g conn text c
+      → IsConsistent g conn w c true
   founded_consistent conn w c text idle good is holds = record {
     idle = idle;
     good = λ up. good;
@@ -62,7 +68,9 @@ module _ {S : Type 0} (g : Ghosts S) where
     text = λ up clean. ap world_of (world_text_is (state g conn) text c (holds clean)) ∙ is;
   }
 
-  pub founds_on : (old conn : Held S) (w : WorldValue) (c : CampaignValue) (text pass : List ℕ) → Prepares text pass w c → Creates g text c old conn → IsLater (state g old) (state g conn) → Founds g old text pass (record { conn = conn; world = w; campaign = Some c })
+  pub founds_on : (old conn : Held S) (w : WorldValue) (c : CampaignValue) (text pass : List ℕ) → Prepares text pass w c
+      → Creates g text c old conn → IsLater (state g old) (state g conn)
+      → Founds g old text pass (record { conn = conn; world = w; campaign = Some c })
   founds_on old conn w c text pass made creates later = record {
     fresh = creates.fresh;
     world = made.world;
@@ -90,7 +98,8 @@ module _ {S : Type 0} (g : Ghosts S) where
 
     -- if a fault reports an error of the statements that create the tables of campaign `c` (`OfFounding`), it reports
     -- one of those that found by the world text and the pass text (`OfFoundingBy`)
-    error_of_founding : (fault : CreateFault) → IsFaultOfError g (OfFounding text c) create_fault old new fault → IsFaultOfError g (OfFoundingBy text pass) create_fault old new fault
+    error_of_founding : (fault : CreateFault) → IsFaultOfError g (OfFounding text c) create_fault old new fault
+        → IsFaultOfError g (OfFoundingBy text pass) create_fault old new fault
     error_of_founding fault says = (
       says.0,
       says.1,
@@ -99,13 +108,20 @@ module _ {S : Type 0} (g : Ghosts S) where
 
     -- if creating the tables fails, founding refuses with the cause of the same name as the fault, and leaves what this
     -- cause allows (`RefusesFounding`)
-    pub refused_by_store : (fault : CreateFault) → RefusesToCreate g text c old new fault → RefusesFounding g old text pass (cause_of_creation_fault fault) new
-    refused_by_store NotEmpty refused = record { cause = ((w, made.world), made.pass_is_good, refused.0); leaves = refused.1; later = later }
-    refused_by_store Store refused = record { cause = ((w, made.world), made.pass_is_good, refused.0.fresh); leaves = (failed_creation_fails_founding refused.0, store_refuses refused.1); later = later }
+    pub refused_by_store : (fault : CreateFault) → RefusesToCreate g text c old new fault
+        → RefusesFounding g old text pass (cause_of_creation_fault fault) new
+    refused_by_store NotEmpty refused =
+        record { cause = ((w, made.world), made.pass_is_good, refused.0); leaves = refused.1; later = later }
+    refused_by_store Store refused =
+        record { cause = ((w, made.world), made.pass_is_good, refused.0.fresh); leaves = (failed_creation_fails_founding refused.0, store_refuses refused.1); later = later }
       where
         -- If creating fails with Store, the connection wasn't ready and is unchanged, or it was ready and the write
         -- failed. On a clean disk a call of the write then gave an error other than out of memory (`RefusesToWrite`).
-        store_refuses : ((¬ IsReadyToCreate (state g old)) × (new ≡ old)) ⊎ BreaksOffCreation g text c old new Store → RefusesToWrite g (OfFoundingBy text pass) old new
+        store_refuses : ((¬ IsReadyToCreate (state g old)) × (new ≡ old)) ⊎ BreaksOffCreation g text c old new Store
+            → RefusesToWrite g (OfFoundingBy text pass) old new
         store_refuses (inl unasked) = inl unasked
-        store_refuses (inr off) = inr (off.ready, λ clean. creation_failed g (OfFoundingBy text pass) old new (error_of_founding Store (off.reports_error clean)))
-    refused_by_store Memory refused = record { cause = tt; leaves = (failed_creation_fails_founding refused.0, inr (λ clean. creation_lacked g (OfFoundingBy text pass) old new (error_of_founding Memory (refused.1.reports_error clean)))); later = later }
+        store_refuses (inr off) =
+            inr
+            (off.ready, λ clean. creation_failed g (OfFoundingBy text pass) old new (error_of_founding Store (off.reports_error clean)))
+    refused_by_store Memory refused =
+        record { cause = tt; leaves = (failed_creation_fails_founding refused.0, inr (λ clean. creation_lacked g (OfFoundingBy text pass) old new (error_of_founding Memory (refused.1.reports_error clean)))); later = later }

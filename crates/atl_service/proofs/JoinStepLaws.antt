@@ -22,25 +22,30 @@ module _ (w : WorldValue) (c : CampaignValue) (name pass : List ℕ) (word : ℕ
   unfolding step
   bad_name e = rw e refl
 
-  pub bad_pass : name_ok name ≡ true → not (pass_ok pass) ≡ true → step w c (Join name pass word) ≡ (c, Refused why.BadPassText)
+  pub bad_pass : name_ok name ≡ true → not (pass_ok pass) ≡ true
+      → step w c (Join name pass word) ≡ (c, Refused why.BadPassText)
   unfolding step
   bad_pass a e = rw (a, e) refl
 
-  pub is_taken : name_ok name ≡ true → pass_ok pass ≡ true → join_of w name pass word c ≡ Err NameTaken → step w c (Join name pass word) ≡ (c, Refused why.NameTaken)
+  pub is_taken : name_ok name ≡ true → pass_ok pass ≡ true → join_of w name pass word c ≡ Err NameTaken
+      → step w c (Join name pass word) ≡ (c, Refused why.NameTaken)
   unfolding step
   is_taken a b e = rw (a, b, e) refl
 
-  pub is_too_full : name_ok name ≡ true → pass_ok pass ≡ true → join_of w name pass word c ≡ Err Full → step w c (Join name pass word) ≡ (c, Refused why.Full)
+  pub is_too_full : name_ok name ≡ true → pass_ok pass ≡ true → join_of w name pass word c ≡ Err Full
+      → step w c (Join name pass word) ≡ (c, Refused why.Full)
   unfolding step
   is_too_full a b e = rw (a, b, e) refl
 
-  pub steps_on : (d : CampaignValue) (n m : ℕ) → name_ok name ≡ true → pass_ok pass ≡ true → join_of w name pass word c ≡ Ok (d, (n, m)) → step w c (Join name pass word) ≡ (reported w d n, Joined n m)
+  pub steps_on : (d : CampaignValue) (n m : ℕ) → name_ok name ≡ true → pass_ok pass ≡ true
+      → join_of w name pass word c ≡ Ok (d, (n, m)) → step w c (Join name pass word) ≡ (reported w d n, Joined n m)
   unfolding step
   steps_on d n m a b e = rw (a, b, e) refl
 
 -- the result `y` of a join that succeeds is the joined campaign `x`, since a join gives an error if the name is taken
 -- or the campaign is full
-join_result_is_joined : {S : Type 0} (taken full : Bool) (x y : S) → cond taken (Err NameTaken) (cond full (Err Full) (Ok x)) ≡ Ok y → x ≡ y
+join_result_is_joined : {S : Type 0} (taken full : Bool) (x y : S)
+    → cond taken (Err NameTaken) (cond full (Err Full) (Ok x)) ≡ Ok y → x ≡ y
 join_result_is_joined true full x y e = cc
 join_result_is_joined false true x y e = cc
 join_result_is_joined false false x y e = cc
@@ -50,7 +55,8 @@ is_there o v is = ap is_some is
 
 -- the campaign that `after_join` makes of a good one, with the first report, has what a write of the join needs
 -- (`HasArrival`): the faction, its unit, which came last, and its report
-arrival : (w : WorldValue) (name pass : List ℕ) (word : ℕ) (c : CampaignValue) → IsGood w c → HasArrival (reported w (after_join w name pass word c) c.next_faction) c.next_faction
+arrival : (w : WorldValue) (name pass : List ℕ) (word : ℕ) (c : CampaignValue) → IsGood w c
+    → HasArrival (reported w (after_join w name pass word c) c.next_faction) c.next_faction
 unfolding after_join
 arrival w name pass word c good =
     let member = new_faction c.next_faction name pass in
@@ -66,7 +72,8 @@ arrival w name pass word c good =
       report = is_there _ report (get_inserted c.reports c.next_faction report);
     }
 
-pub arrives : (w : WorldValue) (name pass : List ℕ) (word : ℕ) (c d : CampaignValue) (n m : ℕ) → IsGood w c → join_of w name pass word c ≡ Ok (d, (n, m)) → HasArrival (reported w d n) n
+pub arrives : (w : WorldValue) (name pass : List ℕ) (word : ℕ) (c d : CampaignValue) (n m : ℕ) → IsGood w c
+    → join_of w name pass word c ≡ Ok (d, (n, m)) → HasArrival (reported w d n) n
 unfolding join_of
 arrives w name pass word c d n m good e =
     let is : (after_join w name pass word c, (c.next_faction, c.next_unit)) ≡ (d, (n, m)) = join_result_is_joined (name_taken c name) (is_full c) _ _ e in
@@ -74,7 +81,8 @@ arrives w name pass word c d n m good e =
     let number : c.next_faction ≡ n = ap (λ p. p.1.0) is in
     subst (λ (s : CampaignValue). HasArrival (reported w s n) n) same (subst (λ k. HasArrival (reported w (after_join w name pass word c) k) k) number (arrival w name pass word c good))
 
-pub joining_is : (w : WorldValue) (name pass : List ℕ) (word : ℕ) (c d : CampaignValue) (n m : ℕ) → IsGood w c → join_of w name pass word c ≡ Ok (d, (n, m)) → IsJoining c n (reported w d n)
+pub joining_is : (w : WorldValue) (name pass : List ℕ) (word : ℕ) (c d : CampaignValue) (n m : ℕ) → IsGood w c
+    → join_of w name pass word c ≡ Ok (d, (n, m)) → IsJoining c n (reported w d n)
 unfolding join_of
 joining_is w name pass word c d n m good e =
     let is : (after_join w name pass word c, (c.next_faction, c.next_unit)) ≡ (d, (n, m)) = join_result_is_joined (name_taken c name) (is_full c) _ _ e in

@@ -25,7 +25,8 @@ use Rattle.atl_sql.proofs.CauseLaws.{more_before}
 
 -- what a fault may leave in the tables (`LeavesGood`) if the disk had failed `many` times before, it may leave also if
 -- it had failed `few` times, which is no more
-stops_from : (w : WorldValue) (few many : ℕ) (s : State) (text : List ℕ) (before after : CampaignValue) → few ≤ many → LeavesGood w many s text before after → LeavesGood w few s text before after
+stops_from : (w : WorldValue) (few many : ℕ) (s : State) (text : List ℕ) (before after : CampaignValue) → few ≤ many
+    → LeavesGood w many s text before after → LeavesGood w few s text before after
 stops_from w few many s text before after h stops = record {
   tables = record {
     still = stops.tables.still;
@@ -39,16 +40,23 @@ stops_from w few many s text before after h stops = record {
 module _ {S : Type 0} (g : Ghosts S) where
   -- answers that follow from `step` (`Follows`) do so with a world text that is equal on a clean disk, and with a lower
   -- count of earlier disk failures
-  follows_as : (t u : List ℕ) (few many : ℕ) (w : WorldValue) (c : CampaignValue) (cs : List Command) (rs : List Answer) (new : ServiceValue S) → (HasCleanDisk (state g new.conn) → t ≡ u) → few ≤ many
+  follows_as : (t u : List ℕ) (few many : ℕ) (w : WorldValue) (c : CampaignValue) (cs : List Command) (rs : List Answer) (new : ServiceValue S)
+      → (HasCleanDisk (state g new.conn) → t ≡ u) → few ≤ many
       → Follows g t many w c cs rs new → Follows g u few w c cs rs new
-  follows_as t u few many w c [] [] new same h f = (f.0, λ clean. subst (λ x. Keeps (state g new.conn) x c) (same clean) (f.1 clean))
+  follows_as t u few many w c [] [] new same h f =
+      (f.0, λ clean. subst (λ x. Keeps (state g new.conn) x c) (same clean) (f.1 clean))
   follows_as t u few many w c [] (a ∷ rs) new same h f = absurd f
   follows_as t u few many w c (x ∷ cs) [] new same h f = absurd f
-  follows_as t u few many w c (x ∷ cs) (Joined n m ∷ rs) new same h f = (f.0, follows_as t u few many w (step w c x).0 cs rs new same h f.1)
-  follows_as t u few many w c (x ∷ cs) (Mailed n fs ∷ rs) new same h f = (f.0, follows_as t u few many w (step w c x).0 cs rs new same h f.1)
-  follows_as t u few many w c (x ∷ cs) (MonthDone n ∷ rs) new same h f = (f.0, follows_as t u few many w (step w c x).0 cs rs new same h f.1)
-  follows_as t u few many w c (x ∷ cs) (Text r ∷ rs) new same h f = (f.0, follows_as t u few many w (step w c x).0 cs rs new same h f.1)
-  follows_as t u few many w c (x ∷ cs) (Refused r ∷ rs) new same h f = (f.0, follows_as t u few many w (step w c x).0 cs rs new same h f.1)
+  follows_as t u few many w c (x ∷ cs) (Joined n m ∷ rs) new same h f =
+      (f.0, follows_as t u few many w (step w c x).0 cs rs new same h f.1)
+  follows_as t u few many w c (x ∷ cs) (Mailed n fs ∷ rs) new same h f =
+      (f.0, follows_as t u few many w (step w c x).0 cs rs new same h f.1)
+  follows_as t u few many w c (x ∷ cs) (MonthDone n ∷ rs) new same h f =
+      (f.0, follows_as t u few many w (step w c x).0 cs rs new same h f.1)
+  follows_as t u few many w c (x ∷ cs) (Text r ∷ rs) new same h f =
+      (f.0, follows_as t u few many w (step w c x).0 cs rs new same h f.1)
+  follows_as t u few many w c (x ∷ cs) (Refused r ∷ rs) new same h f =
+      (f.0, follows_as t u few many w (step w c x).0 cs rs new same h f.1)
   follows_as t u few many w c (x ∷ cs) (Fault e ∷ rs) new same h f = (
     f.0,
     f.1,
@@ -59,7 +67,8 @@ module _ {S : Type 0} (g : Ghosts S) where
 
   -- If a command was carried out, its answer is that of `step`, and the later answers follow from the campaign of
   -- `step` (`Follows`). The premise is that these are right from the service after the command on (`FollowsAt`).
-  carried_out : (old mid new : ServiceValue S) (c : CampaignValue) (x : Command) (a : Answer) (cs : List Command) (rs : List Answer) → (accepts : Accepts g c old x a mid) → (HasCleanDisk (state g new.conn) → HasCleanDisk (state g mid.conn))
+  carried_out : (old mid new : ServiceValue S) (c : CampaignValue) (x : Command) (a : Answer) (cs : List Command) (rs : List Answer)
+      → (accepts : Accepts g c old x a mid) → (HasCleanDisk (state g new.conn) → HasCleanDisk (state g mid.conn))
       → (state g old.conn).faults ≤ (state g mid.conn).faults → FollowsAt g mid cs rs new mid.campaign
       → ((step old.world c x).1 ≡ a) × Follows g (text_in g old.conn) (state g old.conn).faults old.world (step old.world c x).0 cs rs new × (new.world ≡ old.world)
   carried_out old mid new c x a cs rs accepts was counts rest =
@@ -78,7 +87,9 @@ module _ {S : Type 0} (g : Ghosts S) where
   -- After a command that ended in a fault with its cause, the rest of the list is answered Closed, and the service
   -- stays closed. On a clean disk the tables stay at the campaign before the command, and a crash leaves that or the
   -- one of `step`, which then is good (`LeavesGood`).
-  ended_in_fault : (old mid new : ServiceValue S) (c : CampaignValue) (x : Command) (fault : Failure) (cs : List Command) (rs : List Answer) → Closes g c old x mid → HasCause g (OfCommand old.world c x) old.conn mid.conn fault → HoldsCampaign g old.conn (text_in g old.conn) c
+  ended_in_fault : (old mid new : ServiceValue S) (c : CampaignValue) (x : Command) (fault : Failure) (cs : List Command) (rs : List Answer)
+      → Closes g c old x mid → HasCause g (OfCommand old.world c x) old.conn mid.conn fault
+      → HoldsCampaign g old.conn (text_in g old.conn) c
       → (HasCleanDisk (state g mid.conn) → HasCleanDisk (state g old.conn)) → FollowsAt g mid cs rs new mid.campaign
       → AreClosed cs rs × (new.campaign ≡ None) × (HasCleanDisk (state g new.conn) → LeavesGood old.world (state g old.conn).faults (state g new.conn) (text_in g old.conn) c (step old.world c x).0)
       × IsFault g (text_in g old.conn) (state g old.conn).faults old.world c x fault new.conn
@@ -94,8 +105,11 @@ module _ {S : Type 0} (g : Ghosts S) where
         ap (λ (e : ServiceValue S). e.world) on.1 ∙ ap (λ (e : ServiceValue S). e.world) closes.same,
       )
 
-  first_open : (old mid new : ServiceValue S) (c : CampaignValue) (x : Command) (a : Answer) (cs : List Command) (rs : List Answer) → RunsOpen g c old x a mid
-      → (HasCleanDisk (state g new.conn) → HasCleanDisk (state g mid.conn)) → IsLater (state g old.conn) (state g mid.conn) → HoldsCampaign g old.conn (text_in g old.conn) c → old.campaign ≡ Some c → FollowsAt g mid cs rs new mid.campaign
+  first_open : (old mid new : ServiceValue S) (c : CampaignValue) (x : Command) (a : Answer) (cs : List Command) (rs : List Answer)
+      → RunsOpen g c old x a mid
+      → (HasCleanDisk (state g new.conn) → HasCleanDisk (state g mid.conn))
+      → IsLater (state g old.conn) (state g mid.conn) → HoldsCampaign g old.conn (text_in g old.conn) c
+      → old.campaign ≡ Some c → FollowsAt g mid cs rs new mid.campaign
       → FollowsAt g old (x ∷ cs) (a ∷ rs) new (Some c)
   first_open old mid new c x (Joined n m) cs rs ran was later holds up rest = let k = carried_out old mid new c x (Joined n m) cs rs ran was later.counts rest in ((k.0, k.1), k.2)
   first_open old mid new c x (Mailed n fs) cs rs ran was later holds up rest = let k = carried_out old mid new c x (Mailed n fs) cs rs ran was later.counts rest in ((k.0, k.1), k.2)
@@ -109,20 +123,27 @@ module _ {S : Type 0} (g : Ghosts S) where
   first_open old mid new c x (Fault Store) cs rs ran was later holds up rest = let k = ended_in_fault old mid new c x Store cs rs ran.0 ran.1 holds later.clean rest in (((λ e. let d = e in cc), k.0, k.1, k.2, k.3), k.4)
   first_open old mid new c x (Fault Closed) cs rs ran was later holds up rest = absurd ran
 
-  first_at : (old mid new : ServiceValue S) (x : Command) (a : Answer) (cs : List Command) (rs : List Answer) (o : Option CampaignValue) → old.campaign ≡ o → RunsAt g old x a mid o
-      → (HasCleanDisk (state g new.conn) → HasCleanDisk (state g mid.conn)) → IsLater (state g old.conn) (state g mid.conn) → IfSome o (λ c. HoldsCampaign g old.conn (text_in g old.conn) c) → FollowsAt g mid cs rs new mid.campaign
+  first_at : (old mid new : ServiceValue S) (x : Command) (a : Answer) (cs : List Command) (rs : List Answer) (o : Option CampaignValue)
+      → old.campaign ≡ o → RunsAt g old x a mid o
+      → (HasCleanDisk (state g new.conn) → HasCleanDisk (state g mid.conn))
+      → IsLater (state g old.conn) (state g mid.conn) → IfSome o (λ c. HoldsCampaign g old.conn (text_in g old.conn) c)
+      → FollowsAt g mid cs rs new mid.campaign
       → FollowsAt g old (x ∷ cs) (a ∷ rs) new o
-  first_at old mid new x a cs rs (Some c) up ran was later holds rest = first_open old mid new c x a cs rs ran was later holds up rest
+  first_at old mid new x a cs rs (Some c) up ran was later holds rest =
+      first_open old mid new c x a cs rs ran was later holds up rest
   first_at old mid new x a cs rs None shut ran was later holds rest =
       let on = subst (FollowsAt g old cs rs new) shut (subst (λ (e : ServiceValue S). FollowsAt g e cs rs new e.campaign) ran.1 rest) in
       ((ran.0, on.0), on.1)
 
   later_on : (old mid new : State) → IsLater old mid → IsLater mid new → IsLater old new
-  later_on old mid new a b = record { clean = λ h. a.clean (b.clean h); counts = omega (arith, a.counts, b.counts); shield = λ s. b.shield (a.shield s) }
+  later_on old mid new a b =
+      record { clean = λ h. a.clean (b.clean h); counts = omega (arith, a.counts, b.counts); shield = λ s. b.shield (a.shield s) }
 
   -- if a command runs as `run` promises (`Runs`) and a list after it as `run_all` does (`RunsAll`), so does the list
   -- with the command in front
-  pub run_first : (old mid new : ServiceValue S) (x : Command) (a : Answer) (cs : List Command) (rs : List Answer) → IfSome old.campaign (λ c. HoldsCampaign g old.conn (text_in g old.conn) c) → Runs g old x a mid → IsLater (state g old.conn) (state g mid.conn)
+  pub run_first : (old mid new : ServiceValue S) (x : Command) (a : Answer) (cs : List Command) (rs : List Answer)
+      → IfSome old.campaign (λ c. HoldsCampaign g old.conn (text_in g old.conn) c) → Runs g old x a mid
+      → IsLater (state g old.conn) (state g mid.conn)
       → RunsAll g mid cs rs new → RunsAll g old (x ∷ cs) (a ∷ rs) new
   run_first old mid new x a cs rs holds ran later rest = record {
     follows = first_at old mid new x a cs rs old.campaign refl ran rest.later.clean later holds rest.follows;
@@ -130,27 +151,36 @@ module _ {S : Type 0} (g : Ghosts S) where
     later = later_on (state g old.conn) (state g mid.conn) (state g new.conn) later rest.later;
   }
 
-  none_left : (now : ServiceValue S) (o : Option CampaignValue) → now.campaign ≡ o → IfSome o (λ c. HoldsCampaign g now.conn (text_in g now.conn) c) → FollowsAt g now [] [] now o
+  none_left : (now : ServiceValue S) (o : Option CampaignValue) → now.campaign ≡ o
+      → IfSome o (λ c. HoldsCampaign g now.conn (text_in g now.conn) c) → FollowsAt g now [] [] now o
   none_left now (Some c) is holds = ((is, holds), refl)
   none_left now None is holds = (tt, refl)
 
-  pub run_none : (now : ServiceValue S) → IfSome now.campaign (λ c. HoldsCampaign g now.conn (text_in g now.conn) c) → RunsAll g now [] [] now
-  run_none now holds = record { follows = none_left now now.campaign refl holds; each = refl; later = record { clean = λ h. h; counts = omega arith; shield = λ s. s } }
+  pub run_none : (now : ServiceValue S) → IfSome now.campaign (λ c. HoldsCampaign g now.conn (text_in g now.conn) c)
+      → RunsAll g now [] [] now
+  run_none now holds =
+      record { follows = none_left now now.campaign refl holds; each = refl; later = record { clean = λ h. h; counts = omega arith; shield = λ s. s } }
 
   -- ---- the loop of `run_all`
 
   -- If the answers before command `i`, with any that the commands from `i` on may get, are answers to the whole list
   -- (`RunsAll`), so are they with the answer to command `i` added.
-  pub one_more : (e mid now new : ServiceValue S) (cs : List Command) (i : ℕ) (c : Command) (a : Answer) (sofar rs : List Answer) → i < length cs → c ≡ get_or cs i c
-      → ((ts : List Answer) (n : ServiceValue S) → RunsAll g mid (drop i cs) ts n → RunsAll g e cs (sofar ++ ts) n) → IfSome mid.campaign (λ d. HoldsCampaign g mid.conn (text_in g mid.conn) d) → Runs g mid c a now → IsLater (state g mid.conn) (state g now.conn)
+  pub one_more : (e mid now new : ServiceValue S) (cs : List Command) (i : ℕ) (c : Command) (a : Answer) (sofar rs : List Answer)
+      → i < length cs → c ≡ get_or cs i c
+      → ((ts : List Answer) (n : ServiceValue S) → RunsAll g mid (drop i cs) ts n → RunsAll g e cs (sofar ++ ts) n)
+      → IfSome mid.campaign (λ d. HoldsCampaign g mid.conn (text_in g mid.conn) d) → Runs g mid c a now
+      → IsLater (state g mid.conn) (state g now.conn)
       → RunsAll g now (drop (i + 1) cs) rs new → RunsAll g e cs ((sofar ++ a ∷ []) ++ rs) new
   one_more e mid now new cs i c a sofar rs h is whole holds ran later rest =
       let next : drop i cs ≡ c ∷ drop (i + 1) cs = drop_more cs i c h ∙ ap (λ x. x ∷ drop (i + 1) cs) (sym is) in
       subst (λ ts. RunsAll g e cs ts new) (sym (append_assoc sofar (a ∷ []) rs)) (whole (a ∷ rs) new (subst (λ ds. RunsAll g mid ds (a ∷ rs) new) (sym next) (run_first mid now new c a (drop (i + 1) cs) rs holds ran later rest)))
 
-  pub all_done : (e now : ServiceValue S) (cs : List Command) (i : ℕ) (sofar : List Answer) → length cs ≤ i → ((ts : List Answer) (n : ServiceValue S) → RunsAll g now (drop i cs) ts n → RunsAll g e cs (sofar ++ ts) n)
+  pub all_done : (e now : ServiceValue S) (cs : List Command) (i : ℕ) (sofar : List Answer) → length cs ≤ i
+      → ((ts : List Answer) (n : ServiceValue S) → RunsAll g now (drop i cs) ts n → RunsAll g e cs (sofar ++ ts) n)
       → IfSome now.campaign (λ c. HoldsCampaign g now.conn (text_in g now.conn) c) → RunsAll g e cs sofar now
-  all_done e now cs i sofar h whole holds = subst (λ ts. RunsAll g e cs ts now) (append-nil sofar) (whole [] now (subst (λ ds. RunsAll g now ds [] now) (sym (drop_all i cs h)) (run_none now holds)))
+  all_done e now cs i sofar h whole holds =
+      subst (λ ts. RunsAll g e cs ts now) (append-nil sofar)
+      (whole [] now (subst (λ ds. RunsAll g now ds [] now) (sym (drop_all i cs h)) (run_none now holds)))
 
   -- ---- the main theorem
 
@@ -164,9 +194,12 @@ module _ {S : Type 0} (g : Ghosts S) where
   all_closed (x ∷ cs) [] h = absurd h
   all_closed (x ∷ cs) (a ∷ rs) h = ap₂ (λ b bs. b ∷ bs) h.0 (all_closed cs rs h.1)
 
-  further : (text : List ℕ) (faults : ℕ) (w : WorldValue) (c : CampaignValue) (x : Command) (a : Answer) (cs : List Command) (rs : List Answer) (new : ServiceValue S) → (step w c x).1 ≡ a → Ends text faults w (step w c x).0 cs rs new
+  further : (text : List ℕ) (faults : ℕ) (w : WorldValue) (c : CampaignValue) (x : Command) (a : Answer) (cs : List Command) (rs : List Answer) (new : ServiceValue S)
+      → (step w c x).1 ≡ a → Ends text faults w (step w c x).0 cs rs new
       → Ends text faults w c (x ∷ cs) (a ∷ rs) new
-  further text faults w c x a cs rs new is (inl h) = inl (record { answers_are = ap₂ (λ b bs. b ∷ bs) (sym is) h.answers_are; campaign_is = h.campaign_is; tables = h.tables })
+  further text faults w c x a cs rs new is (inl h) =
+      inl
+      (record { answers_are = ap₂ (λ b bs. b ∷ bs) (sym is) h.answers_are; campaign_is = h.campaign_is; tables = h.tables })
   further text faults w c x a cs rs new is (inr h) = inr (record {
     count = h.count + 1;
     command = h.command;
@@ -180,15 +213,21 @@ module _ {S : Type 0} (g : Ghosts S) where
     tables = simp unary_clauses (simp unary_clauses at h.tables);
   })
 
-  ends : (text : List ℕ) (faults : ℕ) (w : WorldValue) (c : CampaignValue) (cs : List Command) (rs : List Answer) (new : ServiceValue S) → Follows g text faults w c cs rs new → Ends text faults w c cs rs new
+  ends : (text : List ℕ) (faults : ℕ) (w : WorldValue) (c : CampaignValue) (cs : List Command) (rs : List Answer) (new : ServiceValue S)
+      → Follows g text faults w c cs rs new → Ends text faults w c cs rs new
   ends text faults w c [] [] new f = inl (record { answers_are = refl; campaign_is = f.0; tables = f.1 })
   ends text faults w c [] (a ∷ rs) new f = absurd f
   ends text faults w c (x ∷ cs) [] new f = absurd f
-  ends text faults w c (x ∷ cs) (Joined n m ∷ rs) new f = further text faults w c x (Joined n m) cs rs new f.0 (ends text faults w (step w c x).0 cs rs new f.1)
-  ends text faults w c (x ∷ cs) (Mailed n fs ∷ rs) new f = further text faults w c x (Mailed n fs) cs rs new f.0 (ends text faults w (step w c x).0 cs rs new f.1)
-  ends text faults w c (x ∷ cs) (MonthDone n ∷ rs) new f = further text faults w c x (MonthDone n) cs rs new f.0 (ends text faults w (step w c x).0 cs rs new f.1)
-  ends text faults w c (x ∷ cs) (Text r ∷ rs) new f = further text faults w c x (Text r) cs rs new f.0 (ends text faults w (step w c x).0 cs rs new f.1)
-  ends text faults w c (x ∷ cs) (Refused r ∷ rs) new f = further text faults w c x (Refused r) cs rs new f.0 (ends text faults w (step w c x).0 cs rs new f.1)
+  ends text faults w c (x ∷ cs) (Joined n m ∷ rs) new f =
+      further text faults w c x (Joined n m) cs rs new f.0 (ends text faults w (step w c x).0 cs rs new f.1)
+  ends text faults w c (x ∷ cs) (Mailed n fs ∷ rs) new f =
+      further text faults w c x (Mailed n fs) cs rs new f.0 (ends text faults w (step w c x).0 cs rs new f.1)
+  ends text faults w c (x ∷ cs) (MonthDone n ∷ rs) new f =
+      further text faults w c x (MonthDone n) cs rs new f.0 (ends text faults w (step w c x).0 cs rs new f.1)
+  ends text faults w c (x ∷ cs) (Text r ∷ rs) new f =
+      further text faults w c x (Text r) cs rs new f.0 (ends text faults w (step w c x).0 cs rs new f.1)
+  ends text faults w c (x ∷ cs) (Refused r ∷ rs) new f =
+      further text faults w c x (Refused r) cs rs new f.0 (ends text faults w (step w c x).0 cs rs new f.1)
   ends text faults w c (x ∷ cs) (Fault e ∷ rs) new f = inr (record {
     count = 0;
     command = x;
@@ -202,11 +241,13 @@ module _ {S : Type 0} (g : Ghosts S) where
     tables = f.3;
   })
 
-  headline_at : (old new : ServiceValue S) (cs : List Command) (rs : List Answer) (o : Option CampaignValue) → FollowsAt g old cs rs new o → HeadlineAt g old cs rs new o
+  headline_at : (old new : ServiceValue S) (cs : List Command) (rs : List Answer) (o : Option CampaignValue)
+      → FollowsAt g old cs rs new o → HeadlineAt g old cs rs new o
   headline_at old new cs rs (Some c) f = ends (text_in g old.conn) (state g old.conn).faults old.world c cs rs new f.0
   headline_at old new cs rs None f = (all_closed cs rs f.0, f.1)
 
   -- the main theorem holds of a list of commands that was run (`RunsAll`), or one of them ended in a fault, or the
   -- service was closed (`HeadlineAt`)
-  pub headline : (old new : ServiceValue S) (cs : List Command) (rs : List Answer) → RunsAll g old cs rs new → HeadlineAt g old cs rs new old.campaign
+  pub headline : (old new : ServiceValue S) (cs : List Command) (rs : List Answer) → RunsAll g old cs rs new
+      → HeadlineAt g old cs rs new old.campaign
   headline old new cs rs h = headline_at old new cs rs old.campaign h.follows

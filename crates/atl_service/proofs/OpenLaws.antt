@@ -29,16 +29,21 @@ module _ {S : Type 0} (g : Ghosts S) where
     mode = refl;
   }
 
-  pub refused_in_transaction : (conn : Held S) → conn.in_transaction ≡ true → RefusesOpening g conn (cause_of_loading_fault Store) conn
-  refused_in_transaction conn busy = record { fault = Store; why_is = refl; cause = λ clean. inl busy; alone = alone_itself conn; later = survives_is_later _ _ _ (alone_itself conn).survives }
+  pub refused_in_transaction : (conn : Held S) → conn.in_transaction ≡ true
+      → RefusesOpening g conn (cause_of_loading_fault Store) conn
+  refused_in_transaction conn busy =
+      record { fault = Store; why_is = refl; cause = λ clean. inl busy; alone = alone_itself conn; later = survives_is_later _ _ _ (alone_itself conn).survives }
 
   module _ (old new : Held S) (alone : LeavesAlone g old new) where
-    pub refused_by_load : (fault : StoreFault) → (HasCleanDisk (state g new) → RefusesToLoad g old fault) → RefusesOpening g old (cause_of_loading_fault fault) new
-    refused_by_load fault cause = record { fault = fault; why_is = refl; cause = cause; alone = alone; later = survives_is_later _ _ _ alone.survives }
+    pub refused_by_load : (fault : StoreFault) → (HasCleanDisk (state g new) → RefusesToLoad g old fault)
+        → RefusesOpening g old (cause_of_loading_fault fault) new
+    refused_by_load fault cause =
+        record { fault = fault; why_is = refl; cause = cause; alone = alone; later = survives_is_later _ _ _ alone.survives }
 
     module _ (w : WorldValue) (c : MarkedCampaign) (loads : Loads g old new w c) where
       pub opens : Opens g old (record { conn = new; world = w; campaign = Some c.value })
-      opens = record { campaign = c; is_open = refl; loads = loads; alone = alone; later = survives_is_later _ _ _ alone.survives }
+      opens =
+          record { campaign = c; is_open = refl; loads = loads; alone = alone; later = survives_is_later _ _ _ alone.survives }
 
       pub comes_back : ComesBack g old (record { conn = new; world = w; campaign = Some c.value })
       comes_back clean text v d reads good held =

@@ -27,7 +27,8 @@ module _ (c : CampaignValue) (faction : ℕ) (text : List ℕ) where
   abbrev StoresIfMailed : CampaignValue × Answer → Type 0
   StoresIfMailed made = IsMailed made.1 → made.0 ≡ with_mail c faction text
 
-  kept_own : (other : Bool) (done : CampaignValue × Answer) → StoresIfMailed done → StoresIfMailed (cond other (c, Refused why.WrongFaction) done)
+  kept_own : (other : Bool) (done : CampaignValue × Answer) → StoresIfMailed done
+      → StoresIfMailed (cond other (c, Refused why.WrongFaction) done)
   kept_own true done keeps taken = absurd taken
   kept_own false done keeps taken = keeps taken
 
@@ -38,7 +39,8 @@ module _ (c : CampaignValue) (faction : ℕ) (text : List ℕ) where
   kept_read (Err BadHeader) taken = absurd taken
   kept_read (Err Memory) taken = absurd taken
 
-  kept_here : (gone : Bool) (done : CampaignValue × Answer) → StoresIfMailed done → StoresIfMailed (cond gone (c, Refused why.Gone) done)
+  kept_here : (gone : Bool) (done : CampaignValue × Answer) → StoresIfMailed done
+      → StoresIfMailed (cond gone (c, Refused why.Gone) done)
   kept_here true done keeps taken = absurd taken
   kept_here false done keeps taken = keeps taken
 
@@ -60,7 +62,8 @@ mail_after mail (Mail faction _ text ∷ more) = mail_after (insert mail faction
 mail_after mail (Close _ _ _ ∷ more) = mail_after mail more
 mail_after mail (Report _ _ ∷ more) = mail_after mail more
 
-run_posts : (w : WorldValue) (c : CampaignValue) (sent : List Command) → AreMailed w c sent → (run_of w c sent).0 ≡ record c { mail = mail_after c.mail sent }
+run_posts : (w : WorldValue) (c : CampaignValue) (sent : List Command) → AreMailed w c sent
+    → (run_of w c sent).0 ≡ record c { mail = mail_after c.mail sent }
 run_posts w c [] all = refl
 run_posts w c (Join _ _ _ ∷ more) all = absurd all
 run_posts w c (Mail faction pass text ∷ more) all =
@@ -70,22 +73,24 @@ run_posts w c (Report _ _ ∷ more) all = absurd all
 
 -- a faction's mail after a list of stored mailings is its last text in the list, or its earlier mail if the list has
 -- none
-get_posted : (mail : FinMap nat_cmp (List ℕ)) (sent : List Command) (n : ℕ) → get (mail_after mail sent) n ≡ last_text n (get mail n) sent
+get_posted : (mail : FinMap nat_cmp (List ℕ)) (sent : List Command) (n : ℕ)
+    → get (mail_after mail sent) n ≡ last_text n (get mail n) sent
 get_posted mail [] n = refl
 get_posted mail (Join _ _ _ ∷ more) n = get_posted mail more n
 get_posted mail (Mail faction pass text ∷ more) n =
     get_posted (insert mail faction text) more n
     ∙ ap (λ o. last_text n o more) (get-insert nat_cmp_total mail faction text n ∙ ap (λ b. cond b (Some text) (get mail n)) (key_equality_is_symmetric n faction))
-
 get_posted mail (Close _ _ _ ∷ more) n = get_posted mail more n
 get_posted mail (Report _ _ ∷ more) n = get_posted mail more n
 
 -- a faction's last text with the default "`before`, or else `other`" is its last text with the default `before`, or
 -- else `other`
-last_or : (n : ℕ) (before other : Option (List ℕ)) (sent : List Command) → last_text n (option_or before other) sent ≡ option_or (last_text n before sent) other
+last_or : (n : ℕ) (before other : Option (List ℕ)) (sent : List Command)
+    → last_text n (option_or before other) sent ≡ option_or (last_text n before sent) other
 last_or n before other [] = refl
 last_or n before other (Join _ _ _ ∷ more) = last_or n before other more
-last_or n before other (Mail faction pass text ∷ more) = ap (λ o. last_text n o more) (inside (faction == n)) ∙ last_or n (cond (faction == n) (Some text) before) other more
+last_or n before other (Mail faction pass text ∷ more) =
+    ap (λ o. last_text n o more) (inside (faction == n)) ∙ last_or n (cond (faction == n) (Some text) before) other more
   where
     inside : (b : Bool) → cond b (Some text) (option_or before other) ≡ option_or (cond b (Some text) before) other
     inside true = refl
@@ -95,7 +100,8 @@ last_or n before other (Report _ _ ∷ more) = last_or n before other more
 
 -- Two lists of commands with the same last text of each faction leave the same mail (`mail_after`) from the same mail
 -- before.
-same_mail : (mail : FinMap nat_cmp (List ℕ)) (sent others : List Command) → ((n : ℕ) → last_text n None sent ≡ last_text n None others) → mail_after mail sent ≡ mail_after mail others
+same_mail : (mail : FinMap nat_cmp (List ℕ)) (sent others : List Command)
+    → ((n : ℕ) → last_text n None sent ≡ last_text n None others) → mail_after mail sent ≡ mail_after mail others
 same_mail mail sent others same = same_map nat_cmp_total nat_cmp-IsAntisymmetric (mail_after mail sent) (mail_after mail others) (λ n.
     get_posted mail sent n ∙ last_or n None (get mail n) sent ∙ ap (λ o. option_or o (get mail n)) (same n) ∙ sym (get_posted mail others n ∙ last_or n None (get mail n) others))
 

@@ -33,10 +33,13 @@ module _ {S : Type 0} (g : Ghosts S) where
     abbrev pub Answered : Answer → Type 0
     Answered = Answers g w c conn command c' conn'
 
-    holding : (answer : Answer) → IsConsistent g conn w c true → LeavesIdle g conn conn' → Answered answer → HoldsCampaign g conn' (text_in g conn) c'
-    holding answer before leaves done clean = done.tables clean (text_in g conn) (before.tables refl (leaves.later.clean clean))
+    holding : (answer : Answer) → IsConsistent g conn w c true → LeavesIdle g conn conn' → Answered answer
+        → HoldsCampaign g conn' (text_in g conn) c'
+    holding answer before leaves done clean =
+        done.tables clean (text_in g conn) (before.tables refl (leaves.later.clean clean))
 
-    consistent_open : (answer : Answer) → IsConsistent g conn w c true → LeavesIdle g conn conn' → Answered answer → IsConsistent g conn' w c' true
+    consistent_open : (answer : Answer) → IsConsistent g conn w c true → LeavesIdle g conn conn' → Answered answer
+        → IsConsistent g conn' w c' true
     consistent_open answer before leaves done = record {
       idle = leaves.idle;
       good = λ up. done.good;
@@ -44,27 +47,38 @@ module _ {S : Type 0} (g : Ghosts S) where
       text = λ up clean. ap world_of (world_text_is (state g conn') (text_in g conn) c' (holding answer before leaves done clean)) ∙ before.text refl (leaves.later.clean clean);
     }
 
-    pub consistent_after : (answer : Answer) (is_open : Bool) → is_open ≡ true → IsConsistent g conn w c is_open → LeavesIdle g conn conn' → Answered answer → IsConsistent g conn' w c' is_open
+    pub consistent_after : (answer : Answer) (is_open : Bool) → is_open ≡ true → IsConsistent g conn w c is_open
+        → LeavesIdle g conn conn' → Answered answer → IsConsistent g conn' w c' is_open
     consistent_after answer true up before leaves done = consistent_open answer before leaves done
     consistent_after answer false up before leaves done = absurd (false≢true up)
 
-    pub tables_after : (answer : Answer) (is_open : Bool) → is_open ≡ true → IsConsistent g conn w c is_open → LeavesIdle g conn conn' → Answered answer
+    pub tables_after : (answer : Answer) (is_open : Bool) → is_open ≡ true → IsConsistent g conn w c is_open
+        → LeavesIdle g conn conn' → Answered answer
         → IfSome (service_value conn' w c' is_open).campaign (λ d. HoldsCampaign g conn' (text_in g conn') d)
     tables_after answer true up before leaves done = (consistent_open answer before leaves done).tables refl
     tables_after answer false up before leaves done = absurd (false≢true up)
 
-    runs_open : (answer : Answer) → IsConsistent g conn w c true → LeavesIdle g conn conn' → Answered answer → RunsOpen g c (service_value conn w c true) command answer (service_value conn' w c' true)
-    runs_open (Joined f u) before leaves done = record { after = c'; step = done.step_is; same = refl; tables = holding (Joined f u) before leaves done }
-    runs_open (Mailed n fs) before leaves done = record { after = c'; step = done.step_is; same = refl; tables = holding (Mailed n fs) before leaves done }
-    runs_open (MonthDone n) before leaves done = record { after = c'; step = done.step_is; same = refl; tables = holding (MonthDone n) before leaves done }
-    runs_open (Text t) before leaves done = (record { after = c'; step = done.step_is; same = refl; tables = holding (Text t) before leaves done }, ap₂ (λ h d. service_value h w d true) done.same.1 done.same.0)
-    runs_open (Refused r) before leaves done = (done.step_is ∙ ap (λ d. (d, Refused r)) done.same.0, ap₂ (λ h d. service_value h w d true) done.same.1 done.same.0)
+    runs_open : (answer : Answer) → IsConsistent g conn w c true → LeavesIdle g conn conn' → Answered answer
+        → RunsOpen g c (service_value conn w c true) command answer (service_value conn' w c' true)
+    runs_open (Joined f u) before leaves done =
+        record { after = c'; step = done.step_is; same = refl; tables = holding (Joined f u) before leaves done }
+    runs_open (Mailed n fs) before leaves done =
+        record { after = c'; step = done.step_is; same = refl; tables = holding (Mailed n fs) before leaves done }
+    runs_open (MonthDone n) before leaves done =
+        record { after = c'; step = done.step_is; same = refl; tables = holding (MonthDone n) before leaves done }
+    runs_open (Text t) before leaves done =
+        (record { after = c'; step = done.step_is; same = refl; tables = holding (Text t) before leaves done }, ap₂ (λ h d. service_value h w d true) done.same.1 done.same.0)
+    runs_open (Refused r) before leaves done =
+        (done.step_is ∙ ap (λ d. (d, Refused r)) done.same.0, ap₂ (λ h d. service_value h w d true) done.same.1 done.same.0)
     runs_open (Fault f) before leaves done = absurd done.no_fault
 
     -- the answer to a command that ended without a fault (`Answered`), in a consistent service whose field `is_open` is
     -- true, is one that `run` may give (`Runs`)
-    pub runs_on : (old : ServiceValue S) (answer : Answer) (is_open : Bool) → service_value conn w c is_open ≡ old → is_open ≡ true → IsConsistent g conn w c is_open → LeavesIdle g conn conn' → Answered answer → Runs g old command answer (service_value conn' w c' is_open)
-    runs_on old answer true seen up before leaves done = subst (λ e. Runs g e command answer (service_value conn' w c' true)) seen (runs_open answer before leaves done)
+    pub runs_on : (old : ServiceValue S) (answer : Answer) (is_open : Bool) → service_value conn w c is_open ≡ old
+        → is_open ≡ true → IsConsistent g conn w c is_open → LeavesIdle g conn conn' → Answered answer
+        → Runs g old command answer (service_value conn' w c' is_open)
+    runs_on old answer true seen up before leaves done =
+        subst (λ e. Runs g e command answer (service_value conn' w c' true)) seen (runs_open answer before leaves done)
     runs_on old answer false seen up before leaves done = absurd (false≢true up)
 
     -- The command ended in a fault. On a clean disk the tables keep the campaign before the command, and a crash leaves
@@ -72,16 +86,24 @@ module _ {S : Type 0} (g : Ghosts S) where
     abbrev pub EndedInFault : Type 0
     EndedInFault = CommandLeavesAfterFault g w c conn command conn'
 
-    closes_open : IsConsistent g conn w c true → LeavesIdle g conn conn' → EndedInFault → Closes g c (service_value conn w c true) command (service_value conn' w c' false)
-    closes_open before leaves gave_up = record { same = refl; tables = λ clean. gave_up clean (text_in g conn) (before.tables refl (leaves.later.clean clean)) }
+    closes_open : IsConsistent g conn w c true → LeavesIdle g conn conn' → EndedInFault
+        → Closes g c (service_value conn w c true) command (service_value conn' w c' false)
+    closes_open before leaves gave_up =
+        record { same = refl; tables = λ clean. gave_up clean (text_in g conn) (before.tables refl (leaves.later.clean clean)) }
 
     -- if a command of a consistent open service ended in a fault of a write that has its cause (`HasCause`), `run` may
     -- answer the service's fault for it and close (`Runs`)
-    pub closes_for : (old : ServiceValue S) (fault : WriteFault) (says : Failure) (is_open : Bool) → says ≡ fault_of_write fault → service_value conn w c is_open ≡ old → is_open ≡ true → IsConsistent g conn w c is_open → LeavesIdle g conn conn' → EndedInFault → HasCause g (OfCommand w c command) conn conn' (fault_of_write fault)
+    pub closes_for : (old : ServiceValue S) (fault : WriteFault) (says : Failure) (is_open : Bool)
+        → says ≡ fault_of_write fault → service_value conn w c is_open ≡ old → is_open ≡ true
+        → IsConsistent g conn w c is_open → LeavesIdle g conn conn' → EndedInFault
+        → HasCause g (OfCommand w c command) conn conn' (fault_of_write fault)
         → Runs g old command (Fault says) (service_value conn' w c' false)
-    closes_for old fault says true is seen up before leaves gave_up cause = subst (λ e. Runs g e command (Fault says) (service_value conn' w c' false)) seen (subst (λ t. RunsOpen g c (service_value conn w c true) command (Fault t) (service_value conn' w c' false)) (sym is) (closes fault cause))
+    closes_for old fault says true is seen up before leaves gave_up cause =
+        subst (λ e. Runs g e command (Fault says) (service_value conn' w c' false)) seen
+        (subst (λ t. RunsOpen g c (service_value conn w c true) command (Fault t) (service_value conn' w c' false)) (sym is) (closes fault cause))
       where
-        closes : (fault : WriteFault) → HasCause g (OfCommand w c command) conn conn' (fault_of_write fault) → RunsOpen g c (service_value conn w c true) command (Fault (fault_of_write fault)) (service_value conn' w c' false)
+        closes : (fault : WriteFault) → HasCause g (OfCommand w c command) conn conn' (fault_of_write fault)
+            → RunsOpen g c (service_value conn w c true) command (Fault (fault_of_write fault)) (service_value conn' w c' false)
         closes write.Memory cause = (closes_open before leaves gave_up, cause)
         closes write.Store cause = (closes_open before leaves gave_up, cause)
     closes_for old fault says false is seen up before leaves gave_up cause = absurd (false≢true up)

@@ -17,9 +17,11 @@ use Rattle.atl_service.specs.Sorting.{events_of, with_event}
 
 -- a faction's sorted events, and then its unsorted ones, stay the same list when the first unsorted event, if it is the
 -- faction's (`b`), is moved to the end of the sorted ones
-by_faction : (b : Bool) (o : Option (List Event)) (listed rest : List Event) (e : Event) → (b ≡ true → listed ≡ unwrap_or o [])
+by_faction : (b : Bool) (o : Option (List Event)) (listed rest : List Event) (e : Event)
+    → (b ≡ true → listed ≡ unwrap_or o [])
     → unwrap_or (cond b (Some (listed ++ (e ∷ []))) o) [] ++ rest ≡ unwrap_or o [] ++ cond b (e ∷ rest) rest
-by_faction true o listed rest e h = ap (λ l. (l ++ (e ∷ [])) ++ rest) (h refl) ∙ append_assoc (unwrap_or o []) (e ∷ []) rest
+by_faction true o listed rest e h =
+    ap (λ l. (l ++ (e ∷ [])) ++ rest) (h refl) ∙ append_assoc (unwrap_or o []) (e ∷ []) rest
 by_faction false o listed rest e h = refl
 
 same_list : (sorted : FinMap nat_cmp (List Event)) (q r : ℕ) → (r == q) ≡ true → events_of sorted r ≡ events_of sorted q
@@ -34,8 +36,10 @@ event_goes_on sorted e es n =
 
 -- the list of faction `n` followed by this faction's unsorted events stays the same when event `i` is added to the list
 -- of its own faction
-pub sorted_on : (sorted new : FinMap nat_cmp (List Event)) (events : List Event) (i : ℕ) (d : Event) (whole : List Event) (n : ℕ) → i < length events → new ≡ with_event sorted (get_or events i d)
-    → events_of sorted n ++ own_events n (drop i events) ≡ whole → events_of new n ++ own_events n (drop (i + 1) events) ≡ whole
+pub sorted_on : (sorted new : FinMap nat_cmp (List Event)) (events : List Event) (i : ℕ) (d : Event) (whole : List Event) (n : ℕ)
+    → i < length events → new ≡ with_event sorted (get_or events i d)
+    → events_of sorted n ++ own_events n (drop i events) ≡ whole
+    → events_of new n ++ own_events n (drop (i + 1) events) ≡ whole
 sorted_on sorted new events i d whole n h is so_far =
     ap (λ (m : FinMap nat_cmp (List Event)). events_of m n ++ own_events n (drop (i + 1) events)) is
     ∙ event_goes_on sorted (get_or events i d) (drop (i + 1) events) n
@@ -43,20 +47,25 @@ sorted_on sorted new events i d whole n h is so_far =
     ∙ so_far
 
 pub none_sorted : (m : FinMap nat_cmp (List Event)) → m ≡ empty → (n : ℕ) → events_of m n ≡ []
-none_sorted m h n = ap (λ (m : FinMap nat_cmp (List Event)). events_of m n) h ∙ ap (λ o. unwrap_or o []) (get-empty nat_cmp n)
+none_sorted m h n =
+    ap (λ (m : FinMap nat_cmp (List Event)). events_of m n) h ∙ ap (λ o. unwrap_or o []) (get-empty nat_cmp n)
 
 pub own_again : (n : ℕ) (events : List Event) → own_events n (own_events n events) ≡ own_events n events
 own_again n [] = refl
 own_again n (e ∷ es) = by_test (e.faction == n) refl (own_again n es)
   where
-    by_test : (b : Bool) → (e.faction == n) ≡ b → own_events n (own_events n es) ≡ own_events n es → own_events n (cond b (e ∷ own_events n es) (own_events n es)) ≡ cond b (e ∷ own_events n es) (own_events n es)
-    by_test true is rest = ap (λ t. cond t (e ∷ own_events n (own_events n es)) (own_events n (own_events n es))) is ∙ ap (λ (more : List Event). e ∷ more) rest
+    by_test : (b : Bool) → (e.faction == n) ≡ b → own_events n (own_events n es) ≡ own_events n es
+        → own_events n (cond b (e ∷ own_events n es) (own_events n es)) ≡ cond b (e ∷ own_events n es) (own_events n es)
+    by_test true is rest =
+        ap (λ t. cond t (e ∷ own_events n (own_events n es)) (own_events n (own_events n es))) is
+        ∙ ap (λ (more : List Event). e ∷ more) rest
     by_test false is rest = rest
 
 -- a report of faction `n` made from its own events is the one made from all events: where a call answers Ok and stores
 -- the first, campaign `d` is `c` with the second
 pub stored_own : {A E : Type 0} (w : WorldValue) (c d : CampaignValue) (n : ℕ) (faults lines : List FaultyLine) (events own : List Event) (r : Result A E)
-    → lines ≡ faults → own ≡ own_events n events → OnOk r (d ≡ reported_with w c n lines own) → OnOk r (d ≡ reported_with w c n faults events)
+    → lines ≡ faults → own ≡ own_events n events → OnOk r (d ≡ reported_with w c n lines own)
+    → OnOk r (d ≡ reported_with w c n faults events)
 stored_own w c d n faults lines events own (Err e) wrong mine is = tt
 stored_own w c d n faults lines events own (Ok a) wrong mine is =
     is ∙ ap (λ fs. reported_with w c n fs own) wrong

@@ -14,8 +14,11 @@ use Rattle.atl_service.proofs.FoundServiceLaws.{founded_consistent}
 module _ {S : Type 0} (g : Ghosts S) (text : List ℕ) (old new : Held S) (w : WorldValue) (c : MarkedCampaign) (upgrades : Upgrades g text old new w c) where
   -- if the store upgraded a file (`Upgrades`), the service is open with the new text's world and the upgraded campaign,
   -- which on a clean disk the tables hold (`UpgradesTo`)
-  pub upgrades_to : IsLater (state g old) (state g new) → UpgradesTo g old text (record { conn = new; world = w; campaign = Some c.value })
-  upgrades_to later = record { campaign = c; is_open = refl; upgrades = upgrades; text_is = λ clean. world_text_is (state g new) text c.value (upgrades.tables clean); later = later }
+  pub upgrades_to : IsLater (state g old) (state g new)
+      → UpgradesTo g old text (record { conn = new; world = w; campaign = Some c.value })
+  upgrades_to later =
+      record { campaign = c; is_open = refl; upgrades = upgrades; text_is = λ clean. world_text_is (state g new) text c.value (upgrades.tables clean); later = later }
 
   pub upgraded_consistent : IsService g new w c true
-  upgraded_consistent = record { consistent = founded_consistent g new w c.value text upgrades.idle upgrades.good upgrades.world upgrades.tables; unmarked = λ up. upgrades.unmarked }
+  upgraded_consistent =
+      record { consistent = founded_consistent g new w c.value text upgrades.idle upgrades.good upgrades.world upgrades.tables; unmarked = λ up. upgrades.unmarked }

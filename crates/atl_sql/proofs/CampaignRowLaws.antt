@@ -23,7 +23,9 @@ campaign_upsert_meaning : MeansOwn campaign_upsert campaign_update_terms
 unfolding understood everything
 campaign_upsert_meaning = record { is = λ more indexes. refl; plain = λ more indexes. (refl, refl) }
 
-update_keeps_world_text : (head before : CampaignRowValue) (world text : List ℕ) (r : Row) → visible_row campaign_table r ≡ campaign_row before text → changed_to campaign_update_terms head world r ≡ campaign_row head text
+update_keeps_world_text : (head before : CampaignRowValue) (world text : List ℕ) (r : Row)
+    → visible_row campaign_table r ≡ campaign_row before text
+    → changed_to campaign_update_terms head world r ≡ campaign_row head text
 update_keeps_world_text head before world text r shows =
     let id : rowid r ≡ int 1 = ap (λ row. column row 0) shows in
     let format : column r 2 ≡ int 2 = ap (λ row. column row 1) shows in
@@ -32,7 +34,8 @@ update_keeps_world_text head before world text r shows =
 
 -- inside a transaction, the upsert inserts the campaign row, or changes all columns of this row but id, format and
 -- world text (`PutsCampaignRow`)
-pub puts_campaign : (head : CampaignRowValue) (world : List ℕ) → DoneBy campaign_upsert (campaign_row_values head world) (PutsCampaignRow head world)
+pub puts_campaign : (head : CampaignRowValue) (world : List ℕ)
+    → DoneBy campaign_upsert (campaign_row_values head world) (PutsCampaignRow head world)
 puts_campaign head world = done_by campaign_upsert (campaign_row_values head world) (PutsCampaignRow head world) (λ old new count inside ran. (
   ran.1.mode ∙ sym inside,
   λ has.

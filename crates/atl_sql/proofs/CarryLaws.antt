@@ -21,25 +21,33 @@ use Rattle.atl_sql.proofs.ListLaws.{has_map}
 
 -- ---- tables without a foreign key refer to nothing
 
-none_refer : (tables : List Table) (f : Table → Reference → Option Work) → AllByRecursion (λ t. t.references ≡ []) tables → flat_map (λ child. filter_map (f child) child.references) tables ≡ []
+none_refer : (tables : List Table) (f : Table → Reference → Option Work)
+    → AllByRecursion (λ t. t.references ≡ []) tables
+    → flat_map (λ child. filter_map (f child) child.references) tables ≡ []
 none_refer [] f free = refl
 none_refer (t ∷ tables) f free = rw (free.0) (none_refer tables f free.1)
 
-pub write_checks_no_reference : (tables : List Table) (indexes : List Index) (tree : ℕ) → AllByRecursion (λ t. t.references ≡ []) tables → (olds news : List Row) → works (all_tables_and_others tables indexes) Enforced 0 tree olds news ≡ []
-write_checks_no_reference tables indexes tree free olds news = none_refer tables (work_for (all_tables_and_others tables indexes) Enforced 0 tree olds news) free
+pub write_checks_no_reference : (tables : List Table) (indexes : List Index) (tree : ℕ)
+    → AllByRecursion (λ t. t.references ≡ []) tables → (olds news : List Row)
+    → works (all_tables_and_others tables indexes) Enforced 0 tree olds news ≡ []
+write_checks_no_reference tables indexes tree free olds news =
+    none_refer tables (work_for (all_tables_and_others tables indexes) Enforced 0 tree olds news) free
 
 -- ---- indexes that make nothing unique find nothing
 
-pub none_share : (t : Table) (target : Option (List ℕ)) (new r : Row) (indexes : List Index) → ((i : Index) → Has indexes i → guards i t ≡ false) → list_any (shares target t new r) indexes ≡ false
+pub none_share : (t : Table) (target : Option (List ℕ)) (new r : Row) (indexes : List Index)
+    → ((i : Index) → Has indexes i → guards i t ≡ false) → list_any (shares target t new r) indexes ≡ false
 none_share t target new r [] plain = refl
-none_share t target new r (i ∷ indexes) plain = rw (plain i (inl refl)) (none_share t target new r indexes (λ j there. plain j (inr there)))
+none_share t target new r (i ∷ indexes) plain =
+    rw (plain i (inl refl)) (none_share t target new r indexes (λ j there. plain j (inr there)))
 
 -- ---- one of the tables is one of all that are there
 
 pub among_all : (tables : List Table) (t : Table) → Has all_tables t → Has (all_tables ++ tables) t
 among_all tables t there = has_left all_tables tables t there
 
-pub sound_under : (db : Database) (has : HasTables db) → IsSoundDatabase (all_tables_and_others has.begins.tables has.begins.indexes) db.trees
+pub sound_under : (db : Database) (has : HasTables db)
+    → IsSoundDatabase (all_tables_and_others has.begins.tables has.begins.indexes) db.trees
 sound_under db has = subst (λ s. IsSoundDatabase s db.trees) has.begins.made_of has.sound
 
 module _ (t : Table) (old new : Database) (has : HasTables old) (ours : Has all_tables t) where
@@ -68,12 +76,15 @@ module _ (t : Table) (old new : Database) (has : HasTables old) (ours : Has all_
       }
 
   pub altered : (S : Set) → Makes schema t old new S → Alters t S old new
-  altered S makes = record { rows = makes.rows; others = λ u listed apart. makes.others u (among_all has.begins.tables u listed) apart }
+  altered S makes =
+      record { rows = makes.rows; others = λ u listed apart. makes.others u (among_all has.begins.tables u listed) apart }
 
   -- if `Does` follows from the rows of `t` being `S` and a campaign's other tables staying (`Alters`), a write that
   -- makes the rows `S` (`Makes`) has done `Does` (`DoesAndKeeps`)
-  pub done_with : (Does : Database → Database → Type 0) (S : Set) → (Alters t S old new → Does old new) → Makes schema t old new S → DoesAndKeeps Does old new
-  done_with Does S is makes = record { does = is (altered S makes); tables = stays_there makes.schema_is makes.sound; carries = carried makes.schema_is makes.others }
+  pub done_with : (Does : Database → Database → Type 0) (S : Set) → (Alters t S old new → Does old new)
+      → Makes schema t old new S → DoesAndKeeps Does old new
+  done_with Does S is makes =
+      record { does = is (altered S makes); tables = stays_there makes.schema_is makes.sound; carries = carried makes.schema_is makes.others }
 
 -- ---- tables carried along by no write, and by two
 

@@ -32,7 +32,8 @@ module _ (old new : State) where
   no_memory : (e : Error) → e ≡ SqliteFailure code.OutOfMemory → is_memory e ≡ false → ⊥
   no_memory e is other = true≢false (sym (ap is_memory is) ∙ other)
 
-  by_cause : (too_big : Type 0) (e : Error) (cause : StoreError) → e ≡ store_error cause → HasCause old new too_big cause → is_memory e ≡ false → Caused e
+  by_cause : (too_big : Type 0) (e : Error) (cause : StoreError) → e ≡ store_error cause
+      → HasCause old new too_big cause → is_memory e ≡ false → Caused e
   by_cause too_big e OutOfMemory is has other = absurd (no_memory e is other)
   by_cause too_big e Io is has other = inl (inl has)
   by_cause too_big e Corrupt is has other = inl (inl has)
@@ -43,7 +44,8 @@ module _ (old new : State) where
   by_failure : (too_big : Type 0) (e : Error) → Fails old new too_big e → is_memory e ≡ false → Caused e
   by_failure too_big e failed = by_cause too_big e failed.0 failed.1 failed.2
 
-  execution_caused : (sql : List ℕ) (params : Row) (e : Error) → ExecutesIn false sql params old new (Err e) → is_memory e ≡ false → Caused e
+  execution_caused : (sql : List ℕ) (params : Row) (e : Error) → ExecutesIn false sql params old new (Err e)
+      → is_memory e ≡ false → Caused e
   unfolding ExecutesIn IsNotRun
   execution_caused sql params e (inl (inl refused)) other = inr (inr refused.1)
   execution_caused sql params e (inl (inr failed)) other = by_failure _ e failed other
@@ -53,7 +55,8 @@ module _ (old new : State) where
   ]
 
   call_caused : (own : Statements) (e : Error) → IsGiven own e old new → is_memory e ≡ false → Caused e
-  call_caused own e (inl ran) other = elim ran.3 [ inl whole ↦ execution_caused ran.0 ran.1 e whole.0 other | inr ends ↦ inr (inr ends.2) ]
+  call_caused own e (inl ran) other =
+      elim ran.3 [ inl whole ↦ execution_caused ran.0 ran.1 e whole.0 other | inr ends ↦ inr (inr ends.2) ]
   call_caused own e (inr (inside, inl failed)) other = by_failure _ e failed other
   call_caused own e (inr (inside, inr late)) other = inr (inr late.2)
 
@@ -69,7 +72,8 @@ module _ {S : Type 0} (g : Ghosts S) (own : Statements) where
 module _ {S : Type 0} (g : Ghosts S) (own more : Statements) (among : (sql : List ℕ) (params : Row) → own sql params → more sql params) where
   leads_among : (count : ℕ) (old new : Held S) → Leads g own count old new → Leads g more count old new
   leads_among zero old new same = same
-  leads_among (suc count) old new (mid, ran, rest) = (mid, (ran.0, ran.1, among ran.0 ran.1 ran.2, ran.3, ran.4), leads_among count mid new rest)
+  leads_among (suc count) old new (mid, ran, rest) =
+      (mid, (ran.0, ran.1, among ran.0 ran.1 ran.2, ran.3, ran.4), leads_among count mid new rest)
 
   pub reached_among : (old new : Held S) → IsReached g own old new → IsReached g more old new
   reached_among old new reached = (reached.0, leads_among reached.0 old new reached.1)
@@ -94,12 +98,17 @@ module _ {S : Type 0} (g : Ghosts S) (own : Statements) (e : Error) where
   as_begun : (old : Held S) → IsTrue (state g old).in_transaction → record old { in_transaction = true } ≡ old
   as_begun old inside = ap (λ b. record old { in_transaction = b }) (sym inside)
 
-  pub gives : (old new : Held S) → IsTrue (state g old).in_transaction → IsGiven own e (state g old) (state g new) → Gives g own e old new
-  gives old new inside given = record { before = old; after = new; reached = (0, as_begun old inside); kept = record { was_open = λ up. up; committed = λ _. refl }; given = given; cause = call_caused (state g old) (state g new) own e given }
+  pub gives : (old new : Held S) → IsTrue (state g old).in_transaction → IsGiven own e (state g old) (state g new)
+      → Gives g own e old new
+  gives old new inside given =
+      record { before = old; after = new; reached = (0, as_begun old inside); kept = record { was_open = λ up. up; committed = λ _. refl }; given = given; cause = call_caused (state g old) (state g new) own e given }
 
   -- an error that a transaction gives from `mid` on is one that it gives from `old` on (`Gives`), if statements lead
   -- from `old` to `mid` on a clean disk, and commit nothing
-  pub gives_after : (old mid new : Held S) → IsTrue (state g old).in_transaction → IsTrue (state g mid).in_transaction → IsReached g own old mid → HasCleanDisk (state g mid) → KeepsCommit (state g old) (state g mid) → Survives (state g old) (state g mid) (λ _. ⊥) → (state g mid).faults ≤ (state g new).faults → Gives g own e mid new → Gives g own e old new
+  pub gives_after : (old mid new : Held S) → IsTrue (state g old).in_transaction → IsTrue (state g mid).in_transaction
+      → IsReached g own old mid → HasCleanDisk (state g mid) → KeepsCommit (state g old) (state g mid)
+      → Survives (state g old) (state g mid) (λ _. ⊥) → (state g mid).faults ≤ (state g new).faults
+      → Gives g own e mid new → Gives g own e old new
   gives_after old mid new was is reached clean kept survives counts gave = record {
     before = gave.before;
     after = gave.after;
@@ -118,7 +127,8 @@ module _ {S : Type 0} (g : Ghosts S) (own : Statements) (e : Error) where
     ];
   }
 
-  pub gives_until : (old mid new : Held S) → (state g mid).faults ≤ (state g new).faults → Gives g own e old mid → Gives g own e old new
+  pub gives_until : (old mid new : Held S) → (state g mid).faults ≤ (state g new).faults → Gives g own e old mid
+      → Gives g own e old new
   gives_until old mid new counts gave = record {
     before = gave.before;
     after = gave.after;
@@ -128,7 +138,8 @@ module _ {S : Type 0} (g : Ghosts S) (own : Statements) (e : Error) where
     cause = λ other. elim (gave.cause other) [ inl (inl more) ↦ inl (inl (more_later _ _ _ counts more)) | inl (inr shut) ↦ inl (inr shut) | inr refused ↦ inr refused ];
   }
 
-  pub gives_begun : (old begun new : Held S) → begun ≡ record old { in_transaction = true } → Gives g own e begun new → Gives g own e old new
+  pub gives_begun : (old begun new : Held S) → begun ≡ record old { in_transaction = true } → Gives g own e begun new
+      → Gives g own e old new
   gives_begun old begun new begins gave =
       let same : Gives g own e (record old { in_transaction = true }) new = subst (λ h. Gives g own e h new) begins gave in
       record {
@@ -142,6 +153,7 @@ module _ {S : Type 0} (g : Ghosts S) (own : Statements) (e : Error) where
 
 -- ---- of a result
 
-pub property_of_equal_error : {A E : Type 0} (P : E → Type 0) (r : Result A E) (e : E) → IsErrAnd r (λ f. f ≡ e) → P e → IfErr r P
+pub property_of_equal_error : {A E : Type 0} (P : E → Type 0) (r : Result A E) (e : E) → IsErrAnd r (λ f. f ≡ e) → P e
+    → IfErr r P
 property_of_equal_error P (Ok a) e says p = tt
 property_of_equal_error P (Err f) e says p = subst P (sym says) p

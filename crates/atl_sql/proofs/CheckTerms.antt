@@ -23,7 +23,8 @@ id_is_one = op2 equals (col 1 0) (lit one)
 
 -- ---- from a term to its node
 
-node_is_equation : (below : ℕ → Term) (op : Op) → op_term below op ≡ id_is_one → (a : ℕ) × (b : ℕ) × (op ≡ Binary equals a b) × (below a ≡ col 1 0) × (below b ≡ lit one)
+node_is_equation : (below : ℕ → Term) (op : Op) → op_term below op ≡ id_is_one
+    → (a : ℕ) × (b : ℕ) × (op ≡ Binary equals a b) × (below a ≡ col 1 0) × (below b ≡ lit one)
 node_is_equation below (Literal v) says = absurd (cc)
 node_is_equation below (Column slot at) says = absurd (cc)
 node_is_equation below (Unary op a) says = absurd (cc)
@@ -48,26 +49,34 @@ node_is_literal_one below (Case t a b) says = absurd (cc)
 abbrev no_node : Op
 no_node = Literal Null
 
-node_is_in_list : (ops : List Op) (at : ℕ) (op : Op) → op ≢ no_node → get_or ops at no_node ≡ op → slice_get ops at ≡ Some op
+node_is_in_list : (ops : List Op) (at : ℕ) (op : Op) → op ≢ no_node → get_or ops at no_node ≡ op
+    → slice_get ops at ≡ Some op
 node_is_in_list [] at op other is = absurd (other (sym is))
 node_is_in_list (x ∷ ops) zero op other is = ap Some is
 node_is_in_list (x ∷ ops) (suc at) op other is = node_is_in_list ops at op other is
 
 number_at : (ops : List Op) (depth at : ℕ) → term_to ops depth at ≡ col 1 0 → slice_get ops at ≡ Some (Column 1 0)
 number_at ops zero at says = absurd (cc)
-number_at ops (suc depth) at says = node_is_in_list ops at (Column 1 0) (λ same. absurd (cc)) (node_is_id_column (term_to ops depth) (get_or ops at no_node) says)
+number_at ops (suc depth) at says =
+    node_is_in_list ops at (Column 1 0) (λ same. absurd (cc))
+    (node_is_id_column (term_to ops depth) (get_or ops at no_node) says)
 
 one_at : (ops : List Op) (depth at : ℕ) → term_to ops depth at ≡ lit one → slice_get ops at ≡ Some (Literal one)
 one_at ops zero at says = absurd (cc)
-one_at ops (suc depth) at says = node_is_in_list ops at (Literal one) (λ same. absurd (cc)) (node_is_literal_one (term_to ops depth) (get_or ops at no_node) says)
+one_at ops (suc depth) at says =
+    node_is_in_list ops at (Literal one) (λ same. absurd (cc))
+    (node_is_literal_one (term_to ops depth) (get_or ops at no_node) says)
 
 -- ---- the term and the three nodes
 
 -- the nodes `root`, `a` and `b` of the list make the term "id = 1": a comparison, the column `id`, and the number 1
 abbrev MakeIdIsOne : List Op → ℕ → ℕ → ℕ → Type 0
-MakeIdIsOne ops root a b = (slice_get ops root ≡ Some (Binary equals a b)) × (slice_get ops a ≡ Some (Column 1 0)) × (slice_get ops b ≡ Some (Literal one))
+MakeIdIsOne ops root a b =
+    (slice_get ops root ≡ Some (Binary equals a b)) × (slice_get ops a ≡ Some (Column 1 0)) ×
+    (slice_get ops b ≡ Some (Literal one))
 
-says_to : (ops : List Op) (depth root : ℕ) → term_to ops depth root ≡ id_is_one → (a : ℕ) × (b : ℕ) × MakeIdIsOne ops root a b
+says_to : (ops : List Op) (depth root : ℕ) → term_to ops depth root ≡ id_is_one
+    → (a : ℕ) × (b : ℕ) × MakeIdIsOne ops root a b
 says_to ops zero root says = absurd (cc)
 says_to ops (suc depth) root says =
     let (a, b, is, number, constant) = node_is_equation (term_to ops depth) (get_or ops root no_node) says in
@@ -75,7 +84,8 @@ says_to ops (suc depth) root says =
 
 -- For `three_nodes_make_term`: if the root compares the column `id` with the number 1, the term of the root is "id =
 -- 1". The nodes are looked up with a default (`no_node`).
-looked_up_nodes_make_term : (ops : List Op) (root a b : ℕ) → get_or ops root no_node ≡ Binary equals a b → get_or ops a no_node ≡ Column 1 0 → get_or ops b no_node ≡ Literal one → term_in ops root ≡ id_is_one
+looked_up_nodes_make_term : (ops : List Op) (root a b : ℕ) → get_or ops root no_node ≡ Binary equals a b
+    → get_or ops a no_node ≡ Column 1 0 → get_or ops b no_node ≡ Literal one → term_in ops root ≡ id_is_one
 looked_up_nodes_make_term [] root a b first second third = absurd (cc)
 looked_up_nodes_make_term (x ∷ []) zero zero b first second third = absurd (cc)
 looked_up_nodes_make_term (x ∷ []) zero (suc a) b first second third = absurd (cc)
@@ -89,7 +99,9 @@ three_nodes_make_term ops root a b (first, second, third) =
 -- ---- what is tested
 
 -- if the root compares nodes `a` and `b`, the term is "id = 1" exactly if `a` is the column and `b` the number 1
-pub equation_is_id_is_one : (ops : List Op) (root a b : ℕ) → slice_get ops root ≡ Some (Binary equals a b) → (term_in ops root ≡ id_is_one → (slice_get ops a ≡ Some (Column 1 0)) × (slice_get ops b ≡ Some (Literal one))) × ((slice_get ops a ≡ Some (Column 1 0)) × (slice_get ops b ≡ Some (Literal one)) → term_in ops root ≡ id_is_one)
+pub equation_is_id_is_one : (ops : List Op) (root a b : ℕ) → slice_get ops root ≡ Some (Binary equals a b)
+    → (term_in ops root ≡ id_is_one → (slice_get ops a ≡ Some (Column 1 0)) × (slice_get ops b ≡ Some (Literal one)))
+    × ((slice_get ops a ≡ Some (Column 1 0)) × (slice_get ops b ≡ Some (Literal one)) → term_in ops root ≡ id_is_one)
 equation_is_id_is_one ops root a b first = (
   λ says.
       let (x, y, (root_is, number, constant)) = says_to ops (length ops) root says in
@@ -99,7 +111,8 @@ equation_is_id_is_one ops root a b first = (
   λ both. three_nodes_make_term ops root a b (first, both.0, both.1),
 )
 
-pub no_equation_is_not_id_is_one : (ops : List Op) (root : ℕ) → ((a b : ℕ) → slice_get ops root ≢ Some (Binary equals a b)) → term_in ops root ≢ id_is_one
+pub no_equation_is_not_id_is_one : (ops : List Op) (root : ℕ)
+    → ((a b : ℕ) → slice_get ops root ≢ Some (Binary equals a b)) → term_in ops root ≢ id_is_one
 no_equation_is_not_id_is_one ops root other says =
     let (a, b, (is, number, constant)) = says_to ops (length ops) root says in
     other a b is

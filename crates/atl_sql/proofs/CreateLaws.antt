@@ -14,8 +14,10 @@ use Rattle.sqlite.proofs.Callers.{IsPlain, command_of, statement_of, runs_as}
 use Rattle.atl_sql.proofs.Made.{CreatesTable}
 use Rattle.atl_sql.proofs.EditLaws.{ok_step_did, same_value}
 
-pub creates : (before : Schema) (table : Table) (text : List ℕ) (old new : State) (count : ℕ) → command_of (understood before text) ≡ CreateTable → statement_of text (understood before text) ≡ text
-    → table_defined_by text ≡ Ok table → IsPlain (understood before text) → lacks_sequence (created before table) ≡ false → old.now.schema ≡ before → Executes text [] old new (Ok count)
+pub creates : (before : Schema) (table : Table) (text : List ℕ) (old new : State) (count : ℕ)
+    → command_of (understood before text) ≡ CreateTable → statement_of text (understood before text) ≡ text
+    → table_defined_by text ≡ Ok table → IsPlain (understood before text)
+    → lacks_sequence (created before table) ≡ false → old.now.schema ≡ before → Executes text [] old new (Ok count)
     → CreatesTable before (created before table) (next_tree before) old.now new.now
 creates before table text old new count is whole defines bare uncounted has h =
     let w = subst (λ t. Writes old new None CreateTable t [] count) whole (runs_as text [] old new before has CreateTable is bare count h) in

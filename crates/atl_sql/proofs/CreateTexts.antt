@@ -42,7 +42,8 @@ pub record IsCreate (before after : Schema) (table : Table) (text : List ℕ) : 
 
 -- running a CREATE TABLE text (`IsCreate`) on a database of the schema `before` adds the table, without rows
 -- (`CreatesTable`)
-pub makes_table : (before after : Schema) (table : Table) (text : List ℕ) → IsCreate before after table text → (old new : State) (count : ℕ) → old.now.schema ≡ before → Executes text [] old new (Ok count)
+pub makes_table : (before after : Schema) (table : Table) (text : List ℕ) → IsCreate before after table text
+    → (old new : State) (count : ℕ) → old.now.schema ≡ before → Executes text [] old new (Ok count)
     → CreatesTable before after table.tree old.now new.now
 makes_table before after table text is old new count has ran =
     let uncounted = subst (λ s. lacks_sequence s ≡ false) (sym is.after_is) is.uncounted in
@@ -59,15 +60,20 @@ abbrev position : Part → ℕ
 position part = place_among part all_parts
 
 -- the CREATE text of a part makes the part's table after those of the parts before it (`IsCreate`)
-pub is_made : (part : Part) → IsCreate (schema_of_first (position part)) (schema_of_first (position part + 1)) (table_of part) (creation_of part)
+pub is_made : (part : Part)
+    → IsCreate (schema_of_first (position part)) (schema_of_first (position part + 1)) (table_of part) (creation_of part)
 unfolding understood everything
-is_made Own = record { command = refl; whole = refl; defines = refl; plain = (refl, refl); after_is = refl; tree_is = refl; last = refl; uncounted = refl }
-is_made part = record { command = refl; whole = refl; defines = refl; plain = (refl, refl); after_is = refl; tree_is = refl; last = refl; uncounted = refl }
+is_made Own =
+    record { command = refl; whole = refl; defines = refl; plain = (refl, refl); after_is = refl; tree_is = refl; last = refl; uncounted = refl }
+is_made part =
+    record { command = refl; whole = refl; defines = refl; plain = (refl, refl); after_is = refl; tree_is = refl; last = refl; uncounted = refl }
 
 placed : (i : ℕ) (d : Part) → i < length all_parts → position (get_or all_parts i d) ≡ i
-placed i d small = sym (get_or-map position all_parts i d 0 small) ∙ get_or-range_with_len 0 (length all_parts) i 0 small ∙ zero-add i
+placed i d small =
+    sym (get_or-map position all_parts i d 0 small) ∙ get_or-range_with_len 0 (length all_parts) i 0 small ∙ zero-add i
 
-made_at : (i : ℕ) (d : Part) → i < length all_parts → IsCreate (schema_of_first i) (schema_of_first (i + 1)) (table_of (get_or all_parts i d)) (creation_of (get_or all_parts i d))
+made_at : (i : ℕ) (d : Part) → i < length all_parts
+    → IsCreate (schema_of_first i) (schema_of_first (i + 1)) (table_of (get_or all_parts i d)) (creation_of (get_or all_parts i d))
 made_at i d small =
     let part = get_or all_parts i d in
     subst (λ n. IsCreate (schema_of_first n) (schema_of_first (n + 1)) (table_of part) (creation_of part)) (placed i d small) (is_made part)
@@ -77,20 +83,26 @@ made_at i d small =
 -- The text is the CREATE text of some part. Running it turns a database of the schema `before`, without rows, into one
 -- of the schema `after`, without rows (`Extends`).
 abbrev pub MakesNextTable : Schema → Schema → List ℕ → Type 1
-MakesNextTable before after text = Has (map creation_of all_parts) text × ((old new : State) → RunsStatement text [] old new → Extends before after old new)
+MakesNextTable before after text =
+    Has (map creation_of all_parts) text ×
+    ((old new : State) → RunsStatement text [] old new → Extends before after old new)
 
-create_text_makes_next_table : (before after : Schema) (table : Table) (text : List ℕ) → Has (map creation_of all_parts) text → IsCreate before after table text → MakesNextTable before after text
+create_text_makes_next_table : (before after : Schema) (table : Table) (text : List ℕ)
+    → Has (map creation_of all_parts) text → IsCreate before after table text → MakesNextTable before after text
 create_text_makes_next_table before after table text listed is = (listed, run)
   where
     run : (old new : State) → RunsStatement text [] old new → Extends before after old new
-    run old new (inside, count, h) = extends before after table old new inside h.1.mode is.last (λ has. makes_table before after table text is old new count has h.0)
+    run old new (inside, count, h) =
+        extends before after table old new inside h.1.mode is.last
+        (λ has. makes_table before after table text is old new count has h.0)
 
 -- a list whose elements have the CREATE texts of the ten tables, in the order of the tables
 module _ {X : Type 0} (text : X → List ℕ) (xs : List X) (all : map text xs ≡ map creation_of all_parts) where
   pub as_many : length xs ≡ table_count
   as_many = sym (length-map xs text) ∙ ap length all
 
-  pub makes_next : (i : ℕ) (d : X) → i < length xs → MakesNextTable (schema_of_first i) (schema_of_first (i + 1)) (text (get_or xs i d))
+  pub makes_next : (i : ℕ) (d : X) → i < length xs
+      → MakesNextTable (schema_of_first i) (schema_of_first (i + 1)) (text (get_or xs i d))
   makes_next i d small =
       let part = get_or all_parts i Own in
       let few : i < length all_parts = subst (λ n. i < n) as_many small in
@@ -101,8 +113,10 @@ module _ {X : Type 0} (text : X → List ℕ) (xs : List X) (all : map text xs �
 -- ---- in a transaction
 
 module _ {S A : Type 0} (g : Ghosts S) {r : Result A Error} {a b : MutBor (Held S)} where
-  pub creating : {Does : State → State → Type 0} {before after : Schema} (text : List ℕ) → MakesNextTable before after text → Writes g (OneStatement text []) Does r a b → Writes g Creations Does r a b
+  pub creating : {Does : State → State → Type 0} {before after : Schema} (text : List ℕ)
+      → MakesNextTable before after text → Writes g (OneStatement text []) Does r a b → Writes g Creations Does r a b
   creating text makes one = among_only g text [] (makes.0, refl) one
 
-  pub made_by : {before after : Schema} (text : List ℕ) → MakesNextTable before after text → Writes g (OneStatement text []) (RunsStatement text []) r a b → Writes g Creations (Extends before after) r a b
+  pub made_by : {before after : Schema} (text : List ℕ) → MakesNextTable before after text
+      → Writes g (OneStatement text []) (RunsStatement text []) r a b → Writes g Creations (Extends before after) r a b
   made_by text makes one = weaker g makes.1 (creating text makes one)

@@ -54,7 +54,8 @@ pub record Swaps (schema : Schema) (table : Table) (p : Row → Bool) (new : Row
   pub others : (t : Table) → Has schema.tables t → t.tree ≢ table.tree → next t.tree ≡ db t.tree
 
 module _ (schema : Schema) (table : Table) (unlinked : (olds news : List Row) → works schema Enforced 0 table.tree olds news ≡ []) where
-  loses : (p : Row → Bool) (db next : Trees) (found : List Row) → AreKeyedByRowid (db table.tree) → AreFound p (db table.tree) found
+  loses : (p : Row → Bool) (db next : Trees) (found : List Row) → AreKeyedByRowid (db table.tree)
+      → AreFound p (db table.tree) found
       → Edited schema Enforced db (edit_of db table (ids_of found) Given 0 []) (Ok next) → Loses schema table p db next
   loses p db next found keyed are h =
       let done = one_step schema Enforced db next (edit_of db table (ids_of found) Given 0 []) (unlinked (taken_by db (edit_of db table (ids_of found) Given 0 [])) []) h in
@@ -67,7 +68,8 @@ module _ (schema : Schema) (table : Table) (unlinked : (olds news : List Row) �
 
   -- ---- DELETE
 
-  pub deletes : (limit : Option ℕ) (params : Row) (q : _) (p : Row → Bool) (db : Trees) (w : Written) → AreKeyedByRowid (db table.tree)
+  pub deletes : (limit : Option ℕ) (params : Row) (q : _) (p : Row → Bool) (db : Trees) (w : Written)
+      → AreKeyedByRowid (db table.tree)
       → ((rows : List Row) → Answers (record { schema = schema; trees = db }) q params rows → AreFound p (db table.tree) rows)
       → Deletes (record { limit = limit; keys = Enforced; schema = schema; table = table; params = params }) q db (Ok w) → Loses schema table p db w.trees
   deletes limit params q p db w keyed found h =
@@ -103,7 +105,8 @@ module _ (schema : Schema) (table : Table) (unlinked : (olds news : List Row) �
     abbrev p : Row → Row → Bool
     p new r = conflicts None schema.indexes table new r
 
-    clears : (new : Row) (db : Trees) (w : Written) (found : List Row) → AreKeyedByRowid (db table.tree) → AreConflicts None schema.indexes table (db table.tree) new found
+    clears : (new : Row) (db : Trees) (w : Written) (found : List Row) → AreKeyedByRowid (db table.tree)
+        → AreConflicts None schema.indexes table (db table.tree) new found
         → Clears task Replace new db found (Ok w) → Swaps schema table (p new) (cast_row table new) db w.trees
     clears new db w [] keyed are h =
         let put = puts new db w keyed h in
@@ -127,12 +130,14 @@ module _ (schema : Schema) (table : Table) (unlinked : (olds news : List Row) �
           others = λ t listed other. put.3 t listed other ∙ lost.others t listed other;
         }
 
-    pub tries : (new : Row) (db : Trees) (w : Written) → AreKeyedByRowid (db table.tree) → Tries task Replace [] new db (Ok w)
+    pub tries : (new : Row) (db : Trees) (w : Written) → AreKeyedByRowid (db table.tree)
+        → Tries task Replace [] new db (Ok w)
         → Swaps schema table (p new) (cast_row table new) db w.trees
     tries new db w keyed (inl refused) = absurd (let e = refused.1 in cc)
     tries new db w keyed (inr check_own_rows) = go check_own_rows.0 check_own_rows.2
       where
-        go : (verdict : Option Refusal) → Judged task Replace [] new db verdict (Ok w) → Swaps schema table (p new) (cast_row table new) db w.trees
+        go : (verdict : Option Refusal) → Judged task Replace [] new db verdict (Ok w)
+            → Swaps schema table (p new) (cast_row table new) db w.trees
         go None h = clears new db w h.0 keyed h.1 h.2
         go (Some why) h = absurd (let e = h in cc)
 
@@ -153,30 +158,37 @@ delete_query tree filter = record {
 }
 
 pub has_permuted : {X : Type 0} (xs ys : List X) (x : X) → IsPermutation xs ys → Has xs x → Has ys x
-has_permuted xs ys x h there = all_has (λ y. Has ys y) xs x (all-permutation (λ y. Has ys y) ys xs (IsPermutation-sym xs ys h) (all_from _ ys (λ y k. k))) there
+has_permuted xs ys x h there =
+    all_has (λ y. Has ys y) xs x
+    (all-permutation (λ y. Has ys y) ys xs (IsPermutation-sym xs ys h) (all_from _ ys (λ y k. k))) there
 
 module _ (p : Row → Bool) (f : Row → Env) where
-  has_chosen : (rows : List Row) (r : Row) → Has rows r → p r ≡ true → Has (flat_map (λ r. cond (p r) (f r ∷ []) []) rows) (f r)
+  has_chosen : (rows : List Row) (r : Row) → Has rows r → p r ≡ true
+      → Has (flat_map (λ r. cond (p r) (f r ∷ []) []) rows) (f r)
   has_chosen [] r h passes = absurd h
   has_chosen (x ∷ rows) r (inl same) passes = rw (← same, passes) (inl refl)
   has_chosen (x ∷ rows) r (inr later) passes = go (p x) (has_chosen rows r later passes)
     where
-      go : (b : Bool) → Has (flat_map (λ r. cond (p r) (f r ∷ []) []) rows) (f r) → Has (cond b (f x ∷ []) [] ++ flat_map (λ r. cond (p r) (f r ∷ []) []) rows) (f r)
+      go : (b : Bool) → Has (flat_map (λ r. cond (p r) (f r ∷ []) []) rows) (f r)
+          → Has (cond b (f x ∷ []) [] ++ flat_map (λ r. cond (p r) (f r ∷ []) []) rows) (f r)
       go true h = inr h
       go false h = h
 
-  chosen_has : (rows : List Row) (e : Env) → Has (flat_map (λ r. cond (p r) (f r ∷ []) []) rows) e → (r : Row) × Has rows r × (p r ≡ true) × (e ≡ f r)
+  chosen_has : (rows : List Row) (e : Env) → Has (flat_map (λ r. cond (p r) (f r ∷ []) []) rows) e
+      → (r : Row) × Has rows r × (p r ≡ true) × (e ≡ f r)
   chosen_has [] e h = absurd h
   chosen_has (x ∷ rows) e h = go (p x) refl h (chosen_has rows e)
     where
       go : (b : Bool) → p x ≡ b → Has (cond b (f x ∷ []) [] ++ flat_map (λ r. cond (p r) (f r ∷ []) []) rows) e
-          → (Has (flat_map (λ r. cond (p r) (f r ∷ []) []) rows) e → (r : Row) × Has rows r × (p r ≡ true) × (e ≡ f r)) → (r : Row) × Has (x ∷ rows) r × (p r ≡ true) × (e ≡ f r)
+          → (Has (flat_map (λ r. cond (p r) (f r ∷ []) []) rows) e → (r : Row) × Has rows r × (p r ≡ true) × (e ≡ f r))
+          → (r : Row) × Has (x ∷ rows) r × (p r ≡ true) × (e ≡ f r)
       go true is (inl same) more = (x, inl refl, is, same)
       go true is (inr later) more = let it = more later in (it.0, inr it.1, it.2, it.3)
       go false is later more = let it = more later in (it.0, inr it.1, it.2, it.3)
 
 -- the query of a DELETE finds exactly the rows that pass its filter
-pub found_by : (tree : ℕ) (filter : List Term) (db db' : Trees) (params : Row) (rows : List Row) → db' tree ≡ db tree → IsAnswer (delete_query tree filter) db' params rows
+pub found_by : (tree : ℕ) (filter : List Term) (db db' : Trees) (params : Row) (rows : List Row) → db' tree ≡ db tree
+    → IsAnswer (delete_query tree filter) db' params rows
     → AreFound (λ r. list_all (holds (params ∷ r ∷ [])) filter) (db tree) rows
 found_by tree filter db db' params rows same a =
     let q = delete_query tree filter in

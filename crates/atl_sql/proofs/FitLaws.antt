@@ -43,7 +43,8 @@ fits_cast (c ∷ cs) (v ∷ vs) fits = let here = fits.0 in let later = fits_cas
 
 -- ---- the columns of a row, one by one
 
-shifted_range_maps_alike : {X : Type 0} (f g : ℕ → X) → ((k : ℕ) → f (k + 1) ≡ g k) → (a n : ℕ) → map f (range_with_len (a + 1) n) ≡ map g (range_with_len a n)
+shifted_range_maps_alike : {X : Type 0} (f g : ℕ → X) → ((k : ℕ) → f (k + 1) ≡ g k) → (a n : ℕ)
+    → map f (range_with_len (a + 1) n) ≡ map g (range_with_len a n)
 shifted_range_maps_alike f g same a zero = refl
 shifted_range_maps_alike f g same a (suc n) = let here = same a in let later = shifted_range_maps_alike f g same (a + 1) n in cc
 
@@ -52,10 +53,15 @@ next_column v vs k = let next : k + 1 ≡ suc k = omega arith in ap (column (v �
 
 each_column : (vs more : Row) → map (column (vs ++ more)) (range_with_len 0 (length vs)) ≡ vs
 each_column [] more = refl
-each_column (v ∷ vs) more = ap (λ (l : Row). v ∷ l) (shifted_range_maps_alike (column (v ∷ (vs ++ more))) (column (vs ++ more)) (next_column v (vs ++ more)) 0 (length vs) ∙ each_column vs more)
+each_column (v ∷ vs) more =
+    ap (λ (l : Row). v ∷ l)
+    (shifted_range_maps_alike (column (v ∷ (vs ++ more))) (column (vs ++ more)) (next_column v (vs ++ more)) 0 (length vs) ∙ each_column vs more)
 
 each_later : (v : Value) (vs more : Row) → map (column (v ∷ (vs ++ more))) (range_with_len 1 (length vs)) ≡ vs
-each_later v vs more = shifted_range_maps_alike (column (v ∷ (vs ++ more))) (column (vs ++ more)) (next_column v (vs ++ more)) 0 (length vs) ∙ each_column vs more
+each_later v vs more =
+    shifted_range_maps_alike (column (v ∷ (vs ++ more))) (column (vs ++ more)) (next_column v (vs ++ more)) 0
+    (length vs)
+    ∙ each_column vs more
 
 column_after : (vs : Row) (x : Value) (more : Row) → column (vs ++ x ∷ more) (length vs) ≡ x
 column_after [] x more = refl
@@ -74,9 +80,11 @@ changed_row width = col 1 0 ∷ lit Null ∷ map (col 0) (range_with_len 1 width
 
 -- the terms of the INSERT and of the UPDATE make the row of this number and these values
 pub record MakesRow (t : Table) (width number : ℕ) (values : Row) : Type 0 where
-  pub source : value_rows ((int number ∷ values) ++ []) (width + 2) (length (given_row width) / (width + 2)) (given_row width) ≡ (int number ∷ Null ∷ values) ∷ []
+  pub source : value_rows ((int number ∷ values) ++ []) (width + 2) (length (given_row width) / (width + 2)) (given_row width)
+      ≡ (int number ∷ Null ∷ values) ∷ []
   -- the terms of the UPDATE give the number of the row that is there, NULL, and the values
-  pub changed : (more r : Row) → eval_all (changed_row width) (((int number ∷ values) ++ more) ∷ r ∷ []) ≡ column r 0 ∷ Null ∷ values
+  pub changed : (more r : Row)
+      → eval_all (changed_row width) (((int number ∷ values) ++ more) ∷ r ∷ []) ≡ column r 0 ∷ Null ∷ values
   pub casted : cast_row t (int number ∷ Null ∷ values) ≡ int number ∷ Null ∷ values
   pub shown : visible_row t (int number ∷ Null ∷ values) ≡ int number ∷ values
   -- of what the UPDATE reads, the column after the number and the values is `x`, the rowid of the row to change
@@ -93,15 +101,21 @@ module _ (tree : ℕ) (name key_name : List ℕ) (columns : List Column) (unique
     abbrev stored_row : Row
     stored_row = int n ∷ Null ∷ values
 
-    of_parameters : (more : Row) (rows : List Row) → eval_all (map (col 0) (range_with_len 1 width)) ((int n ∷ (values ++ more)) ∷ rows) ≡ values
-    of_parameters more rows = map-map (λ (t : Term). eval t ((int n ∷ (values ++ more)) ∷ rows)) (col 0) (range_with_len 1 width) ∙ each_later (int n) values more
+    of_parameters : (more : Row) (rows : List Row)
+        → eval_all (map (col 0) (range_with_len 1 width)) ((int n ∷ (values ++ more)) ∷ rows) ≡ values
+    of_parameters more rows =
+        map-map (λ (t : Term). eval t ((int n ∷ (values ++ more)) ∷ rows)) (col 0) (range_with_len 1 width)
+        ∙ each_later (int n) values more
 
-    source_is : value_rows ((int n ∷ values) ++ []) (width + 2) (length (given_row width) / (width + 2)) (given_row width) ≡ stored_row ∷ []
+    source_is : value_rows ((int n ∷ values) ++ []) (width + 2) (length (given_row width) / (width + 2)) (given_row width)
+        ≡ stored_row ∷ []
     source_is =
         let counted : length (given_row width) ≡ width + 2 = omega (arith, length-map-range_with_len (col 0) 1 width) in
         let once : length (given_row width) / (width + 2) ≡ 1 = ap (λ (n : ℕ). n / (width + 2)) counted ∙ div_self {n = width + 2} (omega arith) in
         let all : take (width + 2) (given_row width) ≡ given_row width = take_all (width + 2) (given_row width) (omega (arith, counted)) in
-        ap (λ (count : ℕ). value_rows ((int n ∷ values) ++ []) (width + 2) count (given_row width)) once ∙ ap (λ (l : List Term). eval_all l (((int n ∷ values) ++ []) ∷ []) ∷ []) all ∙ ap (λ (l : Row). (int n ∷ Null ∷ l) ∷ []) (of_parameters [] [])
+        ap (λ (count : ℕ). value_rows ((int n ∷ values) ++ []) (width + 2) count (given_row width)) once
+        ∙ ap (λ (l : List Term). eval_all l (((int n ∷ values) ++ []) ∷ []) ∷ []) all
+        ∙ ap (λ (l : Row). (int n ∷ Null ∷ l) ∷ []) (of_parameters [] [])
 
     shown_is : visible_row t stored_row ≡ int n ∷ values
     shown_is =

@@ -56,13 +56,15 @@ abbrev pub agree_at : List ℕ → Row → Row → Bool
 agree_at [] x y = true
 agree_at (p ∷ positions) x y = equal Binary (column x p) (column y p) && agree_at positions x y
 
-same_at : (positions : List ℕ) (x y : Row) → AreInts positions x → AreInts positions y → agree_at positions x y ≡ true → at_places positions x ≡ at_places positions y
+same_at : (positions : List ℕ) (x y : Row) → AreInts positions x → AreInts positions y → agree_at positions x y ≡ true
+    → at_places positions x ≡ at_places positions y
 same_at [] x y one two agree = refl
 same_at (p ∷ positions) x y one two agree =
     let (here, later) = and_parts _ _ agree in
     rw (equal_is (column x p) (column y p) one.0 two.0 here, same_at positions x y one.1 two.1 later) refl
 
-agree_same : (positions : List ℕ) (x y : Row) → AreInts positions y → at_places positions x ≡ at_places positions y → agree_at positions x y ≡ true
+agree_same : (positions : List ℕ) (x y : Row) → AreInts positions y → at_places positions x ≡ at_places positions y
+    → agree_at positions x y ≡ true
 agree_same [] x y ints same = refl
 agree_same (p ∷ positions) x y ints same =
     let (here, later) = cons_is _ _ _ _ same in
@@ -77,7 +79,8 @@ pub record HasKey (t : Table) (at : ℕ) (positions : List ℕ) : Type 0 where
   pub position : (more : List Table) → slice_get (all_tables ++ more) at ≡ Some t
   pub plain : (db : Trees) → overlay db [] t.tree ≡ db t.tree
   -- a row that passes the table's checks has integers in the columns of the key
-  pub ints : (schema : Schema) (x : Row) → passes Datatype schema (λ u. []) t x ≡ true → passes NotNull schema (λ u. []) t x ≡ true → AreInts positions x
+  pub ints : (schema : Schema) (x : Row) → passes Datatype schema (λ u. []) t x ≡ true
+      → passes NotNull schema (λ u. []) t x ≡ true → AreInts positions x
   pub first : (x : Row) → take (length positions) (visible_row t x) ≡ at_places positions x
   -- if `r` clashes with none of `rows` in any index of the table, none of these with another rowid has the key of `r`
   pub unique : (indexes : List Index) (rows : List Row) (r : Row)
@@ -90,7 +93,9 @@ pub record HasKey (t : Table) (at : ℕ) (positions : List ℕ) : Type 0 where
 -- the text `sql` means the DELETE of the rows that pass `filter`, in the table with index `at` in the schema and tree
 -- `tree`, whatever other tables follow
 abbrev pub MeansDelete : ℕ → ℕ → List ℕ → List Term → Type 0
-MeansDelete tree at sql filter = (more : List Table) (indexes : List Index) → command_of (understood (all_tables_and_others more indexes) sql) ≡ Delete at (record { lets = []; body = delete_query tree filter })
+MeansDelete tree at sql filter =
+    (more : List Table) (indexes : List Index) → command_of (understood (all_tables_and_others more indexes) sql) ≡
+    Delete at (record { lets = []; body = delete_query tree filter })
 
 -- The text `sql` means an INSERT of one row by `terms`, with an UPDATE by `project` of the row that has its key, the
 -- columns at the indexes `positions`. Of what the UPDATE reads, the column at the index `hole`, after the parameters,
@@ -124,9 +129,13 @@ module _ (tree : ℕ) (name : List ℕ) (columns : List Column) (positions : Lis
       schema = all_tables_and_others more indexes
 
       key_ints : (x : Row) → Has (db tree) x → AreInts positions x
-      key_ints x there = key.ints schema x (keeps_at Datatype schema db t x (sound.listed.obeys.rules Datatype) (among_all more t key.ours) there) (keeps_at NotNull schema db t x (sound.listed.obeys.rules NotNull) (among_all more t key.ours) there)
+      key_ints x there =
+          key.ints schema x
+          (keeps_at Datatype schema db t x (sound.listed.obeys.rules Datatype) (among_all more t key.ours) there)
+          (keeps_at NotNull schema db t x (sound.listed.obeys.rules NotNull) (among_all more t key.ours) there)
 
-      alone : (x r : Row) → Has (db tree) x → Has (db tree) r → take (length positions) (visible_row t x) ≡ take (length positions) (visible_row t r)
+      alone : (x r : Row) → Has (db tree) x → Has (db tree) r
+          → take (length positions) (visible_row t x) ≡ take (length positions) (visible_row t r)
           → is_eq (value_cmp (rowid x) (rowid r)) ≡ true
       alone x r one two same =
           let free = key.unique indexes (db tree) r (keeps_at Unique schema db t r (sound.listed.obeys.rules Unique) (among_all more t key.ours) two) in
@@ -139,7 +148,8 @@ module _ (tree : ℕ) (name : List ℕ) (columns : List Column) (positions : Lis
 
     -- ---- the upsert of a row
 
-    puts : (sql : List ℕ) (width hole : ℕ) (terms project : List Term) → MeansUpsert tree at positions sql width terms hole project → AlwaysPlain sql
+    puts : (sql : List ℕ) (width hole : ℕ) (terms project : List Term)
+        → MeansUpsert tree at positions sql width terms hole project → AlwaysPlain sql
         → (values : Row) → MakesValues t positions width terms hole project values
         → (old new : State) (count : ℕ) → IsTrue old.in_transaction → ExecutesInside 0 sql values old new (Ok count)
         → DoesInside HasTables (Puts t (length positions) values) old new
@@ -177,14 +187,19 @@ module _ (tree : ℕ) (name : List ℕ) (columns : List Column) (positions : Lis
     )
 
     -- the text of the upsert puts its row, in place of the row with the same key (`DoneBy`)
-    pub puts_keyed : (sql : List ℕ) (width hole : ℕ) (terms project : List Term) → MeansUpsert tree at positions sql width terms hole project
-        → AlwaysPlain sql → (values : Row) → MakesValues t positions width terms hole project values → DoneBy sql values (Puts t (length positions) values)
-    puts_keyed sql width hole terms project means asks values writes = done_by sql values (Puts t (length positions) values) (puts sql width hole terms project means asks values writes)
+    pub puts_keyed : (sql : List ℕ) (width hole : ℕ) (terms project : List Term)
+        → MeansUpsert tree at positions sql width terms hole project
+        → AlwaysPlain sql → (values : Row) → MakesValues t positions width terms hole project values
+        → DoneBy sql values (Puts t (length positions) values)
+    puts_keyed sql width hole terms project means asks values writes =
+        done_by sql values (Puts t (length positions) values)
+        (puts sql width hole terms project means asks values writes)
 
     -- ---- the DELETE of rows by the first columns of the key
 
     drops : (sql : List ℕ) (filter : List Term) → MeansDelete tree at sql filter → AlwaysPlain sql → (front : List ℕ)
-        → ((x : Row) → AreInts positions x → AreInts front x) → ((x : Row) → take (length front) (visible_row t x) ≡ at_places front x)
+        → ((x : Row) → AreInts positions x → AreInts front x)
+        → ((x : Row) → take (length front) (visible_row t x) ≡ at_places front x)
         → (k : Row) → AreInts front (Null ∷ k) → at_places front (Null ∷ k) ≡ k
         → ((x : Row) → list_all (holds (k ∷ x ∷ [])) filter ≡ agree_at front x (Null ∷ k))
         → (old new : State) (count : ℕ) → IsTrue old.in_transaction → ExecutesInside 0 sql k old new (Ok count)
@@ -213,8 +228,12 @@ module _ (tree : ℕ) (name : List ℕ) (columns : List Column) (positions : Lis
     )
 
     -- the text of the DELETE removes the rows whose first columns of the key are the parameters (`DoneBy`)
-    pub drops_keyed : (sql : List ℕ) (filter : List Term) → MeansDelete tree at sql filter → AlwaysPlain sql → (front : List ℕ)
-        → ((x : Row) → AreInts positions x → AreInts front x) → ((x : Row) → take (length front) (visible_row t x) ≡ at_places front x)
+    pub drops_keyed : (sql : List ℕ) (filter : List Term) → MeansDelete tree at sql filter → AlwaysPlain sql
+        → (front : List ℕ)
+        → ((x : Row) → AreInts positions x → AreInts front x)
+        → ((x : Row) → take (length front) (visible_row t x) ≡ at_places front x)
         → (k : Row) → AreInts front (Null ∷ k) → at_places front (Null ∷ k) ≡ k
-        → ((x : Row) → list_all (holds (k ∷ x ∷ [])) filter ≡ agree_at front x (Null ∷ k)) → DoneBy sql k (Drops t (length front) k)
-    drops_keyed sql filter means asks front its_ints first k ints whole finds = done_by sql k (Drops t (length front) k) (drops sql filter means asks front its_ints first k ints whole finds)
+        → ((x : Row) → list_all (holds (k ∷ x ∷ [])) filter ≡ agree_at front x (Null ∷ k))
+        → DoneBy sql k (Drops t (length front) k)
+    drops_keyed sql filter means asks front its_ints first k ints whole finds =
+        done_by sql k (Drops t (length front) k) (drops sql filter means asks front its_ints first k ints whole finds)

@@ -41,7 +41,8 @@ column_count_of part = length (table_of part).columns
 
 -- ---- the numbers of the key
 
-goods_ints : (schema : Schema) (x : Row) → passes Datatype schema (λ t. []) has_table x ≡ true → passes NotNull schema (λ t. []) has_table x ≡ true
+goods_ints : (schema : Schema) (x : Row) → passes Datatype schema (λ t. []) has_table x ≡ true
+    → passes NotNull schema (λ t. []) has_table x ≡ true
     → AreInts has_unique x
 goods_ints schema [] typed present = absurd (true≢false (sym present))
 goods_ints schema (r ∷ []) typed present = absurd (true≢false (sym present))
@@ -56,7 +57,9 @@ goods_ints schema (r ∷ a ∷ b ∷ c ∷ rest) typed present =
     let p3 = and_parts _ _ p2.1 in
     (strict_integer_is_int a t1.0 (not-true _ p1.0), (strict_integer_is_int b t2.0 (not-true _ p2.0), (strict_integer_is_int c t3.0 (not-true _ p3.0), tt)))
 
-key_is_integers : (k : KeyedPart) (schema : Schema) (x : Row) → passes Datatype schema (λ t. []) (table_of (part_of k)) x ≡ true → passes NotNull schema (λ t. []) (table_of (part_of k)) x ≡ true
+key_is_integers : (k : KeyedPart) (schema : Schema) (x : Row)
+    → passes Datatype schema (λ t. []) (table_of (part_of k)) x ≡ true
+    → passes NotNull schema (λ t. []) (table_of (part_of k)) x ≡ true
     → AreInts (table_of (part_of k)).primary x
 key_is_integers InHas = goods_ints
 key_is_integers InBooks = pair_ints 10 (codes "books") (codes "entry") (codes "thing") (codes "amount")
@@ -65,8 +68,10 @@ key_is_integers InMarket = pair_ints 12 (codes "market") (codes "region") (codes
 -- the first columns of `has`, `books` and `market` are the table's key, and its only unique key (`HasKey`)
 key_is : (k : KeyedPart) → HasKey (table_of (part_of k)) (place_in (part_of k)) (table_of (part_of k)).primary
 unfolding first_key
-key_is InHas = record { ours = listed Goods; position = λ more. refl; plain = λ db. refl; ints = key_is_integers InHas; first = λ x. refl; unique = λ indexes rows r passed. not-true _ (and_parts _ _ passed).0; hits = λ indexes new x. refl }
-key_is k = record { ours = listed (part_of k); position = λ more. refl; plain = λ db. refl; ints = key_is_integers k; first = λ x. refl; unique = λ indexes rows r passed. not-true _ (and_parts _ _ passed).0; hits = λ indexes new x. refl }
+key_is InHas =
+    record { ours = listed Goods; position = λ more. refl; plain = λ db. refl; ints = key_is_integers InHas; first = λ x. refl; unique = λ indexes rows r passed. not-true _ (and_parts _ _ passed).0; hits = λ indexes new x. refl }
+key_is k =
+    record { ours = listed (part_of k); position = λ more. refl; plain = λ db. refl; ints = key_is_integers k; first = λ x. refl; unique = λ indexes rows r passed. not-true _ (and_parts _ _ passed).0; hits = λ indexes new x. refl }
 
 -- ---- what the statements mean
 
@@ -93,12 +98,15 @@ record StatementMeanings (part : Part) : Type 0 where
 
 statement_meanings : (k : KeyedPart) → StatementMeanings (part_of k)
 unfolding understood everything
-statement_meanings InHas = record { puts = λ more indexes. refl; puts_plain = λ more indexes. (refl, refl); drops = λ more indexes. refl; drops_plain = λ more indexes. (refl, refl); clears = λ more indexes. refl; clears_plain = λ more indexes. (refl, refl) }
-statement_meanings k = record { puts = λ more indexes. refl; puts_plain = λ more indexes. (refl, refl); drops = λ more indexes. refl; drops_plain = λ more indexes. (refl, refl); clears = λ more indexes. refl; clears_plain = λ more indexes. (refl, refl) }
+statement_meanings InHas =
+    record { puts = λ more indexes. refl; puts_plain = λ more indexes. (refl, refl); drops = λ more indexes. refl; drops_plain = λ more indexes. (refl, refl); clears = λ more indexes. refl; clears_plain = λ more indexes. (refl, refl) }
+statement_meanings k =
+    record { puts = λ more indexes. refl; puts_plain = λ more indexes. (refl, refl); drops = λ more indexes. refl; drops_plain = λ more indexes. (refl, refl); clears = λ more indexes. refl; clears_plain = λ more indexes. (refl, refl) }
 
 -- ---- a row is put
 
-makes_has : (unit sort thing amount : ℕ) → MakesValues has_table has_unique 5 (keyed_insert_terms 4) 4 (update_terms 3 4) (has_row unit sort thing amount)
+makes_has : (unit sort thing amount : ℕ)
+    → MakesValues has_table has_unique 5 (keyed_insert_terms 4) 4 (update_terms 3 4) (has_row unit sort thing amount)
 makes_has unit sort thing amount = record {
   source = refl;
   casted = rw (cast_null, cast_int (pos unit), cast_int (pos sort), cast_int (pos thing), cast_int (pos amount)) refl;

@@ -46,19 +46,23 @@ eq_sym a b h = sym (ap is_eq (value_cmp_total.antisymm a b) ∙ reversed (value_
     reversed Equal = refl
     reversed Greater = refl
 
-pub one_rowid : (rows : List Row) → IsAscending (λ a b. is_eq (value_cmp (rowid a) (rowid b)) ≡ false) rows → (a b : Row) → Has rows a → Has rows b → is_eq (value_cmp (rowid a) (rowid b)) ≡ true → a ≡ b
+pub one_rowid : (rows : List Row) → IsAscending (λ a b. is_eq (value_cmp (rowid a) (rowid b)) ≡ false) rows
+    → (a b : Row) → Has rows a → Has rows b → is_eq (value_cmp (rowid a) (rowid b)) ≡ true → a ≡ b
 one_rowid [] up a b h k same = absurd h
 one_rowid (r ∷ rows) up a b (inl e) (inl f) same = e ∙ sym f
 one_rowid (r ∷ rows) up a b (inl e) (inr k) same = absurd (true≢false (sym same ∙ rw e (all_has _ rows b up.0 k)))
-one_rowid (r ∷ rows) up a b (inr h) (inl f) same = absurd (true≢false (sym (eq_sym _ _ same) ∙ rw f (all_has _ rows a up.0 h)))
+one_rowid (r ∷ rows) up a b (inr h) (inl f) same =
+    absurd (true≢false (sym (eq_sym _ _ same) ∙ rw f (all_has _ rows a up.0 h)))
 one_rowid (r ∷ rows) up a b (inr h) (inr k) same = one_rowid rows up.1 a b h k same
 
-pub without_keeps : (ids : List ℤ) (rows : List Row) (r : Row) → Has rows r → ((id : ℤ) → Has ids id → has_rowid id r ≡ false) → Has (without_all rows ids) r
+pub without_keeps : (ids : List ℤ) (rows : List Row) (r : Row) → Has rows r
+    → ((id : ℤ) → Has ids id → has_rowid id r ≡ false) → Has (without_all rows ids) r
 without_keeps [] rows r h apart = h
 without_keeps (id ∷ ids) rows r h apart =
     without_keeps ids (without_rowid id rows) r (has_kept _ rows r h (ap not (apart id (inl refl)))) (λ i there. apart i (inr there))
 
-pub without_drops : (ids : List ℤ) (rows : List Row) (r : Row) → Has (without_all rows ids) r → (id : ℤ) → Has ids id → has_rowid id r ≡ false
+pub without_drops : (ids : List ℤ) (rows : List Row) (r : Row) → Has (without_all rows ids) r → (id : ℤ) → Has ids id
+    → has_rowid id r ≡ false
 without_drops [] rows r h id there = absurd there
 without_drops (i ∷ ids) rows r h id (inl same) =
     let kept = (has_filtered _ rows r (without_all_has ids (without_rowid i rows) r h)).1 in
@@ -72,7 +76,8 @@ pub record AreFound (p : Row → Bool) (rows found : List Row) : Type 0 where
   pub sound : (x : Row) → Has found x → (r : Row) × Has rows r × (p r ≡ true) × (x ≡ rowid r ∷ [])
   pub complete : (r : Row) → Has rows r → p r ≡ true → Has found (rowid r ∷ [])
 
-pub is_int_at : (rows : List Row) (r : Row) → AllByRecursion (λ r. is_int (rowid r) ≡ true) rows → Has rows r → rowid r ≡ Int (id_in (rowid r))
+pub is_int_at : (rows : List Row) (r : Row) → AllByRecursion (λ r. is_int (rowid r) ≡ true) rows → Has rows r
+    → rowid r ≡ Int (id_in (rowid r))
 is_int_at rows r ints h = int_is (rowid r) (all_has _ rows r ints h)
 
 module _ (p : Row → Bool) (rows found : List Row) (keyed : AreKeyedByRowid rows) (are : AreFound p rows found) where
@@ -109,10 +114,12 @@ keyed_without (id ∷ ids) rows keyed = keyed_without ids (without_rowid id rows
   ints = all_from _ _ (λ r there. all_has _ rows r keyed.ints (has_filtered _ rows r there).0);
 })
 
-apart_put : (new : Row) (rows : List Row) → IsAscending (λ a b. is_eq (value_cmp (rowid a) (rowid b)) ≡ false) rows → is_taken rows new ≡ false
+apart_put : (new : Row) (rows : List Row) → IsAscending (λ a b. is_eq (value_cmp (rowid a) (rowid b)) ≡ false) rows
+    → is_taken rows new ≡ false
     → IsAscending (λ a b. is_eq (value_cmp (rowid a) (rowid b)) ≡ false) (put_row new rows)
 apart_put new [] apart free = (tt, tt)
-apart_put new (r ∷ rows) apart free = go (value_cmp (rowid r) (rowid new)) refl (apart_put new rows apart.1 (or_parts _ _ free).1)
+apart_put new (r ∷ rows) apart free =
+    go (value_cmp (rowid r) (rowid new)) refl (apart_put new rows apart.1 (or_parts _ _ free).1)
   where
     untaken : (x : Row) → Has (r ∷ rows) x → is_eq (value_cmp (rowid new) (rowid x)) ≡ false
     untaken x there = elim (cases_Bool (is_eq (value_cmp (rowid new) (rowid x)))) [
@@ -120,7 +127,8 @@ apart_put new (r ∷ rows) apart free = go (value_cmp (rowid r) (rowid new)) ref
       | inr other ↦ other
     ]
 
-    go : (o : Ordering) → value_cmp (rowid r) (rowid new) ≡ o → IsAscending (λ a b. is_eq (value_cmp (rowid a) (rowid b)) ≡ false) (put_row new rows)
+    go : (o : Ordering) → value_cmp (rowid r) (rowid new) ≡ o
+        → IsAscending (λ a b. is_eq (value_cmp (rowid a) (rowid b)) ≡ false) (put_row new rows)
         → IsAscending (λ a b. is_eq (value_cmp (rowid a) (rowid b)) ≡ false) (match_ordering o (r ∷ put_row new rows) (new ∷ rows) (new ∷ r ∷ rows))
     go Less is more = (all-put_row _ new rows (ap is_eq is) apart.0, more)
     go Equal is more = absurd (true≢false (sym (ap is_eq is) ∙ (or_parts _ _ free).0))
@@ -128,5 +136,7 @@ apart_put new (r ∷ rows) apart free = go (value_cmp (rowid r) (rowid new)) ref
 
 -- once a row is put whose rowid is an integer that no row had, the rowids are still integers, no two alike
 -- (`AreKeyedByRowid`)
-pub keyed_put : (new : Row) (rows : List Row) → AreKeyedByRowid rows → is_taken rows new ≡ false → is_int (rowid new) ≡ true → AreKeyedByRowid (put_row new rows)
-keyed_put new rows keyed free int = record { apart = apart_put new rows keyed.apart free; ints = all-put_row _ new rows int keyed.ints }
+pub keyed_put : (new : Row) (rows : List Row) → AreKeyedByRowid rows → is_taken rows new ≡ false
+    → is_int (rowid new) ≡ true → AreKeyedByRowid (put_row new rows)
+keyed_put new rows keyed free int =
+    record { apart = apart_put new rows keyed.apart free; ints = all-put_row _ new rows int keyed.ints }

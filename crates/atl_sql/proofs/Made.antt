@@ -31,4 +31,5 @@ pub record AreBare (schema : Schema) (db : Database) : Type 0 where
 -- A database of the first schema, without rows, becomes a sound one of the second, without rows. The connection is in a
 -- transaction afterwards exactly if it was before.
 abbrev pub Extends : Schema → Schema → State → State → Type 0
-Extends before after old new = (new.in_transaction ≡ old.in_transaction) × (AreBare before old.now → AreBare after new.now × IsDatabase new.now)
+Extends before after old new =
+    (new.in_transaction ≡ old.in_transaction) × (AreBare before old.now → AreBare after new.now × IsDatabase new.now)

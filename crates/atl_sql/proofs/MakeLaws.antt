@@ -26,20 +26,25 @@ use Rattle.atl_sql.proofs.EditLaws.{Swaps, Loses}
 use Rattle.atl_sql.proofs.UpsertLaws.{hits, given, Upserted}
 use Rattle.atl_sql.proofs.StatementLaws.{mode}
 
-pub write_does_command : (schema : Schema) (old new : State) (command : Command) (text : List ℕ) (params : Row) (count : ℕ) → old.now.schema ≡ schema → (w : Writes old new None command text params count)
+pub write_does_command : (schema : Schema) (old new : State) (command : Command) (text : List ℕ) (params : Row) (count : ℕ)
+    → old.now.schema ≡ schema → (w : Writes old new None command text params count)
     → Does old.step_limit mode params (record { schema = schema; trees = old.now.trees }) text None command (Ok (w.tally, new.now))
 write_does_command schema old new command text params count has w =
     subst (λ s. Does old.step_limit mode params (record old.now { schema = s }) text None command (Ok (w.tally, new.now))) has w.changed
 
 module _ (schema : Schema) (among : (u : Table) → Has all_tables u → Has schema.tables u) (t : Table) (key : ℕ) where
-  shown_again : (rows : List Row) (r : Row) → Has (map (visible_row t) rows) r → (x : Row) × Has rows x × (r ≡ visible_row t x)
+  shown_again : (rows : List Row) (r : Row) → Has (map (visible_row t) rows) r
+      → (x : Row) × Has rows x × (r ≡ visible_row t x)
   shown_again rows r h = map_has (visible_row t) rows r h
 
   -- the test finds exactly those rows of a list that have this key
   abbrev pub Tests : (Row → Bool) → Row → List Row → Type 0
-  Tests p k rows = (x : Row) → Has rows x → (p x ≡ true → take key (visible_row t x) ≡ k) × (take key (visible_row t x) ≡ k → p x ≡ true)
+  Tests p k rows =
+      (x : Row) → Has rows x → (p x ≡ true → take key (visible_row t x) ≡ k) ×
+      (take key (visible_row t x) ≡ k → p x ≡ true)
 
-  pub swaps_set : (p : Row → Bool) (n v : Row) (db next : Trees) → Swaps schema t p n db next → visible_row t n ≡ v → Tests p (take key v) (db t.tree)
+  pub swaps_set : (p : Row → Bool) (n v : Row) (db next : Trees) → Swaps schema t p n db next → visible_row t n ≡ v
+      → Tests p (take key v) (db t.tree)
       → HasExactly (rows_in t next) (put key v (Has (rows_in t db)))
   swaps_set p n v db next swap is tests r = (
     λ there.
@@ -62,7 +67,8 @@ module _ (schema : Schema) (among : (u : Table) → Has all_tables u → Has sch
     ],
   )
 
-  pub loses_set : (p : Row → Bool) (k : Row) (db next : Trees) → Loses schema t p db next → Tests p k (db t.tree) → HasExactly (rows_in t next) (drop_key key k (Has (rows_in t db)))
+  pub loses_set : (p : Row → Bool) (k : Row) (db next : Trees) → Loses schema t p db next → Tests p k (db t.tree)
+      → HasExactly (rows_in t next) (drop_key key k (Has (rows_in t db)))
   loses_set p k db next lose tests r = (
     λ there.
         let x = shown_again (next t.tree) r there in
@@ -76,8 +82,10 @@ module _ (schema : Schema) (among : (u : Table) → Has all_tables u → Has sch
         ]))),
   )
 
-  pub stays_sound : (old new : Database) → IsSoundDatabase schema old.trees → IsDatabase new → new.schema ≡ schema → AreKeyedByRowid (new.trees t.tree)
-      → ((u : Table) → Has schema.tables u → u.tree ≢ t.tree → new.trees u.tree ≡ old.trees u.tree) → IsSoundDatabase schema new.trees
+  pub stays_sound : (old new : Database) → IsSoundDatabase schema old.trees → IsDatabase new → new.schema ≡ schema
+      → AreKeyedByRowid (new.trees t.tree)
+      → ((u : Table) → Has schema.tables u → u.tree ≢ t.tree → new.trees u.tree ≡ old.trees u.tree)
+      → IsSoundDatabase schema new.trees
   stays_sound old new sound base is keyed others = record {
     keyed = λ u listed. elim (cases_Bool (eqb u.tree t.tree)) [
       | inl same ↦ let e : u.tree ≡ t.tree = grind (arith, nat_tests) in subst (λ n. AreKeyedByRowid (new.trees n)) (sym e) keyed
@@ -86,8 +94,10 @@ module _ (schema : Schema) (among : (u : Table) → Has all_tables u → Has sch
     listed = subst (λ s. IsSound s new.trees) is base;
   }
 
-  pub swaps_make : (p : Row → Bool) (n v : Row) (old new : Database) → Swaps schema t p n old.trees new.trees → visible_row t n ≡ v → Tests p (take key v) (old.trees t.tree)
-      → IsSoundDatabase schema old.trees → IsDatabase new → new.schema ≡ schema → Makes schema t old new (put key v (Has (rows_in t old.trees)))
+  pub swaps_make : (p : Row → Bool) (n v : Row) (old new : Database) → Swaps schema t p n old.trees new.trees
+      → visible_row t n ≡ v → Tests p (take key v) (old.trees t.tree)
+      → IsSoundDatabase schema old.trees → IsDatabase new → new.schema ≡ schema
+      → Makes schema t old new (put key v (Has (rows_in t old.trees)))
   swaps_make p n v old new swap shows tests sound base is = record {
     schema_is = is;
     rows = swaps_set p n v old.trees new.trees swap shows tests;
@@ -95,8 +105,10 @@ module _ (schema : Schema) (among : (u : Table) → Has all_tables u → Has sch
     sound = stays_sound old new sound base is swap.keyed swap.others;
   }
 
-  pub loses_make : (p : Row → Bool) (k : Row) (old new : Database) → Loses schema t p old.trees new.trees → Tests p k (old.trees t.tree)
-      → IsSoundDatabase schema old.trees → IsDatabase new → new.schema ≡ schema → Makes schema t old new (drop_key key k (Has (rows_in t old.trees)))
+  pub loses_make : (p : Row → Bool) (k : Row) (old new : Database) → Loses schema t p old.trees new.trees
+      → Tests p k (old.trees t.tree)
+      → IsSoundDatabase schema old.trees → IsDatabase new → new.schema ≡ schema
+      → Makes schema t old new (drop_key key k (Has (rows_in t old.trees)))
   loses_make p k old new lose tests sound base is = record {
     schema_is = is;
     rows = loses_set p k old.trees new.trees lose tests;
@@ -108,16 +120,25 @@ module _ (schema : Schema) (among : (u : Table) → Has all_tables u → Has sch
       (plain : (db : Trees) → overlay db [] t.tree ≡ db t.tree) (new v : Row) (old next : Database) where
     -- where a row has the key, the UPDATE of the upsert changes it to one that shows the values `v`
     abbrev pub UpdateShowsValues : Type 0
-    UpdateShowsValues = (r : Row) → Has (old.trees t.tree) r → take key (visible_row t r) ≡ take key v → visible_row t (cast_row t (eval_all project (given schema t unlinked limit params target position project plain new r ∷ r ∷ []))) ≡ v
+    UpdateShowsValues =
+        (r : Row) → Has (old.trees t.tree) r → take key (visible_row t r) ≡ take key v → visible_row t
+        (cast_row t (eval_all project (given schema t unlinked limit params target position project plain new r ∷ r ∷ [])))
+        ≡ v
 
     -- two rows of the table with the same key have the same rowid, so they are one row
     abbrev pub OneRow : Type 0
-    OneRow = (x r : Row) → Has (old.trees t.tree) x → Has (old.trees t.tree) r → take key (visible_row t x) ≡ take key (visible_row t r) → is_eq (value_cmp (rowid x) (rowid r)) ≡ true
+    OneRow =
+        (x r : Row) → Has (old.trees t.tree) x → Has (old.trees t.tree) r → take key (visible_row t x) ≡ take key
+        (visible_row t r) → is_eq (value_cmp (rowid x) (rowid r)) ≡ true
 
-    over_make : (r : Row) → Has (old.trees t.tree) r → hits schema t unlinked limit params target position project plain new r ≡ true
+    over_make : (r : Row) → Has (old.trees t.tree) r
+        → hits schema t unlinked limit params target position project plain new r ≡ true
         → Swaps schema t (λ x. is_eq (value_cmp (rowid x) (rowid r))) (cast_row t (eval_all project (given schema t unlinked limit params target position project plain new r ∷ r ∷ []))) old.trees next.trees
-        → UpdateShowsValues → Tests (hits schema t unlinked limit params target position project plain new) (take key v) (old.trees t.tree) → OneRow
-        → Has all_tables t → IsSoundDatabase schema old.trees → IsDatabase next → next.schema ≡ schema → Makes schema t old next (put key v (Has (rows_in t old.trees)))
+        → UpdateShowsValues
+        → Tests (hits schema t unlinked limit params target position project plain new) (take key v) (old.trees t.tree)
+        → OneRow
+        → Has all_tables t → IsSoundDatabase schema old.trees → IsDatabase next → next.schema ≡ schema
+        → Makes schema t old next (put key v (Has (rows_in t old.trees)))
     over_make r there hit over changed tests alone listed sound base is =
         let same : take key (visible_row t r) ≡ take key v = (tests r there).0 hit in
         swaps_make _ _ v old next over (changed r there same) (λ x k. (
@@ -127,24 +148,36 @@ module _ (schema : Schema) (among : (u : Table) → Has all_tables u → Has sch
 
     -- after an upsert whose INSERT and whose UPDATE make rows that show `v`, the table is the old one with the row `v`
     -- put (`Makes`)
-    pub upserts_make : Upserted schema t unlinked limit params target position project plain new old.trees next.trees → visible_row t (cast_row t new) ≡ v → UpdateShowsValues
-        → Tests (hits schema t unlinked limit params target position project plain new) (take key v) (old.trees t.tree) → OneRow
-        → Has all_tables t → IsSoundDatabase schema old.trees → IsDatabase next → next.schema ≡ schema → Makes schema t old next (put key v (Has (rows_in t old.trees)))
-    upserts_make (inl put_in) shows changed tests alone listed sound base is = swaps_make _ _ v old next put_in.1 shows tests sound base is
-    upserts_make (inr over) shows changed tests alone listed sound base is = over_make over.0 over.1 over.2 over.3 changed tests alone listed sound base is
+    pub upserts_make : Upserted schema t unlinked limit params target position project plain new old.trees next.trees
+        → visible_row t (cast_row t new) ≡ v → UpdateShowsValues
+        → Tests (hits schema t unlinked limit params target position project plain new) (take key v) (old.trees t.tree)
+        → OneRow
+        → Has all_tables t → IsSoundDatabase schema old.trees → IsDatabase next → next.schema ≡ schema
+        → Makes schema t old next (put key v (Has (rows_in t old.trees)))
+    upserts_make (inl put_in) shows changed tests alone listed sound base is =
+        swaps_make _ _ v old next put_in.1 shows tests sound base is
+    upserts_make (inr over) shows changed tests alone listed sound base is =
+        over_make over.0 over.1 over.2 over.3 changed tests alone listed sound base is
 
     -- if a row with the key is there, an upsert whose UPDATE makes a row that shows `v` puts the row `v` (`Makes`),
     -- whatever the INSERT would have made
-    pub updates_make : Upserted schema t unlinked limit params target position project plain new old.trees next.trees → (r : Row) → Has (old.trees t.tree) r → take key (visible_row t r) ≡ take key v → UpdateShowsValues
-        → Tests (hits schema t unlinked limit params target position project plain new) (take key v) (old.trees t.tree) → OneRow
-        → Has all_tables t → IsSoundDatabase schema old.trees → IsDatabase next → next.schema ≡ schema → Makes schema t old next (put key v (Has (rows_in t old.trees)))
-    updates_make (inl put_in) r there same changed tests alone listed sound base is = absurd (true≢false (sym ((tests r there).1 same) ∙ put_in.0 r there))
-    updates_make (inr over) r there same changed tests alone listed sound base is = over_make over.0 over.1 over.2 over.3 changed tests alone listed sound base is
+    pub updates_make : Upserted schema t unlinked limit params target position project plain new old.trees next.trees
+        → (r : Row) → Has (old.trees t.tree) r → take key (visible_row t r) ≡ take key v → UpdateShowsValues
+        → Tests (hits schema t unlinked limit params target position project plain new) (take key v) (old.trees t.tree)
+        → OneRow
+        → Has all_tables t → IsSoundDatabase schema old.trees → IsDatabase next → next.schema ≡ schema
+        → Makes schema t old next (put key v (Has (rows_in t old.trees)))
+    updates_make (inl put_in) r there same changed tests alone listed sound base is =
+        absurd (true≢false (sym ((tests r there).1 same) ∙ put_in.0 r there))
+    updates_make (inr over) r there same changed tests alone listed sound base is =
+        over_make over.0 over.1 over.2 over.3 changed tests alone listed sound base is
 
-    pub upserts_sound : Upserted schema t unlinked limit params target position project plain new old.trees next.trees → IsSoundDatabase schema old.trees → IsDatabase next → next.schema ≡ schema → IsSoundDatabase schema next.trees
+    pub upserts_sound : Upserted schema t unlinked limit params target position project plain new old.trees next.trees
+        → IsSoundDatabase schema old.trees → IsDatabase next → next.schema ≡ schema → IsSoundDatabase schema next.trees
     upserts_sound (inl put_in) sound base is = stays_sound old next sound base is put_in.1.keyed put_in.1.others
     upserts_sound (inr over) sound base is = stays_sound old next sound base is over.3.keyed over.3.others
 
-    pub upserts_others : Upserted schema t unlinked limit params target position project plain new old.trees next.trees → (u : Table) → Has schema.tables u → u.tree ≢ t.tree → next.trees u.tree ≡ old.trees u.tree
+    pub upserts_others : Upserted schema t unlinked limit params target position project plain new old.trees next.trees
+        → (u : Table) → Has schema.tables u → u.tree ≢ t.tree → next.trees u.tree ≡ old.trees u.tree
     upserts_others (inl put_in) = put_in.1.others
     upserts_others (inr over) = over.3.others

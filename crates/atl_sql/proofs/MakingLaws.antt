@@ -14,7 +14,8 @@ use Rattle.atl_descriptions.specs.Tables.{all_indexes, all_tables, no_tables, ta
 use Rattle.atl_sql.specs.Inside.{DoesInside, IsBlank}
 use Rattle.atl_sql.specs.Making.{AreEmpty}
 
-pub extends : (before after : Schema) (table : Table) (old new : State) → IsTrue old.in_transaction → new.in_transaction ≡ true → after.tables ≡ before.tables ++ table ∷ []
+pub extends : (before after : Schema) (table : Table) (old new : State) → IsTrue old.in_transaction
+    → new.in_transaction ≡ true → after.tables ≡ before.tables ++ table ∷ []
     → (old.now.schema ≡ before → CreatesTable before after table.tree old.now new.now) → Extends before after old new
 extends before after table old new inside mode more makes = (
   mode ∙ sym inside,
@@ -36,7 +37,8 @@ extends before after table old new inside mode more makes = (
 
 -- the schema of the tables of this list, the first ones of the ten, and of the indexes of their keys
 abbrev pub with_tables : List Table → Schema
-with_tables tables = record { tables = tables; indexes = take (sum_by (λ t. length t.uniques) tables) all_indexes; views = [] }
+with_tables tables =
+    record { tables = tables; indexes = take (sum_by (λ t. length t.uniques) tables) all_indexes; views = [] }
 
 -- the schema of the first `count` of the ten tables and of the indexes of their keys
 abbrev pub schema_of_first : ℕ → Schema
@@ -45,13 +47,17 @@ schema_of_first count = with_tables (take count all_tables)
 -- In a database without tables the first `count` tables are made, all empty. Its trees list them (`IsDatabase`), unless
 -- `count` is 0. The connection is in a transaction afterwards exactly if it was before.
 abbrev pub MakesFirst : ℕ → State → State → Type 0
-MakesFirst count old new = (new.in_transaction ≡ old.in_transaction) × (AreBare no_tables old.now → AreBare (schema_of_first count) new.now × (0 < count → IsDatabase new.now))
+MakesFirst count old new =
+    (new.in_transaction ≡ old.in_transaction) ×
+    (AreBare no_tables old.now → AreBare (schema_of_first count) new.now × (0 < count → IsDatabase new.now))
 
 pub makes_none : (s : State) → MakesFirst 0 s s
 makes_none s = (refl, λ bare. (bare, λ some. absurd (omega (arith, some))))
 
-pub makes_more : (count : ℕ) (a b c : State) → MakesFirst count a b → Extends (schema_of_first count) (schema_of_first (count + 1)) b c → MakesFirst (count + 1) a c
-makes_more count a b c first next = (next.0 ∙ first.0, λ bare. let made = next.1 (first.1 bare).0 in (made.0, λ some. made.1))
+pub makes_more : (count : ℕ) (a b c : State) → MakesFirst count a b
+    → Extends (schema_of_first count) (schema_of_first (count + 1)) b c → MakesFirst (count + 1) a c
+makes_more count a b c first next =
+    (next.0 ∙ first.0, λ bare. let made = next.1 (first.1 bare).0 in (made.0, λ some. made.1))
 
 -- ---- all ten tables
 
@@ -59,7 +65,8 @@ no_rows : AreKeyedByRowid []
 no_rows = record { apart = tt; ints = tt }
 
 -- making the first `count` tables in a blank database makes all ten, each empty, if `count` is ten or more
-pub makes_all : (count : ℕ) → table_count ≤ count → (a b : State) → MakesFirst count a b → DoesInside IsBlank AreEmpty a b
+pub makes_all : (count : ℕ) → table_count ≤ count → (a b : State) → MakesFirst count a b
+    → DoesInside IsBlank AreEmpty a b
 makes_all count enough a b all = (
   all.0,
   λ blank.

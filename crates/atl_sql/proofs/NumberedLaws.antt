@@ -76,7 +76,8 @@ module _ (tree : ℕ) (name key_name : List ℕ) (columns : List Column) (unique
   module _ (is : IsNumberedTable t at width) where
     -- ---- the DELETE of a row
 
-    drops : (n : ℕ) (old new : State) (count : ℕ) → IsTrue old.in_transaction → ExecutesInside 0 drop (int n ∷ []) old new (Ok count)
+    drops : (n : ℕ) (old new : State) (count : ℕ) → IsTrue old.in_transaction
+        → ExecutesInside 0 drop (int n ∷ []) old new (Ok count)
         → DoesInside HasTables (Drops t 1 (int n ∷ [])) old new
     drops n old new count inside ran = (
       ran.1.mode ∙ sym inside,
@@ -101,7 +102,8 @@ module _ (tree : ℕ) (name key_name : List ℕ) (columns : List Column) (unique
     -- ---- the upsert of a row
 
     puts : (n : ℕ) (values : Row) → Fits columns values → (old new : State) (count : ℕ) → IsTrue old.in_transaction
-        → ExecutesInside 0 put (int n ∷ values) old new (Ok count) → DoesInside HasTables (Puts t 1 (int n ∷ values)) old new
+        → ExecutesInside 0 put (int n ∷ values) old new (Ok count)
+        → DoesInside HasTables (Puts t 1 (int n ∷ values)) old new
     unfolding first_key
     puts n values fits old new count inside ran = (
       ran.1.mode ∙ sym inside,
@@ -120,7 +122,8 @@ module _ (tree : ℕ) (name key_name : List ℕ) (columns : List Column) (unique
           let made : with_rowid Chosen (old.now.trees tree) (cast_row t src) ≡ src = ap (with_rowid Chosen (old.now.trees tree)) writes.casted in
           let shown : visible_row t (cast_row t src) ≡ v = ap (visible_row t) writes.casted ∙ writes.shown in
           let others : (x : Row) → list_any (shares (Some (0 ∷ [])) t src x) (all_indexes ++ has.begins.indexes) ≡ false = λ x. (
-          list_any-append (shares (Some (0 ∷ [])) t src x) all_indexes has.begins.indexes ∙ rw (is.no_index_shares src x) (none_share t (Some (0 ∷ [])) src x has.begins.indexes (λ i there. has.begins.plain i there t is.ours))
+          list_any-append (shares (Some (0 ∷ [])) t src x) all_indexes has.begins.indexes
+          ∙ rw (is.no_index_shares src x) (none_share t (Some (0 ∷ [])) src x has.begins.indexes (λ i there. has.begins.plain i there t is.ours))
           ) in
           let makes = upserts_make schema (among_all has.begins.tables) t 1 none old.step_limit v (0 ∷ []) (width + 1) project is.plain src v old.now new.now
           (subst (λ k. Upserted schema t none old.step_limit v (0 ∷ []) (width + 1) project is.plain k old.now.trees new.now.trees) made up.0)

@@ -35,7 +35,8 @@ part_is_numbered part is = record {
   no_index_shares = λ new x. refl;
 }
 
-pub puts_part : (part : Part) → IsNumberedPart part → (n : ℕ) (values : Row) → Fits (drop 1 (table_of part).columns) values → PutsRow (table_of part) 1 (int n ∷ values)
+pub puts_part : (part : Part) → IsNumberedPart part → (n : ℕ) (values : Row)
+    → Fits (drop 1 (table_of part).columns) values → PutsRow (table_of part) 1 (int n ∷ values)
 puts_part Own is = absurd is
 puts_part Goods is = absurd is
 puts_part Books is = absurd is

@@ -39,30 +39,41 @@ campaign_table_is_listed = listed Own
 
 -- the terms of the INSERT of a campaign row: id and format are fixed, all other columns are parameters
 abbrev pub own_terms : List Term
-own_terms = lit (Int (pos 1)) ∷ lit Null ∷ lit (Int (pos 2)) ∷ col 0 0 ∷ col 0 1 ∷ col 0 2 ∷ col 0 3 ∷ col 0 4 ∷ col 0 5 ∷ []
+own_terms =
+    lit (Int (pos 1)) ∷ lit Null ∷ lit (Int (pos 2)) ∷ col 0 0 ∷ col 0 1 ∷ col 0 2 ∷ col 0 3 ∷ col 0 4 ∷ col 0 5 ∷ []
 
 abbrev stored_own_row : CampaignRowValue → List ℕ → Row
 stored_own_row head world = int 1 ∷ Null ∷ int 2 ∷ campaign_row_values head world
 
 -- the row, as SQL shows it, that the UPDATE by these terms makes of a stored row of `campaign`
 abbrev pub changed_to : List Term → CampaignRowValue → List ℕ → Row → Row
-changed_to project head world r = visible_row campaign_table (cast_row campaign_table (eval_all project ((campaign_row_values head world ++ rowid r ∷ shown campaign_table (stored_own_row head world)) ∷ r ∷ [])))
+changed_to project head world r =
+    visible_row campaign_table
+    (cast_row campaign_table (eval_all project ((campaign_row_values head world ++ rowid r ∷ shown campaign_table (stored_own_row head world)) ∷ r ∷ [])))
 
 -- an upsert of `campaign` inserts the row where there is none, or changes the one that is there by the terms `project`
 pub record PutsOwn (project : List Term) (head : CampaignRowValue) (world : List ℕ) (old new : Database) : Type 0 where
   pub first : rows_in campaign_table old.trees ≡ [] → Puts campaign_table 1 (campaign_row head world) old new
   -- a campaign row `before` that is there is replaced by the row `after` that the UPDATE makes of it, if both have id 1
-  pub again : (before after : Row) → take 1 before ≡ int 1 ∷ [] → take 1 after ≡ int 1 ∷ [] → HasExactly (rows_in campaign_table old.trees) (λ r. r ≡ before) → ((r : Row) → visible_row campaign_table r ≡ before → changed_to project head world r ≡ after) → Puts campaign_table 1 after old new
+  pub again : (before after : Row) → take 1 before ≡ int 1 ∷ [] → take 1 after ≡ int 1 ∷ []
+      → HasExactly (rows_in campaign_table old.trees) (λ r. r ≡ before)
+      → ((r : Row) → visible_row campaign_table r ≡ before → changed_to project head world r ≡ after)
+      → Puts campaign_table 1 after old new
   pub tables : HasTables new
   pub carries : Carries old new
 
 -- the text means the upsert of `campaign` whose UPDATE has the terms `project`, whatever other tables follow
 pub record MeansOwn (sql : List ℕ) (project : List Term) : Type 1 where
-  pub is : (more : List Table) (indexes : List Index) → command_of (understood (all_tables_and_others more indexes) sql) ≡ InsertOr 0 Abort (Values own_terms 9) (conflict_clause (0 ∷ []) (record { lets = []; body = update_query campaign_table.tree 6 project }) ∷ [])
+  pub is : (more : List Table) (indexes : List Index)
+      → command_of (understood (all_tables_and_others more indexes) sql)
+      ≡ InsertOr 0 Abort (Values own_terms 9) (conflict_clause (0 ∷ []) (record { lets = []; body = update_query campaign_table.tree 6 project }) ∷ [])
   pub plain : (more : List Table) (indexes : List Index) → IsPlain (understood (all_tables_and_others more indexes) sql)
 
 -- a text that means an upsert of the campaign row (`MeansOwn`) inserts or changes the row (`PutsOwn`)
-pub puts_own : (sql : List ℕ) (project : List Term) → MeansOwn sql project → (old new : State) (head : CampaignRowValue) (world : List ℕ) (count : ℕ) → HasTables old.now → ExecutesInside 0 sql (campaign_row_values head world) old new (Ok count) → PutsOwn project head world old.now new.now
+pub puts_own : (sql : List ℕ) (project : List Term) → MeansOwn sql project
+    → (old new : State) (head : CampaignRowValue) (world : List ℕ) (count : ℕ) → HasTables old.now
+    → ExecutesInside 0 sql (campaign_row_values head world) old new (Ok count)
+    → PutsOwn project head world old.now new.now
 unfolding first_key
 puts_own sql project means old new head world count has ran =
     let schema = all_tables_and_others has.begins.tables has.begins.indexes in

@@ -30,9 +30,12 @@ pair_update_terms = col 1 0 ∷ col 1 1 ∷ col 1 2 ∷ col 0 2 ∷ []
 module _ (tree : ℕ) (name first second amount : List ℕ) where
   -- a table, such as `books`, whose rows are a key of two numbers and one number more
   abbrev pub pair_table : Table
-  pair_table = table tree name (integer_column first ∷ integer_column second ∷ integer_column amount ∷ []) None pair_unique (pair_unique ∷ []) []
+  pair_table =
+      table tree name (integer_column first ∷ integer_column second ∷ integer_column amount ∷ []) None pair_unique
+      (pair_unique ∷ []) []
 
-  pub pair_ints : (schema : Schema) (x : Row) → passes Datatype schema (λ t. []) pair_table x ≡ true → passes NotNull schema (λ t. []) pair_table x ≡ true
+  pub pair_ints : (schema : Schema) (x : Row) → passes Datatype schema (λ t. []) pair_table x ≡ true
+      → passes NotNull schema (λ t. []) pair_table x ≡ true
       → AreInts pair_unique x
   pair_ints schema [] typed present = absurd (true≢false (sym present))
   pair_ints schema (r ∷ []) typed present = absurd (true≢false (sym present))
@@ -44,7 +47,8 @@ module _ (tree : ℕ) (name first second amount : List ℕ) where
       let p2 = and_parts _ _ p1.1 in
       (strict_integer_is_int a t1.0 (not-true _ p1.0), (strict_integer_is_int b t2.0 (not-true _ p2.0), tt))
 
-  pub makes_pair : (a b : ℕ) (n : ℤ) → MakesValues pair_table pair_unique 4 pair_terms 3 pair_update_terms (int a ∷ int b ∷ Int n ∷ [])
+  pub makes_pair : (a b : ℕ) (n : ℤ)
+      → MakesValues pair_table pair_unique 4 pair_terms 3 pair_update_terms (int a ∷ int b ∷ Int n ∷ [])
   makes_pair a b n = record {
     source = refl;
     casted = rw (cast_null, cast_int (pos a), cast_int (pos b), cast_int n) refl;

@@ -20,15 +20,18 @@ found_part Own = refl
 found_part part = refl
 
 pub same_part : (p q : Part) → tree_of p ≡ tree_of q → p ≡ q
-same_part p q same = same_Some p q (sym (found_part p) ∙ ap (λ tree. find (λ x. nat_eq (tree_of x) tree) all_parts) same ∙ found_part q)
+same_part p q same =
+    same_Some p q (sym (found_part p) ∙ ap (λ tree. find (λ x. nat_eq (tree_of x) tree) all_parts) same ∙ found_part q)
 
-first_or_later : {X : Type 0} (b : Bool) (y x : X) (later : Option X) → cond b (Some y) later ≡ Some x → (x ≡ y) ⊎ (later ≡ Some x)
+first_or_later : {X : Type 0} (b : Bool) (y x : X) (later : Option X) → cond b (Some y) later ≡ Some x
+    → (x ≡ y) ⊎ (later ≡ Some x)
 first_or_later true y x later is = inl (same_Some x y (sym is))
 first_or_later false y x later is = inr is
 
 found_has : {X : Type 0} (p : X → Bool) (xs : List X) (x : X) → find p xs ≡ Some x → Has xs x
 found_has p [] x is = absurd cc
-found_has p (y ∷ xs) x is = elim (first_or_later (p y) y x (find p xs) is) [ inl same ↦ inl same | inr later ↦ inr (found_has p xs x later) ]
+found_has p (y ∷ xs) x is =
+    elim (first_or_later (p y) y x (find p xs) is) [ inl same ↦ inl same | inr later ↦ inr (found_has p xs x later) ]
 
 every_part : (part : Part) → Has all_parts part
 every_part part = found_has (λ p. nat_eq (tree_of p) (tree_of part)) all_parts part (found_part part)
@@ -47,7 +50,8 @@ abbrev pub are_apart : List Part → List Part → Bool
 are_apart ps qs = list_all (λ p. not (is_among qs p)) ps
 
 member_is_among : (parts : List Part) (part : Part) → Has parts part → is_among parts part ≡ true
-member_is_among parts part there = some_from (λ p. nat_eq (tree_of part) (tree_of p)) parts part there (itself (tree_of part))
+member_is_among parts part there =
+    some_from (λ p. nat_eq (tree_of part) (tree_of p)) parts part there (itself (tree_of part))
   where
     itself : (n : ℕ) → nat_eq n n ≡ true
     itself n = grind (arith, nat_tests)
@@ -69,4 +73,5 @@ pub all_among : (parts : List Part) → list_all (is_among parts) all_parts ≡ 
 all_among parts all part = among_has parts part (test_has (is_among parts) all_parts part all (every_part part))
 
 pub not_both : (ps qs : List Part) → are_apart ps qs ≡ true → (part : Part) → Has ps part → ¬ Has qs part
-not_both ps qs apart part there also = true≢false (sym (test_has (λ p. not (is_among qs p)) ps part apart there) ∙ ap not (member_is_among qs part also))
+not_both ps qs apart part there also =
+    true≢false (sym (test_has (λ p. not (is_among qs p)) ps part apart there) ∙ ap not (member_is_among qs part also))

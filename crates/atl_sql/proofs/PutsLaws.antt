@@ -14,10 +14,12 @@ use Rattle.atl_sql.proofs.CarryLaws.{carries_then, carries_none}
 -- some rows of the list `all` are put: once the rows `rest` are put too, all rows of the list are; the other tables are
 -- unchanged
 pub record IsPartlyPut (table : Table) (key : ℕ) (rest all : List Row) (old now : Database) : Type 0 where
-  pub rows : (r : Row) → puts key rest (Has (rows_in table now.trees)) r ↔ puts key all (Has (rows_in table old.trees)) r
+  pub rows : (r : Row)
+      → puts key rest (Has (rows_in table now.trees)) r ↔ puts key all (Has (rows_in table old.trees)) r
   pub others : (t : Table) → Has all_tables t → t.tree ≢ table.tree → now.trees t.tree ≡ old.trees t.tree
 
-puts_same : (key : ℕ) (news : List Row) (S T : Set) → ((r : Row) → S r ↔ T r) → (r : Row) → puts key news S r ↔ puts key news T r
+puts_same : (key : ℕ) (news : List Row) (S T : Set) → ((r : Row) → S r ↔ T r) → (r : Row)
+    → puts key news S r ↔ puts key news T r
 puts_same key [] S T same r = same r
 puts_same key (new ∷ news) S T same r = puts_same key news (put key new S) (put key new T) (λ x. (
   λ h. elim h [ inl is ↦ inl is | inr was ↦ inr ((same x).0 was.0, was.1) ],
@@ -33,7 +35,8 @@ append_puts key [] ys S r h = h
 append_puts key (x ∷ xs) ys S r h = append_puts key xs ys (put key x S) r h
 
 module _ (table : Table) (key : ℕ) where
-  towards_rows : (xs rest all : List Row) (old mid new : Database) → IsPartlyPut table key (xs ++ rest) all old mid → PutsRows table key xs mid new → IsPartlyPut table key rest all old new
+  towards_rows : (xs rest all : List Row) (old mid new : Database) → IsPartlyPut table key (xs ++ rest) all old mid
+      → PutsRows table key xs mid new → IsPartlyPut table key rest all old new
   towards_rows xs rest all old mid new so_far more = record {
     rows = λ r.
         let same = puts_same key rest (Has (rows_in table new.trees)) (puts key xs (Has (rows_in table mid.trees))) more.rows r in (
@@ -47,7 +50,10 @@ module _ (table : Table) (key : ℕ) where
   puts_one x old new one = record { rows = one.rows; others = one.others }
 
   -- inside a transaction, putting the next rows, those of the list `xs`, leaves the rows `rest` to put (`IsPartlyPut`)
-  pub inside_rows : (xs rest all : List Row) (old mid new : State) → DoesInside HasTables (IsPartlyPut table key (xs ++ rest) all) old mid → DoesInside HasTables (PutsRows table key xs) mid new → DoesInside HasTables (IsPartlyPut table key rest all) old new
+  pub inside_rows : (xs rest all : List Row) (old mid new : State)
+      → DoesInside HasTables (IsPartlyPut table key (xs ++ rest) all) old mid
+      → DoesInside HasTables (PutsRows table key xs) mid new
+      → DoesInside HasTables (IsPartlyPut table key rest all) old new
   inside_rows xs rest all old mid new so_far more = (
     more.0 ∙ so_far.0,
     λ has.
@@ -56,7 +62,8 @@ module _ (table : Table) (key : ℕ) where
         record { does = towards_rows xs rest all old.now mid.now new.now was.does now.does; tables = now.tables; carries = carries_then old.now mid.now new.now was.carries now.carries },
   )
 
-  pub none_yet : (rest all : List Row) → rest ≡ all → (s : State) → DoesInside HasTables (IsPartlyPut table key rest all) s s
+  pub none_yet : (rest all : List Row) → rest ≡ all → (s : State)
+      → DoesInside HasTables (IsPartlyPut table key rest all) s s
   none_yet rest all same s = (
     refl,
     λ has. record {
@@ -66,7 +73,9 @@ module _ (table : Table) (key : ℕ) where
     },
   )
 
-  pub all_put : (rest all : List Row) → rest ≡ [] → (old new : State) → DoesInside HasTables (IsPartlyPut table key rest all) old new → DoesInside HasTables (PutsRows table key all) old new
+  pub all_put : (rest all : List Row) → rest ≡ [] → (old new : State)
+      → DoesInside HasTables (IsPartlyPut table key rest all) old new
+      → DoesInside HasTables (PutsRows table key all) old new
   all_put rest all none old new did = (
     did.0,
     λ has.
@@ -81,10 +90,13 @@ module _ (table : Table) (key : ℕ) where
   pub none_put : (rows : List Row) → rows ≡ [] → (s : State) → DoesInside HasTables (PutsRows table key rows) s s
   none_put rows none s = all_put rows rows none s s (none_yet rows rows refl s)
 
-  pub one_put : (row : Row) (rows : List Row) → rows ≡ row ∷ [] → (old new : State) → DoesInside HasTables (Puts table key row) old new → DoesInside HasTables (PutsRows table key rows) old new
-  one_put row rows is old new did = (did.0, λ has. let made = did.1 has in record { does = subst (λ list. PutsRows table key list old.now new.now) (sym is) (puts_one row old.now new.now made.does); tables = made.tables; carries = made.carries })
+  pub one_put : (row : Row) (rows : List Row) → rows ≡ row ∷ [] → (old new : State)
+      → DoesInside HasTables (Puts table key row) old new → DoesInside HasTables (PutsRows table key rows) old new
+  one_put row rows is old new did =
+      (did.0, λ has. let made = did.1 has in record { does = subst (λ list. PutsRows table key list old.now new.now) (sym is) (puts_one row old.now new.now made.does); tables = made.tables; carries = made.carries })
 
-  pub inside_both : (xs ys : List Row) (a b c : State) → DoesInside HasTables (PutsRows table key xs) a b → DoesInside HasTables (PutsRows table key ys) b c → DoesInside HasTables (PutsRows table key (xs ++ ys)) a c
+  pub inside_both : (xs ys : List Row) (a b c : State) → DoesInside HasTables (PutsRows table key xs) a b
+      → DoesInside HasTables (PutsRows table key ys) b c → DoesInside HasTables (PutsRows table key (xs ++ ys)) a c
   inside_both xs ys a b c one two = (
     two.0 ∙ one.0,
     λ has.

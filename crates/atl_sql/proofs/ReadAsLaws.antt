@@ -8,14 +8,17 @@ use Rattle.sqlite_rules.proofs.ListLemmas.{has_left, has_right}
 use Rattle.atl_sql.specs.Reading.{AddsRow}
 use Rattle.atl_sql.specs.Stored.{Form, first_columns, AreReadAs, HasOutOfRange, IsShownAs}
 
-zip_at_end : {X A : Type 0} (R : X → A → Type 0) (xs : List X) (all : List A) (x : X) (one : A) → AllZip R xs all → R x one → AllZip R (xs ++ x ∷ []) (all ++ one ∷ [])
+zip_at_end : {X A : Type 0} (R : X → A → Type 0) (xs : List X) (all : List A) (x : X) (one : A) → AllZip R xs all
+    → R x one → AllZip R (xs ++ x ∷ []) (all ++ one ∷ [])
 zip_at_end R [] [] x one are is = (is, tt)
 zip_at_end R [] (a ∷ all) x one are is = absurd are
 zip_at_end R (y ∷ xs) [] x one are is = absurd are
 zip_at_end R (y ∷ xs) (a ∷ all) x one are is = (are.0, zip_at_end R xs all x one are.1 is)
 
 -- what is added for the next row (`AddsRow`) is read from it
-pub read_more : {A : Type 0} (forms : List Form) (reads : Row → A → Type 0) (given : List Row) (old_items new_items : List A) (row : Row) → AreReadAs forms reads given old_items → AddsRow forms reads old_items row new_items → AreReadAs forms reads (given ++ row ∷ []) new_items
+pub read_more : {A : Type 0} (forms : List Form) (reads : Row → A → Type 0) (given : List Row) (old_items new_items : List A) (row : Row)
+    → AreReadAs forms reads given old_items → AddsRow forms reads old_items row new_items
+    → AreReadAs forms reads (given ++ row ∷ []) new_items
 read_more forms reads given old_items new_items row are adds =
     subst (AreReadAs forms reads (given ++ row ∷ [])) (sym adds.1)
     (subst (λ rows. AllZip reads rows (old_items ++ adds.0 ∷ [])) (sym (map-append (first_columns (length forms)) given (row ∷ [])))
@@ -30,14 +33,19 @@ AreParsed forms reads is_in_range rows all false = HasOutOfRange forms is_in_ran
 
 module _ {A : Type 0} (forms : List Form) (reads : Row → A → Type 0) (is_in_range : Row → Bool) (old_items new_items : List A) (row : Row) where
   -- one more row is parsed: what is read of it is added, or it is out of range
-  parsed_more : (rows : List Row) (are is : Bool) → AreParsed forms reads is_in_range rows old_items are → (is ≡ true → AddsRow forms reads old_items row new_items) → (is ≡ false → is_in_range (first_columns (length forms) row) ≡ false)
+  parsed_more : (rows : List Row) (are is : Bool) → AreParsed forms reads is_in_range rows old_items are
+      → (is ≡ true → AddsRow forms reads old_items row new_items)
+      → (is ≡ false → is_in_range (first_columns (length forms) row) ≡ false)
       → AreParsed forms reads is_in_range (rows ++ row ∷ []) new_items (are && is)
   parsed_more rows true true parsed adds out = read_more forms reads rows old_items new_items row parsed (adds refl)
   parsed_more rows true false parsed adds out = (row, has_right rows (row ∷ []) row (inl refl), out refl)
   parsed_more rows false is parsed adds out = (parsed.0, has_left rows (row ∷ []) parsed.0 parsed.1, parsed.2)
 
-  pub parsed_next : (rows : List Row) (at : ℕ) (are is both : Bool) → both ≡ (are && is) → at < length rows → row ≡ get_or rows at row → AreParsed forms reads is_in_range (take at rows) old_items are
-      → (is ≡ true → AddsRow forms reads old_items row new_items) → (is ≡ false → is_in_range (first_columns (length forms) row) ≡ false) → AreParsed forms reads is_in_range (take (at + 1) rows) new_items both
+  pub parsed_next : (rows : List Row) (at : ℕ) (are is both : Bool) → both ≡ (are && is) → at < length rows
+      → row ≡ get_or rows at row → AreParsed forms reads is_in_range (take at rows) old_items are
+      → (is ≡ true → AddsRow forms reads old_items row new_items)
+      → (is ≡ false → is_in_range (first_columns (length forms) row) ≡ false)
+      → AreParsed forms reads is_in_range (take (at + 1) rows) new_items both
   parsed_next rows at are is both both_is within here parsed adds out =
       subst (AreParsed forms reads is_in_range (take (at + 1) rows) new_items) (sym both_is)
       (subst (λ l. AreParsed forms reads is_in_range l new_items (are && is)) (sym (take_more rows at row within ∙ ap (λ r. take at rows ++ r ∷ []) (sym here)))
@@ -45,8 +53,10 @@ module _ {A : Type 0} (forms : List Form) (reads : Row → A → Type 0) (is_in_
 
 -- ---- rows that are read as what is shown as them
 
-pub shown_all : {A : Type 0} (shown : A → Row) (rows : List Row) (all : List A) → AllZip (IsShownAs shown) rows all → map shown all ≡ rows
+pub shown_all : {A : Type 0} (shown : A → Row) (rows : List Row) (all : List A) → AllZip (IsShownAs shown) rows all
+    → map shown all ≡ rows
 shown_all shown [] [] are = refl
 shown_all shown [] (a ∷ all) are = absurd are
 shown_all shown (r ∷ rows) [] are = absurd are
-shown_all shown (r ∷ rows) (a ∷ all) are = ap (λ x. x ∷ map shown all) are.0 ∙ ap (λ l. r ∷ l) (shown_all shown rows all are.1)
+shown_all shown (r ∷ rows) (a ∷ all) are =
+    ap (λ x. x ∷ map shown all) are.0 ∙ ap (λ l. r ∷ l) (shown_all shown rows all are.1)

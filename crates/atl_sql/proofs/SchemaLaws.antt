@@ -24,7 +24,8 @@ use Rattle.atl_descriptions.specs.Described.{index_of}
 use Rattle.atl_descriptions.specs.Sets.{table}
 use Rattle.atl_descriptions.specs.Tables.{Part, Own, all_tables, all_indexes, all_trees, table_of, IsHarmless, AreTables, AreIndexes, Begins}
 
-pub only_one : {A : Type 0} (xs : List A) (x d : A) → 1 ≤ length xs → length xs < 2 → d ≡ get_or xs 0 d → d ≡ x → xs ≡ x ∷ []
+pub only_one : {A : Type 0} (xs : List A) (x d : A) → 1 ≤ length xs → length xs < 2 → d ≡ get_or xs 0 d → d ≡ x
+    → xs ≡ x ∷ []
 only_one [] x d least most is same = absurd (omega (arith, least))
 only_one (y ∷ []) x d least most is same = ap (λ z. z ∷ []) (sym is ∙ same)
 only_one (y ∷ z ∷ xs) x d least most is same = absurd (omega (arith, most))
@@ -44,8 +45,10 @@ sorts_plainly : (part : Part) → get_or (table_of part).orders 0 plain ≡ plai
 sorts_plainly Own = refl
 sorts_plainly part = refl
 
--- A test for the index of a described key is one for the index of the first unique key of the part's table (`index_of`).
-pub is_index : (part : Part) (name key : List ℕ) (tree at : ℕ) → (table_of part).uniques ≡ key ∷ [] → name ≡ codes "sqlite_autoindex_" ++ ((table_of part).name ++ codes "_1")
+-- A test for the index of a described key is one for the index of the first unique key of the part's table
+-- (`index_of`).
+pub is_index : (part : Part) (name key : List ℕ) (tree at : ℕ) → (table_of part).uniques ≡ key ∷ []
+    → name ≡ codes "sqlite_autoindex_" ++ ((table_of part).name ++ codes "_1")
     → tree ≡ (table_of part).tree + 1 → at ≡ (table_of part).tree
     → (found : Index) (r : Bool) → Decides r (found ≡ record { name = name; tree = tree; table = at; columns = key; order = plain; is_unique = true })
     → Decides r (index_of (table_of part) ≡ Some found)
@@ -69,7 +72,9 @@ has_no_index t none found is =
 -- ---- a table by its description
 
 -- a table of a campaign is made of its tree, name, columns, keys and checks alone
-is_made : (part : Part) → table_of part ≡ table (table_of part).tree (table_of part).name (table_of part).columns (table_of part).key (table_of part).primary (table_of part).uniques (table_of part).checks
+is_made : (part : Part)
+    → table_of part
+    ≡ table (table_of part).tree (table_of part).name (table_of part).columns (table_of part).key (table_of part).primary (table_of part).uniques (table_of part).checks
 is_made Own = refl
 is_made part = refl
 
@@ -78,22 +83,27 @@ is_made part = refl
 module _ (part : Part) (tree : ℕ) (name : List ℕ) (number : Option ℕ) (primary : List ℕ) (uniques : List (List ℕ)) (checks : List Term)
     (trees : tree ≡ (table_of part).tree) (names : name ≡ (table_of part).name) (numbers : number ≡ (table_of part).key)
     (primaries : primary ≡ (table_of part).primary) (keys : uniques ≡ (table_of part).uniques) (tests : checks ≡ (table_of part).checks) where
-  as_described : (columns : List Column) → table tree name columns number primary uniques checks ≡ table (table_of part).tree (table_of part).name columns (table_of part).key (table_of part).primary (table_of part).uniques (table_of part).checks
+  as_described : (columns : List Column)
+      → table tree name columns number primary uniques checks
+      ≡ table (table_of part).tree (table_of part).name columns (table_of part).key (table_of part).primary (table_of part).uniques (table_of part).checks
   as_described columns = rw (trees, names, numbers, primaries, keys, tests) refl
 
-  pub is_of_part : (found : Table) → found ≡ table tree name found.columns number primary uniques checks → found.columns ≡ (table_of part).columns → found ≡ table_of part
+  pub is_of_part : (found : Table) → found ≡ table tree name found.columns number primary uniques checks
+      → found.columns ≡ (table_of part).columns → found ≡ table_of part
   is_of_part found is columns =
       is ∙ as_described found.columns
       ∙ ap (λ (c : List Column). table (table_of part).tree (table_of part).name c (table_of part).key (table_of part).primary (table_of part).uniques (table_of part).checks) columns
       ∙ sym (is_made part)
 
-  pub part_is_described : (found : Table) → found ≡ table_of part → found ≡ table tree name found.columns number primary uniques checks
+  pub part_is_described : (found : Table) → found ≡ table_of part
+      → found ≡ table tree name found.columns number primary uniques checks
   part_is_described found is =
       is ∙ is_made part
       ∙ ap (λ (c : List Column). table (table_of part).tree (table_of part).name c (table_of part).key (table_of part).primary (table_of part).uniques (table_of part).checks) (sym (ap (λ (t : Table). t.columns) is))
       ∙ sym (as_described found.columns)
 
-pub harmless_is_of_none : (i : Index) (tables : List Table) → i.is_unique ≡ true → ((t : Table) → Has tables t → guards i t ≡ false)
+pub harmless_is_of_none : (i : Index) (tables : List Table) → i.is_unique ≡ true
+    → ((t : Table) → Has tables t → guards i t ≡ false)
     → list_any (λ t. i.table == t.tree) tables ≡ false
 harmless_is_of_none i [] unique guards_none = refl
 harmless_is_of_none i (t ∷ tables) unique guards_none =
@@ -101,15 +111,18 @@ harmless_is_of_none i (t ∷ tables) unique guards_none =
     let rest = harmless_is_of_none i tables unique (λ u there. guards_none u (inr there)) in
     rw (first, rest) refl
 
-pub guards_not : (i : Index) (tables : List Table) → list_any (λ t. i.table == t.tree) tables ≡ false → (t : Table) → Has tables t
+pub guards_not : (i : Index) (tables : List Table) → list_any (λ t. i.table == t.tree) tables ≡ false → (t : Table)
+    → Has tables t
     → guards i t ≡ false
 guards_not i [] none t there = absurd there
-guards_not i (x ∷ tables) none t (inl same) = ap (λ (u : Table). guards i u) same ∙ and_right i.is_unique _ (or_parts _ _ none).0
+guards_not i (x ∷ tables) none t (inl same) =
+    ap (λ (u : Table). guards i u) same ∙ and_right i.is_unique _ (or_parts _ _ none).0
 guards_not i (x ∷ tables) none t (inr later) = guards_not i tables (or_parts _ _ none).1 t later
 
 -- ---- the trees of the first tables
 
-any_mapped : {A B : Type 0} (f : A → B) (p : B → Bool) (xs : List A) → list_any p (map f xs) ≡ list_any (λ x. p (f x)) xs
+any_mapped : {A B : Type 0} (f : A → B) (p : B → Bool) (xs : List A)
+    → list_any p (map f xs) ≡ list_any (λ x. p (f x)) xs
 any_mapped f p [] = refl
 any_mapped f p (x ∷ xs) = ap (λ b. p (f x) || b) (any_mapped f p xs)
 
@@ -125,7 +138,8 @@ our_trees tree_of xs same tree count =
 -- ---- the whole schema
 
 module _ (count keys : ℕ) (schema : Schema) where
-  pub begins_made : AreTables count schema.tables → AreIndexes count keys schema.indexes → schema.views ≡ [] → Begins count keys schema
+  pub begins_made : AreTables count schema.tables → AreIndexes count keys schema.indexes → schema.views ≡ []
+      → Begins count keys schema
   begins_made tables indexes none = record {
     tables = tables.others;
     indexes = indexes.others;
@@ -138,10 +152,12 @@ module _ (count keys : ℕ) (schema : Schema) where
   }
 
   pub its_tables : Begins count keys schema → AreTables count schema.tables
-  its_tables begins = record { others = begins.tables; made_of = ap (λ (s : Schema). s.tables) begins.made_of; free = begins.free }
+  its_tables begins =
+      record { others = begins.tables; made_of = ap (λ (s : Schema). s.tables) begins.made_of; free = begins.free }
 
   pub its_indexes : Begins count keys schema → AreIndexes count keys schema.indexes
-  its_indexes begins = record { others = begins.indexes; made_of = ap (λ (s : Schema). s.indexes) begins.made_of; plain = all_from (IsHarmless count) begins.indexes begins.plain }
+  its_indexes begins =
+      record { others = begins.indexes; made_of = ap (λ (s : Schema). s.indexes) begins.made_of; plain = all_from (IsHarmless count) begins.indexes begins.plain }
 
   pub no_views : Begins count keys schema → schema.views ≡ []
   no_views begins = ap (λ (s : Schema). s.views) begins.made_of
@@ -149,8 +165,10 @@ module _ (count keys : ℕ) (schema : Schema) where
   -- A schema that begins with some tables and indexes begins with fewer of them too.
   -- Premises: the tables left out have no foreign key; the indexes left out make nothing unique in the fewer tables.
   pub begins_with_fewer : (fewer fewer_keys : ℕ) (tables : List Table) (indexes : List Index)
-      → take count all_tables ≡ take fewer all_tables ++ tables → take keys all_indexes ≡ take fewer_keys all_indexes ++ indexes
-      → AllByRecursion (λ t. t.references ≡ []) tables → AllByRecursion (IsHarmless fewer) indexes → Begins count keys schema → Begins fewer fewer_keys schema
+      → take count all_tables ≡ take fewer all_tables ++ tables
+      → take keys all_indexes ≡ take fewer_keys all_indexes ++ indexes
+      → AllByRecursion (λ t. t.references ≡ []) tables → AllByRecursion (IsHarmless fewer) indexes
+      → Begins count keys schema → Begins fewer fewer_keys schema
   begins_with_fewer fewer fewer_keys tables indexes first first_keys free plain begins = record {
     tables = tables ++ begins.tables;
     indexes = indexes ++ begins.indexes;

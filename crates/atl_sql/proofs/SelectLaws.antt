@@ -34,11 +34,15 @@ use Rattle.atl_sql.proofs.ShownLaws.{whole_shown}
 
 -- the index that the database makes for `market` makes nothing unique in the nine tables of the first format
 market_harmless : IsHarmless 9 (automatic market_table 0 market_unique 13)
-market_harmless t there = all_has (λ t. guards (automatic market_table 0 market_unique 13) t ≡ false) (take 9 all_tables) t (refl, (refl, (refl, (refl, (refl, (refl, (refl, (refl, (refl, tt))))))))) there
+market_harmless t there =
+    all_has (λ t. guards (automatic market_table 0 market_unique 13) t ≡ false) (take 9 all_tables) t
+    (refl, (refl, (refl, (refl, (refl, (refl, (refl, (refl, (refl, tt))))))))) there
 
 pub has_first : (f : Format) (schema : Schema) → HasTablesOf f schema → HasTablesOf First schema
 has_first First schema has = has
-has_first Second schema has = begins_with_fewer 10 4 schema 9 3 (market_table ∷ []) (automatic market_table 0 market_unique 13 ∷ []) refl refl (refl, tt) (market_harmless, tt) has
+has_first Second schema has =
+    begins_with_fewer 10 4 schema 9 3 (market_table ∷ []) (automatic market_table 0 market_unique 13 ∷ []) refl refl
+    (refl, tt) (market_harmless, tt) has
 
 -- ---- columns
 
@@ -69,21 +73,31 @@ record IsMeant (part : Part) : Type 0 where
   command : (more : List Table) (indexes : List Index)
       → command_of (understood (first_tables_and_others (table_count_in (select_of_part part).since) (index_count_in (select_of_part part).since) more indexes) (select_of_part part).select)
       ≡ Select (record { lets = []; body = all_query (table_of part).tree (columns_of part) (map (λ column. (column, ascending Binary)) (first_column_terms (table_of part) (key_of part))) }) (select_of_part part).names
-  plain : (more : List Table) (indexes : List Index) → IsPlain (understood (first_tables_and_others (table_count_in (select_of_part part).since) (index_count_in (select_of_part part).since) more indexes) (select_of_part part).select)
+  plain : (more : List Table) (indexes : List Index)
+      → IsPlain (understood (first_tables_and_others (table_count_in (select_of_part part).since) (index_count_in (select_of_part part).since) more indexes) (select_of_part part).select)
   -- the SELECT doesn't read `sqlite_schema`, the table in which the database lists its tables
-  unlisted : (more : List Table) (indexes : List Index) → reads_listing (first_tables_and_others (table_count_in (select_of_part part).since) (index_count_in (select_of_part part).since) more indexes) (select_of_part part).select ≡ false
+  unlisted : (more : List Table) (indexes : List Index)
+      → reads_listing (first_tables_and_others (table_count_in (select_of_part part).since) (index_count_in (select_of_part part).since) more indexes) (select_of_part part).select
+      ≡ false
   -- the table's tree is one of the file, not that of a temporary table
   same : (db : Trees) → overlay db [] (table_of part).tree ≡ db (table_of part).tree
-  rows : (db : Trees) → map (λ r. eval_all (columns_of part) ([] ∷ r ∷ [])) (db (table_of part).tree) ≡ (select_of_part part).in_table db
-  whole : (r : Row) → first_columns (length (select_of_part part).names) (eval_all (columns_of part) ([] ∷ r ∷ [])) ≡ eval_all (columns_of part) ([] ∷ r ∷ [])
+  rows : (db : Trees)
+      → map (λ r. eval_all (columns_of part) ([] ∷ r ∷ [])) (db (table_of part).tree)
+      ≡ (select_of_part part).in_table db
+  whole : (r : Row)
+      → first_columns (length (select_of_part part).names) (eval_all (columns_of part) ([] ∷ r ∷ []))
+      ≡ eval_all (columns_of part) ([] ∷ r ∷ [])
 
 select_meaning : (part : Part) → IsMeant part
 unfolding understood everything
-select_meaning Own = record { command = λ more indexes. refl; plain = λ more indexes. (refl, refl); unlisted = λ more indexes. refl; same = λ db. refl; rows = λ db. refl; whole = λ r. refl }
-select_meaning part = record { command = λ more indexes. refl; plain = λ more indexes. (refl, refl); unlisted = λ more indexes. refl; same = λ db. refl; rows = λ db. refl; whole = λ r. refl }
+select_meaning Own =
+    record { command = λ more indexes. refl; plain = λ more indexes. (refl, refl); unlisted = λ more indexes. refl; same = λ db. refl; rows = λ db. refl; whole = λ r. refl }
+select_meaning part =
+    record { command = λ more indexes. refl; plain = λ more indexes. (refl, refl); unlisted = λ more indexes. refl; same = λ db. refl; rows = λ db. refl; whole = λ r. refl }
 
 -- under the tables of the first format that has a part, the part's SELECT shows all rows of the part's table (`Reads`)
-pub reads_part : (part : Part) (count : ℕ) → count ≡ length (select_of_part part).names → Reads (select_of_part part).since (select_of_part part).select (select_of_part part).in_table count
+pub reads_part : (part : Part) (count : ℕ) → count ≡ length (select_of_part part).names
+    → Reads (select_of_part part).since (select_of_part part).select (select_of_part part).in_table count
 reads_part part count same old new rows h has =
     let listing = select_of_part part in
     let is = select_meaning part in
@@ -94,5 +108,8 @@ reads_part part count same old new rows h has =
     let says : IsPermutation (listing.in_table old.now.trees) (map cut rows) = subst (λ was. IsPermutation was (map cut rows)) (is.rows old.now.trees) (whole_shown shown cut is.whole (old.now.trees (table_of part).tree) rows all) in
     subst (λ n. IsPermutation (listing.in_table old.now.trees) (map (first_columns n) rows)) (sym same) says
 
-pub part_plain : (part : Part) (schema : Schema) → HasTablesOf (select_of_part part).since schema → IsPlain (understood schema (select_of_part part).select)
-part_plain part schema has = subst (λ s. IsPlain (understood s (select_of_part part).select)) (sym has.made_of) ((select_meaning part).plain has.tables has.indexes)
+pub part_plain : (part : Part) (schema : Schema) → HasTablesOf (select_of_part part).since schema
+    → IsPlain (understood schema (select_of_part part).select)
+part_plain part schema has =
+    subst (λ s. IsPlain (understood s (select_of_part part).select)) (sym has.made_of)
+    ((select_meaning part).plain has.tables has.indexes)

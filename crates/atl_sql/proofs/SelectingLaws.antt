@@ -17,10 +17,13 @@ use Rattle.atl_sql.specs.declared.fault.ReadFault.TheVariants.{Store, Refused, M
 use Rattle.atl_sql.proofs.KeepLaws.{survives_more, if_ok, if_err}
 
 module _ (old new : State) (inside : IsTrue old.in_transaction) (sql : List ℕ) (params : Row) where
-  writes_keep : (what : Option Returning) (command : _) (text : List ℕ) (row : Row) (count : ℕ) → Writes old new what command text row count → KeepsCommit old new
-  writes_keep what command text row count w = record { was_open = λ _. w.shown.was_open; committed = λ _. w.shown.committed_is ∙ ap (λ b. cond b old.committed new.now) inside }
+  writes_keep : (what : Option Returning) (command : _) (text : List ℕ) (row : Row) (count : ℕ)
+      → Writes old new what command text row count → KeepsCommit old new
+  writes_keep what command text row count w =
+      record { was_open = λ _. w.shown.was_open; committed = λ _. w.shown.committed_is ∙ ap (λ b. cond b old.committed new.now) inside }
 
-  shows_keep : (c : _) (row : Row) (rows : List Row) (what : Option Returning) → ShowsRows old new sql c row rows what → KeepsCommit old new
+  shows_keep : (c : _) (row : Row) (rows : List Row) (what : Option Returning) → ShowsRows old new sql c row rows what
+      → KeepsCommit old new
   shows_keep c row rows None h = unchanged_keeps old new (inl h.3)
   shows_keep c row rows (Some what) h = writes_keep (Some what) _ _ row h.0 h.1
 
@@ -28,12 +31,14 @@ module _ (old new : State) (inside : IsTrue old.in_transaction) (sql : List ℕ)
   unfolding Shown
   shown_keeps rows h = shows_keep h.0 _ rows h.0.returning h.2
 
-  fails_keep : (c : _) (row : Row) (e : Error) (what : Option Returning) → FailsToShow old new sql c row e what → KeepsCommit old new
+  fails_keep : (c : _) (row : Row) (e : Error) (what : Option Returning) → FailsToShow old new sql c row e what
+      → KeepsCommit old new
   fails_keep c row e None h = unchanged_keeps old new (inl h.3)
   fails_keep c row e (Some what) (inl h) = unchanged_keeps old new (inl h.1)
   fails_keep c row e (Some what) (inr h) = unchanged_keeps old new (inr h.3)
 
-  pub refused_keeps : (e : Error) → FailsToQuery sql params old new e ⊎ IsTooLate sql params old new e → KeepsCommit old new
+  pub refused_keeps : (e : Error) → FailsToQuery sql params old new e ⊎ IsTooLate sql params old new e
+      → KeepsCommit old new
   unfolding FailsToQuery IsNotRun
   refused_keeps e (inl (inl (inl h))) = unchanged_keeps old new (inl h.1)
   refused_keeps e (inl (inl (inr h))) = unchanged_keeps old new (inr h.3)
@@ -51,11 +56,14 @@ module _ {S : Type 0} (g : Ghosts S) (sql : List ℕ) (old begun mid end : Held 
   begun_inside = ap (λ (h : Held S). h.in_transaction) begins
 
   survived : Survives (state g old) (state g end) (λ _. ⊥)
-  survived = survives_begin g old (state g end) _ (subst (λ h. Survives (state g h) (state g end) (λ _. ⊥)) begins (survives_more (state g begun) (state g mid) (state g end) one two))
+  survived =
+      survives_begin g old (state g end) _
+      (subst (λ h. Survives (state g h) (state g end) (λ _. ⊥)) begins (survives_more (state g begun) (state g mid) (state g end) one two))
 
   -- if the SELECT committed nothing and the disk is clean, the rollback leaves the tables of the last commit, and a
   -- connection that is open only if it was before (`Rests`)
-  rests : (HasCleanDisk (state g mid) → KeepsCommit (state g begun) (state g mid)) → HasCleanDisk (state g end) → Rests (state g old) (state g end)
+  rests : (HasCleanDisk (state g mid) → KeepsCommit (state g begun) (state g mid)) → HasCleanDisk (state g end)
+      → Rests (state g old) (state g end)
   rests keeps clean =
       let kept = subst (λ h. KeepsCommit (state g h) (state g mid)) begins (keeps (omega (arith, two.clean))) in
       let rolled = back clean in
@@ -65,9 +73,13 @@ module _ {S : Type 0} (g : Ghosts S) (sql : List ℕ) (old begun mid end : Held 
       }
 
   asked_after_begin : IsAsked (state g old) (state g begun)
-  asked_after_begin = subst (λ h. IsAsked (state g old) (state g h)) (sym begins) (record { was_open = λ up. up; is_open = λ up. up; same = refl; limit = refl; faults = no_fewer (state g old).faults })
+  asked_after_begin =
+      subst (λ h. IsAsked (state g old) (state g h)) (sym begins)
+      (record { was_open = λ up. up; is_open = λ up. up; same = refl; limit = refl; faults = no_fewer (state g old).faults })
 
-  pub showed : {Z : Type 0} (rows : Vec Row Z) → (HasCleanDisk (state g mid) → Shown sql [] (state g begun) (state g mid) rows.items) → Asks g sql old {Z = Z} (Ok rows) end
+  pub showed : {Z : Type 0} (rows : Vec Row Z)
+      → (HasCleanDisk (state g mid) → Shown sql [] (state g begun) (state g mid) rows.items)
+      → Asks g sql old {Z = Z} (Ok rows) end
   showed rows ok = record {
     rows = λ clean. (begun, mid, asked_after_begin, ok (omega (arith, two.clean)));
     refused = λ _. tt;
@@ -78,11 +90,15 @@ module _ {S : Type 0} (g : Ghosts S) (sql : List ℕ) (old begun mid end : Held 
 
   -- a SELECT that is refused inside the transaction failed as a query, and not because it needs a transaction and none
   -- was open (`IsTooLate`)
-  not_late : (e : Error) → FailsToQuery sql [] (state g begun) (state g mid) e ⊎ IsTooLate sql [] (state g begun) (state g mid) e → FailsToQuery sql [] (state g begun) (state g mid) e
+  not_late : (e : Error)
+      → FailsToQuery sql [] (state g begun) (state g mid) e ⊎ IsTooLate sql [] (state g begun) (state g mid) e
+      → FailsToQuery sql [] (state g begun) (state g mid) e
   not_late e (inl failed) = failed
   not_late e (inr late) = absurd (let no = sym begun_inside ∙ late.3 in cc)
 
-  was_refused : {Z : Type 0} (e : Error) (fault : ReadFault) → fault ≡ read_fault e → (HasCleanDisk (state g mid) → FailsToQuery sql [] (state g begun) (state g mid) e ⊎ IsTooLate sql [] (state g begun) (state g mid) e) → Asks g sql old {Z = Z} (Err fault) end
+  was_refused : {Z : Type 0} (e : Error) (fault : ReadFault) → fault ≡ read_fault e
+      → (HasCleanDisk (state g mid) → FailsToQuery sql [] (state g begun) (state g mid) e ⊎ IsTooLate sql [] (state g begun) (state g mid) e)
+      → Asks g sql old {Z = Z} (Err fault) end
   was_refused e fault is err = record {
     rows = λ _. tt;
     refused = λ clean. (begun, mid, e, asked_after_begin, not_late e (err (omega (arith, two.clean))), is);
@@ -91,7 +107,9 @@ module _ {S : Type 0} (g : Ghosts S) (sql : List ℕ) (old begun mid end : Held 
     idle = ended;
   }
 
-  pub says : {Z : Type 0} (e : Error) (r : Result (Vec Row Z) ReadFault) → IsErrAnd r (λ fault. fault ≡ read_fault e) → (HasCleanDisk (state g mid) → FailsToQuery sql [] (state g begun) (state g mid) e ⊎ IsTooLate sql [] (state g begun) (state g mid) e) → Asks g sql old {Z = Z} r end
+  pub says : {Z : Type 0} (e : Error) (r : Result (Vec Row Z) ReadFault) → IsErrAnd r (λ fault. fault ≡ read_fault e)
+      → (HasCleanDisk (state g mid) → FailsToQuery sql [] (state g begun) (state g mid) e ⊎ IsTooLate sql [] (state g begun) (state g mid) e)
+      → Asks g sql old {Z = Z} r end
   says e (Ok rows) is err = absurd is
   says e (Err fault) is err = was_refused e fault is err
 
@@ -113,10 +131,12 @@ not_range e same = by_memory (is_memory e) (is_failure e) same
     by_memory false true is = cc
     by_memory false false is = cc
 
-pub never_range : {S : Type 0} (g : Ghosts S) (sql : List ℕ) (old : Held S) (fault : ReadFault) → RefusesToSelect g sql old fault → fault ≡ OutOfRange → ⊥
+pub never_range : {S : Type 0} (g : Ghosts S) (sql : List ℕ) (old : Held S) (fault : ReadFault)
+    → RefusesToSelect g sql old fault → fault ≡ OutOfRange → ⊥
 never_range g sql old fault says same = not_range says.2 (sym says.5 ∙ same)
 
-pub never_other : {S : Type 0} (g : Ghosts S) (sql : List ℕ) (old : Held S) (fault : ReadFault) → RefusesToSelect g sql old fault → fault ≡ OtherType → ⊥
+pub never_other : {S : Type 0} (g : Ghosts S) (sql : List ℕ) (old : Held S) (fault : ReadFault)
+    → RefusesToSelect g sql old fault → fault ≡ OtherType → ⊥
 never_other g sql old fault says same = not_other says.2 (sym says.5 ∙ same)
 
 if_both : {A E : Type 0} (P Q : A → Type 0) (r : Result A E) → IfOk r P → IfOk r Q → IfOk r (λ a. P a × Q a)
@@ -124,7 +144,9 @@ if_both P Q (Ok a) p q = (p, q)
 if_both P Q (Err e) p q = tt
 
 module _ {S A Z : Type 0} (g : Ghosts S) (sql : List ℕ) (old new : Held S) (forms : List Form) (reads : Row → A → Type 0) (is_in_range : Row → Bool) where
-  pub unasked : {Y : Type 0} (fault : ReadFault) (r : Result (Vec A Z) ReadFault) → Asks g sql old {Z = Y} (Err fault) new → IsErrAnd r (λ says. says ≡ fault) → ReadsRows g sql old forms reads is_in_range r new
+  pub unasked : {Y : Type 0} (fault : ReadFault) (r : Result (Vec A Z) ReadFault)
+      → Asks g sql old {Z = Y} (Err fault) new → IsErrAnd r (λ says. says ≡ fault)
+      → ReadsRows g sql old forms reads is_in_range r new
   unasked fault (Ok all) asks is = absurd is
   unasked fault (Err says) asks is = record {
     rows = λ _. tt;
@@ -137,9 +159,13 @@ module _ {S A Z : Type 0} (g : Ghosts S) (sql : List ℕ) (old new : Held S) (fo
     idle = asks.idle;
   }
 
-  pub parsed : {Y : Type 0} (rows : Vec Row Y) (lent : List Row) (r : Result (Vec A Z) ReadFault) → Asks g sql old (Ok rows) new → lent ≡ rows.items
-      → IfOk r (λ all. AreReadAs forms reads lent all.items) → IfOk r (λ _. AreTyped forms lent) → IfErr r (λ fault. fault ≡ OtherType → ¬ AreTyped forms lent) → IfErr r (λ fault. fault ≡ OutOfRange → AreTyped forms lent × HasOutOfRange forms is_in_range lent)
-      → IfErr r (λ fault. fault ≢ OtherType → fault ≢ OutOfRange → fault ≡ Memory) → ReadsRows g sql old forms reads is_in_range r new
+  pub parsed : {Y : Type 0} (rows : Vec Row Y) (lent : List Row) (r : Result (Vec A Z) ReadFault)
+      → Asks g sql old (Ok rows) new → lent ≡ rows.items
+      → IfOk r (λ all. AreReadAs forms reads lent all.items) → IfOk r (λ _. AreTyped forms lent)
+      → IfErr r (λ fault. fault ≡ OtherType → ¬ AreTyped forms lent)
+      → IfErr r (λ fault. fault ≡ OutOfRange → AreTyped forms lent × HasOutOfRange forms is_in_range lent)
+      → IfErr r (λ fault. fault ≢ OtherType → fault ≢ OutOfRange → fault ≡ Memory)
+      → ReadsRows g sql old forms reads is_in_range r new
   parsed rows lent r asks same ok typed other range which = record {
     rows = λ clean. if_ok r (λ all says. (rows.items, asks.rows clean, subst (λ l. AreReadAs forms reads l all.items) same says.0, subst (λ l. AreTyped forms l) same says.1)) (if_both _ _ r ok typed);
     other = λ clean. if_err r (λ fault says is. (rows.items, asks.rows clean, subst (λ l. ¬ AreTyped forms l) same (says is))) other;

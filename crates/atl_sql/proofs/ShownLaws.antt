@@ -14,29 +14,42 @@ use Rattle.atl_sql.specs.declared.fault.ReadFault.TheVariants.{OtherType}
 
 -- The rows that a SELECT showed, each cut by `first`, are all rows of the table. Premises: it showed all rows, and the
 -- cut changes no row that SQL shows.
-pub whole_shown : (shown first : Row → Row) → ((r : Row) → first (shown r) ≡ shown r) → (tree rows : List Row) → IsPermutation (map shown tree) rows → IsPermutation (map shown tree) (map first rows)
-whole_shown shown first whole tree rows same = subst (λ l. IsPermutation l (map first rows)) (kept tree) (IsPermutation-map first _ rows same)
+pub whole_shown : (shown first : Row → Row) → ((r : Row) → first (shown r) ≡ shown r) → (tree rows : List Row)
+    → IsPermutation (map shown tree) rows → IsPermutation (map shown tree) (map first rows)
+whole_shown shown first whole tree rows same =
+    subst (λ l. IsPermutation l (map first rows)) (kept tree) (IsPermutation-map first _ rows same)
   where
     kept : (tree : List Row) → map first (map shown tree) ≡ map shown tree
     kept [] = refl
     kept (r ∷ tree) = ap (λ x. x ∷ map first (map shown tree)) (whole r) ∙ ap (λ l. shown r ∷ l) (kept tree)
 
-pub refuses_row : {B : Type 0} (forms : List Form) (rows : List Row) (at : ℕ) (row : Row) (fault : ReadFault) (r : Result B ReadFault) → IsErrAnd r (λ says. says ≡ fault) → at < length rows → row ≡ get_or rows at row → (fault ≡ OtherType → ¬ IsTyped forms row)
+pub refuses_row : {B : Type 0} (forms : List Form) (rows : List Row) (at : ℕ) (row : Row) (fault : ReadFault) (r : Result B ReadFault)
+    → IsErrAnd r (λ says. says ≡ fault) → at < length rows → row ≡ get_or rows at row
+    → (fault ≡ OtherType → ¬ IsTyped forms row)
     → IfErr r (λ says. says ≡ OtherType → ¬ AreTyped forms rows)
 refuses_row forms rows at row fault (Ok b) says within is refused = tt
-refuses_row forms rows at row fault (Err f) says within is refused = λ same typed. refused (sym says ∙ same) (typed row (has_at rows at row within is))
+refuses_row forms rows at row fault (Err f) says within is refused =
+    λ same typed. refused (sym says ∙ same) (typed row (has_at rows at row within is))
 
-typed_more : (forms : List Form) (rows more : List Row) (row : Row) → more ≡ rows ++ row ∷ [] → AreTyped forms rows → IsTyped forms row → AreTyped forms more
-typed_more forms rows more row is before typed r there = elim (has_either rows (row ∷ []) r (subst (λ l. Has l r) is there)) [
-  | inl one ↦ before r one
-  | inr last ↦ elim last [ inl same ↦ subst (IsTyped forms) (sym same) typed | inr none ↦ absurd none ]
-]
+typed_more : (forms : List Form) (rows more : List Row) (row : Row) → more ≡ rows ++ row ∷ [] → AreTyped forms rows
+    → IsTyped forms row → AreTyped forms more
+typed_more forms rows more row is before typed r there =
+    elim (has_either rows (row ∷ []) r (subst (λ l. Has l r) is there)) [
+      | inl one ↦ before r one
+      | inr last ↦ elim last [ inl same ↦ subst (IsTyped forms) (sym same) typed | inr none ↦ absurd none ]
+    ]
 
-pub typed_next : (forms : List Form) (rows : List Row) (at : ℕ) (row : Row) → at < length rows → row ≡ get_or rows at row → AreTyped forms (take at rows) → IsTyped forms row → AreTyped forms (take (at + 1) rows)
-typed_next forms rows at row within is = typed_more forms (take at rows) (take (at + 1) rows) row (take_more rows at row within ∙ ap (λ r. take at rows ++ r ∷ []) (sym is))
+pub typed_next : (forms : List Form) (rows : List Row) (at : ℕ) (row : Row) → at < length rows
+    → row ≡ get_or rows at row → AreTyped forms (take at rows) → IsTyped forms row → AreTyped forms (take (at + 1) rows)
+typed_next forms rows at row within is =
+    typed_more forms (take at rows) (take (at + 1) rows) row
+    (take_more rows at row within ∙ ap (λ r. take at rows ++ r ∷ []) (sym is))
 
-pub report_typed : (row : Row) (n : ℤ) (text : List ℕ) → column row 0 ≡ Int n → column row 1 ≡ Text text → IsUtf8 text → IsTyped report_forms row
+pub report_typed : (row : Row) (n : ℤ) (text : List ℕ) → column row 0 ≡ Int n → column row 1 ≡ Text text → IsUtf8 text
+    → IsTyped report_forms row
 report_typed row n text first second utf8 = ((n, first), ((text, second, utf8), tt))
 
-pub campaign_typed : (row : Row) (text : List ℕ) → IsTyped campaign_row_forms row → column row 7 ≡ Text text → IsUtf8 text → IsTyped campaign_forms row
-campaign_typed row text head last utf8 = (head.0, (head.1.0, (head.1.1.0, (head.1.1.1.0, (head.1.1.1.1.0, (head.1.1.1.1.1.0, (head.1.1.1.1.1.1.0, ((text, last, utf8), tt))))))))
+pub campaign_typed : (row : Row) (text : List ℕ) → IsTyped campaign_row_forms row → column row 7 ≡ Text text
+    → IsUtf8 text → IsTyped campaign_forms row
+campaign_typed row text head last utf8 =
+    (head.0, (head.1.0, (head.1.1.0, (head.1.1.1.0, (head.1.1.1.1.0, (head.1.1.1.1.1.0, (head.1.1.1.1.1.1.0, ((text, last, utf8), tt))))))))

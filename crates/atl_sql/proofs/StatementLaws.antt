@@ -62,7 +62,8 @@ module _ (schema : Schema) (tree : ℕ) (name : List ℕ) (columns : List Column
       → Then (Counts (task limit params t) done.0.trees counter done.1) (λ next. Gives (record done.0 { trees = next })) (Ok w) → w.trees ≡ done.0.trees
   counted limit params db done counter w h = let counts = ok_step_did h in ap (λ (x : Written). x.trees) (same_value counts.2) ∙ same_value counts.1
 
-  concluded : (limit : Option ℕ) (params : Row) (w : Written) (out : Tally × Database) → Concludes (task limit params t) mode None w (Ok out)
+  concluded : (limit : Option ℕ) (params : Row) (w : Written) (out : Tally × Database)
+      → Concludes (task limit params t) mode None w (Ok out)
       → (out.1.trees ≡ w.trees) × (out.1.schema ≡ schema)
   concluded limit params w out h =
       let tested = ok_step_did h in
@@ -106,7 +107,8 @@ module _ (schema : Schema) (tree : ℕ) (name : List ℕ) (columns : List Column
     rows_upsert : (terms : List Term) (width : ℕ) (src : Row) (db : Trees) (w : Written) → AreKeyedByRowid (db tree)
         → ((r : Row) → Has (db tree) r → column (params ++ rowid r ∷ shown t (row_inserted_by db src)) hole ≡ rowid r)
         → value_rows (params ++ []) width (length terms / width) terms ≡ src ∷ []
-        → InsertsOr (task limit params t) Abort (conflict_clause target q ∷ []) (Values terms width) db (Ok w) → Changed (row_inserted_by db src) db w.trees
+        → InsertsOr (task limit params t) Abort (conflict_clause target q ∷ []) (Values terms width) db (Ok w)
+        → Changed (row_inserted_by db src) db w.trees
     rows_upsert terms width src db w keyed aimed source h =
         let rows = ok_step_did h in
         let counter = ok_step_did rows.2 in
@@ -115,7 +117,8 @@ module _ (schema : Schema) (tree : ℕ) (name : List ℕ) (columns : List Column
         subst (Changed (row_inserted_by db src) db) (sym (counted limit params db each.0 counter.0 w each.2))
         (each_upserts src (count_of counter.0) db each.0 keyed aimed (subst (λ l. TriesEach (task limit params t) Abort (conflict_clause target q ∷ []) l (count_of counter.0) (nothing db) (Ok each.0)) given each.1))
 
-    pub upserting : (text : List ℕ) (terms : List Term) (width : ℕ) (src : Row) (db : Trees) (out : Tally × Database) → AreKeyedByRowid (db tree)
+    pub upserting : (text : List ℕ) (terms : List Term) (width : ℕ) (src : Row) (db : Trees) (out : Tally × Database)
+        → AreKeyedByRowid (db tree)
         → ((r : Row) → Has (db tree) r → column (params ++ rowid r ∷ shown t (row_inserted_by db src)) hole ≡ rowid r)
         → value_rows (params ++ []) width (length terms / width) terms ≡ src ∷ []
         → Does limit mode params (record { schema = schema; trees = db }) text None (InsertOr at Abort (Values terms width) (conflict_clause target q ∷ [])) (Ok out)
@@ -130,12 +133,15 @@ module _ (schema : Schema) (tree : ℕ) (name : List ℕ) (columns : List Column
 
 -- a statement of this text is plain: without RETURNING, and not reading the time, whatever other tables follow the ten
 abbrev pub AlwaysPlain : List ℕ → Type 0
-AlwaysPlain sql = (more : List Table) (indexes : List Index) → IsPlain (understood (all_tables_and_others more indexes) sql)
+AlwaysPlain sql =
+    (more : List Table) (indexes : List Index) → IsPlain (understood (all_tables_and_others more indexes) sql)
 
 -- inside a transaction a statement of this text with these parameters does to the database what the relation `What`
 -- says
 abbrev pub DoneBy : List ℕ → Row → (Database → Database → Type 0) → Type 1
-DoneBy sql values What = (old new : State) (count : ℕ) (params : Row) → IsTrue old.in_transaction → ExecutesInside 0 sql params old new (Ok count) → params ≡ values → DoesInside HasTables What old new
+DoneBy sql values What =
+    (old new : State) (count : ℕ) (params : Row) → IsTrue old.in_transaction → ExecutesInside 0 sql params old new
+    (Ok count) → params ≡ values → DoesInside HasTables What old new
 
 -- inside a transaction the upsert of a table, whose key is its first `key` columns, puts this row
 abbrev pub PutsRow : Table → ℕ → Row → Type 1
@@ -148,8 +154,12 @@ DropsKey t key k = DoneBy (deletion t key) k (Drops t key k)
 pub done_by : (sql : List ℕ) (values : Row) (What : Database → Database → Type 0)
     → ((old new : State) (count : ℕ) → IsTrue old.in_transaction → ExecutesInside 0 sql values old new (Ok count) → DoesInside HasTables What old new)
     → DoneBy sql values What
-done_by sql values What does old new count params inside h same = does old new count inside (subst (λ p. ExecutesInside 0 sql p old new (Ok count)) same h)
+done_by sql values What does old new count params inside h same =
+    does old new count inside (subst (λ p. ExecutesInside 0 sql p old new (Ok count)) same h)
 
 pub runs_with : {S A : Type 0} (g : Ghosts S) {r : Result A Error} {a b : MutBor (Held S)} (sql : List ℕ) (values params : Row) (What : Database → Database → Type 0)
-    → DoneBy sql values What → params ≡ values → Writes g (OneStatement sql params) (RunsStatement sql params) r a b → Writes g (OneStatement sql values) (DoesInside HasTables What) r a b
-runs_with g sql values params What done same ran = writes_among_more g (λ s p only. (only.0, only.1 ∙ same)) (weaker g (λ old new did. done old new did.1 params did.0 did.2 same) ran)
+    → DoneBy sql values What → params ≡ values → Writes g (OneStatement sql params) (RunsStatement sql params) r a b
+    → Writes g (OneStatement sql values) (DoesInside HasTables What) r a b
+runs_with g sql values params What done same ran =
+    writes_among_more g (λ s p only. (only.0, only.1 ∙ same))
+    (weaker g (λ old new did. done old new did.1 params did.0 did.2 same) ran)

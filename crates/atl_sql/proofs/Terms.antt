@@ -35,13 +35,17 @@ and_true_or_false false rest none = none
 pub head_is : (a b : Value) (xs ys : Row) → ◌≡◌ {A = Row} (a ∷ xs) (b ∷ ys) → a ≡ b
 head_is a b xs ys e = cc
 
-pub upsert_finds_number : (a : Value) (n : ℕ) (rest : Bool) → rest ≡ false → is_int a ≡ true → (((equal Binary a (int n) && true) || rest) ≡ true → ◌≡◌ {A = Row} (a ∷ []) (int n ∷ [])) × (◌≡◌ {A = Row} (a ∷ []) (int n ∷ []) → ((equal Binary a (int n) && true) || rest) ≡ true)
+pub upsert_finds_number : (a : Value) (n : ℕ) (rest : Bool) → rest ≡ false → is_int a ≡ true
+    → (((equal Binary a (int n) && true) || rest) ≡ true → ◌≡◌ {A = Row} (a ∷ []) (int n ∷ []))
+    × (◌≡◌ {A = Row} (a ∷ []) (int n ∷ []) → ((equal Binary a (int n) && true) || rest) ≡ true)
 upsert_finds_number a n rest none integer = (
   λ hit. ap (λ v. v ∷ []) (equal_is a (int n) integer refl (sym (and_true_or_false _ rest none) ∙ hit)),
   λ same. and_true_or_false _ rest none ∙ ap (λ v. equal Binary v (int n)) (head_is _ _ _ _ same) ∙ is_equal (int n) refl,
 )
 
-pub delete_finds_number : (a : Value) (n : ℕ) → is_int a ≡ true → ((equal Binary a (int n) && true) ≡ true → ◌≡◌ {A = Row} (a ∷ []) (int n ∷ [])) × (◌≡◌ {A = Row} (a ∷ []) (int n ∷ []) → (equal Binary a (int n) && true) ≡ true)
+pub delete_finds_number : (a : Value) (n : ℕ) → is_int a ≡ true
+    → ((equal Binary a (int n) && true) ≡ true → ◌≡◌ {A = Row} (a ∷ []) (int n ∷ []))
+    × (◌≡◌ {A = Row} (a ∷ []) (int n ∷ []) → (equal Binary a (int n) && true) ≡ true)
 delete_finds_number a n integer = (
   λ hit. ap (λ v. v ∷ []) (equal_is a (int n) integer refl (sym (and-true _) ∙ hit)),
   λ same. and-true _ ∙ ap (λ v. equal Binary v (int n)) (head_is _ _ _ _ same) ∙ is_equal (int n) refl,

@@ -18,13 +18,16 @@ use Rattle.atl_sql.proofs.Terms.{cast_int}
 
 -- the terms of the UPDATE of `upgrading_upsert`: format 2, the new world text, and the other columns as they were
 abbrev upgrade_update_terms : List Term
-upgrade_update_terms = col 1 0 ∷ lit Null ∷ lit (Int (pos 2)) ∷ col 1 3 ∷ col 1 4 ∷ col 1 5 ∷ col 1 6 ∷ col 1 7 ∷ col 0 5 ∷ []
+upgrade_update_terms =
+    col 1 0 ∷ lit Null ∷ lit (Int (pos 2)) ∷ col 1 3 ∷ col 1 4 ∷ col 1 5 ∷ col 1 6 ∷ col 1 7 ∷ col 0 5 ∷ []
 
 upgrades_own : MeansOwn upgrading_upsert upgrade_update_terms
 unfolding understood everything
 upgrades_own = record { is = λ more indexes. refl; plain = λ more indexes. (refl, refl) }
 
-update_upgrades_row : (head : CampaignRowValue) (text before : List ℕ) (r : Row) → visible_row campaign_table r ≡ campaign_row_in First head before → changed_to upgrade_update_terms head text r ≡ campaign_row head text
+update_upgrades_row : (head : CampaignRowValue) (text before : List ℕ) (r : Row)
+    → visible_row campaign_table r ≡ campaign_row_in First head before
+    → changed_to upgrade_update_terms head text r ≡ campaign_row head text
 update_upgrades_row head text before r shows =
     let id : rowid r ≡ int 1 = ap (λ row. column row 0) shows in
     let month : column r 3 ≡ int head.month = ap (λ row. column row 2) shows in
@@ -36,7 +39,8 @@ update_upgrades_row head text before r shows =
 
 -- inside a transaction, the statement gives a campaign row of the first format the second format and a new world text
 -- (`UpgradesCampaignRow`)
-pub puts_upgraded : (head : CampaignRowValue) (text : List ℕ) → DoneBy upgrading_upsert (campaign_row_values head text) (UpgradesCampaignRow head text)
+pub puts_upgraded : (head : CampaignRowValue) (text : List ℕ)
+    → DoneBy upgrading_upsert (campaign_row_values head text) (UpgradesCampaignRow head text)
 puts_upgraded head text = done_by upgrading_upsert (campaign_row_values head text) (UpgradesCampaignRow head text) (λ old new count inside ran. (
   ran.1.mode ∙ sym inside,
   λ has.

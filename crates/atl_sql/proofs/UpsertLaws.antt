@@ -104,7 +104,8 @@ differ_not (Blob x) b p q h = absurd (true≢false (sym p))
 
 -- the query of an upsert's UPDATE: the row whose rowid is column `position` of the parameters, with the values to set
 abbrev pub update_query : ℕ → ℕ → List Term → Query
-update_query tree position project = record (delete_query tree (op2 (Compare Eq Binary) (col 1 0) (col 0 position) ∷ [])) { project = col 1 0 ∷ project }
+update_query tree position project =
+    record (delete_query tree (op2 (Compare Eq Binary) (col 1 0) (col 0 position) ∷ [])) { project = col 1 0 ∷ project }
 
 module _ (p : Row → Bool) (f : Row → Env) where
   abbrev chosen : List Row → List Env
@@ -114,7 +115,8 @@ module _ (p : Row → Bool) (f : Row → Env) where
   none_chosen [] none = refl
   none_chosen (r ∷ rows) none = rw (none r (inl refl), none_chosen rows (λ x h. none x (inr h)))
 
-  one_chosen : (rows : List Row) → IsAscending (λ a b. is_eq (value_cmp (rowid a) (rowid b)) ≡ false) rows → (r : Row) → Has rows r
+  one_chosen : (rows : List Row) → IsAscending (λ a b. is_eq (value_cmp (rowid a) (rowid b)) ≡ false) rows → (r : Row)
+      → Has rows r
       → ((x : Row) → Has rows x → p x ≡ is_eq (value_cmp (rowid x) (rowid r))) → chosen rows ≡ f r ∷ []
   one_chosen [] apart r h is = absurd h
   one_chosen (x ∷ rows) apart r (inl e) is =
@@ -131,8 +133,10 @@ module _ (p : Row → Bool) (f : Row → Env) where
       rw (is x (inl refl) ∙ all_has _ rows r apart.0 h, one_chosen rows apart.1 r h (λ y k. is y (inr k)))
 
 -- the query of the UPDATE has one answer: the row with the given rowid, and the values to set
-pub update_finds_its_row : (tree position : ℕ) (project : List Term) (db db' : Trees) (given : Row) (rows : List Row) (r : Row) → AreKeyedByRowid (db tree) → Has (db tree) r → column given position ≡ rowid r → db' tree ≡ db tree
-    → IsAnswer (update_query tree position project) db' given rows → rows ≡ (rowid r ∷ eval_all project (given ∷ r ∷ [])) ∷ []
+pub update_finds_its_row : (tree position : ℕ) (project : List Term) (db db' : Trees) (given : Row) (rows : List Row) (r : Row)
+    → AreKeyedByRowid (db tree) → Has (db tree) r → column given position ≡ rowid r → db' tree ≡ db tree
+    → IsAnswer (update_query tree position project) db' given rows
+    → rows ≡ (rowid r ∷ eval_all project (given ∷ r ∷ [])) ∷ []
 update_finds_its_row tree position project db db' given rows r keyed there aimed same a =
     let q = update_query tree position project in
     let p = λ (x : Row). list_all (holds (given ∷ x ∷ [])) q.filter in
@@ -172,7 +176,8 @@ module _ (schema : Schema) (t : Table) (unlinked : (olds news : List Row) → wo
       (((r : Row) → Has (db t.tree) r → hits new r ≡ false) × Swaps schema t (hits new) (cast_row t new) db next)
       ⊎ ((r : Row) × Has (db t.tree) r × (hits new r ≡ true) × Swaps schema t (λ x. is_eq (value_cmp (rowid x) (rowid r))) (cast_row t (eval_all project (given new r ∷ r ∷ []))) db next)
 
-  replaced_at : (r n : Row) (db next : Trees) → AreKeyedByRowid (db t.tree) → Has (db t.tree) r → Edited schema Enforced db (record { table = t; gone = id_in (rowid r) ∷ []; news = n ∷ [] }) (Ok next)
+  replaced_at : (r n : Row) (db next : Trees) → AreKeyedByRowid (db t.tree) → Has (db t.tree) r
+      → Edited schema Enforced db (record { table = t; gone = id_in (rowid r) ∷ []; news = n ∷ [] }) (Ok next)
       → Swaps schema t (λ x. is_eq (value_cmp (rowid x) (rowid r))) n db next
   replaced_at r n db next keyed there h =
       let p = λ (x : Row). is_eq (value_cmp (rowid x) (rowid r)) in
@@ -195,8 +200,10 @@ module _ (schema : Schema) (t : Table) (unlinked : (olds news : List Row) → wo
         others = λ u listed other. all_has _ schema.tables u done.tables listed other;
       }
 
-  updates : (new : Row) (db : Trees) (r x : Row) (w : Written) → AreKeyedByRowid (db t.tree) → Has (db t.tree) r → x ≡ rowid r ∷ [] → column (given new r) position ≡ rowid r
-      → Updates upsert_task q (params ++ rowid x ∷ shown t new) db (Ok w) → Swaps schema t (λ x. is_eq (value_cmp (rowid x) (rowid r))) (cast_row t (eval_all project (given new r ∷ r ∷ []))) db w.trees
+  updates : (new : Row) (db : Trees) (r x : Row) (w : Written) → AreKeyedByRowid (db t.tree) → Has (db t.tree) r
+      → x ≡ rowid r ∷ [] → column (given new r) position ≡ rowid r
+      → Updates upsert_task q (params ++ rowid x ∷ shown t new) db (Ok w)
+      → Swaps schema t (λ x. is_eq (value_cmp (rowid x) (rowid r))) (cast_row t (eval_all project (given new r ∷ r ∷ []))) db w.trees
   updates new db r x w keyed there is aimed h =
       let select_of = ok_step_did (subst (λ (y : Row). Updates upsert_task q (params ++ rowid y ∷ shown t new) db (Ok w)) is h) in
       let wrote = ok_step_did select_of.2 in
@@ -205,8 +212,11 @@ module _ (schema : Schema) (t : Table) (unlinked : (olds news : List Row) → wo
       let edit = subst (λ l. Edited schema Enforced db (edit_of db t (ids_of l) Given 1 l) (Ok wrote.0)) rows wrote.1 in
       subst (Swaps schema t (λ x. is_eq (value_cmp (rowid x) (rowid r))) (cast_row t (eval_all project (given new r ∷ r ∷ []))) db) (sym trees) (replaced_at r _ db wrote.0 keyed there edit)
 
-  met : (new : Row) (db : Trees) (w : Written) (found : List Row) → AreKeyedByRowid (db t.tree) → ((r : Row) → Has (db t.tree) r → column (given new r) position ≡ rowid r)
-      → AreConflicts (Some target) schema.indexes t (db t.tree) new found → Meets upsert_task (Upserts upsert_task Abort new db []) new db (conflict_clause target q) found (Ok w) → Upserted new db w.trees
+  met : (new : Row) (db : Trees) (w : Written) (found : List Row) → AreKeyedByRowid (db t.tree)
+      → ((r : Row) → Has (db t.tree) r → column (given new r) position ≡ rowid r)
+      → AreConflicts (Some target) schema.indexes t (db t.tree) new found
+      → Meets upsert_task (Upserts upsert_task Abort new db []) new db (conflict_clause target q) found (Ok w)
+      → Upserted new db w.trees
   met new db w [] keyed aimed are h =
       let put = puts schema t unlinked limit params new db w keyed (either h.0 h.2) in
       let clear : (r : Row) → Has (db t.tree) r → hits new r ≡ false = λ r was. elim (cases_Bool (hits new r)) [ inl hit ↦ absurd (are.complete r was hit) | inr miss ↦ miss ] in
@@ -229,11 +239,13 @@ module _ (schema : Schema) (t : Table) (unlinked : (olds news : List Row) → wo
       inr (hit.0, hit.1, hit.2, updates new db hit.0 x w keyed hit.1 hit.3 (aimed hit.0 hit.1) h)
 
   -- an upsert that ran put the new row, or changed the row with its key (`Upserted`)
-  pub upserts : (new : Row) (db : Trees) (w : Written) → AreKeyedByRowid (db t.tree) → ((r : Row) → Has (db t.tree) r → column (given new r) position ≡ rowid r)
+  pub upserts : (new : Row) (db : Trees) (w : Written) → AreKeyedByRowid (db t.tree)
+      → ((r : Row) → Has (db t.tree) r → column (given new r) position ≡ rowid r)
       → Tries upsert_task Abort (conflict_clause target q ∷ []) new db (Ok w) → Upserted new db w.trees
   upserts new db w keyed aimed (inl refused) = absurd (let e = refused.1 in cc)
   upserts new db w keyed aimed (inr check_own_rows) = go check_own_rows.0 check_own_rows.2
     where
-      go : (verdict : Option Refusal) → Judged upsert_task Abort (conflict_clause target q ∷ []) new db verdict (Ok w) → Upserted new db w.trees
+      go : (verdict : Option Refusal) → Judged upsert_task Abort (conflict_clause target q ∷ []) new db verdict (Ok w)
+          → Upserted new db w.trees
       go None h = met new db w h.0 keyed aimed h.1 h.2
       go (Some why) h = absurd (let e = h in cc)

@@ -27,11 +27,13 @@ abbrev pub HandsOn : {A : Type 0} → Error → Result A Error → Type 0
 HandsOn e r = IsErr r × IsErrAnd r (λ f. f ≡ e)
 
 -- inside a transaction, steps by statements of `own` have done `Does` without an error
-abbrev pub HasDone : {S : Type 0} → Ghosts S → Statements → (State → State → Type 0) → MutBor (Held S) → MutBor (Held S) → Type 0
+abbrev pub HasDone : {S : Type 0} → Ghosts S → Statements → (State → State → Type 0) → MutBor (Held S) → MutBor (Held S)
+    → Type 0
 HasDone g own Does old new = Writes g own Does {A = Unit {0}} (Ok (tt {0})) old new
 
 pub survives_start : (s : State) → Survives s s (λ _. ⊥)
-survives_start s = record { clean = omega arith; shield = λ h. h; counts = omega arith; limit = refl; closes = λ clean up. inl up; crash = λ clean db may. inl may }
+survives_start s =
+    record { clean = omega arith; shield = λ h. h; counts = omega arith; limit = refl; closes = λ clean up. inl up; crash = λ clean db may. inl may }
 
 abbrev Any : State → State → Type 0
 Any old new = Unit {0}
@@ -42,19 +44,24 @@ module _ {S : Type 0} (g : Ghosts S) where
   module _ (old new : MutBor (Held S)) (sql : List ℕ) (params : Row) (same : new.ghost_name ≡ old.ghost_name) (survives : Survives (state g old.now) (state g new.now) (λ _. ⊥)) where
     -- if no transaction had begun, the statement's result is the error TransactionState, and nothing changed
     abbrev Ended : Result ℕ Error → Type 0
-    Ended r = (state g old.now).in_transaction ≡ false → (r ≡ Err (SqliteFailure TransactionState)) × (new.now ≡ old.now)
+    Ended r =
+        (state g old.now).in_transaction ≡ false → (r ≡ Err (SqliteFailure TransactionState)) × (new.now ≡ old.now)
 
     -- if the disk is clean, the statement ran with this result inside a transaction
     abbrev Ran : Result ℕ Error → Type 0
-    Ran r = HasCleanDisk (state g new.now) → IsTrue (state g old.now).in_transaction → ExecutesInside 0 sql params (state g old.now) (state g new.now) r
+    Ran r =
+        HasCleanDisk (state g new.now) → IsTrue (state g old.now).in_transaction → ExecutesInside 0 sql params
+        (state g old.now) (state g new.now) r
 
-    keeps : (r : Result ℕ Error) → Ended r → Ran r → HasCleanDisk (state g new.now) → KeepsCommit (state g old.now) (state g new.now)
+    keeps : (r : Result ℕ Error) → Ended r → Ran r → HasCleanDisk (state g new.now)
+        → KeepsCommit (state g old.now) (state g new.now)
     keeps r ended ran clean = elim (cases_Bool (state g old.now).in_transaction) [
       | inl inside ↦ inside_keeps (state g old.now) (state g new.now) 0 false sql params r (ran clean inside)
       | inr outside ↦ subst (λ (h : Held S). KeepsCommit (state g old.now) (state g h)) (sym (ended outside).1) (record { was_open = λ up. up; committed = λ _. refl })
     ]
 
-    pub fails : {A : Type 0} (Does : State → State → Type 0) (e : Error) (result : Result A Error) → Ended (Err e) → Ran (Err e) → HandsOn e result → Writes g (OneStatement sql params) Does result old new
+    pub fails : {A : Type 0} (Does : State → State → Type 0) (e : Error) (result : Result A Error) → Ended (Err e)
+        → Ran (Err e) → HandsOn e result → Writes g (OneStatement sql params) Does result old new
     fails Does e result ended ran failed = record {
       same_reference = same;
       does = λ _. on_ok_of_error result _ failed.0;
@@ -65,7 +72,8 @@ module _ {S : Type 0} (g : Ghosts S) where
       survives = survives;
     }
 
-    pub runs : {A : Type 0} (count : ℕ) (a : A) → Ended (Ok count) → Ran (Ok count) → Writes g (OneStatement sql params) (RunsStatement sql params) (Ok a) old new
+    pub runs : {A : Type 0} (count : ℕ) (a : A) → Ended (Ok count) → Ran (Ok count)
+        → Writes g (OneStatement sql params) (RunsStatement sql params) (Ok a) old new
     runs count a ended ran = record {
       same_reference = same;
       does = λ clean. elim (cases_Bool (state g old.now).in_transaction) [
@@ -84,10 +92,14 @@ module _ {S : Type 0} (g : Ghosts S) where
 
   -- ---- one step after another
 
-  pub weaker : {own : Statements} {First Does : State → State → Type 0} {A : Type 0} {r : Result A Error} {a b : MutBor (Held S)} → ((old new : State) → First old new → Does old new) → Writes g own First r a b → Writes g own Does r a b
-  weaker {r = r} less one = record { same_reference = one.same_reference; does = λ clean. on_ok r (less _ _) (one.does clean); goes_on = one.goes_on; reaches = one.reaches; error_given = one.error_given; kept = one.kept; survives = one.survives }
+  pub weaker : {own : Statements} {First Does : State → State → Type 0} {A : Type 0} {r : Result A Error} {a b : MutBor (Held S)}
+      → ((old new : State) → First old new → Does old new) → Writes g own First r a b → Writes g own Does r a b
+  weaker {r = r} less one =
+      record { same_reference = one.same_reference; does = λ clean. on_ok r (less _ _) (one.does clean); goes_on = one.goes_on; reaches = one.reaches; error_given = one.error_given; kept = one.kept; survives = one.survives }
 
-  pub writes_among_more : {own more : Statements} {Does : State → State → Type 0} {A : Type 0} {r : Result A Error} {a b : MutBor (Held S)} → ((sql : List ℕ) (params : Row) → own sql params → more sql params) → Writes g own Does r a b → Writes g more Does r a b
+  pub writes_among_more : {own more : Statements} {Does : State → State → Type 0} {A : Type 0} {r : Result A Error} {a b : MutBor (Held S)}
+      → ((sql : List ℕ) (params : Row) → own sql params → more sql params) → Writes g own Does r a b
+      → Writes g more Does r a b
   writes_among_more {own = own} {more = more} {r = r} {a = a} {b = b} within one = record {
     same_reference = one.same_reference;
     does = one.does;
@@ -98,16 +110,23 @@ module _ {S : Type 0} (g : Ghosts S) where
     survives = one.survives;
   }
 
-  pub among_only : {own : Statements} {Does : State → State → Type 0} {A : Type 0} {r : Result A Error} {a b : MutBor (Held S)} (text : List ℕ) (values : Row) → own text values → Writes g (OneStatement text values) Does r a b → Writes g own Does r a b
-  among_only {own = own} text values is one = writes_among_more (λ sql params only. subst (λ s. own s params) (sym only.0) (subst (own text) (sym only.1) is)) one
+  pub among_only : {own : Statements} {Does : State → State → Type 0} {A : Type 0} {r : Result A Error} {a b : MutBor (Held S)} (text : List ℕ) (values : Row)
+      → own text values → Writes g (OneStatement text values) Does r a b → Writes g own Does r a b
+  among_only {own = own} text values is one =
+      writes_among_more (λ sql params only. subst (λ s. own s params) (sym only.0) (subst (own text) (sym only.1) is))
+      one
 
-  pub among_each : {own : Statements} {Does : State → State → Type 0} {A : Type 0} {r : Result A Error} {a b : MutBor (Held S)} (text : List ℕ) (rows : Set) → ((row : Row) → rows row → own text row) → Writes g (RowStatements text rows) Does r a b → Writes g own Does r a b
-  among_each {own = own} text rows are one = writes_among_more (λ sql params each. subst (λ s. own s params) (sym each.0) (are params each.1)) one
+  pub among_each : {own : Statements} {Does : State → State → Type 0} {A : Type 0} {r : Result A Error} {a b : MutBor (Held S)} (text : List ℕ) (rows : Set)
+      → ((row : Row) → rows row → own text row) → Writes g (RowStatements text rows) Does r a b
+      → Writes g own Does r a b
+  among_each {own = own} text rows are one =
+      writes_among_more (λ sql params each. subst (λ s. own s params) (sym each.0) (are params each.1)) one
 
   -- two writes one after the other, the first without an error, are one write with the result of the second, and do
   -- `Does`, if `Does` follows from what the two do
   pub two_steps : {own : Statements} {First Second Does : State → State → Type 0} {A X : Type 0} {x : X} {r : Result A Error} {a b c : MutBor (Held S)}
-      → ((old mid new : State) → First old mid → Second mid new → Does old new) → Writes g own First (Ok x) a b → Writes g own Second r b c → Writes g own Does r a c
+      → ((old mid new : State) → First old mid → Second mid new → Does old new) → Writes g own First (Ok x) a b
+      → Writes g own Second r b c → Writes g own Does r a c
   two_steps {own = own} {r = r} {a = a} {b = b} {c = c} both one two =
       let before : HasCleanDisk (state g c.now) → HasCleanDisk (state g b.now) = λ clean. omega (arith, two.survives.clean) in
       record {
@@ -124,7 +143,8 @@ module _ {S : Type 0} (g : Ghosts S) where
         survives = survives_more _ _ _ one.survives two.survives;
       }
 
-  pub stops : {own : Statements} {First Does : State → State → Type 0} {A X : Type 0} {e : Error} {r : Result A Error} {a b : MutBor (Held S)} → Writes g own First {A = X} (Err e) a b → HandsOn e r → Writes g own Does r a b
+  pub stops : {own : Statements} {First Does : State → State → Type 0} {A X : Type 0} {e : Error} {r : Result A Error} {a b : MutBor (Held S)}
+      → Writes g own First {A = X} (Err e) a b → HandsOn e r → Writes g own Does r a b
   stops {e = e} {r = r} one failed = record {
     same_reference = one.same_reference;
     does = λ _. on_ok_of_error r _ failed.0;
@@ -137,10 +157,13 @@ module _ {S : Type 0} (g : Ghosts S) where
 
   pub stops_second : {own : Statements} {First Second Does : State → State → Type 0} {A X Z : Type 0} {x : X} {e : Error} {r : Result A Error} {a b c : MutBor (Held S)}
       → Writes g own First (Ok x) a b → Writes g own Second {A = Z} (Err e) b c → HandsOn e r → Writes g own Does r a c
-  stops_second {e = e} one two failed = stops (two_steps {Does = Any} {r = Err e} (λ old mid new first second. tt) one two) failed
+  stops_second {e = e} one two failed =
+      stops (two_steps {Does = Any} {r = Err e} (λ old mid new first second. tt) one two) failed
 
   pub three_steps : {own : Statements} {First Second Third Does : State → State → Type 0} {A X Y : Type 0} {x : X} {y : Y} {r : Result A Error} {a b c d : MutBor (Held S)}
-      → ((old one two new : State) → First old one → Second one two → Third two new → Does old new) → Writes g own First (Ok x) a b → Writes g own Second (Ok y) b c → Writes g own Third r c d → Writes g own Does r a d
+      → ((old one two new : State) → First old one → Second one two → Third two new → Does old new)
+      → Writes g own First (Ok x) a b → Writes g own Second (Ok y) b c → Writes g own Third r c d
+      → Writes g own Does r a d
   three_steps {y = y} {r = r} {c = c} all one two three =
       let whole = two_steps {Does = Any} {r = r} (λ old mid new first second. tt) (two_steps {Does = Any} {r = Ok y} (λ old mid new first second. tt) one two) three in
       record {
@@ -157,8 +180,12 @@ module _ {S : Type 0} (g : Ghosts S) where
 
   -- steps that have done `First` without an error, and one more that does `Second`, have together done `Does`
   -- (`HasDone`)
-  pub goes_on : {own : Statements} {First Second Does : State → State → Type 0} {u : Unit {0}} {a b c : MutBor (Held S)} → ((old mid new : State) → First old mid → Second mid new → Does old new) → HasDone g own First a b → Writes g own Second (Ok u) b c → HasDone g own Does a c
+  pub goes_on : {own : Statements} {First Second Does : State → State → Type 0} {u : Unit {0}} {a b c : MutBor (Held S)}
+      → ((old mid new : State) → First old mid → Second mid new → Does old new) → HasDone g own First a b
+      → Writes g own Second (Ok u) b c → HasDone g own Does a c
   goes_on both so_far more = two_steps both so_far more
 
-  pub begins : {own : Statements} {Does : State → State → Type 0} {A : Type 0} {a : A} {b : MutBor (Held S)} → ((s : State) → Does s s) → Writes g own Does (Ok a) b b
-  begins none = record { same_reference = refl; does = λ _. none _; goes_on = λ _. refl; reaches = λ clean inside. (0, refl); error_given = λ clean inside. tt; kept = λ _. record { was_open = λ up. up; committed = λ _. refl }; survives = survives_start _ }
+  pub begins : {own : Statements} {Does : State → State → Type 0} {A : Type 0} {a : A} {b : MutBor (Held S)}
+      → ((s : State) → Does s s) → Writes g own Does (Ok a) b b
+  begins none =
+      record { same_reference = refl; does = λ _. none _; goes_on = λ _. refl; reaches = λ clean inside. (0, refl); error_given = λ clean inside. tt; kept = λ _. record { was_open = λ up. up; committed = λ _. refl }; survives = survives_start _ }

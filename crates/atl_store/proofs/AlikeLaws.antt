@@ -37,20 +37,24 @@ use Rattle.atl_store.proofs.ThingLaws.{same_sort}
 -- `Determines line m k` is the condition that rows determine entries: an entry of the map `m` and one of `k` with equal
 -- rows, by `line`, have equal numbers and equal values.
 abbrev Determines : {V : Type 0} → (ℕ → V → Row) → FinMap nat_cmp V → FinMap nat_cmp V → Type 0
-Determines {V} line m k = (n p : ℕ) (v u : V) → get m n ≡ Some v → get k p ≡ Some u → line n v ≡ line p u → (n ≡ p) × (v ≡ u)
+Determines {V} line m k =
+    (n p : ℕ) (v u : V) → get m n ≡ Some v → get k p ≡ Some u → line n v ≡ line p u → (n ≡ p) × (v ≡ u)
 
 module _ {V : Type 0} (line : ℕ → V → Row) (rows : List Row) where
-  other_line : (m k : FinMap nat_cmp V) → HasExactly rows (RowsOf line m) → HasExactly rows (RowsOf line k) → (n : ℕ) (v : V) → get m n ≡ Some v → RowsOf line k (line n v)
+  other_line : (m k : FinMap nat_cmp V) → HasExactly rows (RowsOf line m) → HasExactly rows (RowsOf line k)
+      → (n : ℕ) (v : V) → get m n ≡ Some v → RowsOf line k (line n v)
   other_line m k a b n v is = (b (line n v)).0 ((a (line n v)).1 (n, v, is, refl))
 
-  one_way : (m k : FinMap nat_cmp V) → Determines line m k → HasExactly rows (RowsOf line m) → HasExactly rows (RowsOf line k) → Every (λ n v. get k n ≡ Some v) m
+  one_way : (m k : FinMap nat_cmp V) → Determines line m k → HasExactly rows (RowsOf line m)
+      → HasExactly rows (RowsOf line k) → Every (λ n v. get k n ≡ Some v) m
   one_way m k says a b n v is =
       let (p, u, there, same) = other_line m k a b n v is in
       let at = says n p v u is there same in
       ap (get k) at.0 ∙ there ∙ sym (ap Some at.1)
 
   -- two maps are equal, if one table has exactly the rows of each, and rows determine entries (`Determines`)
-  same_values : (m k : FinMap nat_cmp V) → Determines line m k → Determines line k m → HasExactly rows (RowsOf line m) → HasExactly rows (RowsOf line k) → m ≡ k
+  same_values : (m k : FinMap nat_cmp V) → Determines line m k → Determines line k m → HasExactly rows (RowsOf line m)
+      → HasExactly rows (RowsOf line k) → m ≡ k
   same_values m k there back a b = equal_by_values m k (one_way m k there a b) (one_way k m back b a)
 
 flag_determines_boolean : (a b : Bool) → flag a ≡ flag b → a ≡ b
@@ -59,7 +63,8 @@ flag_determines_boolean true false is = cc
 flag_determines_boolean false true is = cc
 flag_determines_boolean false false is = refl
 
-faction_rows_determine : (m k : FinMap nat_cmp Faction) → Every (λ n f. f.number ≡ n) m → Every (λ n f. f.number ≡ n) k → Determines row_of_faction m k
+faction_rows_determine : (m k : FinMap nat_cmp Faction) → Every (λ n f. f.number ≡ n) m → Every (λ n f. f.number ≡ n) k
+    → Determines row_of_faction m k
 faction_rows_determine m k a b n p f g is there same =
     let at : n ≡ p = cc in
     let number : f.number ≡ g.number = a n f is ∙ at ∙ sym (b p g there) in
@@ -87,14 +92,16 @@ report_rows_determine m k n p s t is there same = (cc, cc)
 -- ---- units, with what they have
 
 abbrev HaveNoZero : FinMap nat_cmp Unit → Type 0
-HaveNoZero units = Every (λ n u. (sort : ThingKind) → Every (λ thing amount. amount ≢ 0) (things_of sort u.holding)) units
+HaveNoZero units =
+    Every (λ n u. (sort : ThingKind) → Every (λ thing amount. amount ≢ 0) (things_of sort u.holding)) units
 
 have_no_zero : (w : WorldValue) (c : CampaignValue) → IsGood w c → HaveNoZero c.units
 have_no_zero w c good n u is Item thing amount there = let range = (good.sound.steady.numbers.units n u is).1.items thing amount there in λ none. omega (arith, range.0, none)
 have_no_zero w c good n u is Skill thing amount there = let range = good.sound.steady.days n u is thing amount there in λ none. omega (arith, range.0, none)
 
 module _ (rows : List Row) (m k : FinMap nat_cmp Unit) (a : HasExactly rows (HasRowsOf m)) (b : HasExactly rows (HasRowsOf k)) where
-  things_there : HaveNoZero m → (n : ℕ) (u v : Unit) → get m n ≡ Some u → get k n ≡ Some v → (sort : ThingKind) → Every (λ thing amount. get (things_of sort v.holding) thing ≡ Some amount) (things_of sort u.holding)
+  things_there : HaveNoZero m → (n : ℕ) (u v : Unit) → get m n ≡ Some u → get k n ≡ Some v → (sort : ThingKind)
+      → Every (λ thing amount. get (things_of sort v.holding) thing ≡ Some amount) (things_of sort u.holding)
   things_there some n u v is there sort thing amount has =
       let row = has_row n (sort_number sort) thing amount in
       let (p, x, at, other, object, size, got, apart, same) = (b row).0 ((a row).1 (n, u, is, sort, thing, amount, has, some n u is sort thing amount has, refl)) in
@@ -139,7 +146,8 @@ have_no_zero_stock : (w : WorldValue) (c : CampaignValue) → IsGood w c → Hav
 have_no_zero_stock w c good n r is item stock there = let range = (good.sound.steady.numbers.regions n r is).stocks item stock there in λ none. omega (arith, range.0, none)
 
 module _ (rows : List Row) (m k : FinMap nat_cmp Region) (a : HasExactly rows (MarketRowsOf m)) (b : HasExactly rows (MarketRowsOf k)) where
-  stocks_there : HaveNoZeroStock m → (n : ℕ) (r s : Region) → get m n ≡ Some r → get k n ≡ Some s → Every (λ item stock. get s.stocks item ≡ Some stock) r.stocks
+  stocks_there : HaveNoZeroStock m → (n : ℕ) (r s : Region) → get m n ≡ Some r → get k n ≡ Some s
+      → Every (λ item stock. get s.stocks item ≡ Some stock) r.stocks
   stocks_there some n r s is there item stock has =
       let row = market_row n item stock in
       let (p, x, at, object, size, got, apart, same) = (b row).0 ((a row).1 (n, r, is, item, stock, has, some n r is item stock has, refl)) in

@@ -33,7 +33,10 @@ use Rattle.atl_world.proofs.TrackLaws.{get_inserted}
 -- ---- one entry more in a map
 
 module _ {V : Type 0} where
-pub put_rows : {V : Type 0} (line : ℕ → V → Row) (numbered : (n : ℕ) (v : V) → take 1 (line n v) ≡ int n ∷ []) (rows news : List Row) (m : FinMap nat_cmp V) (n : ℕ) (v : V) → HasExactly rows (RowsOf line m) → HasExactly news (put 1 (line n v) (Has rows)) → HasExactly news (RowsOf line (insert m n v))
+
+pub put_rows : {V : Type 0} (line : ℕ → V → Row) (numbered : (n : ℕ) (v : V) → take 1 (line n v) ≡ int n ∷ []) (rows news : List Row) (m : FinMap nat_cmp V) (n : ℕ) (v : V)
+    → HasExactly rows (RowsOf line m) → HasExactly news (put 1 (line n v) (Has rows))
+    → HasExactly news (RowsOf line (insert m n v))
 put_rows line numbered rows news m n v was made r = (
   λ there. elim ((made r).0 there) [
     | inl same ↦ (n, v, get_inserted m n v, same)
@@ -53,7 +56,9 @@ put_rows line numbered rows news m n v was made r = (
 )
 
 -- the rows of `has` for some units are also those for these units and a new one without items and skills
-pub no_goods : (rows : List Row) (units : FinMap nat_cmp Unit) (n : ℕ) (u : Unit) → get units n ≡ None → ((sort : ThingKind) → things_of sort u.holding ≡ empty) → HasExactly rows (HasRowsOf units) → HasExactly rows (HasRowsOf (insert units n u))
+pub no_goods : (rows : List Row) (units : FinMap nat_cmp Unit) (n : ℕ) (u : Unit) → get units n ≡ None
+    → ((sort : ThingKind) → things_of sort u.holding ≡ empty) → HasExactly rows (HasRowsOf units)
+    → HasExactly rows (HasRowsOf (insert units n u))
 no_goods rows units n u fresh bare was r = (
   λ there.
       let old = (was r).0 there in
@@ -101,13 +106,17 @@ module _ (c : CampaignValue) (e : BooksEntry) (t : Thing) where
     ],
   )
     where
-      apart : (f : BooksEntry) (u : Thing) → ◌≢◌ {A = Row} (books_key (entry_index f + 1) (thing_index u)) (books_key (entry_index e + 1) (thing_index t)) → (entry_index f ≢ entry_index e) ⊎ (thing_index u ≢ thing_index t)
+      apart : (f : BooksEntry) (u : Thing)
+          → ◌≢◌ {A = Row} (books_key (entry_index f + 1) (thing_index u)) (books_key (entry_index e + 1) (thing_index t))
+          → (entry_index f ≢ entry_index e) ⊎ (thing_index u ≢ thing_index t)
       apart f u differs = elim (cases_eq (entry_index f) (entry_index e)) [
         | inl entries ↦ inr (λ things. differs (ap (λ k. books_key (k + 1) (thing_index u)) entries ∙ ap (books_key (entry_index e + 1)) things))
         | inr entries ↦ inl entries
       ]
 
-      kept_row : (f : BooksEntry) (u : Thing) → amount_in B f u ≢ pos 0 → r ≡ books_row (entry_index f + 1) (thing_index u) (amount_in B f u) → (entry_index f ≢ entry_index e) ⊎ (thing_index u ≢ thing_index t)
+      kept_row : (f : BooksEntry) (u : Thing) → amount_in B f u ≢ pos 0
+          → r ≡ books_row (entry_index f + 1) (thing_index u) (amount_in B f u)
+          → (entry_index f ≢ entry_index e) ⊎ (thing_index u ≢ thing_index t)
           → S r × (take 2 r ≢ books_key (entry_index e + 1) (thing_index t))
       kept_row f u some is far = (
         (was r).1 (f, u, λ none. some (aside f u far ∙ none), is ∙ ap (books_row (entry_index f + 1) (thing_index u)) (aside f u far)),
@@ -118,13 +127,15 @@ module _ (c : CampaignValue) (e : BooksEntry) (t : Thing) where
 
 -- the statements that write an amount of the books (`OfAmount`)
 module _ (c : CampaignValue) (e : BooksEntry) (t : Thing) (n k : ℕ) (entry : n ≡ entry_index e + 1) (thing : k ≡ thing_index t) where
-  pub amount_put : (z : ℤ) → z ≡ amount_in c.books e t → z ≢ pos 0 → OfAmount c e t (upsert books_table 2) (books_row n k z)
+  pub amount_put : (z : ℤ) → z ≡ amount_in c.books e t → z ≢ pos 0
+      → OfAmount c e t (upsert books_table 2) (books_row n k z)
   amount_put z amount some = rw (entry, thing, amount) (puts_amount (λ zero. some (amount ∙ zero)))
 
   pub amount_taken : amount_in c.books e t ≡ pos 0 → OfAmount c e t (deletion books_table 2) (books_key n k)
   amount_taken zero = rw (entry, thing) (drops_amount zero)
 
-pub amount_changes : (c : CampaignValue) (e : BooksEntry) (t : Thing) (sql : List ℕ) (params : Row) → OfAmount c e t sql params → OfChange c sql params
+pub amount_changes : (c : CampaignValue) (e : BooksEntry) (t : Thing) (sql : List ℕ) (params : Row)
+    → OfAmount c e t sql params → OfChange c sql params
 amount_changes c e t sql params (puts_amount some) = changes_row (puts_row Books (λ own. (e, t, some, refl)))
 amount_changes c e t sql params (drops_amount zero) = drops_row Books (
   refl,
@@ -136,7 +147,8 @@ amount_changes c e t sql params (drops_amount zero) = drops_row Books (
 
 -- an amount is written: its row is put, or deleted if the amount is 0
 module _ (c : CampaignValue) (e : BooksEntry) (t : Thing) (n k : ℕ) (entry : n ≡ entry_index e + 1) (thing : k ≡ thing_index t) (old new : Database) where
-  pub put_writes_amount : (z : ℤ) → z ≡ amount_in c.books e t → z ≢ pos 0 → Puts books_table 2 (books_row n k z) old new → WritesAmount c e t old new
+  pub put_writes_amount : (z : ℤ) → z ≡ amount_in c.books e t → z ≢ pos 0 → Puts books_table 2 (books_row n k z) old new
+      → WritesAmount c e t old new
   put_writes_amount z amount some did =
       let lines : amount_lines c e t ≡ books_row n k z ∷ [] = amount_is c e t n k z entry thing amount some in
       let keys : take 2 (books_row n k z) ≡ books_key (entry_index e + 1) (thing_index t) = rw (entry, thing) refl in
@@ -148,7 +160,8 @@ module _ (c : CampaignValue) (e : BooksEntry) (t : Thing) (n k : ℕ) (entry : n
         others = did.others;
       }
 
-  pub drop_writes_amount : amount_in c.books e t ≡ pos 0 → Drops books_table 2 (books_key n k) old new → WritesAmount c e t old new
+  pub drop_writes_amount : amount_in c.books e t ≡ pos 0 → Drops books_table 2 (books_key n k) old new
+      → WritesAmount c e t old new
   drop_writes_amount none did =
       let keys : books_key n k ≡ books_key (entry_index e + 1) (thing_index t) = rw (entry, thing) refl in
       let lines : amount_lines c e t ≡ [] = rw none refl in

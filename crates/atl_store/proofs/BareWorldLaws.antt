@@ -13,7 +13,8 @@ use Rattle.atl_records.specs.Every.{HasValue}
 use Rattle.atl_campaign.specs.Good.{HasNoStocks, IsGood}
 use Rattle.atl_records.specs.declared.records.Region.{Region}
 
-nothing_in_stock : (c : CampaignValue) → HasNoStocks c → (n : ℕ) (r : Region) → get c.regions n ≡ Some r → (i amount : ℕ) → ¬ (get r.stocks i ≡ Some amount)
+nothing_in_stock : (c : CampaignValue) → HasNoStocks c → (n : ℕ) (r : Region) → get c.regions n ≡ Some r
+    → (i amount : ℕ) → ¬ (get r.stocks i ≡ Some amount)
 nothing_in_stock c bare n r is i amount there = let e = sym (get-empty {X = ℕ} nat_cmp i) ∙ ap (λ (m : FinMap nat_cmp ℕ). get m i) (sym (bare n r is)) ∙ there in absurd cc
 
 -- ---- in a world with other regions
@@ -24,7 +25,9 @@ module _ (v : WorldValue) (regions : FinMap nat_cmp RegionPlan) (c : CampaignVal
 
   -- a campaign that is good in world `v` is good in world `changed_world`, if nothing is in stock, and both worlds have
   -- regions and land under the same numbers
-  good_with : ((n : ℕ) → is_land_at changed_world n ≡ is_land_at v n) → ((n : ℕ) → HasValue v.regions n → HasValue regions n) → ((n : ℕ) → HasValue regions n → HasValue v.regions n) → IsGood v c → IsGood changed_world c
+  good_with : ((n : ℕ) → is_land_at changed_world n ≡ is_land_at v n)
+      → ((n : ℕ) → HasValue v.regions n → HasValue regions n) → ((n : ℕ) → HasValue regions n → HasValue v.regions n)
+      → IsGood v c → IsGood changed_world c
   good_with land ahead back good =
       let steady = good.sound.steady in
       record {
@@ -76,19 +79,25 @@ module _ (v : WorldValue) (regions : FinMap nat_cmp RegionPlan) (c : CampaignVal
 
 module _ (w : WorldValue) where
   land_same : (n : ℕ) → is_land_at (without_markets w) n ≡ is_land_at w n
-  land_same n = ap (λ o. option_map_or (is_land w.terrains) o false) (get-mapped without_market w.regions n) ∙ by_plan (get w.regions n)
+  land_same n =
+      ap (λ o. option_map_or (is_land w.terrains) o false) (get-mapped without_market w.regions n)
+      ∙ by_plan (get w.regions n)
     where
-      by_plan : (o : Option RegionPlan) → option_map_or (is_land w.terrains) (option_map without_market o) false ≡ option_map_or (is_land w.terrains) o false
+      by_plan : (o : Option RegionPlan)
+          → option_map_or (is_land w.terrains) (option_map without_market o) false
+          ≡ option_map_or (is_land w.terrains) o false
       by_plan None = refl
       by_plan (Some p) = refl
 
   stays_without_markets : (n : ℕ) → HasValue w.regions n → HasValue (without_markets w).regions n
-  stays_without_markets n (p, there) = (without_market p, get-mapped without_market w.regions n ∙ ap (option_map without_market) there)
+  stays_without_markets n (p, there) =
+      (without_market p, get-mapped without_market w.regions n ∙ ap (option_map without_market) there)
 
   is_of_world : (n : ℕ) → HasValue (without_markets w).regions n → HasValue w.regions n
   is_of_world n (p, there) = by_plan (get w.regions n) refl (sym (get-mapped without_market w.regions n) ∙ there)
     where
-      by_plan : (o : Option RegionPlan) → get w.regions n ≡ o → option_map without_market o ≡ Some p → HasValue w.regions n
+      by_plan : (o : Option RegionPlan) → get w.regions n ≡ o → option_map without_market o ≡ Some p
+          → HasValue w.regions n
       by_plan None is e = absurd cc
       by_plan (Some q) is e = (q, is)
 
@@ -97,8 +106,10 @@ module _ (w : WorldValue) where
     without_good good = good_with w (without_markets w).regions c bare land_same stays_without_markets is_of_world good
 
     with_good : IsGood (without_markets w) c → IsGood w c
-    with_good good = good_with (without_markets w) w.regions c bare (λ n. sym (land_same n)) is_of_world stays_without_markets good
+    with_good good =
+        good_with (without_markets w) w.regions c bare (λ n. sym (land_same n)) is_of_world stays_without_markets good
 
 -- a campaign with nothing in stock that is good in a world is good in each world that differs from it in markets alone
-pub good_either : (v w : WorldValue) (c : CampaignValue) → without_markets w ≡ without_markets v → HasNoStocks c → IsGood v c → IsGood w c
+pub good_either : (v w : WorldValue) (c : CampaignValue) → without_markets w ≡ without_markets v → HasNoStocks c
+    → IsGood v c → IsGood w c
 good_either v w c same bare good = with_good w c bare (subst (λ x. IsGood x c) (sym same) (without_good v c bare good))

@@ -34,11 +34,13 @@ use Rattle.atl_world.proofs.GeneralLaws.{same_key, key_itself}
 
 -- ---- a row that begins with an entry and a thing
 
-accounts_either : (f g : ℕ → ℕ → Bool) (r : Row) → entry_and_thing_pass (λ e t. f e t || g e t) r ≡ (entry_and_thing_pass f r || entry_and_thing_pass g r)
+accounts_either : (f g : ℕ → ℕ → Bool) (r : Row)
+    → entry_and_thing_pass (λ e t. f e t || g e t) r ≡ (entry_and_thing_pass f r || entry_and_thing_pass g r)
 accounts_either f g (Int (pos (suc e)) ∷ Int (pos t) ∷ row) = refl
 accounts_either f g row = refl
 
-accounts_same : (f g : ℕ → ℕ → Bool) → ((e t : ℕ) → f e t ≡ g e t) → (r : Row) → entry_and_thing_pass f r ≡ entry_and_thing_pass g r
+accounts_same : (f g : ℕ → ℕ → Bool) → ((e t : ℕ) → f e t ≡ g e t) → (r : Row)
+    → entry_and_thing_pass f r ≡ entry_and_thing_pass g r
 accounts_same f g same r = ap (λ (h : ℕ → ℕ → Bool). entry_and_thing_pass h r) (λ i e t. same e t i)
 
 accounts_none : (f : ℕ → ℕ → Bool) → ((e t : ℕ) → f e t ≡ false) → (r : Row) → entry_and_thing_pass f r ≡ false
@@ -59,20 +61,27 @@ module _ (marks : FinSet nat_cmp) where
   next_entry e es things r =
       let one : ℕ → ℕ → Bool = λ k t. equals_number e k && (things t && is_marked_at k t) in
       let rest : ℕ → ℕ → Bool = λ k t. is_among es k && (things t && is_marked_at k t) in
-      accounts_same (λ k t. is_among (e ∷ es) k && (things t && is_marked_at k t)) (λ k t. one k t || rest k t) (λ k t. and-or_distrib_right (equals_number e k) (is_among es k) (things t && is_marked_at k t)) r ∙ accounts_either one rest r
+      accounts_same (λ k t. is_among (e ∷ es) k && (things t && is_marked_at k t)) (λ k t. one k t || rest k t) (λ k t. and-or_distrib_right (equals_number e k) (is_among es k) (things t && is_marked_at k t)) r
+      ∙ accounts_either one rest r
 
   pub next_thing : (entries : ℕ → Bool) (t : ℕ) (ts : List ℕ) (r : Row)
       → is_of_marked_amount marks entries (is_among (t ∷ ts)) r ≡ (is_of_marked_amount marks entries (equals_number t) r || is_of_marked_amount marks entries (is_among ts) r)
   next_thing entries t ts r =
       let one : ℕ → ℕ → Bool = λ e k. entries e && (equals_number t k && is_marked_at e k) in
       let rest : ℕ → ℕ → Bool = λ e k. entries e && (is_among ts k && is_marked_at e k) in
-      accounts_same (λ e k. entries e && (is_among (t ∷ ts) k && is_marked_at e k)) (λ e k. one e k || rest e k) (λ e k. and_or (entries e) (equals_number t k) (is_among ts k) (is_marked_at e k)) r ∙ accounts_either one rest r
+      accounts_same (λ e k. entries e && (is_among (t ∷ ts) k && is_marked_at e k)) (λ e k. one e k || rest e k) (λ e k. and_or (entries e) (equals_number t k) (is_among ts k) (is_marked_at e k)) r
+      ∙ accounts_either one rest r
 
-  pub no_entry : (es : List ℕ) (things : ℕ → Bool) → es ≡ [] → (r : Row) → is_of_marked_amount marks (is_among es) things r ≡ false
-  no_entry es things none r = ap (λ l. is_of_marked_amount marks (is_among l) things r) none ∙ accounts_none (λ e t. false) (λ e t. refl) r
+  pub no_entry : (es : List ℕ) (things : ℕ → Bool) → es ≡ [] → (r : Row)
+      → is_of_marked_amount marks (is_among es) things r ≡ false
+  no_entry es things none r =
+      ap (λ l. is_of_marked_amount marks (is_among l) things r) none ∙ accounts_none (λ e t. false) (λ e t. refl) r
 
-  pub no_thing : (entries : ℕ → Bool) (ts : List ℕ) → ts ≡ [] → (r : Row) → is_of_marked_amount marks entries (is_among ts) r ≡ false
-  no_thing entries ts none r = ap (λ l. is_of_marked_amount marks entries (is_among l) r) none ∙ accounts_none (λ e t. entries e && false) (λ e t. and-false (entries e)) r
+  pub no_thing : (entries : ℕ → Bool) (ts : List ℕ) → ts ≡ [] → (r : Row)
+      → is_of_marked_amount marks entries (is_among ts) r ≡ false
+  no_thing entries ts none r =
+      ap (λ l. is_of_marked_amount marks entries (is_among l) r) none
+      ∙ accounts_none (λ e t. entries e && false) (λ e t. and-false (entries e)) r
 
   -- ---- all entries and all things
 
@@ -82,7 +91,8 @@ module _ (marks : FinSet nat_cmp) where
     | inl here ↦ ap (λ b. b || is_among (range_with_len (from + 1) count) i) here
     | inr later ↦
         let apart : i ≢ from = λ same. true≢false (sym (key_itself i) ∙ ap (eq_by_cmp nat_cmp i) same ∙ later) in
-        ap (λ b. b || is_among (range_with_len (from + 1) count) i) later ∙ in_range (from + 1) count i (past from i least apart) (omega (arith, most))
+        ap (λ b. b || is_among (range_with_len (from + 1) count) i) later
+        ∙ in_range (from + 1) count i (past from i least apart) (omega (arith, most))
   ]
     where
       past : (m n : ℕ) → m ≤ n → n ≢ m → m + 1 ≤ n
@@ -91,7 +101,8 @@ module _ (marks : FinSet nat_cmp) where
   beyond : (from count i : ℕ) → from + count ≤ i → is_among (range_with_len from count) i ≡ false
   beyond from zero i past = refl
   beyond from (suc count) i past =
-      ap (λ b. b || is_among (range_with_len (from + 1) count) i) (false_from_ne_true (eq_by_cmp nat_cmp i from) (λ is. absurd (omega (arith, past, same_key i from is)))) ∙ beyond (from + 1) count i (omega (arith, past))
+      ap (λ b. b || is_among (range_with_len (from + 1) count) i) (false_from_ne_true (eq_by_cmp nat_cmp i from) (λ is. absurd (omega (arith, past, same_key i from is))))
+      ∙ beyond (from + 1) count i (omega (arith, past))
 
   among_first : (count e : ℕ) → is_among (range_with_len 0 count) e ≡ nat_le (suc e) count
   among_first count e = elim (cases_lt e count) [
@@ -111,7 +122,10 @@ module _ (marks : FinSet nat_cmp) where
   -- if all marks are of the first `things` things, the test for their marked amounts finds the marked rows of `books`
   pub all_amounts : (things : ℕ) → AreOfThings things marks → (r : Row)
       → is_of_marked_amount marks (is_among (map entry_index all_entries)) (is_among (range_with_len 0 things)) r ≡ amount_marked marks r
-  all_amounts things few r = accounts_same (λ e t. is_among (map entry_index all_entries) e && (is_among (range_with_len 0 things) t && is_marked_at e t)) (is_marked_amount marks) same r
+  all_amounts things few r =
+      accounts_same
+      (λ e t. is_among (map entry_index all_entries) e && (is_among (range_with_len 0 things) t && is_marked_at e t))
+      (is_marked_amount marks) same r
     where
       inside : (e t n : ℕ) → entry_count * t + e < entry_count * n → t < n
       inside e t n h = omega (arith, h)
@@ -121,7 +135,8 @@ module _ (marks : FinSet nat_cmp) where
       same e t = elim (cases_Bool (is_marked_at e t)) [
         | inl is ↦
             let there : is_among (range_with_len 0 things) t ≡ true = in_range 0 things t (omega arith) (omega (arith, inside e t things (few (entry_count * t + e) is))) in
-            ap (λ b. b && (is_among (range_with_len 0 things) t && is_marked_at e t)) (each_entry e) ∙ ap (λ b. nat_le (suc e) entry_count && (b && is_marked_at e t)) there
+            ap (λ b. b && (is_among (range_with_len 0 things) t && is_marked_at e t)) (each_entry e)
+            ∙ ap (λ b. nat_le (suc e) entry_count && (b && is_marked_at e t)) there
         | inr unmarked ↦ ap (λ b. b && (is_among (range_with_len 0 things) t && is_marked_at e t)) (each_entry e) ∙ ap (λ b. nat_le (suc e) entry_count && (is_among (range_with_len 0 things) t && b)) unmarked ∙ ap (λ b. nat_le (suc e) entry_count && b) (and-false (is_among (range_with_len 0 things) t)) ∙ ap (λ b. nat_le (suc e) entry_count && b) (sym unmarked)
       ]
 
@@ -135,8 +150,10 @@ module _ (c : MarkedCampaign) (e : BooksEntry) (t : Thing) where
   abbrev row : Row
   row = books_row (entry_index e + 1) (thing_index t) (amount_in c.value.books e t)
 
-  same_place : (f : BooksEntry) (u : Thing) → amount_in c.value.books f u ≢ pos 0 → entry_index f ≡ entry_index e → thing_index u ≡ thing_index t
-      → (r : Row) → r ≡ books_row (entry_index f + 1) (thing_index u) (amount_in c.value.books f u) → Has (amount_lines c.value e t) r
+  same_place : (f : BooksEntry) (u : Thing) → amount_in c.value.books f u ≢ pos 0 → entry_index f ≡ entry_index e
+      → thing_index u ≡ thing_index t
+      → (r : Row) → r ≡ books_row (entry_index f + 1) (thing_index u) (amount_in c.value.books f u)
+      → Has (amount_lines c.value e t) r
   same_place f u some entries things r is =
       let books = c.value.books in
       let same : amount_in books f u ≡ amount_in books e t = ap (λ (a : Account). amount_in books a.0 a.1) (same_account f e u t entries things) in
@@ -153,7 +170,8 @@ module _ (c : MarkedCampaign) (e : BooksEntry) (t : Thing) where
   key_of (Int (pos (suc index)) ∷ Int (pos thing) ∷ row) is =
       let one = and_parts _ _ is in
       let two = and_parts _ _ one.1 in
-      ap (λ k. books_key k thing) (next index (entry_index e) (same_key index (entry_index e) one.0)) ∙ ap (books_key (entry_index e + 1)) (same_key thing (thing_index t) two.0)
+      ap (λ k. books_key k thing) (next index (entry_index e) (same_key index (entry_index e) one.0))
+      ∙ ap (books_key (entry_index e + 1)) (same_key thing (thing_index t) two.0)
     where
       -- for `key_of`: if `a` is `b`, the successor of `a` is `b + 1`; a row of `books` has an entry's index plus 1
       next : (a b : ℕ) → a ≡ b → suc a ≡ b + 1
@@ -168,12 +186,16 @@ module _ (c : MarkedCampaign) (e : BooksEntry) (t : Thing) where
         let first : v ≡ int (entry_index e + 1) = cc in
         let second : w ≡ int (thing_index t) = cc in
         let index : entry_index e + 1 ≡ suc (entry_index e) = omega arith in
-        ap (λ x. is_here (x ∷ w ∷ row)) (first ∙ ap int index) ∙ ap (λ x. is_here (int (suc (entry_index e)) ∷ x ∷ row)) second
-        ∙ ap (λ b. b && (equals_number (thing_index t) (thing_index t) && contains c.marks.books (amount_number e t))) (key_itself (entry_index e)) ∙ ap (λ b. b && contains c.marks.books (amount_number e t)) (key_itself (thing_index t)) ∙ marked
+        ap (λ x. is_here (x ∷ w ∷ row)) (first ∙ ap int index)
+        ∙ ap (λ x. is_here (int (suc (entry_index e)) ∷ x ∷ row)) second
+        ∙ ap (λ b. b && (equals_number (thing_index t) (thing_index t) && contains c.marks.books (amount_number e t))) (key_itself (entry_index e))
+        ∙ ap (λ b. b && contains c.marks.books (amount_number e t)) (key_itself (thing_index t)) ∙ marked
 
     written_amount_is_rewritten : (old new : Database) → WritesAmount c.value e t old new
         → RewritesAmounts c (equals_number (entry_index e)) (equals_number (thing_index t)) old new
-    written_amount_is_rewritten old new did = rewrites_key is_here (λ r. take 2 r ≡ books_key (entry_index e + 1) (thing_index t)) (Has (amount_lines c.value e t)) (BooksRowsOf c.value.books) key_of of_key
+    written_amount_is_rewritten old new did =
+        rewrites_key is_here (λ r. take 2 r ≡ books_key (entry_index e + 1) (thing_index t))
+        (Has (amount_lines c.value e t)) (BooksRowsOf c.value.books) key_of of_key
         (λ r here. let is = optional_has (int_eq (amount_in c.value.books e t) (pos 0)) row r here in (ap (take 2) is.1, (e, t, differs_zero (amount_in c.value.books e t) is.0, is.1)))
         (λ r is of.
         let keys = books_key_determines_numbers (entry_index of.0 + 1) (thing_index of.1) (entry_index e + 1) (thing_index t) (ap (take 2) (sym of.3) ∙ key_of r is) in
@@ -182,7 +204,10 @@ module _ (c : MarkedCampaign) (e : BooksEntry) (t : Thing) where
 
     pub amount_is_rewritten_inside : (old new : State) → DoesInside HasTables (WritesAmount c.value e t) old new
         → DoesInside HasTables (RewritesAmounts c (equals_number (entry_index e)) (equals_number (thing_index t))) old new
-    amount_is_rewritten_inside old new did = inside_weaker HasTables (WritesAmount c.value e t) (RewritesAmounts c (equals_number (entry_index e)) (equals_number (thing_index t))) old new (λ has settles. written_amount_is_rewritten old.now new.now settles) did
+    amount_is_rewritten_inside old new did =
+        inside_weaker HasTables (WritesAmount c.value e t)
+        (RewritesAmounts c (equals_number (entry_index e)) (equals_number (thing_index t))) old new
+        (λ has settles. written_amount_is_rewritten old.now new.now settles) did
 
 -- ---- one entry after another, and one thing after another
 
@@ -193,35 +218,60 @@ module _ (c : MarkedCampaign) where
   -- Of the entries `all`, `rest` are left to rewrite: once their marked amounts are rewritten, those of all are
   -- (`Remaining`).
   abbrev pub RemainingEntries : (ℕ → Bool) → List BooksEntry → List BooksEntry → Database → Database → Type 0
-  RemainingEntries things rest all old new = Remaining books_table wanted (λ r. is_of_marked_amount c.marks.books (is_among (map entry_index rest)) things r) (λ r. is_of_marked_amount c.marks.books (is_among (map entry_index all)) things r) old new
+  RemainingEntries things rest all old new =
+      Remaining books_table wanted (λ r. is_of_marked_amount c.marks.books (is_among (map entry_index rest)) things r)
+      (λ r. is_of_marked_amount c.marks.books (is_among (map entry_index all)) things r) old new
 
-  pub one_less_entry : (things : ℕ → Bool) (x : BooksEntry) (now rest all : List BooksEntry) → now ≡ x ∷ rest → (old mid new : State)
-      → DoesInside HasTables (RemainingEntries things now all) old mid → DoesInside HasTables (RewritesAmounts c (equals_number (entry_index x)) things) mid new
+  pub one_less_entry : (things : ℕ → Bool) (x : BooksEntry) (now rest all : List BooksEntry) → now ≡ x ∷ rest
+      → (old mid new : State)
+      → DoesInside HasTables (RemainingEntries things now all) old mid
+      → DoesInside HasTables (RewritesAmounts c (equals_number (entry_index x)) things) mid new
       → DoesInside HasTables (RemainingEntries things rest all) old new
-  one_less_entry things x now rest all is = one_less_remaining books_table wanted (λ r. is_of_marked_amount c.marks.books (equals_number (entry_index x)) things r) (λ r. is_of_marked_amount c.marks.books (is_among (map entry_index now)) things r) (λ r. is_of_marked_amount c.marks.books (is_among (map entry_index rest)) things r) (λ r. is_of_marked_amount c.marks.books (is_among (map entry_index all)) things r)
+  one_less_entry things x now rest all is =
+      one_less_remaining books_table wanted
+      (λ r. is_of_marked_amount c.marks.books (equals_number (entry_index x)) things r)
+      (λ r. is_of_marked_amount c.marks.books (is_among (map entry_index now)) things r)
+      (λ r. is_of_marked_amount c.marks.books (is_among (map entry_index rest)) things r)
+      (λ r. is_of_marked_amount c.marks.books (is_among (map entry_index all)) things r)
       (λ r. ap (λ es. is_of_marked_amount c.marks.books (is_among (map entry_index es)) things r) is ∙ next_entry c.marks.books (entry_index x) (map entry_index rest) things r)
 
   pub entries_rewritten : (things : ℕ → Bool) (rest all : List BooksEntry) → rest ≡ [] → (old new : State)
       → DoesInside HasTables (RemainingEntries things rest all) old new
       → DoesInside HasTables (RewritesAmounts c (is_among (map entry_index all)) things) old new
-  entries_rewritten things rest all none = all_rewritten books_table wanted (λ r. is_of_marked_amount c.marks.books (is_among (map entry_index rest)) things r) (λ r. is_of_marked_amount c.marks.books (is_among (map entry_index all)) things r) (λ r. is_of_marked_amount c.marks.books (is_among (map entry_index all)) things r)
+  entries_rewritten things rest all none =
+      all_rewritten books_table wanted
+      (λ r. is_of_marked_amount c.marks.books (is_among (map entry_index rest)) things r)
+      (λ r. is_of_marked_amount c.marks.books (is_among (map entry_index all)) things r)
+      (λ r. is_of_marked_amount c.marks.books (is_among (map entry_index all)) things r)
       (no_entry c.marks.books (map entry_index rest) things (ap (map entry_index) none)) (λ r. refl)
 
   -- Of the things `all`, `rest` are left to rewrite: once their marked amounts are rewritten, those of all are
   -- (`Remaining`).
   abbrev pub RemainingThings : List ℕ → List ℕ → Database → Database → Type 0
-  RemainingThings rest all old new = Remaining books_table wanted (λ r. is_of_marked_amount c.marks.books (is_among (map entry_index all_entries)) (is_among rest) r) (λ r. is_of_marked_amount c.marks.books (is_among (map entry_index all_entries)) (is_among all) r) old new
+  RemainingThings rest all old new =
+      Remaining books_table wanted
+      (λ r. is_of_marked_amount c.marks.books (is_among (map entry_index all_entries)) (is_among rest) r)
+      (λ r. is_of_marked_amount c.marks.books (is_among (map entry_index all_entries)) (is_among all) r) old new
 
-  pub one_less_thing : (t : ℕ) (now rest all : List ℕ) → now ≡ t ∷ rest → (old mid new : State) → DoesInside HasTables (RemainingThings now all) old mid
+  pub one_less_thing : (t : ℕ) (now rest all : List ℕ) → now ≡ t ∷ rest → (old mid new : State)
+      → DoesInside HasTables (RemainingThings now all) old mid
       → DoesInside HasTables (RewritesAmounts c (is_among (map entry_index all_entries)) (equals_number t)) mid new
       → DoesInside HasTables (RemainingThings rest all) old new
-  one_less_thing t now rest all is = one_less_remaining books_table wanted (λ r. is_of_marked_amount c.marks.books (is_among (map entry_index all_entries)) (equals_number t) r) (λ r. is_of_marked_amount c.marks.books (is_among (map entry_index all_entries)) (is_among now) r)
+  one_less_thing t now rest all is =
+      one_less_remaining books_table wanted
+      (λ r. is_of_marked_amount c.marks.books (is_among (map entry_index all_entries)) (equals_number t) r)
+      (λ r. is_of_marked_amount c.marks.books (is_among (map entry_index all_entries)) (is_among now) r)
       (λ r. is_of_marked_amount c.marks.books (is_among (map entry_index all_entries)) (is_among rest) r) (λ r. is_of_marked_amount c.marks.books (is_among (map entry_index all_entries)) (is_among all) r)
       (λ r. ap (λ ts. is_of_marked_amount c.marks.books (is_among (map entry_index all_entries)) (is_among ts) r) is ∙ next_thing c.marks.books (is_among (map entry_index all_entries)) t rest r)
 
   -- when no thing is left to rewrite, all marked amounts of the books are rewritten, if they are of the first `count`
   -- things
   pub things_rewritten : (rest : List ℕ) (count : ℕ) → AreOfThings count c.marks.books → rest ≡ [] → (old new : State)
-      → DoesInside HasTables (RemainingThings rest (range_with_len 0 count)) old new → DoesInside HasTables (RewritesBooks c) old new
-  things_rewritten rest count few none = all_rewritten books_table wanted (λ r. is_of_marked_amount c.marks.books (is_among (map entry_index all_entries)) (is_among rest) r) (λ r. is_of_marked_amount c.marks.books (is_among (map entry_index all_entries)) (is_among (range_with_len 0 count)) r) (λ r. amount_marked c.marks.books r)
+      → DoesInside HasTables (RemainingThings rest (range_with_len 0 count)) old new
+      → DoesInside HasTables (RewritesBooks c) old new
+  things_rewritten rest count few none =
+      all_rewritten books_table wanted
+      (λ r. is_of_marked_amount c.marks.books (is_among (map entry_index all_entries)) (is_among rest) r)
+      (λ r. is_of_marked_amount c.marks.books (is_among (map entry_index all_entries)) (is_among (range_with_len 0 count)) r)
+      (λ r. amount_marked c.marks.books r)
       (no_thing c.marks.books (is_among (map entry_index all_entries)) rest none) (all_amounts c.marks.books count few)

@@ -34,16 +34,19 @@ module _ (sql : List ℕ) (old new : State) (plain : IsPlain (understood old.now
   unchanged_stays h = record { was_open = λ _. h.0.was_open; same = λ _. (h.0.now_is, h.0.committed_is) }
 
   rolled_stays : IsCommitted old → HasCleanDisk old → IsRolledBack old new → TablesStay old new
-  rolled_stays settled clean h = record { was_open = h.was_open; same = λ up. let back = h.undone up in (back.0 ∙ sym (settled clean (h.was_open up)), back.1) }
+  rolled_stays settled clean h =
+      record { was_open = h.was_open; same = λ up. let back = h.undone up in (back.0 ∙ sym (settled clean (h.was_open up)), back.1) }
 
   pub shown_stays : (rows : List Row) → Shown sql [] old new rows → TablesStay old new
   shown_stays rows h = unchanged_stays (shown_unchanged rows h)
 
-  pub refused_stays : IsCommitted old → HasCleanDisk old → (e : Error) → FailsToQuery sql [] old new e → TablesStay old new
+  pub refused_stays : IsCommitted old → HasCleanDisk old → (e : Error) → FailsToQuery sql [] old new e
+      → TablesStay old new
   unfolding FailsToQuery IsNotRun
   refused_stays settled clean e (inl (inl h)) = unchanged_stays h.1
   refused_stays settled clean e (inl (inr h)) = rolled_stays settled clean h.3
-  refused_stays settled clean e (inr h) = unchanged_stays (fails_stay sql old new plain h.0 _ e h.0.returning (subst IsPlain h.1.is plain).0 h.2)
+  refused_stays settled clean e (inr h) =
+      unchanged_stays (fails_stay sql old new plain h.0 _ e h.0.returning (subst IsPlain h.1.is plain).0 h.2)
 
 -- the SELECT of the books is refused when it is asked a second time
 module _ (f : Format) {S : Type 0} (g : Ghosts S) (old during : Held S) (begins : HasTablesOf f old.schema) (e : Error) (failed : FailsToQuery (selection_with_ids books_table 2) [] (state g old) (state g during) e) where
@@ -52,6 +55,7 @@ module _ (f : Format) {S : Type 0} (g : Ghosts S) (old during : Held S) (begins 
   error_of false is = inr (begins, (during, e, failed, is))
 
   -- if the books can't be read a second time, confirming fails with the fault of the SELECT's error
-  pub unconfirmed : {A : Type 0} (r : Result A LoadFault) → IsErrAnd r (λ says. says ≡ load_fault e) → IfErr r (FailsToConfirm g old f)
+  pub unconfirmed : {A : Type 0} (r : Result A LoadFault) → IsErrAnd r (λ says. says ≡ load_fault e)
+      → IfErr r (FailsToConfirm g old f)
   unconfirmed (Ok a) says = tt
   unconfirmed (Err fault) says = subst (FailsToConfirm g old f) (sym says) (error_of (is_memory e) refl)

@@ -27,28 +27,33 @@ pub less_apart : (m n : ℕ) → is_lt (nat_cmp m n) ≡ true → m ≢ n
 less_apart m n less same = true≢false (sym less ∙ ap (λ k. is_lt (nat_cmp m k)) (sym same) ∙ not_less_itself m)
 
 module _ {V : Type 0} where
-  pub below_has : (k : ℕ) (es : List (ℕ × V)) (x : ℕ × V) → below_all nat_cmp k es ≡ true → Has es x → is_lt (nat_cmp k x.0) ≡ true
+  pub below_has : (k : ℕ) (es : List (ℕ × V)) (x : ℕ × V) → below_all nat_cmp k es ≡ true → Has es x
+      → is_lt (nat_cmp k x.0) ≡ true
   below_has k [] x below there = absurd there
   below_has k (e ∷ es) x below (inl same) = ap (λ (y : ℕ × V). is_lt (nat_cmp k y.0)) same ∙ (and_parts _ _ below).0
   below_has k (e ∷ es) x below (inr later) = below_has k es x (and_parts _ _ below).1 later
 
   get_has : (es : List (ℕ × V)) (n : ℕ) (v : V) → find nat_cmp n es ≡ Some v → Has es (n, v)
   get_has [] n v got = absurd (none-some v got)
-  get_has (e ∷ es) n v got = elim (nat_cmp n e.0) as (λ o. nat_cmp n e.0 ≡ o → cond (is_eq o) (Some e.1) (find nat_cmp n es) ≡ Some v → Has (e ∷ es) (n, v)) [
-    | Less ↦ λ _ h. inr (get_has es n v h)
-    | Equal ↦ λ tie h.
-        let number : n ≡ e.0 = nat_cmp-IsAntisymmetric n e.0 tie in
-        let value : v ≡ e.1 = sym (same_Some e.1 v h) in
-        inl (λ i. (number i, value i))
-    | Greater ↦ λ _ h. inr (get_has es n v h)
-  ] refl got
+  get_has (e ∷ es) n v got =
+      elim (nat_cmp n e.0) as
+      (λ o. nat_cmp n e.0 ≡ o → cond (is_eq o) (Some e.1) (find nat_cmp n es) ≡ Some v → Has (e ∷ es) (n, v)) [
+        | Less ↦ λ _ h. inr (get_has es n v h)
+        | Equal ↦ λ tie h.
+            let number : n ≡ e.0 = nat_cmp-IsAntisymmetric n e.0 tie in
+            let value : v ≡ e.1 = sym (same_Some e.1 v h) in
+            inl (λ i. (number i, value i))
+        | Greater ↦ λ _ h. inr (get_has es n v h)
+      ] refl got
 
-  has_get : (es : List (ℕ × V)) (n : ℕ) (v : V) → is_sorted nat_cmp es ≡ true → Has es (n, v) → find nat_cmp n es ≡ Some v
+  has_get : (es : List (ℕ × V)) (n : ℕ) (v : V) → is_sorted nat_cmp es ≡ true → Has es (n, v)
+      → find nat_cmp n es ≡ Some v
   has_get [] n v sorted there = absurd there
   has_get (e ∷ es) n v sorted (inl same) =
       let number : n ≡ e.0 = ap (λ (x : ℕ × V). x.0) same in
       let value : v ≡ e.1 = ap (λ (x : ℕ × V). x.1) same in
-      ap (λ b. cond b (Some e.1) (find nat_cmp n es)) (ap (λ k. is_eq (nat_cmp k e.0)) number ∙ ap is_eq (tied_itself nat_cmp_total e.0)) ∙ ap Some (sym value)
+      ap (λ b. cond b (Some e.1) (find nat_cmp n es)) (ap (λ k. is_eq (nat_cmp k e.0)) number ∙ ap is_eq (tied_itself nat_cmp_total e.0))
+      ∙ ap Some (sym value)
   has_get (e ∷ es) n v sorted (inr later) =
       let below : is_lt (nat_cmp e.0 n) ≡ true = below_has e.0 es (n, v) (and_parts _ _ sorted).0 later in
       let other : is_eq (nat_cmp n e.0) ≡ false = elim (nat_cmp n e.0) as (λ o. nat_cmp n e.0 ≡ o → is_eq o ≡ false) [
@@ -69,14 +74,16 @@ module _ {V : Type 0} where
 
 -- ---- lists made of lists
 
-pub flat_has : {X Y : Type 0} (f : X → List Y) (xs : List X) (r : Y) → Has (flat_map f xs) r → (x : X) × Has xs x × Has (f x) r
+pub flat_has : {X Y : Type 0} (f : X → List Y) (xs : List X) (r : Y) → Has (flat_map f xs) r
+    → (x : X) × Has xs x × Has (f x) r
 flat_has f [] r there = absurd there
 flat_has f (x ∷ xs) r there = elim (has_either (f x) (flat_map f xs) r there) [
   | inl here ↦ (x, inl refl, here)
   | inr more ↦ let found = flat_has f xs r more in (found.0, inr found.1, found.2)
 ]
 
-pub has_flat : {X Y : Type 0} (f : X → List Y) (xs : List X) (x : X) (r : Y) → Has xs x → Has (f x) r → Has (flat_map f xs) r
+pub has_flat : {X Y : Type 0} (f : X → List Y) (xs : List X) (x : X) (r : Y) → Has xs x → Has (f x) r
+    → Has (flat_map f xs) r
 has_flat f [] x r there here = absurd there
 has_flat f (y ∷ xs) x r (inl same) here = has_left (f y) (flat_map f xs) r (subst (λ z. Has (f z) r) same here)
 has_flat f (y ∷ xs) x r (inr later) here = has_right (f y) (flat_map f xs) r (has_flat f xs x r later here)
@@ -84,7 +91,9 @@ has_flat f (y ∷ xs) x r (inr later) here = has_right (f y) (flat_map f xs) r (
 -- ---- rows with different keys, put into an empty table
 
 -- putting rows with different keys into a set adds exactly these rows, if none of their keys was there
-pub puts_has : (key : ℕ) (news : List Row) (S : Set) → DifferInKey key news → ((s : Row) → S s → (x : Row) → Has news x → take key s ≢ take key x) → (r : Row) → (puts key news S r → Has news r ⊎ S r) × (Has news r ⊎ S r → puts key news S r)
+pub puts_has : (key : ℕ) (news : List Row) (S : Set) → DifferInKey key news
+    → ((s : Row) → S s → (x : Row) → Has news x → take key s ≢ take key x) → (r : Row)
+    → (puts key news S r → Has news r ⊎ S r) × (Has news r ⊎ S r → puts key news S r)
 puts_has key [] S apart free r = (λ h. inr h, λ h. elim h [ inl none ↦ absurd none | inr was ↦ was ])
 puts_has key (x ∷ xs) S apart free r =
     let later = puts_has key xs (put key x S) apart.1 (λ s is y there e. elim is [
@@ -95,7 +104,8 @@ puts_has key (x ∷ xs) S apart free r =
       λ h. later.1 (elim h [ inl (inl same) ↦ inr (inl same) | inl (inr there) ↦ inl there | inr was ↦ inr (inr (was, free r was x (inl refl))) ]),
     )
 
-pub empty_table_has_put_rows : (key : ℕ) (rows news old : List Row) → old ≡ [] → DifferInKey key news → HasExactly rows (puts key news (Has old)) → HasExactly rows (Has news)
+pub empty_table_has_put_rows : (key : ℕ) (rows news old : List Row) → old ≡ [] → DifferInKey key news
+    → HasExactly rows (puts key news (Has old)) → HasExactly rows (Has news)
 empty_table_has_put_rows key rows news old none apart made r =
     let empty : (s : Row) → Has old s → ⊥ = λ s there. subst (λ l. Has l s) none there in
     let all = puts_has key news (Has old) apart (λ s there x _ _. empty s there) r in (
@@ -103,7 +113,8 @@ empty_table_has_put_rows key rows news old none apart made r =
       λ there. (made r).1 (all.1 (inl there)),
     )
 
-pub apart_append : (key : ℕ) (xs ys : List Row) → DifferInKey key xs → DifferInKey key ys → ((x y : Row) → Has xs x → Has ys y → take key x ≢ take key y) → DifferInKey key (xs ++ ys)
+pub apart_append : (key : ℕ) (xs ys : List Row) → DifferInKey key xs → DifferInKey key ys
+    → ((x y : Row) → Has xs x → Has ys y → take key x ≢ take key y) → DifferInKey key (xs ++ ys)
 apart_append key [] ys one two cross = two
 apart_append key (x ∷ xs) ys one two cross = (
   λ y there. elim (has_either xs ys y there) [ inl early ↦ one.0 y early | inr late ↦ cross x y (inl refl) late ],
@@ -115,7 +126,8 @@ apart_append key (x ∷ xs) ys one two cross = (
 pub same_number : (m n : ℕ) → ◌≡◌ {A = Row} (int m ∷ []) (int n ∷ []) → m ≡ n
 same_number m n e = cc
 
-pub lines_rows : {V : Type 0} (line : ℕ → V → Row) (m : FinMap nat_cmp V) (es : List (ℕ × V)) → es ≡ entries m → (r : Row) → Has (rows_in_order line es) r → RowsOf line m r
+pub lines_rows : {V : Type 0} (line : ℕ → V → Row) (m : FinMap nat_cmp V) (es : List (ℕ × V)) → es ≡ entries m
+    → (r : Row) → Has (rows_in_order line es) r → RowsOf line m r
 lines_rows {V} line m es same r there =
     let x = map_has (λ (x : ℕ × V). line x.0 x.1) es r there in
     (x.0.0, x.0.1, entry_got m x.0.0 x.0.1 (subst (λ (l : List (ℕ × V)). Has l x.0) same x.1), x.2)
@@ -132,7 +144,8 @@ module _ {V : Type 0} (line : ℕ → V → Row) (numbered : (n : ℕ) (v : V) �
   )
 
   -- an empty table filled with the rows of the map's entries has exactly the map's rows (`RowsOf`)
-  pub rows_filled : (rows old : List Row) (m : FinMap nat_cmp V) → old ≡ [] → HasExactly rows (puts 1 (rows_in_order line (entries m)) (Has old)) → HasExactly rows (RowsOf line m)
+  pub rows_filled : (rows old : List Row) (m : FinMap nat_cmp V) → old ≡ []
+      → HasExactly rows (puts 1 (rows_in_order line (entries m)) (Has old)) → HasExactly rows (RowsOf line m)
   rows_filled rows old m none made r =
       let is = empty_table_has_put_rows 1 rows (rows_in_order line (entries m)) old none (lines_apart (entries m) (in_order m)) made r in (
         λ there. lines_rows line m (entries m) refl r (is.0 there),

@@ -25,7 +25,8 @@ use Rattle.atl_records.specs.Books.{AreBooks}
 use Rattle.atl_store.proofs.LedgerLaws.{books_filled}
 use Rattle.atl_store.proofs.WholeLaws.{inside_then, inside_weaker}
 
-empty_table_has_put_row : (rows old : List Row) (row : Row) → old ≡ [] → HasExactly rows (put 1 row (Has old)) → HasExactly rows (λ r. r ≡ row)
+empty_table_has_put_row : (rows old : List Row) (row : Row) → old ≡ [] → HasExactly rows (put 1 row (Has old))
+    → HasExactly rows (λ r. r ≡ row)
 empty_table_has_put_row rows old row none made r = (
   λ there. elim ((made r).0 there) [ inl same ↦ same | inr was ↦ absurd (subst (λ l. Has l r) none was.0) ],
   λ same. (made r).1 (inl same),
@@ -34,36 +35,54 @@ empty_table_has_put_row rows old row none made r = (
 module _ (c : CampaignValue) where
   -- ---- one table
 
-  pub own_filled : (text : List ℕ) (old new : Database) → PutsCampaignRow (campaign_row_of c) text old new → FillsWithOwn text c (Own ∷ []) old new
-  own_filled text old new did none = one_changed (Fills c (row_of_campaign text c)) Own _ old new (did.first none) (λ rows empty. empty_table_has_put_row _ _ (row_of_campaign text c) empty rows)
+  pub own_filled : (text : List ℕ) (old new : Database) → PutsCampaignRow (campaign_row_of c) text old new
+      → FillsWithOwn text c (Own ∷ []) old new
+  own_filled text old new did none =
+      one_changed (Fills c (row_of_campaign text c)) Own _ old new (did.first none)
+      (λ rows empty. empty_table_has_put_row _ _ (row_of_campaign text c) empty rows)
 
-  pub numbered_filled : {V : Type 0} (part : Part) (line : ℕ → V → Row) → ((n : ℕ) (v : V) → take 1 (line n v) ≡ int n ∷ []) → (m : FinMap nat_cmp V) → ((own : Row) (rows : List Row) → HasExactly rows (RowsOf line m) → HasExactly rows (rows_for own c part)) → (es : List (ℕ × V))
-      → es ≡ entries m → (old new : Database) → PutsRows (table_of part) 1 (rows_in_order line es) old new → FillsParts c (part ∷ []) old new
+  pub numbered_filled : {V : Type 0} (part : Part) (line : ℕ → V → Row)
+      → ((n : ℕ) (v : V) → take 1 (line n v) ≡ int n ∷ []) → (m : FinMap nat_cmp V)
+      → ((own : Row) (rows : List Row) → HasExactly rows (RowsOf line m) → HasExactly rows (rows_for own c part))
+      → (es : List (ℕ × V))
+      → es ≡ entries m → (old new : Database) → PutsRows (table_of part) 1 (rows_in_order line es) old new
+      → FillsParts c (part ∷ []) old new
   numbered_filled {V} part line numbered m are es same old new did own = one_changed (Fills c own) part _ old new did (λ made none.
       let was = rows_in (table_of part) old.trees in
       let now = rows_in (table_of part) new.trees in
       are own now (rows_filled line numbered now was m none (subst (λ (l : List (ℕ × V)). HasExactly now (puts 1 (rows_in_order line l) (Has was))) same made)))
 
-  pub groups_fill : {V : Type 0} (part : Part) (lines : ℕ → V → List Row) (more : ℕ) (m : FinMap nat_cmp V) → ((own : Row) → AreGroups lines (suc more) m (rows_for own c part)) → (es : List (ℕ × V)) → es ≡ entries m → (old new : Database)
+  pub groups_fill : {V : Type 0} (part : Part) (lines : ℕ → V → List Row) (more : ℕ) (m : FinMap nat_cmp V)
+      → ((own : Row) → AreGroups lines (suc more) m (rows_for own c part)) → (es : List (ℕ × V)) → es ≡ entries m
+      → (old new : Database)
       → PutsRows (table_of part) (suc more) (groups_of lines es) old new → FillsParts c (part ∷ []) old new
   groups_fill {V} part lines more m are es same old new did own = one_changed (Fills c own) part _ old new did (λ made none.
       let was = rows_in (table_of part) old.trees in
       let now = rows_in (table_of part) new.trees in
       groups_filled lines more m (rows_for own c part) (are own) now was none (subst (λ (l : List (ℕ × V)). HasExactly now (puts (suc more) (groups_of lines l) (Has was))) same made))
 
-  pub books_fill : AreBooks c.books.things c.books → (old new : Database) → PutsRows books_table 2 (things_lines c (range_with_len 0 c.books.things)) old new → FillsParts c (Books ∷ []) old new
-  books_fill are old new did own = one_changed (Fills c own) Books _ old new did (λ made none. books_filled c are (rows_in books_table new.trees) (rows_in books_table old.trees) none made)
+  pub books_fill : AreBooks c.books.things c.books → (old new : Database)
+      → PutsRows books_table 2 (things_lines c (range_with_len 0 c.books.things)) old new
+      → FillsParts c (Books ∷ []) old new
+  books_fill are old new did own =
+      one_changed (Fills c own) Books _ old new did
+      (λ made none. books_filled c are (rows_in books_table new.trees) (rows_in books_table old.trees) none made)
 
   -- ---- one after the other
 
   -- filling some parts, the campaign row among them, and then others fills all of them, if no part is in both lists
-  pub own_then_filled : (text : List ℕ) (ps qs : List Part) → are_apart ps qs ≡ true → (old mid new : Database) → FillsWithOwn text c ps old mid → FillsParts c qs mid new → FillsWithOwn text c (ps ++ qs) old new
-  own_then_filled text ps qs apart old mid new first second none = both_changed (Fills c (row_of_campaign text c)) ps qs apart old mid new (first none) (second (row_of_campaign text c))
+  pub own_then_filled : (text : List ℕ) (ps qs : List Part) → are_apart ps qs ≡ true → (old mid new : Database)
+      → FillsWithOwn text c ps old mid → FillsParts c qs mid new → FillsWithOwn text c (ps ++ qs) old new
+  own_then_filled text ps qs apart old mid new first second none =
+      both_changed (Fills c (row_of_campaign text c)) ps qs apart old mid new (first none)
+      (second (row_of_campaign text c))
 
   -- ---- the whole
 
   -- making the empty tables in a blank database, and then filling all parts, writes the founding (`WritesFounding`)
-  pub founding_done : (text : List ℕ) (parts : List Part) → list_all (is_among parts) all_parts ≡ true → (start mid end : State) → DoesInside IsBlank AreEmpty start mid → DoesInside HasTables (FillsWithOwn text c parts) mid end → DoesInside IsBlank (WritesFounding text c) start end
+  pub founding_done : (text : List ℕ) (parts : List Part) → list_all (is_among parts) all_parts ≡ true
+      → (start mid end : State) → DoesInside IsBlank AreEmpty start mid
+      → DoesInside HasTables (FillsWithOwn text c parts) mid end → DoesInside IsBlank (WritesFounding text c) start end
   founding_done text parts all start mid end first second =
       let fills = FillsWithOwn text c parts in
       inside_weaker IsBlank (DoesBoth AreEmpty fills) (WritesFounding text c) start end

@@ -50,7 +50,8 @@ module _ {V : Type 0} (lines : ℕ → V → List Row) (more : ℕ) (values : Fi
       are.wanted found.0.0 found.0.1 (entry_got values found.0.0 found.0.1 (subst (λ (l : List (ℕ × V)). Has l found.0) same found.1)) r found.2
 
   -- an empty table filled with the rows that `lines` gives for all entries has exactly the wanted rows
-  pub groups_filled : (rows old : List Row) → old ≡ [] → HasExactly rows (puts (suc more) (groups_of lines (entries values)) (Has old)) → HasExactly rows Wanted
+  pub groups_filled : (rows old : List Row) → old ≡ []
+      → HasExactly rows (puts (suc more) (groups_of lines (entries values)) (Has old)) → HasExactly rows Wanted
   groups_filled rows old none made r =
       let is = empty_table_has_put_rows (suc more) rows (groups_of lines (entries values)) old none (all_apart (entries values) (in_order values)) made r in (
         λ there. groups_rows (entries values) refl r (is.0 there),
@@ -60,7 +61,8 @@ module _ {V : Type 0} (lines : ℕ → V → List Row) (more : ℕ) (values : Fi
   -- ---- the rows of one number deleted and put anew
 
   module _ (table : Table) (n : ℕ) where
-    lined_at : (r : Row) → first_column_passes (equals_number n) r ≡ true → Wanted r → (v : V) × (get values n ≡ Some v) × Has (lines n v) r
+    lined_at : (r : Row) → first_column_passes (equals_number n) r ≡ true → Wanted r
+        → (v : V) × (get values n ≡ Some v) × Has (lines n v) r
     lined_at r is of =
         let line = are.lined r of in
         let number : line.0 ≡ n = same_number line.0 n (sym (are.numbered line.0 line.1 r line.3) ∙ begins_key n r is) in
@@ -69,25 +71,34 @@ module _ {V : Type 0} (lines : ℕ → V → List Row) (more : ℕ) (values : Fi
     -- for `lines_done`, of the databases alone: deleting a number's rows and putting those of its value rewrites them
     lines_rewrite : (old mid new : Database) → Drops table 1 (int n ∷ []) old mid → (v : V) → get values n ≡ Some v
         → PutsRows table (suc more) (lines n v) mid new → RewritesGroup table Wanted n old new
-    lines_rewrite old mid new dropped v there did = rewrites_key (first_column_passes (equals_number n)) (λ r. take 1 r ≡ int n ∷ []) (Has (lines n v)) Wanted (begins_key n) (key_begins n)
+    lines_rewrite old mid new dropped v there did =
+        rewrites_key (first_column_passes (equals_number n)) (λ r. take 1 r ≡ int n ∷ []) (Has (lines n v)) Wanted
+        (begins_key n) (key_begins n)
         (λ r here. (are.numbered n v r here, are.wanted n v there r here))
         (λ r is of. let line = lined_at r is of in subst (λ u. Has (lines n u) r) (same_Some line.0 v (sym line.1 ∙ there)) line.2)
         table old new rows (λ t listed other. did.others t listed other ∙ dropped.others t listed other)
       where
-        rows : (r : Row) → Has (rows_in table new.trees) r ↔ (Has (lines n v) r ⊎ (Has (rows_in table old.trees) r × (take 1 r ≢ int n ∷ [])))
+        rows : (r : Row)
+            → Has (rows_in table new.trees) r
+            ↔ (Has (lines n v) r ⊎ (Has (rows_in table old.trees) r × (take 1 r ≢ int n ∷ [])))
         rows r =
             let all = puts_has (suc more) (lines n v) (Has (rows_in table mid.trees)) (are.apart n v) (λ s was x here same. ((dropped.rows s).0 was).1 (first_of more s x same ∙ are.numbered n v x here)) r in (
               λ h. elim (all.0 ((did.rows r).0 h)) [ inl here ↦ inl here | inr was ↦ inr ((dropped.rows r).0 was) ],
               λ h. (did.rows r).1 (all.1 (elim h [ inl here ↦ inl here | inr kept ↦ inr ((dropped.rows r).1 kept) ])),
             )
 
-    bare_rewrite : (old new : Database) → Drops table 1 (int n ∷ []) old new → get values n ≡ None → RewritesGroup table Wanted n old new
-    bare_rewrite old new dropped none = rewrites_key (first_column_passes (equals_number n)) (λ r. take 1 r ≡ int n ∷ []) (λ r. ⊥) Wanted (begins_key n) (key_begins n) (λ r never. absurd never)
+    bare_rewrite : (old new : Database) → Drops table 1 (int n ∷ []) old new → get values n ≡ None
+        → RewritesGroup table Wanted n old new
+    bare_rewrite old new dropped none =
+        rewrites_key (first_column_passes (equals_number n)) (λ r. take 1 r ≡ int n ∷ []) (λ r. ⊥) Wanted (begins_key n)
+        (key_begins n) (λ r never. absurd never)
         (λ r is of. let line = lined_at r is of in none-some line.0 (sym none ∙ line.1))
         table old new (λ r. let so = dropped.rows r in (λ h. inr (so.0 h), λ h. so.1 (kept_only h))) dropped.others
 
-    pub lines_done : (v : V) → get values n ≡ Some v → (old mid new : State) → DoesInside HasTables (Drops table 1 (int n ∷ [])) old mid
-        → DoesInside HasTables (PutsRows table (suc more) (lines n v)) mid new → DoesInside HasTables (RewritesGroup table Wanted n) old new
+    pub lines_done : (v : V) → get values n ≡ Some v → (old mid new : State)
+        → DoesInside HasTables (Drops table 1 (int n ∷ [])) old mid
+        → DoesInside HasTables (PutsRows table (suc more) (lines n v)) mid new
+        → DoesInside HasTables (RewritesGroup table Wanted n) old new
     lines_done v there old mid new one two =
         let drops = Drops table 1 (int n ∷ []) in
         let puts = PutsRows table (suc more) (lines n v) in
@@ -95,8 +106,13 @@ module _ {V : Type 0} (lines : ℕ → V → List Row) (more : ℕ) (values : Fi
 
     pub bare_done : get values n ≡ None → (old new : State) → DoesInside HasTables (Drops table 1 (int n ∷ [])) old new
         → DoesInside HasTables (RewritesGroup table Wanted n) old new
-    bare_done none old new did = inside_weaker HasTables (Drops table 1 (int n ∷ [])) (RewritesGroup table Wanted n) old new (λ has drops. bare_rewrite old.now new.now drops none) did
+    bare_done none old new did =
+        inside_weaker HasTables (Drops table 1 (int n ∷ [])) (RewritesGroup table Wanted n) old new
+        (λ has drops. bare_rewrite old.now new.now drops none) did
 
-pub puts_wanted : (part : Part) (more : ℕ) → key_width_of part ≡ suc more → (Wanted : CampaignValue → Row → Type 0) → ((own : Row) (c : CampaignValue) (r : Row) → Wanted c r → rows_for own c part r) → (c : CampaignValue) (r : Row) → Wanted c r
+pub puts_wanted : (part : Part) (more : ℕ) → key_width_of part ≡ suc more → (Wanted : CampaignValue → Row → Type 0)
+    → ((own : Row) (c : CampaignValue) (r : Row) → Wanted c r → rows_for own c part r) → (c : CampaignValue) (r : Row)
+    → Wanted c r
     → OfRow c (upsert (table_of part) (suc more)) r
-puts_wanted part more key Wanted are c r is = subst (λ k. OfRow c (upsert (table_of part) k) r) key (puts_row part (λ own. are own c r is))
+puts_wanted part more key Wanted are c r is =
+    subst (λ k. OfRow c (upsert (table_of part) k) r) key (puts_row part (λ own. are own c r is))

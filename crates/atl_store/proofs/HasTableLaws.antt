@@ -36,22 +36,26 @@ not_zero : (a : ℕ) → (a == 0) ≡ false → a ≢ 0
 not_zero a differs same = grind (arith, nat_tests)
 
 pub is_not_zero : (a : ℕ) → a ≢ 0 → (a == 0) ≡ false
-is_not_zero a apart = elim (cases_Bool (a == 0)) [ inl same ↦ absurd (apart (grind (arith, nat_tests))) | inr differs ↦ differs ]
+is_not_zero a apart =
+    elim (cases_Bool (a == 0)) [ inl same ↦ absurd (apart (grind (arith, nat_tests))) | inr differs ↦ differs ]
 
 -- ---- the amounts under some numbers
 
 module _ (row : ℕ → ℕ → Row) where
-  pub amounts_have : (es : List (ℕ × ℕ)) (r : Row) → Has (amount_rows row es) r → (e : ℕ × ℕ) × Has es e × (e.1 ≢ 0) × (r ≡ row e.0 e.1)
+  pub amounts_have : (es : List (ℕ × ℕ)) (r : Row) → Has (amount_rows row es) r
+      → (e : ℕ × ℕ) × Has es e × (e.1 ≢ 0) × (r ≡ row e.0 e.1)
   amounts_have es r there =
       let found = flat_has (λ (e : ℕ × ℕ). if e.1 == 0 then [] else row e.0 e.1 ∷ []) es r there in
       let line = optional_has (found.0.1 == 0) (row found.0.0 found.0.1) r found.2 in
       (found.0, found.1, not_zero found.0.1 line.0, line.1)
 
-  pub have_amount : (es : List (ℕ × ℕ)) (n amount : ℕ) → Has es (n, amount) → amount ≢ 0 → Has (amount_rows row es) (row n amount)
+  pub have_amount : (es : List (ℕ × ℕ)) (n amount : ℕ) → Has es (n, amount) → amount ≢ 0
+      → Has (amount_rows row es) (row n amount)
   have_amount es n amount there some =
       has_flat (λ (e : ℕ × ℕ). if e.1 == 0 then [] else row e.0 e.1 ∷ []) es (n, amount) _ there (has_optional (amount == 0) (row n amount) (is_not_zero amount some))
 
-  pub amounts_apart : (key : ℕ) → ((m a n b : ℕ) → take key (row m a) ≡ take key (row n b) → m ≡ n) → (es : List (ℕ × ℕ)) → is_sorted nat_cmp es ≡ true → DifferInKey key (amount_rows row es)
+  pub amounts_apart : (key : ℕ) → ((m a n b : ℕ) → take key (row m a) ≡ take key (row n b) → m ≡ n)
+      → (es : List (ℕ × ℕ)) → is_sorted nat_cmp es ≡ true → DifferInKey key (amount_rows row es)
   amounts_apart key says [] sorted = tt
   amounts_apart key says (e ∷ es) sorted =
       apart_append key (if e.1 == 0 then [] else row e.0 e.1 ∷ []) (amount_rows row es) (optional_apart key (e.1 == 0) (row e.0 e.1)) (amounts_apart key says es (and_parts _ _ sorted).1)
@@ -66,26 +70,39 @@ pub three_same : (a b c d e f : ℕ) → ◌≡◌ {A = Row} (has_key a b c) (ha
 three_same a b c d e f same = (cc, cc, cc)
 
 module _ (unit : ℕ) (sort : ThingKind) where
-  kind_row_is_of_entry : (es : List (ℕ × ℕ)) (r : Row) → Has (kind_lines unit sort es) r → (e : ℕ × ℕ) × Has es e × (e.1 ≢ 0) × (r ≡ has_row unit (sort_number sort) e.0 e.1)
+  kind_row_is_of_entry : (es : List (ℕ × ℕ)) (r : Row) → Has (kind_lines unit sort es) r
+      → (e : ℕ × ℕ) × Has es e × (e.1 ≢ 0) × (r ≡ has_row unit (sort_number sort) e.0 e.1)
   kind_row_is_of_entry = amounts_have (has_row unit (sort_number sort))
 
-  entry_has_kind_row : (es : List (ℕ × ℕ)) (thing amount : ℕ) → Has es (thing, amount) → amount ≢ 0 → Has (kind_lines unit sort es) (has_row unit (sort_number sort) thing amount)
+  entry_has_kind_row : (es : List (ℕ × ℕ)) (thing amount : ℕ) → Has es (thing, amount) → amount ≢ 0
+      → Has (kind_lines unit sort es) (has_row unit (sort_number sort) thing amount)
   entry_has_kind_row = have_amount (has_row unit (sort_number sort))
 
   sort_apart : (es : List (ℕ × ℕ)) → is_sorted nat_cmp es ≡ true → DifferInKey 3 (kind_lines unit sort es)
-  sort_apart = amounts_apart (has_row unit (sort_number sort)) 3 (λ m a n b same. (three_same unit (sort_number sort) m unit (sort_number sort) n same).2)
+  sort_apart =
+      amounts_apart (has_row unit (sort_number sort)) 3
+      (λ m a n b same. (three_same unit (sort_number sort) m unit (sort_number sort) n same).2)
 
 -- ---- all that one unit has
 
-pub goods_has : (unit : ℕ) (held : HoldingValue) (r : Row) → Has (goods_lines unit held) r → (sort : ThingKind) × (e : ℕ × ℕ) × Has (entries (things_of sort held)) e × (e.1 ≢ 0) × (r ≡ has_row unit (sort_number sort) e.0 e.1)
-goods_has unit held r there = elim (has_either (kind_lines unit Item (entries held.items)) (kind_lines unit Skill (entries held.days)) r there) [
-  | inl item ↦ let e = kind_row_is_of_entry unit Item (entries held.items) r item in (Item, e.0, e.1, e.2, e.3)
-  | inr skill ↦ let e = kind_row_is_of_entry unit Skill (entries held.days) r skill in (Skill, e.0, e.1, e.2, e.3)
-]
+pub goods_has : (unit : ℕ) (held : HoldingValue) (r : Row) → Has (goods_lines unit held) r
+    → (sort : ThingKind) × (e : ℕ × ℕ) × Has (entries (things_of sort held)) e × (e.1 ≢ 0)
+    × (r ≡ has_row unit (sort_number sort) e.0 e.1)
+goods_has unit held r there =
+    elim (has_either (kind_lines unit Item (entries held.items)) (kind_lines unit Skill (entries held.days)) r there) [
+      | inl item ↦ let e = kind_row_is_of_entry unit Item (entries held.items) r item in (Item, e.0, e.1, e.2, e.3)
+      | inr skill ↦ let e = kind_row_is_of_entry unit Skill (entries held.days) r skill in (Skill, e.0, e.1, e.2, e.3)
+    ]
 
-pub has_goods : (unit : ℕ) (held : HoldingValue) (sort : ThingKind) (thing amount : ℕ) → Has (entries (things_of sort held)) (thing, amount) → amount ≢ 0 → Has (goods_lines unit held) (has_row unit (sort_number sort) thing amount)
-has_goods unit held Item thing amount there some = has_left (kind_lines unit Item (entries held.items)) (kind_lines unit Skill (entries held.days)) _ (entry_has_kind_row unit Item (entries held.items) thing amount there some)
-has_goods unit held Skill thing amount there some = has_right (kind_lines unit Item (entries held.items)) (kind_lines unit Skill (entries held.days)) _ (entry_has_kind_row unit Skill (entries held.days) thing amount there some)
+pub has_goods : (unit : ℕ) (held : HoldingValue) (sort : ThingKind) (thing amount : ℕ)
+    → Has (entries (things_of sort held)) (thing, amount) → amount ≢ 0
+    → Has (goods_lines unit held) (has_row unit (sort_number sort) thing amount)
+has_goods unit held Item thing amount there some =
+    has_left (kind_lines unit Item (entries held.items)) (kind_lines unit Skill (entries held.days)) _
+    (entry_has_kind_row unit Item (entries held.items) thing amount there some)
+has_goods unit held Skill thing amount there some =
+    has_right (kind_lines unit Item (entries held.items)) (kind_lines unit Skill (entries held.days)) _
+    (entry_has_kind_row unit Skill (entries held.days) thing amount there some)
 
 pub goods_apart : (unit : ℕ) (held : HoldingValue) → DifferInKey 3 (goods_lines unit held)
 goods_apart unit held =
@@ -101,7 +118,8 @@ goods_begin n held r there = ap (take 1) (goods_has n held r there).4
 
 -- ---- all that all units have
 
-goods_rows : (units : FinMap nat_cmp Unit) (n : ℕ) (u : Unit) → get units n ≡ Some u → (r : Row) → Has (goods_lines n u.holding) r → HasRowsOf units r
+goods_rows : (units : FinMap nat_cmp Unit) (n : ℕ) (u : Unit) → get units n ≡ Some u → (r : Row)
+    → Has (goods_lines n u.holding) r → HasRowsOf units r
 goods_rows units n u got r there =
     let row = goods_has n u.holding r there in
     (n, u, got, row.0, row.1.0, row.1.1, entry_got (things_of row.0 u.holding) row.1.0 row.1.1 row.2, row.3, row.4)
@@ -134,17 +152,22 @@ module _ (units : FinMap nat_cmp Unit) where
   pub amount_none : (n : ℕ) (sort : ThingKind) (thing : ℕ) → get units n ≡ None → amount_under units n sort thing ≡ 0
   amount_none n sort thing none = ap (λ o. amount_of (things_under sort o) thing) none ∙ under_none sort thing
 
-  pub amount_some : (n : ℕ) (sort : ThingKind) (thing : ℕ) (u : Unit) → get units n ≡ Some u → amount_under units n sort thing ≡ amount_of (things_of sort u.holding) thing
-  amount_some n sort thing u there = ap (λ o. amount_of (things_under sort o) thing) there ∙ ap (λ things. amount_of things thing) (under_unit sort u)
+  pub amount_some : (n : ℕ) (sort : ThingKind) (thing : ℕ) (u : Unit) → get units n ≡ Some u
+      → amount_under units n sort thing ≡ amount_of (things_of sort u.holding) thing
+  amount_some n sort thing u there =
+      ap (λ o. amount_of (things_under sort o) thing) there ∙ ap (λ things. amount_of things thing) (under_unit sort u)
 
   -- each row of `has` gives the amount, which is not 0, of an item or skill of its unit
-  pub row_has_amount : (r : Row) → HasRowsOf units r → (n : ℕ) × (sort : ThingKind) × (thing : ℕ) × (amount_under units n sort thing ≢ 0) × (r ≡ has_row n (sort_number sort) thing (amount_under units n sort thing))
+  pub row_has_amount : (r : Row) → HasRowsOf units r
+      → (n : ℕ) × (sort : ThingKind) × (thing : ℕ) × (amount_under units n sort thing ≢ 0)
+      × (r ≡ has_row n (sort_number sort) thing (amount_under units n sort thing))
   row_has_amount r of =
       let amount : amount_under units of.0 of.3 of.4 ≡ of.5 = amount_some of.0 of.3 of.4 of.1 of.2 ∙ ap (λ (o : Option ℕ). unwrap_or o 0) of.6 in
       (of.0, of.3, of.4, λ none. of.7 (sym amount ∙ none), of.8 ∙ ap (has_row of.0 (sort_number of.3) of.4) (sym amount))
 
   -- each amount of a unit's item or skill that is not 0 has its row of `has`
-  pub amount_has_row : (n : ℕ) (sort : ThingKind) (thing amount : ℕ) → amount ≡ amount_under units n sort thing → amount ≢ 0 → HasRowsOf units (has_row n (sort_number sort) thing amount)
+  pub amount_has_row : (n : ℕ) (sort : ThingKind) (thing amount : ℕ) → amount ≡ amount_under units n sort thing
+      → amount ≢ 0 → HasRowsOf units (has_row n (sort_number sort) thing amount)
   amount_has_row n sort thing amount is some = there (get units n) refl
     where
       got : (o : Option ℕ) → amount ≡ unwrap_or o 0 → o ≡ Some amount
@@ -153,4 +176,5 @@ module _ (units : FinMap nat_cmp Unit) where
 
       there : (o : Option Unit) → get units n ≡ o → HasRowsOf units (has_row n (sort_number sort) thing amount)
       there None none = absurd (some (is ∙ amount_none n sort thing none))
-      there (Some u) found = (n, u, found, sort, thing, amount, got (get (things_of sort u.holding) thing) (is ∙ amount_some n sort thing u found), some, refl)
+      there (Some u) found =
+          (n, u, found, sort, thing, amount, got (get (things_of sort u.holding) thing) (is ∙ amount_some n sort thing u found), some, refl)

@@ -37,7 +37,9 @@ chosen_as : (b : Bool) (P Q W : Type 0) → (P ↔ Q) → IfElse b P W ↔ IfEls
 chosen_as true P Q W same = same
 chosen_as false P Q W same = (λ h. h, λ h. h)
 
-rewritten_as : (one other : Row → Bool) (P Q : Set) → ((r : Row) → one r ≡ other r) → ((r : Row) → P r ↔ Q r) → (after before : List Row) → HasExactly after (rows_after_rewrite one P (Has before)) → HasExactly after (rows_after_rewrite other Q (Has before))
+rewritten_as : (one other : Row → Bool) (P Q : Set) → ((r : Row) → one r ≡ other r) → ((r : Row) → P r ↔ Q r)
+    → (after before : List Row) → HasExactly after (rows_after_rewrite one P (Has before))
+    → HasExactly after (rows_after_rewrite other Q (Has before))
 rewritten_as one other P Q same are after before is r =
     let turned = subst (λ b. IfElse (one r) (P r) (Has before r) ↔ IfElse b (Q r) (Has before r)) (same r) (chosen_as (one r) (P r) (Q r) (Has before r) (are r)) in
     (λ there. turned.0 ((is r).0 there), λ h. (is r).1 (turned.1 h))
@@ -45,11 +47,14 @@ rewritten_as one other P Q same are after before is r =
 -- ---- a part with one row for each number
 
 module _ {V : Type 0} (part : Part) (line : ℕ → V → Row) (values : CampaignValue → FinMap nat_cmp V) (are : (own : Row) (c : CampaignValue) (r : Row) → rows_for own c part r ↔ RowsOf line (values c) r) where
-  pub puts_line : key_width_of part ≡ 1 → (c : CampaignValue) (r : Row) → RowsOf line (values c) r → OfRow c (upsert (table_of part) 1) r
-  puts_line key c r is = subst (λ k. OfRow c (upsert (table_of part) k) r) key (puts_row part (λ own. (are own c r).1 is))
+  pub puts_line : key_width_of part ≡ 1 → (c : CampaignValue) (r : Row) → RowsOf line (values c) r
+      → OfRow c (upsert (table_of part) 1) r
+  puts_line key c r is =
+      subst (λ k. OfRow c (upsert (table_of part) k) r) key (puts_row part (λ own. (are own c r).1 is))
 
   module _ (numbered : (n : ℕ) (v : V) → take 1 (line n v) ≡ int n ∷ []) where
-    pub drops_none : key_width_of part ≡ 1 → (c : CampaignValue) (n : ℕ) → get (values c) n ≡ None → OfChange c (deletion (table_of part) 1) (int n ∷ [])
+    pub drops_none : key_width_of part ≡ 1 → (c : CampaignValue) (n : ℕ) → get (values c) n ≡ None
+        → OfChange c (deletion (table_of part) 1) (int n ∷ [])
     drops_none key c n none = subst (λ k. OfChange c (deletion (table_of part) k) (int n ∷ [])) key (drops_row part (
       sym key,
       λ own row is same.
@@ -59,10 +64,15 @@ module _ {V : Type 0} (part : Part) (line : ℕ → V → Row) (values : Campaig
     ))
 
     -- putting the rows of all entries fills the part's table, if it was empty (`FillsPart`)
-    pub kept_filled : (c : CampaignValue) (es : List (ℕ × V)) → es ≡ entries (values c) → (old new : Database) → PutsRows (table_of part) 1 (rows_in_order line es) old new → FillsPart c part old new
-    kept_filled c = numbered_filled c part line numbered (values c) (λ own rows is r. (λ there. (are own c r).1 ((is r).0 there), λ of. (is r).1 ((are own c r).0 of)))
+    pub kept_filled : (c : CampaignValue) (es : List (ℕ × V)) → es ≡ entries (values c) → (old new : Database)
+        → PutsRows (table_of part) 1 (rows_in_order line es) old new → FillsPart c part old new
+    kept_filled c =
+        numbered_filled c part line numbered (values c)
+        (λ own rows is r. (λ there. (are own c r).1 ((is r).0 there), λ of. (is r).1 ((are own c r).0 of)))
 
-  pub kept_rewritten : (marks : Marks → FinSet nat_cmp) → ((m : Marks) (r : Row) → is_marked m part r ≡ begins_marked (marks m) r) → (c : MarkedCampaign) (old new : Database)
+  pub kept_rewritten : (marks : Marks → FinSet nat_cmp)
+      → ((m : Marks) (r : Row) → is_marked m part r ≡ begins_marked (marks m) r)
+      → (c : MarkedCampaign) (old new : Database)
       → RewritesMarked (table_of part) line (values c.value) (marks c.marks) old new → RewritesPart c part old new
   kept_rewritten marks marked c old new did own = one_changed (Becomes c own) part _ old new did (rewritten_as (begins_marked (marks c.marks)) (is_marked c.marks part) (RowsOf line (values c.value)) (rows_for own c.value part)
       (λ r. sym (marked c.marks r)) (λ r. let both = are own c.value r in (both.1, both.0)) (rows_in (table_of part) new.trees) (rows_in (table_of part) old.trees))

@@ -43,16 +43,20 @@ pub differs_zero : (z : ℤ) → int_eq z (pos 0) ≡ false → z ≢ pos 0
 differs_zero z differs same = grind (ints, arith)
 
 pub is_differing : (z : ℤ) → z ≢ pos 0 → int_eq z (pos 0) ≡ false
-is_differing z apart = elim (cases_Bool (int_eq z (pos 0))) [ inl same ↦ absurd (apart (grind (ints, arith))) | inr differs ↦ differs ]
+is_differing z apart =
+    elim (cases_Bool (int_eq z (pos 0))) [ inl same ↦ absurd (apart (grind (ints, arith))) | inr differs ↦ differs ]
 
 -- an amount of the books that is not 0 has one row (`amount_lines`): that of its entry's number `e` and its thing's
 -- number `t`
-pub amount_is : (c : CampaignValue) (entry : BooksEntry) (thing : Thing) (e t : ℕ) (z : ℤ) → e ≡ entry_index entry + 1 → t ≡ thing_index thing → z ≡ amount_in c.books entry thing → z ≢ pos 0 → amount_lines c entry thing ≡ books_row e t z ∷ []
+pub amount_is : (c : CampaignValue) (entry : BooksEntry) (thing : Thing) (e t : ℕ) (z : ℤ) → e ≡ entry_index entry + 1
+    → t ≡ thing_index thing → z ≡ amount_in c.books entry thing → z ≢ pos 0
+    → amount_lines c entry thing ≡ books_row e t z ∷ []
 amount_is c entry thing e t z entry_is thing_is amount some =
     let index = entry_index entry + 1 in
     let value = amount_in c.books entry thing in
     ap (λ (zero : Bool). if zero then [] else books_row index (thing_index thing) value ∷ []) (is_differing value (λ zero. some (amount ∙ zero)))
-    ∙ ap (λ n. books_row n (thing_index thing) value ∷ []) (sym entry_is) ∙ ap (λ n. books_row e n value ∷ []) (sym thing_is) ∙ ap (λ n. books_row e t n ∷ []) (sym amount)
+    ∙ ap (λ n. books_row n (thing_index thing) value ∷ []) (sym entry_is)
+    ∙ ap (λ n. books_row e n value ∷ []) (sym thing_is) ∙ ap (λ n. books_row e t n ∷ []) (sym amount)
 
 pub books_key_determines_numbers : (a b c d : ℕ) → ◌≡◌ {A = Row} (books_key a b) (books_key c d) → (a ≡ c) × (b ≡ d)
 books_key_determines_numbers a b c d same = (cc, cc)
@@ -71,7 +75,8 @@ has_range from (suc count) i least most = elim (cases_lt from i) [
   | inr here ↦ inl (omega (arith, least, here))
 ]
 
-amount_is_of_known_thing : (books : BooksValue) → AreBooks books.things books → (e : BooksEntry) (t : Thing) → amount_in books e t ≢ pos 0 → thing_index t < books.things
+amount_is_of_known_thing : (books : BooksValue) → AreBooks books.things books → (e : BooksEntry) (t : Thing)
+    → amount_in books e t ≢ pos 0 → thing_index t < books.things
 amount_is_of_known_thing books are e t some = elim (cases_lt (thing_index t) books.things) [
   | inl inside ↦ inside
   | inr past ↦ absurd (some (none_past books.things books are e t past))
@@ -83,14 +88,18 @@ module _ (c : CampaignValue) where
   abbrev row_at : BooksEntry → Thing → Row
   row_at e t = books_row (entry_index e + 1) (thing_index t) (amount_in c.books e t)
 
-  entries_has : (t : Thing) (es : List BooksEntry) (r : Row) → Has (entries_lines c t es) r → (e : BooksEntry) × Has es e × (amount_in c.books e t ≢ pos 0) × (r ≡ row_at e t)
+  entries_has : (t : Thing) (es : List BooksEntry) (r : Row) → Has (entries_lines c t es) r
+      → (e : BooksEntry) × Has es e × (amount_in c.books e t ≢ pos 0) × (r ≡ row_at e t)
   entries_has t es r there =
       let found = flat_has (λ e. amount_lines c e t) es r there in
       let row = optional_has (int_eq (amount_in c.books found.0 t) (pos 0)) (row_at found.0 t) r found.2 in
       (found.0, found.1, differs_zero (amount_in c.books found.0 t) row.0, row.1)
 
-  has_entries : (t : Thing) (es : List BooksEntry) (e : BooksEntry) → Has es e → amount_in c.books e t ≢ pos 0 → Has (entries_lines c t es) (row_at e t)
-  has_entries t es e there some = has_flat (λ e. amount_lines c e t) es e (row_at e t) there (has_optional (int_eq (amount_in c.books e t) (pos 0)) (row_at e t) (is_differing (amount_in c.books e t) some))
+  has_entries : (t : Thing) (es : List BooksEntry) (e : BooksEntry) → Has es e → amount_in c.books e t ≢ pos 0
+      → Has (entries_lines c t es) (row_at e t)
+  has_entries t es e there some =
+      has_flat (λ e. amount_lines c e t) es e (row_at e t) there
+      (has_optional (int_eq (amount_in c.books e t) (pos 0)) (row_at e t) (is_differing (amount_in c.books e t) some))
 
   entries_apart : (t : Thing) (es : List BooksEntry) → are_sorted es ≡ true → DifferInKey 2 (entries_lines c t es)
   entries_apart t [] rising = tt
@@ -125,7 +134,9 @@ module _ (c : CampaignValue) where
 
   -- an empty table filled with the rows of all things has exactly the books' rows, if each listed amount is of one of
   -- the books' things
-  pub books_filled : AreBooks c.books.things c.books → (rows old : List Row) → old ≡ [] → HasExactly rows (puts 2 (things_lines c (range_with_len 0 c.books.things)) (Has old)) → HasExactly rows (BooksRowsOf c.books)
+  pub books_filled : AreBooks c.books.things c.books → (rows old : List Row) → old ≡ []
+      → HasExactly rows (puts 2 (things_lines c (range_with_len 0 c.books.things)) (Has old))
+      → HasExactly rows (BooksRowsOf c.books)
   books_filled are rows old none made r =
       let indices = range_with_len 0 c.books.things in
       let is = empty_table_has_put_rows 2 rows (things_lines c indices) old none (things_apart 0 c.books.things) made r in (

@@ -25,7 +25,8 @@ use Rattle.atl_store.proofs.HasTableLaws.{amounts_have, have_amount, amounts_apa
 use Rattle.sqlite.specs.Order.{Row}
 use Rattle.atl_world.proofs.GeneralLaws.{same_key, key_itself}
 
-one_item : (region m a n b : ℕ) → ◌≡◌ {A = Row} (take 2 (market_row region m a)) (take 2 (market_row region n b)) → m ≡ n
+one_item : (region m a n b : ℕ) → ◌≡◌ {A = Row} (take 2 (market_row region m a)) (take 2 (market_row region n b))
+    → m ≡ n
 one_item region m a n b same = cc
 
 -- the rows of `market` come in groups, one for each region, whose rows begin with its number (`AreGroups`)
@@ -50,12 +51,14 @@ module _ (regions : FinMap nat_cmp Region) where
   abbrev in_stock : ℕ → Option Region → ℕ
   in_stock item o = option_map_or (λ r. amount_of r.stocks item) o 0
 
-  pub row_has_stock : (r : Row) → MarketRowsOf regions r → (n : ℕ) × (item : ℕ) × (stock_in regions n item ≢ 0) × (r ≡ market_row n item (stock_in regions n item))
+  pub row_has_stock : (r : Row) → MarketRowsOf regions r
+      → (n : ℕ) × (item : ℕ) × (stock_in regions n item ≢ 0) × (r ≡ market_row n item (stock_in regions n item))
   row_has_stock r of =
       let amount : stock_in regions of.0 of.3 ≡ of.4 = ap (in_stock of.3) of.2 ∙ ap (λ (o : Option ℕ). unwrap_or o 0) of.5 in
       (of.0, of.3, λ none. of.6 (sym amount ∙ none), of.7 ∙ ap (market_row of.0 of.3) (sym amount))
 
-  pub stock_has_row : (n item amount : ℕ) → amount ≡ stock_in regions n item → amount ≢ 0 → MarketRowsOf regions (market_row n item amount)
+  pub stock_has_row : (n item amount : ℕ) → amount ≡ stock_in regions n item → amount ≢ 0
+      → MarketRowsOf regions (market_row n item amount)
   stock_has_row n item amount is some = there (get regions n) refl
     where
       got : (o : Option ℕ) → amount ≡ unwrap_or o 0 → o ≡ Some amount
@@ -64,7 +67,8 @@ module _ (regions : FinMap nat_cmp Region) where
 
       there : (o : Option Region) → get regions n ≡ o → MarketRowsOf regions (market_row n item amount)
       there None none = absurd (some (is ∙ ap (in_stock item) none))
-      there (Some region) found = (n, region, found, item, amount, got (get region.stocks item) (is ∙ ap (in_stock item) found), some, refl)
+      there (Some region) found =
+          (n, region, found, item, amount, got (get region.stocks item) (is ∙ ap (in_stock item) found), some, refl)
 
 -- ---- the row of one stock
 
@@ -73,7 +77,8 @@ module _ (regions : FinMap nat_cmp Region) where
 pub finds_stocks : FindsByNumbers region_and_item_pass
 finds_stocks = record { either = either; none = none }
   where
-    either : (f g : ℕ → ℕ → Bool) (r : Row) → region_and_item_pass (λ n t. f n t || g n t) r ≡ (region_and_item_pass f r || region_and_item_pass g r)
+    either : (f g : ℕ → ℕ → Bool) (r : Row)
+        → region_and_item_pass (λ n t. f n t || g n t) r ≡ (region_and_item_pass f r || region_and_item_pass g r)
     either f g (Int (pos region) ∷ Int (pos item) ∷ row) = refl
     either f g row = refl
 
@@ -100,7 +105,8 @@ module _ (region item : ℕ) where
   of_key (u ∷ v ∷ row) key =
       let first : u ≡ int region = cc in
       let second : v ≡ int item = cc in
-      ap (λ x. is_here (x ∷ v ∷ row)) first ∙ ap (λ x. is_here (int region ∷ x ∷ row)) second ∙ and_from _ _ (key_itself region) (key_itself item)
+      ap (λ x. is_here (x ∷ v ∷ row)) first ∙ ap (λ x. is_here (int region ∷ x ∷ row)) second
+      ∙ and_from _ _ (key_itself region) (key_itself item)
 
   module _ (c : CampaignValue) (stock : ℕ) (is : stock ≡ stock_in c.regions region item) where
     abbrev row : Row
@@ -117,16 +123,23 @@ module _ (region item : ℕ) where
     pub no_stock : stock ≡ 0 → (r : Row) → MarketRowsOf c.regions r → take 2 r ≢ market_key region item
     no_stock none r of key = (wanted_here r (of_key r key) of).0 none
 
-    pub stock_put : stock ≢ 0 → (old new : State) → DoesInside HasTables (Puts market_table 2 row) old new → DoesInside HasTables (RewritesChosenStocks c (is_owner_and_thing region item)) old new
-    stock_put some old new did = inside_weaker HasTables (Puts market_table 2 row) (RewritesChosenStocks c (is_owner_and_thing region item)) old new
+    pub stock_put : stock ≢ 0 → (old new : State) → DoesInside HasTables (Puts market_table 2 row) old new
+        → DoesInside HasTables (RewritesChosenStocks c (is_owner_and_thing region item)) old new
+    stock_put some old new did =
+        inside_weaker HasTables (Puts market_table 2 row) (RewritesChosenStocks c (is_owner_and_thing region item)) old
+        new
         (λ has puts. rewrites_key is_here (λ r. take 2 r ≡ market_key region item) (λ r. r ≡ row) (MarketRowsOf c.regions) key_of of_key
         (λ r same. (ap (take 2) same, subst (MarketRowsOf c.regions) (sym same) (stock_has_row c.regions region item stock is some)))
         (λ r here of. (wanted_here r here of).1)
         market_table old.now new.now puts.rows puts.others)
         did
 
-    pub stock_dropped : stock ≡ 0 → (old new : State) → DoesInside HasTables (Drops market_table 2 (market_key region item)) old new → DoesInside HasTables (RewritesChosenStocks c (is_owner_and_thing region item)) old new
-    stock_dropped none old new did = inside_weaker HasTables (Drops market_table 2 (market_key region item)) (RewritesChosenStocks c (is_owner_and_thing region item)) old new
+    pub stock_dropped : stock ≡ 0 → (old new : State)
+        → DoesInside HasTables (Drops market_table 2 (market_key region item)) old new
+        → DoesInside HasTables (RewritesChosenStocks c (is_owner_and_thing region item)) old new
+    stock_dropped none old new did =
+        inside_weaker HasTables (Drops market_table 2 (market_key region item))
+        (RewritesChosenStocks c (is_owner_and_thing region item)) old new
         (λ has drops. rewrites_key is_here (λ r. take 2 r ≡ market_key region item) (λ r. ⊥) (MarketRowsOf c.regions) key_of of_key (λ r never. absurd never)
         (λ r here of. (wanted_here r here of).0 none)
         market_table old.now new.now (λ r. let so = drops.rows r in (λ h. inr (so.0 h), λ h. so.1 (kept_only h))) drops.others)

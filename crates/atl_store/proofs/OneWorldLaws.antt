@@ -10,4 +10,5 @@ pub same_world : (v w : WorldValue) → ◌≡◌ {A = Result WorldValue WorldFa
 same_world v w is = cc
 
 pub holds_one_world : HoldsOneWorld
-holds_one_world v w db one other c d reads others h j = same_world v w (sym reads ∙ ap world_of (one_text db one other c d h j) ∙ others)
+holds_one_world v w db one other c d reads others h j =
+    same_world v w (sym reads ∙ ap world_of (one_text db one other c d h j) ∙ others)

@@ -1,5 +1,5 @@
--- Laws on the rows that were read of all tables but `campaign`: which parts they are of, and that the parts to be checked
--- are made of them.
+-- Laws on the rows that were read of all tables but `campaign`: which parts they are of, and that the parts to be
+-- checked are made of them.
 use Rattle.std.proofs.Common.{◌≡◌, ℕ, true, false, List, [], ◌∷◌, map, refl, sym, subst}
 use Rattle.std.specs.List.{AllZip}
 use Rattle.std.specs.declared.vec.Vec.{Vec}
@@ -77,32 +77,49 @@ module _ (Z : Type 0) where
 
   -- what is read so is of these parts, in their order
   abbrev AreOf : {X : Type 0} → (ReadRows → X → Type 0) → List Part → Type 0
-  AreOf {X} reads parts = (rows : ReadRows) (x : X) → reads rows x → map (λ (read : Part × List Row). read.0) rows ≡ parts
+  AreOf {X} reads parts =
+      (rows : ReadRows) (x : X) → reads rows x → map (λ (read : Part × List Row). read.0) rows ≡ parts
 
   of_units : AreOf ReadsUnits (Units ∷ Goods ∷ [])
-  of_units = both_of_parts (Units ∷ []) (Goods ∷ []) (Read Units unit_stored) (Read Goods has_stored) (one_of_part Units (IsShownAs unit_stored)) (one_of_part Goods (IsShownAs has_stored))
+  of_units =
+      both_of_parts (Units ∷ []) (Goods ∷ []) (Read Units unit_stored) (Read Goods has_stored)
+      (one_of_part Units (IsShownAs unit_stored)) (one_of_part Goods (IsShownAs has_stored))
 
   of_regions : AreOf ReadsRegions (Regions ∷ Units ∷ Goods ∷ [])
-  of_regions = both_of_parts (Regions ∷ []) (Units ∷ Goods ∷ []) (Read Regions region_stored) ReadsUnits (one_of_part Regions (IsShownAs region_stored)) of_units
+  of_regions =
+      both_of_parts (Regions ∷ []) (Units ∷ Goods ∷ []) (Read Regions region_stored) ReadsUnits
+      (one_of_part Regions (IsShownAs region_stored)) of_units
 
   of_people : AreOf ReadsToGoods (Factions ∷ Regions ∷ Units ∷ Goods ∷ [])
-  of_people = both_of_parts (Factions ∷ []) (Regions ∷ Units ∷ Goods ∷ []) (Read Factions faction_stored) ReadsRegions (one_of_part Factions (IsShownAs faction_stored)) of_regions
+  of_people =
+      both_of_parts (Factions ∷ []) (Regions ∷ Units ∷ Goods ∷ []) (Read Factions faction_stored) ReadsRegions
+      (one_of_part Factions (IsShownAs faction_stored)) of_regions
 
   of_reports : AreOf ReadsReports (Reports ∷ Books ∷ [])
-  of_reports = both_of_parts (Reports ∷ []) (Books ∷ []) (Read Reports report_stored) (Read Books books_stored) (one_of_part Reports (IsShownAs report_stored)) (one_of_part Books (IsShownAs books_stored))
+  of_reports =
+      both_of_parts (Reports ∷ []) (Books ∷ []) (Read Reports report_stored) (Read Books books_stored)
+      (one_of_part Reports (IsShownAs report_stored)) (one_of_part Books (IsShownAs books_stored))
 
   of_mail : AreOf ReadsMail (Mail ∷ Reports ∷ Books ∷ [])
-  of_mail = both_of_parts (Mail ∷ []) (Reports ∷ Books ∷ []) (Read Mail mail_stored) ReadsReports (one_of_part Mail (IsShownAs mail_stored)) of_reports
+  of_mail =
+      both_of_parts (Mail ∷ []) (Reports ∷ Books ∷ []) (Read Mail mail_stored) ReadsReports
+      (one_of_part Mail (IsShownAs mail_stored)) of_reports
 
   of_works : AreOf ReadsFromStructures (Structures ∷ Mail ∷ Reports ∷ Books ∷ [])
-  of_works = both_of_parts (Structures ∷ []) (Mail ∷ Reports ∷ Books ∷ []) (Read Structures structure_stored) ReadsMail (one_of_part Structures (IsShownAs structure_stored)) of_mail
+  of_works =
+      both_of_parts (Structures ∷ []) (Mail ∷ Reports ∷ Books ∷ []) (Read Structures structure_stored) ReadsMail
+      (one_of_part Structures (IsShownAs structure_stored)) of_mail
 
   of_first : AreOf ReadsFirst (Factions ∷ Regions ∷ Units ∷ Goods ∷ Structures ∷ Mail ∷ Reports ∷ Books ∷ [])
-  of_first = both_of_parts (Factions ∷ Regions ∷ Units ∷ Goods ∷ []) (Structures ∷ Mail ∷ Reports ∷ Books ∷ []) ReadsToGoods ReadsFromStructures of_people of_works
+  of_first =
+      both_of_parts (Factions ∷ Regions ∷ Units ∷ Goods ∷ []) (Structures ∷ Mail ∷ Reports ∷ Books ∷ []) ReadsToGoods
+      ReadsFromStructures of_people of_works
 
   -- rows that were read of all these tables are of their parts, in this order
   pub parts_are : AreOf ReadsOthers (other_parts Second)
-  parts_are = both_of_parts (Factions ∷ Regions ∷ Units ∷ Goods ∷ Structures ∷ Mail ∷ Reports ∷ Books ∷ []) (Markets ∷ []) ReadsFirst (Read Markets market_stored) of_first (one_of_part Markets (IsShownAs market_stored))
+  parts_are =
+      both_of_parts (Factions ∷ Regions ∷ Units ∷ Goods ∷ Structures ∷ Mail ∷ Reports ∷ Books ∷ []) (Markets ∷ [])
+      ReadsFirst (Read Markets market_stored) of_first (one_of_part Markets (IsShownAs market_stored))
 
   -- the rows that were read of all tables but `campaign`
   module _ (factions : Vec StoredFaction Z) (regions : Vec StoredRegion Z) (units : Vec StoredUnit Z) (has : Vec (RowWithId StoredHas) Z) (structures : Vec StoredStructure Z) (mail : Vec StoredMail Z) (reports : Vec StoredReport Z) (books : Vec (RowWithId StoredBooks) Z) (markets : Vec (RowWithId StoredMarket) Z) where
@@ -112,7 +129,8 @@ module _ (Z : Type 0) where
     abbrev works : RowsFromStructures
     works = (structures, (mail, (reports, books)))
 
-    pub goods_are_read : (rows : ReadRows) → ReadsOthers rows ((people, works), markets) → HasPart Goods (IsShownAs has_stored) has.items rows
+    pub goods_are_read : (rows : ReadRows) → ReadsOthers rows ((people, works), markets)
+        → HasPart Goods (IsShownAs has_stored) has.items rows
     goods_are_read =
         in_first ReadsFirst (Read Markets market_stored) Goods (IsShownAs has_stored) has.items (people, works) markets
         (in_first ReadsToGoods ReadsFromStructures Goods (IsShownAs has_stored) has.items people works
@@ -120,7 +138,8 @@ module _ (Z : Type 0) where
         (in_second (Read Regions region_stored) ReadsUnits Goods (IsShownAs has_stored) has.items regions (units, has)
         (in_second (Read Units unit_stored) (Read Goods has_stored) Goods (IsShownAs has_stored) has.items units has (is_part Goods (IsShownAs has_stored) has)))))
 
-    pub books_are_read : (rows : ReadRows) → ReadsOthers rows ((people, works), markets) → HasPart Books (IsShownAs books_stored) books.items rows
+    pub books_are_read : (rows : ReadRows) → ReadsOthers rows ((people, works), markets)
+        → HasPart Books (IsShownAs books_stored) books.items rows
     books_are_read =
         in_first ReadsFirst (Read Markets market_stored) Books (IsShownAs books_stored) books.items (people, works) markets
         (in_second ReadsToGoods ReadsFromStructures Books (IsShownAs books_stored) books.items people works
@@ -128,8 +147,11 @@ module _ (Z : Type 0) where
         (in_second (Read Mail mail_stored) ReadsReports Books (IsShownAs books_stored) books.items mail (reports, books)
         (in_second (Read Reports report_stored) (Read Books books_stored) Books (IsShownAs books_stored) books.items reports books (is_part Books (IsShownAs books_stored) books)))))
 
-    pub markets_are_read : (rows : ReadRows) → ReadsOthers rows ((people, works), markets) → HasPart Markets (IsShownAs market_stored) markets.items rows
-    markets_are_read = in_second ReadsFirst (Read Markets market_stored) Markets (IsShownAs market_stored) markets.items (people, works) markets (is_part Markets (IsShownAs market_stored) markets)
+    pub markets_are_read : (rows : ReadRows) → ReadsOthers rows ((people, works), markets)
+        → HasPart Markets (IsShownAs market_stored) markets.items rows
+    markets_are_read =
+        in_second ReadsFirst (Read Markets market_stored) Markets (IsShownAs market_stored) markets.items
+        (people, works) markets (is_part Markets (IsShownAs market_stored) markets)
 
     -- the parts `p` are made of these rows
     pub record AreOfOthers (p : Parts) : Type 0 where
@@ -147,13 +169,18 @@ module _ (Z : Type 0) where
       pub markets_apart : HaveDistinctRowids markets.items
 
     module _ (p : Parts) (is : AreOfOthers p) where
-      whole : {A : Type 0} (part : Part) (shown : A → Row) (all : Vec A Z) → shows_rowids part ≡ false → (made : List A) → made ≡ all.items → ((text : List ℕ) (rows : List Row) → AllZip (IsShownAs shown) rows made → AreRead text p part rows)
+      whole : {A : Type 0} (part : Part) (shown : A → Row) (all : Vec A Z) → shows_rowids part ≡ false → (made : List A)
+          → made ≡ all.items
+          → ((text : List ℕ) (rows : List Row) → AllZip (IsShownAs shown) rows made → AreRead text p part rows)
           → (rows : ReadRows) → Read part shown rows all → AreMadeAs p rows
       whole part shown all free made same reads =
           made_part p part (IsShownAs shown) all (λ rows are. made_whole part free rows (λ text. reads text rows (subst (AllZip (IsShownAs shown) rows) (sym same) are)))
 
-      placed : {A : Type 0} (part : Part) (shown : RowWithId A → Row) (values : A → Row) (all : Vec (RowWithId A) Z) → IsPlacedAs part (IsShownAs shown) (IsShownAs values) → shows_rowids part ≡ true → HaveDistinctRowids all.items → (made : List A) → made ≡ map (λ s. s.row) all.items
-          → ((text : List ℕ) (rows : List Row) → AllZip (IsShownAs values) rows made → AreRead text p part rows) → (rows : ReadRows) → Read part shown rows all → AreMadeAs p rows
+      placed : {A : Type 0} (part : Part) (shown : RowWithId A → Row) (values : A → Row) (all : Vec (RowWithId A) Z)
+          → IsPlacedAs part (IsShownAs shown) (IsShownAs values) → shows_rowids part ≡ true
+          → HaveDistinctRowids all.items → (made : List A) → made ≡ map (λ s. s.row) all.items
+          → ((text : List ℕ) (rows : List Row) → AllZip (IsShownAs values) rows made → AreRead text p part rows)
+          → (rows : ReadRows) → Read part shown rows all → AreMadeAs p rows
       placed part shown values all are has apart made same reads =
           made_part p part (IsShownAs shown) all (λ rows read. made_placed are has all.items apart (λ text values_of read. reads text values_of (subst (AllZip (IsShownAs values) values_of) (sym same) read)) rows read)
 
@@ -172,7 +199,8 @@ module _ (Z : Type 0) where
           (placed Books books_stored books_values books books_placed refl is.books_apart p.books is.books_are (λ text rows are. are))))
 
       -- all parts are made of the rows that were read, and of the campaign row
-      pub others_made : (head : StoredCampaignRow) → p.campaign ≡ head ∷ [] → (rows : ReadRows) → ReadsOthers rows ((people, works), markets) → IsMadeOf head rows p
+      pub others_made : (head : StoredCampaignRow) → p.campaign ≡ head ∷ [] → (rows : ReadRows)
+          → ReadsOthers rows ((people, works), markets) → IsMadeOf head rows p
       others_made head campaign rows read =
           made_of (parts_are rows ((people, works), markets) read) campaign
           (made_both p ReadsFirst (Read Markets market_stored) (people, works) markets (made_both p ReadsToGoods ReadsFromStructures people works made_people made_works)

@@ -12,7 +12,9 @@ use Rattle.atl_descriptions.specs.Tables.{HasAll}
 use Rattle.atl_store.proofs.SchemaTableLaws.{one_schema}
 
 module _ {S : Type 0} (g : Ghosts S) where
-  pub keeps_stored : (new : Held S) → Opens (state g new) → IsLive (state g new) → ((db : Trees) → (state g new).may_leave db → db ≡ (state g new).committed.trees) → (text : List ℕ) (c : CampaignValue) → Stores (state g new).now.trees text c → Keeps (state g new) text c
+  pub keeps_stored : (new : Held S) → Opens (state g new) → IsLive (state g new)
+      → ((db : Trees) → (state g new).may_leave db → db ≡ (state g new).committed.trees)
+      → (text : List ℕ) (c : CampaignValue) → Stores (state g new).now.trees text c → Keeps (state g new) text c
   keeps_stored new opens live settled text c stores =
       let listed = (live opens.is_open).0 in
       let schema : (state g new).now.schema ≡ stores.schema = one_schema (state g new).now.trees stores.schema (state g new).now.schema stores.sound.listed listed (ap (λ s. s.views) stores.begins.made_of) in
@@ -27,12 +29,16 @@ module _ {S : Type 0} (g : Ghosts S) where
 
   module _ (old new : Held S) (reopens : Reopens g old new) where
     pub kept_again : (text : List ℕ) (c : CampaignValue) → HoldsCampaign g old text c → HoldsCampaign g new text c
-    kept_again text c holds clean = reopens.keeps clean text c ((holds (reopens.clean clean)).crash (state g new).now.trees (reopens.found clean))
+    kept_again text c holds clean =
+        reopens.keeps clean text c ((holds (reopens.clean clean)).crash (state g new).now.trees (reopens.found clean))
 
     -- after a command that failed, a connection opened again keeps the campaign before or after it, if the disk is
     -- clean
-    pub stopped_again : HasCleanDisk (state g new) → (faults : ℕ) (text : List ℕ) (before after : CampaignValue) → LeavesAfterFault faults (state g old) text before after → Keeps (state g new) text before ⊎ Keeps (state g new) text after
-    stopped_again clean faults text before after stops = elim (stops.crash (state g new).now.trees (reopens.found clean)) [
-      | inl is ↦ inl (reopens.keeps clean text before is)
-      | inr is ↦ inr (reopens.keeps clean text after is)
-    ]
+    pub stopped_again : HasCleanDisk (state g new) → (faults : ℕ) (text : List ℕ) (before after : CampaignValue)
+        → LeavesAfterFault faults (state g old) text before after
+        → Keeps (state g new) text before ⊎ Keeps (state g new) text after
+    stopped_again clean faults text before after stops =
+        elim (stops.crash (state g new).now.trees (reopens.found clean)) [
+          | inl is ↦ inl (reopens.keeps clean text before is)
+          | inr is ↦ inr (reopens.keeps clean text after is)
+        ]

@@ -24,7 +24,8 @@ use Rattle.atl_store.proofs.WholeLaws.{inside_weaker}
 
 module _ (c : MarkedCampaign) where
   -- for `head_done`, of the databases alone: putting the campaign row rewrites it, if it is marked
-  head_put : (b : Bool) → c.marks.row ≡ b → b ≡ true → (old new : Database) → PutsCampaignRow (campaign_row_of c.value) [] old new → RewritesCampaignRow c old new
+  head_put : (b : Bool) → c.marks.row ≡ b → b ≡ true → (old new : Database)
+      → PutsCampaignRow (campaign_row_of c.value) [] old new → RewritesCampaignRow c old new
   head_put b is set old new did before text was =
       let puts = did.again before text was in
       let row = campaign_row (campaign_row_of c.value) text in
@@ -33,12 +34,19 @@ module _ (c : MarkedCampaign) where
         others = puts.others;
       })
     where
-      only : (r : Row) → (r ≡ campaign_row (campaign_row_of c.value) text) ⊎ (Has (rows_in campaign_table old.trees) r × (take 1 r ≢ take 1 (campaign_row (campaign_row_of c.value) text))) → r ≡ campaign_row (campaign_row_of c.value) text
+      only : (r : Row)
+          → (r ≡ campaign_row (campaign_row_of c.value) text)
+          ⊎ (Has (rows_in campaign_table old.trees) r × (take 1 r ≢ take 1 (campaign_row (campaign_row_of c.value) text)))
+          → r ≡ campaign_row (campaign_row_of c.value) text
       only r (inl same) = same
       only r (inr kept) = absurd (kept.1 (ap (take 1) ((was r).0 kept.0)))
 
-  pub head_done : c.marks.row ≡ true → (old new : State) → DoesInside HasTables (PutsCampaignRow (campaign_row_of c.value) []) old new → DoesInside HasTables (RewritesCampaignRow c) old new
-  head_done is old new did = inside_weaker HasTables (PutsCampaignRow (campaign_row_of c.value) []) (RewritesCampaignRow c) old new (λ has puts. head_put true is refl old.now new.now puts) did
+  pub head_done : c.marks.row ≡ true → (old new : State)
+      → DoesInside HasTables (PutsCampaignRow (campaign_row_of c.value) []) old new
+      → DoesInside HasTables (RewritesCampaignRow c) old new
+  head_done is old new did =
+      inside_weaker HasTables (PutsCampaignRow (campaign_row_of c.value) []) (RewritesCampaignRow c) old new
+      (λ has puts. head_put true is refl old.now new.now puts) did
 
   pub head_left : c.marks.row ≡ false → (s : State) → DoesInside HasTables (RewritesCampaignRow c) s s
   head_left is s = (
@@ -54,17 +62,24 @@ module _ (c : MarkedCampaign) where
 
 module _ (c : MarkedCampaign) where
   pub own_rewritten : (old new : Database) → RewritesCampaignRow c old new → RewritesWithOwn c (Own ∷ []) old new
-  own_rewritten old new did before text was = one_changed (Becomes c (own_after c before text)) Own _ old new (did before text was) (λ rows. rows)
+  own_rewritten old new did before text was =
+      one_changed (Becomes c (own_after c before text)) Own _ old new (did before text was) (λ rows. rows)
 
   -- rewriting a table's marked rows rewrites its part (`RewritesParts`), if its rows don't depend on the campaign row
-  pub part_rewritten : (part : Part) → ((own : Row) (before after : List Row) → Becomes c [] part before after → Becomes c own part before after) → (old new : Database)
-      → Rewrites (table_of part) (is_marked c.marks part) (rows_for [] c.value part) old new → RewritesParts c (part ∷ []) old new
+  pub part_rewritten : (part : Part)
+      → ((own : Row) (before after : List Row) → Becomes c [] part before after → Becomes c own part before after)
+      → (old new : Database)
+      → Rewrites (table_of part) (is_marked c.marks part) (rows_for [] c.value part) old new
+      → RewritesParts c (part ∷ []) old new
   part_rewritten part any old new did own = one_changed (Becomes c own) part _ old new did (any own _ _)
 
-  pub own_then_rewritten : (ps qs : List Part) → are_apart ps qs ≡ true → (old mid new : Database) → RewritesWithOwn c ps old mid → RewritesParts c qs mid new → RewritesWithOwn c (ps ++ qs) old new
+  pub own_then_rewritten : (ps qs : List Part) → are_apart ps qs ≡ true → (old mid new : Database)
+      → RewritesWithOwn c ps old mid → RewritesParts c qs mid new → RewritesWithOwn c (ps ++ qs) old new
   own_then_rewritten ps qs apart old mid new first second before text was = let own = own_after c before text in both_changed (Becomes c own) ps qs apart old mid new (first before text was) (second own)
 
   -- ---- the whole
 
-  pub all_rewritten : (parts : List Part) → list_all (is_among parts) all_parts ≡ true → (old new : Database) → RewritesWithOwn c parts old new → WritesChanges c old new
-  all_rewritten parts all old new did before text was = record { rows = λ part. (did before text was).done part (all_among parts all part) }
+  pub all_rewritten : (parts : List Part) → list_all (is_among parts) all_parts ≡ true → (old new : Database)
+      → RewritesWithOwn c parts old new → WritesChanges c old new
+  all_rewritten parts all old new did before text was =
+      record { rows = λ part. (did before text was).done part (all_among parts all part) }

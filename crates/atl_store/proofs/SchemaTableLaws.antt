@@ -35,7 +35,8 @@ one_table row a b one two =
     one_made two.sql a b tree (subst (λ text. DefinesTable text a) sql one.defined) two.defined
 
 -- two lists of things that the same rows list (by `R`) are equal, if no row lists two different things
-one_list : {A B : Type 0} (R : A → B → Type 0) (rows : List A) (xs ys : List B) → ((row : A) (x y : B) → R row x → R row y → x ≡ y) → AllZip R rows xs → AllZip R rows ys → xs ≡ ys
+one_list : {A B : Type 0} (R : A → B → Type 0) (rows : List A) (xs ys : List B)
+    → ((row : A) (x y : B) → R row x → R row y → x ≡ y) → AllZip R rows xs → AllZip R rows ys → xs ≡ ys
 one_list R [] [] [] same one two = refl
 one_list R [] [] (y ∷ ys) same one two = absurd two
 one_list R [] (x ∷ xs) ys same one two = absurd one
@@ -55,23 +56,29 @@ decimal_text_determines_number m n small low is =
     let next : m + 1 ≡ n + 1 = sym first ∙ ap (digits_value 10) is ∙ second in
     omega (arith, next)
 
-same_made : (table : Table) (k l : ℕ) (a b : Index) → a.name ≡ b.name → a.name ≡ codes "sqlite_autoindex_" ++ (table.name ++ (codes "_" ++ decimal (k + 1)))
-    → b.name ≡ codes "sqlite_autoindex_" ++ (table.name ++ (codes "_" ++ decimal (l + 1))) → decimal (k + 1) ≡ decimal (l + 1)
+same_made : (table : Table) (k l : ℕ) (a b : Index) → a.name ≡ b.name
+    → a.name ≡ codes "sqlite_autoindex_" ++ (table.name ++ (codes "_" ++ decimal (k + 1)))
+    → b.name ≡ codes "sqlite_autoindex_" ++ (table.name ++ (codes "_" ++ decimal (l + 1)))
+    → decimal (k + 1) ≡ decimal (l + 1)
 same_made table k l a b name first second =
     append_cancel_left (codes "_") _ _ (append_cancel_left table.name _ _ (append_cancel_left (codes "sqlite_autoindex_") _ _ (sym first ∙ name ∙ second)))
 
-one_automatic : (table : Table) (a b : Index) → a.tree ≡ b.tree → a.name ≡ b.name → IsDefined table a Null → IsDefined table b Null → a ≡ b
+one_automatic : (table : Table) (a b : Index) → a.tree ≡ b.tree → a.name ≡ b.name → IsDefined table a Null
+    → IsDefined table b Null → a ≡ b
 one_automatic table a b tree name (k, key, at, is, small) (l, other, position, same, low) =
     let number : k ≡ l = decimal_text_determines_number k l small low (same_made table k l a b name (ap (λ (i : Index). i.name) is) (ap (λ (i : Index). i.name) same)) in
     let keys : key ≡ other = let e : Some key ≡ Some other = sym at ∙ ap (slice_get table.uniques) number ∙ position in cc in
-    is ∙ ap (λ n. automatic table n key a.tree) number ∙ ap (λ k. automatic table l k a.tree) keys ∙ ap (automatic table l other) tree ∙ sym same
+    is ∙ ap (λ n. automatic table n key a.tree) number ∙ ap (λ k. automatic table l k a.tree) keys
+    ∙ ap (automatic table l other) tree ∙ sym same
 
-one_stated : (table : Table) (sql : List ℕ) (a b : Index) → a.tree ≡ b.tree → IsDefined table a (Text sql) → IsDefined table b (Text sql) → a ≡ b
+one_stated : (table : Table) (sql : List ℕ) (a b : Index) → a.tree ≡ b.tree → IsDefined table a (Text sql)
+    → IsDefined table b (Text sql) → a ≡ b
 one_stated table sql a b tree (made, given, is) (other, says, same) =
     let both : made ≡ other = let e = sym given ∙ says in cc in
     is ∙ ap (λ (i : Index). record i { tree = a.tree; table = table.tree }) both ∙ ap (λ n. record other { tree = n; table = table.tree }) tree ∙ sym same
 
-one_defined : (table : Table) (a b : Index) (v : Value) → a.tree ≡ b.tree → a.name ≡ b.name → IsDefined table a v → IsDefined table b v → a ≡ b
+one_defined : (table : Table) (a b : Index) (v : Value) → a.tree ≡ b.tree → a.name ≡ b.name → IsDefined table a v
+    → IsDefined table b v → a ≡ b
 one_defined table a b Null tree name one two = one_automatic table a b tree name one two
 one_defined table a b (Int n) tree name one two = absurd one
 one_defined table a b (Real x) tree name one two = absurd one
@@ -79,7 +86,8 @@ one_defined table a b (Text sql) tree name one two = one_stated table sql a b tr
 one_defined table a b (Blob bytes) tree name one two = absurd one
 
 -- two indexes that one row of the schema table lists are equal, if no two tables have the same name
-one_index : (tables : List Table) → IsAscending (λ s t. same_name s.name t.name ≡ false) tables → (row : Row) (a b : Index) → IsIndexRow tables row a → IsIndexRow tables row b → a ≡ b
+one_index : (tables : List Table) → IsAscending (λ s t. same_name s.name t.name ≡ false) tables
+    → (row : Row) (a b : Index) → IsIndexRow tables row a → IsIndexRow tables row b → a ≡ b
 one_index tables apart row a b one two =
     let tree : a.tree ≡ b.tree = same_tree a.tree b.tree (sym one.described.id ∙ two.described.id) in
     let name : a.name ≡ b.name = let e = sym one.described.name_is ∙ two.described.name_is in cc in
@@ -89,7 +97,8 @@ one_index tables apart row a b one two =
 
 -- ---- views
 
-no_views : (rows : List Row) (none views : List View) → none ≡ [] → AllZip IsViewRow rows none → AllZip IsViewRow rows views → views ≡ []
+no_views : (rows : List Row) (none views : List View) → none ≡ [] → AllZip IsViewRow rows none
+    → AllZip IsViewRow rows views → views ≡ []
 no_views [] none [] is one two = refl
 no_views [] none (v ∷ views) is one two = absurd two
 no_views (r ∷ rows) none views is one two = absurd (subst (AllZip IsViewRow (r ∷ rows)) is one)

@@ -21,12 +21,16 @@ use Rattle.atl_store.specs.declared.fault.CreateFault.{CreateFault}
 use Rattle.atl_store.specs.declared.fault.CreateFault.TheVariants as create
 use Rattle.atl_sql.proofs.CarryLaws.{carries_none}
 
-held_campaign_is_stored : (db : Database) (text : List ℕ) (c : CampaignValue) → HasTables db → Holds db.trees text c → Stores db.trees text c
-held_campaign_is_stored db text c has rows = record { schema = db.schema; begins = has.begins; sound = has.sound; rows = rows }
+held_campaign_is_stored : (db : Database) (text : List ℕ) (c : CampaignValue) → HasTables db → Holds db.trees text c
+    → Stores db.trees text c
+held_campaign_is_stored db text c has rows =
+    record { schema = db.schema; begins = has.begins; sound = has.sound; rows = rows }
 
 module _ (old new : State) (text : List ℕ) (settled : (db : Trees) → IsTrue new.is_open → new.may_leave db → db ≡ new.committed.trees) where
   -- after a commit the connection keeps the campaign that the transaction wrote, if a crash leaves what was committed
-  pub commits_keeps : (Before : Database → Type 0) (Does : Database → Database → Type 0) (after : CampaignValue) → Commits Before Does old new → Before old.now → (Does old.now new.now → Holds new.now.trees text after) → Keeps new text after
+  pub commits_keeps : (Before : Database → Type 0) (Does : Database → Database → Type 0) (after : CampaignValue)
+      → Commits Before Does old new → Before old.now → (Does old.now new.now → Holds new.now.trees text after)
+      → Keeps new text after
   commits_keeps Before Does after done was holds =
       let did = done.does was in
       let rows = holds did.does in
@@ -40,8 +44,10 @@ module _ (old new : State) (text : List ℕ) (settled : (db : Trees) → IsTrue 
       }
 
   -- after a failed transaction the campaign before is kept, and a crash leaves that or the one after, on a clean disk
-  pub leaves_stops : (Does : Database → Database → Type 0) (before after : CampaignValue) → HasCleanDisk new → LeavesOff old new → Survives old new (MayLeave HasTables Does old) → Keeps old text before
-      → ((db : Database) → Does old.now db → Holds db.trees text after) → LeavesAfterFault old.faults new text before after
+  pub leaves_stops : (Does : Database → Database → Type 0) (before after : CampaignValue) → HasCleanDisk new
+      → LeavesOff old new → Survives old new (MayLeave HasTables Does old) → Keeps old text before
+      → ((db : Database) → Does old.now db → Holds db.trees text after)
+      → LeavesAfterFault old.faults new text before after
   leaves_stops Does before after clean off survives keeps holds = record {
     still = λ up.
         let back = off.undone up in
@@ -61,14 +67,17 @@ module _ (old new : State) (text : List ℕ) (settled : (db : Trees) → IsTrue 
     ];
   }
 
-pub may_found : (old new : State) (text : List ℕ) (c : CampaignValue) (Before : Database → Type 0) (Does : Database → Database → Type 0) → Before old.now → ((db : Database) → Does old.now db → Holds db.trees text c) → HasCleanDisk new
+pub may_found : (old new : State) (text : List ℕ) (c : CampaignValue) (Before : Database → Type 0) (Does : Database → Database → Type 0)
+    → Before old.now → ((db : Database) → Does old.now db → Holds db.trees text c) → HasCleanDisk new
     → Survives old new (MayLeave Before Does old) → MayLeaveCampaign old text c new
 may_found old new text c Before Does before holds clean survives db may = elim (survives.crash clean db may) [
   | inl was ↦ inl was
   | inr made ↦ let did = made.1 before in inr (subst (λ t. Stores t text c) (sym made.2) (held_campaign_is_stored made.0 text c did.tables (holds made.0 did.does)))
 ]
 
-pub failed_changes_nothing : (old new : State) (Commits : Trees → Type 0) → HasCleanDisk new → LeavesOff old new → Survives old new Commits → old.in_transaction ≡ false → (IsTrue old.is_open → old.now ≡ old.committed) → ChangesNothing old new
+pub failed_changes_nothing : (old new : State) (Commits : Trees → Type 0) → HasCleanDisk new → LeavesOff old new
+    → Survives old new Commits → old.in_transaction ≡ false → (IsTrue old.is_open → old.now ≡ old.committed)
+    → ChangesNothing old new
 failed_changes_nothing old new Commits clean off survives idle settled = record {
   same = λ up.
       let back = off.undone up in
@@ -79,7 +88,8 @@ failed_changes_nothing old new Commits clean off survives idle settled = record 
 
 -- the fault of a creation that an error of the database ended
 module _ {S : Type 0} (g : Ghosts S) (text : List ℕ) (c : CampaignValue) (old new : Held S) (ready : IsReadyToCreate (state g old)) (fails : FailsToCreate g text c old new) where
-  refused_by_fault : (fault : CreateFault) → fault ≢ create.NotEmpty → BreaksOffCreation g text c old new fault → RefusesToCreate g text c old new fault
+  refused_by_fault : (fault : CreateFault) → fault ≢ create.NotEmpty → BreaksOffCreation g text c old new fault
+      → RefusesToCreate g text c old new fault
   refused_by_fault create.NotEmpty other breaks = absurd (other refl)
   refused_by_fault create.Store other breaks = (fails, inr breaks)
   refused_by_fault create.Memory other breaks = (fails, breaks)
@@ -91,15 +101,22 @@ module _ {S : Type 0} (g : Ghosts S) (text : List ℕ) (c : CampaignValue) (old 
       go true same = absurd cc
       go false same = absurd cc
 
-  pub refused_with : (e : Error) (r : Result (Unit {0}) CreateFault) → IsErrAnd r (λ f. f ≡ create_fault e) → (HasCleanDisk (state g new) → Gives g (OfFounding text c) e old new) → IfErr r (RefusesToCreate g text c old new)
+  pub refused_with : (e : Error) (r : Result (Unit {0}) CreateFault) → IsErrAnd r (λ f. f ≡ create_fault e)
+      → (HasCleanDisk (state g new) → Gives g (OfFounding text c) e old new)
+      → IfErr r (RefusesToCreate g text c old new)
   refused_with e (Ok a) says gave = tt
-  refused_with e (Err f) says gave = refused_by_fault f (λ none. never_not_empty e (sym says ∙ none)) (record { ready = ready; reports_error = λ clean. (e, says, gave clean) })
+  refused_with e (Err f) says gave =
+      refused_by_fault f (λ none. never_not_empty e (sym says ∙ none))
+      (record { ready = ready; reports_error = λ clean. (e, says, gave clean) })
 
-pub error_of : {S F A : Type 0} (g : Ghosts S) (own : Statements) (fault_of : Error → F) (old new : Held S) (e : Error) (r : Result A F) → IsErrAnd r (λ f. f ≡ fault_of e) → Gives g own e old new → IfErr r (IsFaultOfError g own fault_of old new)
+pub error_of : {S F A : Type 0} (g : Ghosts S) (own : Statements) (fault_of : Error → F) (old new : Held S) (e : Error) (r : Result A F)
+    → IsErrAnd r (λ f. f ≡ fault_of e) → Gives g own e old new → IfErr r (IsFaultOfError g own fault_of old new)
 error_of g own fault_of old new e (Ok a) says gave = tt
 error_of g own fault_of old new e (Err f) says gave = (e, says, gave)
 
-pub not_there : {S : Type 0} (g : Ghosts S) (conn : Held S) (schema : Schema) (found : Bool) → schema ≡ (state g conn).now.schema → found ≡ has_campaign schema → found ≡ false → has_campaign conn.schema ≡ false
+pub not_there : {S : Type 0} (g : Ghosts S) (conn : Held S) (schema : Schema) (found : Bool)
+    → schema ≡ (state g conn).now.schema → found ≡ has_campaign schema → found ≡ false
+    → has_campaign conn.schema ≡ false
 not_there g conn schema found shown is none = ap has_campaign (sym shown) ∙ sym is ∙ none
 
 pub unchanged_itself : (s : State) → ChangesNothing s s
@@ -108,13 +125,16 @@ unchanged_itself s = record { same = λ up. (refl, refl, refl); shuts = λ up. i
 -- after a call (`Survives`) a clean disk was clean before, no failure is forgotten, and reads tested by digests stay so
 -- (`IsLater`)
 pub survives_is_later : (old new : State) (Commits : Trees → Type 0) → Survives old new Commits → IsLater old new
-survives_is_later old new Commits survives = record { clean = λ clean. omega (arith, survives.clean); counts = survives.counts; shield = survives.shield }
+survives_is_later old new Commits survives =
+    record { clean = λ clean. omega (arith, survives.clean); counts = survives.counts; shield = survives.shield }
 
-pub commit_leaves_others : (old new : State) (Before : Database → Type 0) (Does : Database → Database → Type 0) → Commits Before Does old new → (HasTables old.now → Before old.now) → LeavesOthersAlone old new
+pub commit_leaves_others : (old new : State) (Before : Database → Type 0) (Does : Database → Database → Type 0)
+    → Commits Before Does old new → (HasTables old.now → Before old.now) → LeavesOthersAlone old new
 commit_leaves_others old new Before Does done before up has settled = (done.does (before has)).carries
 
 pub leaves_others : (old new : State) → LeavesOff old new → LeavesOthersAlone old new
-leaves_others old new off up has settled = subst (Carries old.now) (sym ((off.undone up).0 ∙ settled)) (carries_none old.now)
+leaves_others old new off up has settled =
+    subst (Carries old.now) (sym ((off.undone up).0 ∙ settled)) (carries_none old.now)
 
 pub on_err : {A E : Type 0} (r : Result A E) (P : Type 0) → P → OnErr r P
 on_err (Ok a) P p = tt

@@ -25,8 +25,11 @@ use Rattle.atl_world.proofs.GeneralLaws.{same_key, key_itself, is_equal, equal_i
 pub finds_things : (sort : ThingKind) → FindsByNumbers (unit_and_thing_pass sort)
 finds_things sort = record { either = either; none = none }
   where
-    either : (f g : ℕ → ℕ → Bool) (r : Row) → unit_and_thing_pass sort (λ n t. f n t || g n t) r ≡ (unit_and_thing_pass sort f r || unit_and_thing_pass sort g r)
-    either f g (Int (pos unit) ∷ Int (pos number) ∷ Int (pos thing) ∷ row) = and-or_distrib_left (number == sort_number sort) (f unit thing) (g unit thing)
+    either : (f g : ℕ → ℕ → Bool) (r : Row)
+        → unit_and_thing_pass sort (λ n t. f n t || g n t) r
+        ≡ (unit_and_thing_pass sort f r || unit_and_thing_pass sort g r)
+    either f g (Int (pos unit) ∷ Int (pos number) ∷ Int (pos thing) ∷ row) =
+        and-or_distrib_left (number == sort_number sort) (f unit thing) (g unit thing)
     either f g row = refl
 
     none : (r : Row) → unit_and_thing_pass sort (λ n t. false) r ≡ false
@@ -47,8 +50,9 @@ module _ (unit : ℕ) (sort : ThingKind) (thing : ℕ) where
   key_of (Int (pos n) ∷ Int (pos number) ∷ Int (pos t) ∷ row) is =
       let one = and_parts _ _ is in
       let two = and_parts _ _ one.1 in
-      ap (λ k. has_key k number t) (same_key n unit two.0) ∙ ap (λ k. has_key unit k t) (is_equal number (sort_number sort) one.0) ∙ ap (has_key unit (sort_number sort)) (same_key t thing two.1)
-
+      ap (λ k. has_key k number t) (same_key n unit two.0)
+      ∙ ap (λ k. has_key unit k t) (is_equal number (sort_number sort) one.0)
+      ∙ ap (has_key unit (sort_number sort)) (same_key t thing two.1)
   key_of row is = absurd (true≢false (sym is))
 
   of_key : (r : Row) → take 3 r ≡ has_key unit (sort_number sort) thing → is_here r ≡ true
@@ -59,7 +63,8 @@ module _ (unit : ℕ) (sort : ThingKind) (thing : ℕ) where
       let first : u ≡ int unit = cc in
       let second : v ≡ int (sort_number sort) = cc in
       let third : w ≡ int thing = cc in
-      ap (λ x. is_here (x ∷ v ∷ w ∷ row)) first ∙ ap (λ x. is_here (int unit ∷ x ∷ w ∷ row)) second ∙ ap (λ x. is_here (int unit ∷ int (sort_number sort) ∷ x ∷ row)) third
+      ap (λ x. is_here (x ∷ v ∷ w ∷ row)) first ∙ ap (λ x. is_here (int unit ∷ x ∷ w ∷ row)) second
+      ∙ ap (λ x. is_here (int unit ∷ int (sort_number sort) ∷ x ∷ row)) third
       ∙ and_from _ _ (equal_itself (sort_number sort)) (and_from _ _ (key_itself unit) (key_itself thing))
 
   module _ (c : CampaignValue) (amount : ℕ) (is : amount ≡ amount_under c.units unit sort thing) where
@@ -74,20 +79,26 @@ module _ (unit : ℕ) (sort : ThingKind) (thing : ℕ) where
         let says : Determines unit sort thing = subst (λ n. Determines n sort thing) keys.0 (subst (λ s. Determines had.0 s thing) (same_sort had.1 sort keys.1) (subst (Determines had.0 had.1) keys.2 (had.3, had.4))) in
         (λ none. says.0 (sym is ∙ none), says.1 ∙ ap (has_row unit (sort_number sort) thing) (sym is))
 
-    pub zero_amount_has_no_row : amount ≡ 0 → (r : Row) → HasRowsOf c.units r → take 3 r ≢ has_key unit (sort_number sort) thing
+    pub zero_amount_has_no_row : amount ≡ 0 → (r : Row) → HasRowsOf c.units r
+        → take 3 r ≢ has_key unit (sort_number sort) thing
     zero_amount_has_no_row none r of key = (wanted_here r (of_key r key) of).0 none
 
-    pub thing_put : amount ≢ 0 → (old new : State) → DoesInside HasTables (Puts has_table 3 row) old new → DoesInside HasTables (RewritesThings c sort (is_owner_and_thing unit thing)) old new
-    thing_put some old new did = inside_weaker HasTables (Puts has_table 3 row) (RewritesThings c sort (is_owner_and_thing unit thing)) old new
+    pub thing_put : amount ≢ 0 → (old new : State) → DoesInside HasTables (Puts has_table 3 row) old new
+        → DoesInside HasTables (RewritesThings c sort (is_owner_and_thing unit thing)) old new
+    thing_put some old new did =
+        inside_weaker HasTables (Puts has_table 3 row) (RewritesThings c sort (is_owner_and_thing unit thing)) old new
         (λ has puts. rewrites_key is_here (λ r. take 3 r ≡ has_key unit (sort_number sort) thing) (λ r. r ≡ row) (HasRowsOf c.units) key_of of_key
         (λ r same. (ap (take 3) same, subst (HasRowsOf c.units) (sym same) (amount_has_row c.units unit sort thing amount is some)))
         (λ r here of. (wanted_here r here of).1)
         has_table old.now new.now puts.rows puts.others)
         did
 
-    pub thing_dropped : amount ≡ 0 → (old new : State) → DoesInside HasTables (Drops has_table 3 (has_key unit (sort_number sort) thing)) old new
+    pub thing_dropped : amount ≡ 0 → (old new : State)
+        → DoesInside HasTables (Drops has_table 3 (has_key unit (sort_number sort) thing)) old new
         → DoesInside HasTables (RewritesThings c sort (is_owner_and_thing unit thing)) old new
-    thing_dropped none old new did = inside_weaker HasTables (Drops has_table 3 (has_key unit (sort_number sort) thing)) (RewritesThings c sort (is_owner_and_thing unit thing)) old new
+    thing_dropped none old new did =
+        inside_weaker HasTables (Drops has_table 3 (has_key unit (sort_number sort) thing))
+        (RewritesThings c sort (is_owner_and_thing unit thing)) old new
         (λ has drops. rewrites_key is_here (λ r. take 3 r ≡ has_key unit (sort_number sort) thing) (λ r. ⊥) (HasRowsOf c.units) key_of of_key (λ r never. absurd never)
         (λ r here of. (wanted_here r here of).0 none)
         has_table old.now new.now (λ r. let so = drops.rows r in (λ h. inr (so.0 h), λ h. so.1 (kept_only h))) drops.others)

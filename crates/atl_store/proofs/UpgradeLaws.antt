@@ -61,7 +61,8 @@ module _ (old new : Database) (is : IsFirstFormat old) (made : CreatesTable old_
         absurd (free (has_map (λ (u : Table). u.tree) all_tables t (has_left old_schema.tables (market_table ∷ []) t was)));
   }
 
-pub adds_markets : (old new : State) → RunsStatement (creation_of Markets) [] old new → DoesInside IsFirstFormat AddsMarkets old new
+pub adds_markets : (old new : State) → RunsStatement (creation_of Markets) [] old new
+    → DoesInside IsFirstFormat AddsMarkets old new
 adds_markets old new ran = (
   ran.2.1.mode ∙ sym ran.0,
   λ is.
@@ -76,7 +77,8 @@ adds_markets old new ran = (
 -- ---- the whole
 
 in_first : (part : Part) → part ≢ Markets → Has (parts_in First) part
-in_first part other = elim (all_among (Markets ∷ parts_in First) refl part) [ inl same ↦ absurd (other same) | inr there ↦ there ]
+in_first part other =
+    elim (all_among (Markets ∷ parts_in First) refl part) [ inl same ↦ absurd (other same) | inr there ↦ there ]
 
 no_stocks : (c : CampaignValue) → HasNoStocks c → (r : Row) → ¬ MarketRowsOf c.regions r
 no_stocks c bare r of =
@@ -84,35 +86,52 @@ no_stocks c bare r of =
     absurd cc
 
 -- putting a row with the key of a table's only row leaves just the new row in the table
-own_row : (rows old : List Row) (was row : Row) → take 1 was ≡ take 1 row → HasExactly old (λ r. r ≡ was) → HasExactly rows (put 1 row (Has old)) → HasExactly rows (λ r. r ≡ row)
+own_row : (rows old : List Row) (was row : Row) → take 1 was ≡ take 1 row → HasExactly old (λ r. r ≡ was)
+    → HasExactly rows (put 1 row (Has old)) → HasExactly rows (λ r. r ≡ row)
 own_row rows old was row key one made r = (
   λ there. elim ((made r).0 there) [ inl same ↦ same | inr (there, other) ↦ absurd (other (ap (take 1) ((one r).0 there) ∙ key)) ],
   λ same. (made r).1 (inl same),
 )
 
 module _ (text : List ℕ) (c : CampaignValue) (old mid new : Database) (first : AddsMarkets old mid) (second : UpgradesCampaignRow (campaign_row_of c) text mid new) (before : List ℕ) (held : HoldsIn First old.trees before c) (bare : HasNoStocks c) where
-  rows_between : (part : Part) → Has (parts_in First) part → HasExactly (rows_in (table_of part) mid.trees) (rows_for (campaign_row_in First (campaign_row_of c) before) c part)
-  rows_between part there = subst (λ rows. HasExactly rows (rows_for (campaign_row_in First (campaign_row_of c) before) c part)) (sym (ap (map (visible_row (table_of part))) (first.others (table_of part) (has_map table_of (parts_in First) part there)))) (held.rows part there)
+  rows_between : (part : Part) → Has (parts_in First) part
+      → HasExactly (rows_in (table_of part) mid.trees) (rows_for (campaign_row_in First (campaign_row_of c) before) c part)
+  rows_between part there =
+      subst (λ rows. HasExactly rows (rows_for (campaign_row_in First (campaign_row_of c) before) c part))
+      (sym (ap (map (visible_row (table_of part))) (first.others (table_of part) (has_map table_of (parts_in First) part there))))
+      (held.rows part there)
 
   row_put : Puts campaign_table 1 (campaign_row (campaign_row_of c) text) mid new
   row_put = second before (rows_between Own (inl refl))
 
   other_tables_stay : (part : Part) → part ≢ Own → rows_in (table_of part) new.trees ≡ rows_in (table_of part) mid.trees
-  other_tables_stay part other = ap (map (visible_row (table_of part))) (row_put.others (table_of part) (listed part) (λ same. other (same_part part Own same)))
+  other_tables_stay part other =
+      ap (map (visible_row (table_of part)))
+      (row_put.others (table_of part) (listed part) (λ same. other (same_part part Own same)))
 
-  rows_stay : (part : Part) → part ≢ Own → Has (parts_in First) part → HasExactly (rows_in (table_of part) new.trees) (rows_for (campaign_row_in First (campaign_row_of c) before) c part)
-  rows_stay part other there = subst (λ rows. HasExactly rows (rows_for (campaign_row_in First (campaign_row_of c) before) c part)) (sym (other_tables_stay part other)) (rows_between part there)
+  rows_stay : (part : Part) → part ≢ Own → Has (parts_in First) part
+      → HasExactly (rows_in (table_of part) new.trees) (rows_for (campaign_row_in First (campaign_row_of c) before) c part)
+  rows_stay part other there =
+      subst (λ rows. HasExactly rows (rows_for (campaign_row_in First (campaign_row_of c) before) c part))
+      (sym (other_tables_stay part other)) (rows_between part there)
 
   -- after the campaign row is changed, the tables of the second format hold the campaign, which has nothing in stock
   pub upgrade_held : Holds new.trees text c
   upgrade_held = record { rows = rows }
     where
       rows : (part : Part) → HasExactly (rows_in (table_of part) new.trees) (rows_for (row_of_campaign text c) c part)
-      rows Own = own_row _ _ (campaign_row_in First (campaign_row_of c) before) (row_of_campaign text c) refl (rows_between Own (inl refl)) row_put.rows
-      rows Markets = λ r. (λ there. absurd (subst (λ l. Has l r) (other_tables_stay Markets (λ e. absurd cc) ∙ ap (map (visible_row market_table)) first.empty) there), λ of. absurd (no_stocks c bare r of))
+      rows Own =
+          own_row _ _ (campaign_row_in First (campaign_row_of c) before) (row_of_campaign text c) refl
+          (rows_between Own (inl refl)) row_put.rows
+      rows Markets =
+          λ r.
+          (λ there. absurd (subst (λ l. Has l r) (other_tables_stay Markets (λ e. absurd cc) ∙ ap (map (visible_row market_table)) first.empty) there), λ of. absurd (no_stocks c bare r of))
       rows part = rows_stay part (λ e. absurd cc) (in_first part (λ e. absurd cc))
 
-pub upgrade_done : (text : List ℕ) (c : CampaignValue) (start mid end : State) → DoesInside IsFirstFormat AddsMarkets start mid → DoesInside HasTables (UpgradesCampaignRow (campaign_row_of c) text) mid end → DoesInside IsFirstFormat (WritesUpgrade text c) start end
+pub upgrade_done : (text : List ℕ) (c : CampaignValue) (start mid end : State)
+    → DoesInside IsFirstFormat AddsMarkets start mid
+    → DoesInside HasTables (UpgradesCampaignRow (campaign_row_of c) text) mid end
+    → DoesInside IsFirstFormat (WritesUpgrade text c) start end
 upgrade_done text c start mid end first second =
     inside_weaker IsFirstFormat (DoesBoth AddsMarkets (UpgradesCampaignRow (campaign_row_of c) text)) (WritesUpgrade text c) start end
     (λ is did before held bare. upgrade_held text c start.now did.0 end.now did.1 did.2 before held bare)

@@ -37,7 +37,8 @@ use Rattle.atl_store.proofs.StayLaws.{commits_keeps, failed_changes_nothing, may
 -- ---- what was loaded is what the tables held
 
 module _ {S : Type 0} (g : Ghosts S) (text : List ℕ) (old mid : Held S) (alone : LeavesAlone g old mid) (clean : HasCleanDisk (state g mid)) where
-  pub loaded_old : (w : WorldValue) (c : MarkedCampaign) → LoadsIn First g old mid w c → HoldsOld (state g old) w c.value
+  pub loaded_old : (w : WorldValue) (c : MarkedCampaign) → LoadsIn First g old mid w c
+      → HoldsOld (state g old) w c.value
   loaded_old w c loads =
       let keeps = loads.keeps clean in
       let same = (alone.unchanged clean).same keeps.is_open in
@@ -53,13 +54,15 @@ module _ {S : Type 0} (g : Ghosts S) (text : List ℕ) (old mid : Held S) (alone
 
   -- the tables hold the loaded campaign in the first format, and the new text differs in markets alone
   -- (`MatchesNewText`)
-  pub matched : (w : WorldValue) (c : MarkedCampaign) → IsReadyToUpgrade g text old mid w c → MatchesNewText (state g old) text w c.value
+  pub matched : (w : WorldValue) (c : MarkedCampaign) → IsReadyToUpgrade g text old mid w c
+      → MatchesNewText (state g old) text w c.value
   matched w c ready = record {
     world = ready.world;
     held = subst (λ v. HoldsOld (state g old) v c.value) (sym (bare_before ready.before c ready.loads) ∙ sym ready.same) (loaded_old ready.before c ready.loads);
   }
 
-  pub other_world : (before w : WorldValue) (c : MarkedCampaign) → LoadsIn First g old mid before c → world_of text ≡ Ok w → ¬ (without_markets w ≡ without_markets before) → HasOtherWorld g text old mid
+  pub other_world : (before w : WorldValue) (c : MarkedCampaign) → LoadsIn First g old mid before c
+      → world_of text ≡ Ok w → ¬ (without_markets w ≡ without_markets before) → HasOtherWorld g text old mid
   other_world before w c loads is differs = record {
     world = w;
     before = before;
@@ -69,7 +72,8 @@ module _ {S : Type 0} (g : Ghosts S) (text : List ℕ) (old mid : Held S) (alone
     differs = λ same. differs (same ∙ sym (bare_before before c loads));
   }
 
-  pub has_more : (w : WorldValue) (c : MarkedCampaign) → IsReadyToUpgrade g text old mid w c → ¬ IsFirstFormatOnly mid.schema → HasMoreTables g text old mid
+  pub has_more : (w : WorldValue) (c : MarkedCampaign) → IsReadyToUpgrade g text old mid w c
+      → ¬ IsFirstFormatOnly mid.schema → HasMoreTables g text old mid
   has_more w c ready more =
       let keeps = ready.loads.keeps clean in
       let same = (alone.unchanged clean).same keeps.is_open in
@@ -81,20 +85,24 @@ module _ {S : Type 0} (g : Ghosts S) (text : List ℕ) (old mid : Held S) (alone
         more = λ just. more (ap (λ (d : Database). d.schema) same.0 ∙ just);
       }
 
-pub later_both : (old mid new : State) (FirstMayLeave SecondMayLeave : Trees → Type 0) → Survives old mid FirstMayLeave → Survives mid new SecondMayLeave → IsLater old new
-later_both old mid new FirstMayLeave SecondMayLeave one two = record { clean = λ clean. omega (arith, one.clean, two.clean, clean); counts = omega (arith, one.counts, two.counts); shield = λ shielded. two.shield (one.shield shielded) }
+pub later_both : (old mid new : State) (FirstMayLeave SecondMayLeave : Trees → Type 0) → Survives old mid FirstMayLeave
+    → Survives mid new SecondMayLeave → IsLater old new
+later_both old mid new FirstMayLeave SecondMayLeave one two =
+    record { clean = λ clean. omega (arith, one.clean, two.clean, clean); counts = omega (arith, one.counts, two.counts); shield = λ shielded. two.shield (one.shield shielded) }
 
 -- ---- before the transaction
 
 module _ {S : Type 0} (g : Ghosts S) (text : List ℕ) (old new : Held S) where
-  pub fails_to_load : (fault : LoadFault) → RefusesToLoadIn First g old fault → FailsCheck g text old new (first_format_fault fault)
+  pub fails_to_load : (fault : LoadFault) → RefusesToLoadIn First g old fault
+      → FailsCheck g text old new (first_format_fault fault)
   fails_to_load load.Store refused = inl refused
   fails_to_load (load.Damaged rule) refused = refused
   fails_to_load load.NotACampaign refused = refused
   fails_to_load load.OtherFormat refused = refused
   fails_to_load load.Memory refused = inl refused
 
-  pub fails_to_read : (fault : WorldFault) → Reads (λ (w : WorldValue). w) (Err fault) (world_of text) → HasOld g text old new → FailsCheck g text old new (new_world_fault fault)
+  pub fails_to_read : (fault : WorldFault) → Reads (λ (w : WorldValue). w) (Err fault) (world_of text)
+      → HasOld g text old new → FailsCheck g text old new (new_world_fault fault)
   fails_to_read world.NotToml reads was = (was, reads, λ e. absurd cc)
   fails_to_read (world.Missing path) reads was = (was, reads, λ e. absurd cc)
   fails_to_read (world.WrongType path) reads was = (was, reads, λ e. absurd cc)
@@ -105,7 +113,8 @@ module _ {S : Type 0} (g : Ghosts S) (text : List ℕ) (old new : Held S) where
   fails_to_read world.NoLand reads was = (was, reads, λ e. absurd cc)
   fails_to_read world.Memory reads was = inr was
 
-  pub refused_before : (fault : UpgradeFault) → (HasCleanDisk (state g new) → FailsCheck g text old new fault) → LeavesAlone g old new → RefusesToUpgrade g text old new fault
+  pub refused_before : (fault : UpgradeFault) → (HasCleanDisk (state g new) → FailsCheck g text old new fault)
+      → LeavesAlone g old new → RefusesToUpgrade g text old new fault
   refused_before fault fails alone = record {
     cause = λ clean. inl (fails clean, alone);
     unchanged = alone.unchanged;
@@ -122,14 +131,20 @@ module _ {S : Type 0} (g : Ghosts S) (text : List ℕ) (old mid new : Held S) (w
   is_old : IsFirstFormatOnly mid.schema → HasCleanDisk (state g mid) → IsFirstFormat (state g mid).now
   is_old just clean = let keeps = ready.loads.keeps clean in record { just = just; keyed = keeps.keyed; listed = keeps.listed }
 
-  written_holds : (db : Database) → HasCleanDisk (state g mid) → WritesUpgrade text c.value (state g mid).now db → Holds db.trees text c.value
+  written_holds : (db : Database) → HasCleanDisk (state g mid) → WritesUpgrade text c.value (state g mid).now db
+      → Holds db.trees text c.value
   written_holds db clean wrote = wrote (world_text (state g mid)) (ready.loads.keeps clean).rows ready.loads.fits.stocks
 
-  clean_before : Survives (state g mid) (state g new) (MayLeave IsFirstFormat (WritesUpgrade text c.value) (state g mid)) → HasCleanDisk (state g new) → HasCleanDisk (state g mid)
+  clean_before : Survives (state g mid) (state g new) (MayLeave IsFirstFormat (WritesUpgrade text c.value) (state g mid))
+      → HasCleanDisk (state g new) → HasCleanDisk (state g mid)
   clean_before survives clean = omega (arith, survives.clean, clean)
 
   -- after the commit the connection keeps the loaded campaign with the new text, good and unmarked (`Upgrades`)
-  pub upgrades : (settled : (db : Trees) → IsTrue (state g new).is_open → (state g new).may_leave db → db ≡ (state g new).committed.trees) → IsFirstFormatOnly mid.schema → (HasCleanDisk (state g new) → Commits IsFirstFormat (WritesUpgrade text c.value) (state g mid) (state g new)) → Survives (state g mid) (state g new) (MayLeave IsFirstFormat (WritesUpgrade text c.value) (state g mid)) → new.in_transaction ≡ false
+  pub upgrades : (settled : (db : Trees) → IsTrue (state g new).is_open → (state g new).may_leave db → db ≡ (state g new).committed.trees)
+      → IsFirstFormatOnly mid.schema
+      → (HasCleanDisk (state g new) → Commits IsFirstFormat (WritesUpgrade text c.value) (state g mid) (state g new))
+      → Survives (state g mid) (state g new) (MayLeave IsFirstFormat (WritesUpgrade text c.value) (state g mid))
+      → new.in_transaction ≡ false
       → Upgrades g text old new w c
   upgrades settled just done survives over = record {
     world = ready.world;
@@ -146,7 +161,10 @@ module _ {S : Type 0} (g : Ghosts S) (text : List ℕ) (old mid new : Held S) (w
       new_now : Database
       new_now = (state g new).now
 
-  both_change_nothing : (was_open : IsTrue (state g new).is_open → IsTrue (state g mid).is_open) → (state g old).faults ≤ (state g mid).faults → (state g mid).faults ≤ (state g new).faults → ChangesNothing (state g old) (state g mid) → ChangesNothing (state g mid) (state g new) → ChangesNothing (state g old) (state g new)
+  both_change_nothing : (was_open : IsTrue (state g new).is_open → IsTrue (state g mid).is_open)
+      → (state g old).faults ≤ (state g mid).faults → (state g mid).faults ≤ (state g new).faults
+      → ChangesNothing (state g old) (state g mid) → ChangesNothing (state g mid) (state g new)
+      → ChangesNothing (state g old) (state g new)
   both_change_nothing was_open early late first second = record {
     same = λ up.
         let one = first.same (was_open up) in
@@ -173,14 +191,18 @@ module _ {S : Type 0} (g : Ghosts S) (text : List ℕ) (old mid new : Held S) (w
           | inr stored ↦ inr (w, c.value, matched g text old mid alone clean_mid w c ready, stored)
         ]
 
-    broken_off : (e : Error) (memory : Bool) → is_memory e ≡ memory → Gives g (OfUpgrade text c.value) e mid new → HasCleanDisk (state g mid) → BreaksOffUpgrade g text old new memory
-    broken_off e memory is gave clean_mid = record { world = w; campaign = c.value; matches = matched g text old mid alone clean_mid w c ready; before = mid; alone = alone; error = e; memory_is = is; given = gave }
+    broken_off : (e : Error) (memory : Bool) → is_memory e ≡ memory → Gives g (OfUpgrade text c.value) e mid new
+        → HasCleanDisk (state g mid) → BreaksOffUpgrade g text old new memory
+    broken_off e memory is gave clean_mid =
+        record { world = w; campaign = c.value; matches = matched g text old mid alone clean_mid w c ready; before = mid; alone = alone; error = e; memory_is = is; given = gave }
 
-    fails_to_write : (e : Error) (memory : Bool) → is_memory e ≡ memory → Gives g (OfUpgrade text c.value) e mid new → HasCleanDisk (state g mid) → FailsInTransaction g text old new (cond memory upgrade.Memory upgrade.Store)
+    fails_to_write : (e : Error) (memory : Bool) → is_memory e ≡ memory → Gives g (OfUpgrade text c.value) e mid new
+        → HasCleanDisk (state g mid) → FailsInTransaction g text old new (cond memory upgrade.Memory upgrade.Store)
     fails_to_write e true is gave clean_mid = broken_off e true is gave clean_mid
     fails_to_write e false is gave clean_mid = broken_off e false is gave clean_mid
 
-    pub refused_after : (e : Error) → (HasCleanDisk (state g new) → Gives g (OfUpgrade text c.value) e mid new) → RefusesToUpgrade g text old new (upgrade_fault e)
+    pub refused_after : (e : Error) → (HasCleanDisk (state g new) → Gives g (OfUpgrade text c.value) e mid new)
+        → RefusesToUpgrade g text old new (upgrade_fault e)
     refused_after e gave = record {
       cause = λ clean. inr (fails_to_write e (is_memory e) refl (gave clean) (clean_before survives clean));
       unchanged = upgrade_changed_nothing;

@@ -18,7 +18,8 @@ use Rattle.atl_sql.proofs.CarryLaws.{carries_then}
 use Rattle.atl_sql.proofs.WriteLaws.{on_ok_of_error, HandsOn, weaker, two_steps}
 use Rattle.atl_campaign.proofs.SlotLaws.{on_err}
 
-pub inside_then : (Before : Database → Type 0) (First Second : Database → Database → Type 0) (a b c : State) → DoesInside Before First a b → DoesInside HasTables Second b c → DoesInside Before (DoesBoth First Second) a c
+pub inside_then : (Before : Database → Type 0) (First Second : Database → Database → Type 0) (a b c : State)
+    → DoesInside Before First a b → DoesInside HasTables Second b c → DoesInside Before (DoesBoth First Second) a c
 inside_then Before First Second a b c one two = (
   two.0 ∙ one.0,
   λ has.
@@ -27,22 +28,31 @@ inside_then Before First Second a b c one two = (
       record { does = (b.now, was.does, now.does); tables = now.tables; carries = carries_then a.now b.now c.now was.carries now.carries },
 )
 
-pub inside_weaker : (Before : Database → Type 0) (Does Less : Database → Database → Type 0) (a b : State) → (Before a.now → Does a.now b.now → Less a.now b.now) → DoesInside Before Does a b → DoesInside Before Less a b
-inside_weaker Before Does Less a b weaker h = (h.0, λ has. let did = h.1 has in record { does = weaker has did.does; tables = did.tables; carries = did.carries })
+pub inside_weaker : (Before : Database → Type 0) (Does Less : Database → Database → Type 0) (a b : State)
+    → (Before a.now → Does a.now b.now → Less a.now b.now) → DoesInside Before Does a b → DoesInside Before Less a b
+inside_weaker Before Does Less a b weaker h =
+    (h.0, λ has. let did = h.1 has in record { does = weaker has did.does; tables = did.tables; carries = did.carries })
 
 -- the effect of a write on the tables, weakened, and of two writes
 module _ {S : Type 0} (g : Ghosts S) {own : Statements} {A : Type 0} {r : Result A Error} where
-  pub done_as : {First Does : Database → Database → Type 0} {a b : MutBor (Held S)} → ((old new : Database) → First old new → Does old new) → Writes g own (DoesInside HasTables First) r a b → Writes g own (DoesInside HasTables Does) r a b
-  done_as {First = First} {Does = Does} said one = weaker g (λ old new did. inside_weaker HasTables First Does old new (λ has. said old.now new.now) did) one
+  pub done_as : {First Does : Database → Database → Type 0} {a b : MutBor (Held S)}
+      → ((old new : Database) → First old new → Does old new) → Writes g own (DoesInside HasTables First) r a b
+      → Writes g own (DoesInside HasTables Does) r a b
+  done_as {First = First} {Does = Does} said one =
+      weaker g (λ old new did. inside_weaker HasTables First Does old new (λ has. said old.now new.now) did) one
 
   pub then_done : {First Second Does : Database → Database → Type 0} {X : Type 0} {x : X} {a b d : MutBor (Held S)}
-      → ((old mid new : Database) → First old mid → Second mid new → Does old new) → Writes g own (DoesInside HasTables First) (Ok x) a b → Writes g own (DoesInside HasTables Second) r b d → Writes g own (DoesInside HasTables Does) r a d
+      → ((old mid new : Database) → First old mid → Second mid new → Does old new)
+      → Writes g own (DoesInside HasTables First) (Ok x) a b → Writes g own (DoesInside HasTables Second) r b d
+      → Writes g own (DoesInside HasTables Does) r a d
   then_done {First = First} {Second = Second} {Does = Does} both one two =
       two_steps g (λ old mid new first second. inside_weaker HasTables (DoesBoth First Second) Does old new (λ has did. both old.now did.0 new.now did.1 did.2) (inside_then HasTables First Second old mid new first second)) one two
 
 module _ {S : Type 0} (g : Ghosts S) (old begun mid end : Held S) (begins : begun ≡ record old { in_transaction = true }) (Before : Database → Type 0) (Does : Database → Database → Type 0) where
   -- BEGIN, step and end together: on a clean disk a crash leaves what it could before, or the step done (`Survives`)
-  pub crash_after : Survives (state g begun) (state g mid) (λ _. ⊥) → (HasCleanDisk (state g mid) → DoesInside Before Does (state g begun) (state g mid)) → Survives (state g mid) (state g end) (λ db. db ≡ (state g mid).now.trees)
+  pub crash_after : Survives (state g begun) (state g mid) (λ _. ⊥)
+      → (HasCleanDisk (state g mid) → DoesInside Before Does (state g begun) (state g mid))
+      → Survives (state g mid) (state g end) (λ db. db ≡ (state g mid).now.trees)
       → Survives (state g old) (state g end) (MayLeave Before Does (state g old))
   crash_after one inside two =
       let same : (state g begun).now ≡ (state g old).now = ap (λ (h : Held S). (state g h).now) begins in
@@ -54,7 +64,8 @@ module _ {S : Type 0} (g : Ghosts S) (old begun mid end : Held S) (begins : begu
       ))
       (survives_begin g old (state g mid) _ (rw begins at one)) two
 
-  pub committed_after : (HasCleanDisk (state g mid) → DoesInside Before Does (state g begun) (state g mid)) → Survives (state g mid) (state g end) (λ db. db ≡ (state g mid).now.trees)
+  pub committed_after : (HasCleanDisk (state g mid) → DoesInside Before Does (state g begun) (state g mid))
+      → Survives (state g mid) (state g end) (λ db. db ≡ (state g mid).now.trees)
       → (HasCleanDisk (state g end) → IsTrue (state g mid).in_transaction × Shows (state g mid) (state g end) (state g mid).now (state g mid).now false × KeepsCounts (state g mid) (state g end) × ((state g end).marks ≡ []))
       → HasCleanDisk (state g end) → Commits Before Does (state g old) (state g end)
   committed_after inside two done clean =
@@ -70,7 +81,8 @@ module _ {S : Type 0} (g : Ghosts S) (old begun mid end : Held S) (begins : begu
       }
 
 module _ {S : Type 0} (g : Ghosts S) (old : Held S) (begun mid : MutBor (Held S)) (begins : begun.now ≡ record old { in_transaction = true }) (Before : Database → Type 0) (Does : Database → Database → Type 0) (end : Held S) (over : end.in_transaction ≡ false) where
-  rolled_back : KeepsCommit (state g begun.now) (state g mid.now) → IsRolledBack (state g mid.now) (state g end) → LeavesOff (state g old) (state g end)
+  rolled_back : KeepsCommit (state g begun.now) (state g mid.now) → IsRolledBack (state g mid.now) (state g end)
+      → LeavesOff (state g old) (state g end)
   rolled_back kept back = record {
     was_open = λ up. subst IsTrue (ap (λ (h : Held S). (state g h).is_open) begins) (kept.was_open (back.was_open up));
     undone = λ up.
@@ -84,8 +96,10 @@ module _ {S : Type 0} (g : Ghosts S) (old : Held S) (begun mid : MutBor (Held S)
   inside_begun = ap (λ (h : Held S). h.in_transaction) begins
 
   -- if the step fails and is rolled back, the whole is a transaction that fails with the step's error (`Transacts`)
-  pub left_off : {own : Statements} {Inner : State → State → Type 0} {A B : Type 0} (r : Result A Error) {e : Error} → HandsOn e r → Writes g own Inner {A = B} (Err e) begun mid
-      → (HasCleanDisk (state g end) → IsRolledBack (state g mid.now) (state g end)) → Survives (state g mid.now) (state g end) (λ _. ⊥) → Transacts g own Before Does r old end
+  pub left_off : {own : Statements} {Inner : State → State → Type 0} {A B : Type 0} (r : Result A Error) {e : Error}
+      → HandsOn e r → Writes g own Inner {A = B} (Err e) begun mid
+      → (HasCleanDisk (state g end) → IsRolledBack (state g mid.now) (state g end))
+      → Survives (state g mid.now) (state g end) (λ _. ⊥) → Transacts g own Before Does r old end
   left_off {own = own} r {e = e} failed did back survives = record {
     ok = λ _. on_ok_of_error r _ failed.0;
     err = λ clean. on_err r (rolled_back (did.kept (omega (arith, survives.clean))) (back clean));
@@ -95,9 +109,12 @@ module _ {S : Type 0} (g : Ghosts S) (old : Held S) (begun mid : MutBor (Held S)
   }
 
   -- if the step is done, the whole is a transaction with the result of the commit (`Transacts`)
-  pub committed : {own : Statements} {A B : Type 0} {b : B} (r : Result A Error) → Writes g own (DoesInside Before Does) (Ok b) begun mid
+  pub committed : {own : Statements} {A B : Type 0} {b : B} (r : Result A Error)
+      → Writes g own (DoesInside Before Does) (Ok b) begun mid
       → (HasCleanDisk (state g end) → OnOk r (IsTrue (state g mid.now).in_transaction × Shows (state g mid.now) (state g end) (state g mid.now).now (state g mid.now).now false × KeepsCounts (state g mid.now) (state g end) × ((state g end).marks ≡ [])))
-      → (HasCleanDisk (state g end) → IfErr r (FailsToCommit (state g mid.now) (state g end))) → Survives (state g mid.now) (state g end) (λ db. db ≡ (state g mid.now).now.trees) → Transacts g own Before Does r old end
+      → (HasCleanDisk (state g end) → IfErr r (FailsToCommit (state g mid.now) (state g end)))
+      → Survives (state g mid.now) (state g end) (λ db. db ≡ (state g mid.now).now.trees)
+      → Transacts g own Before Does r old end
   committed {own = own} r did done fails survives = record {
     ok = λ clean. on_ok r (λ shown. committed_after g old begun.now mid.now end begins Before Does did.does survives (λ _. shown) clean) (done clean);
     err = λ clean.

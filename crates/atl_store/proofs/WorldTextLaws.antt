@@ -18,15 +18,19 @@ has_own : (f : Format) → Has (parts_in f) Own
 has_own First = inl refl
 has_own Second = inl refl
 
-text_held : (f : Format) (s : State) (text : List ℕ) (c : CampaignValue) → HasExactly (rows_in campaign_table s.now.trees) (λ r. r ≡ campaign_row_in f (campaign_row_of c) text) → world_text s ≡ text
+text_held : (f : Format) (s : State) (text : List ℕ) (c : CampaignValue)
+    → HasExactly (rows_in campaign_table s.now.trees) (λ r. r ≡ campaign_row_in f (campaign_row_of c) text)
+    → world_text s ≡ text
 text_held f s text c holds = text_in_rows (rows_in campaign_table s.now.trees) holds
   where
-    text_in_rows : (rows : List Row) → HasExactly rows (λ r. r ≡ campaign_row_in f (campaign_row_of c) text) → world_text_in_rows rows ≡ text
+    text_in_rows : (rows : List Row) → HasExactly rows (λ r. r ≡ campaign_row_in f (campaign_row_of c) text)
+        → world_text_in_rows rows ≡ text
     text_in_rows [] is = absurd ((is (campaign_row_in f (campaign_row_of c) text)).1 refl)
     text_in_rows (r ∷ rows) is = ap (λ (x : Row). world_text_in_rows (x ∷ [])) ((is r).0 (inl refl))
 
 pub world_text_is : (s : State) (text : List ℕ) (c : CampaignValue) → Keeps s text c → world_text s ≡ text
 world_text_is s text c keeps = text_held Second s text c (keeps.rows.rows Own)
 
-pub kept_text_is : (f : Format) (s : State) (text : List ℕ) (c : CampaignValue) → KeepsIn f s text c → world_text s ≡ text
+pub kept_text_is : (f : Format) (s : State) (text : List ℕ) (c : CampaignValue) → KeepsIn f s text c
+    → world_text s ≡ text
 kept_text_is f s text c keeps = text_held f s text c (keeps.rows.rows Own (has_own f))

@@ -9,4 +9,6 @@ pub returns-in_default : goal.returns-in_default
 returns-in_default c = ap (or_problem BadJson) (json_none c.args.body.now c.in_default.ensures.cases.0)
 
 pub returns-in-Ok-from_str : goal.returns-in-Ok-from_str
-returns-in-Ok-from_str c = ap (or_problem BadJson) (json_read c.args.body.now c.in-Ok.ensures.cases.1 ∙ ap read (sym c.in-Ok.ensures.cases.0) ∙ c.in-Ok-from_str.ensures.ok)
+returns-in-Ok-from_str c =
+    ap (or_problem BadJson)
+    (json_read c.args.body.now c.in-Ok.ensures.cases.1 ∙ ap read (sym c.in-Ok.ensures.cases.0) ∙ c.in-Ok-from_str.ensures.ok)

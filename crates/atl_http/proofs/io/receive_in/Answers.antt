@@ -5,7 +5,9 @@ use Rattle.atl_http.proofs.IoLaws as laws
 use Rattle.atl_http.proofs.io.receive_in.Goals as goal
 
 pub progress_if_due-requires : goal.progress_if_due-requires
-progress_if_due-requires g c = laws.short_of_equal c.deref.result.now c.loop-outcome.seen.items c.loop-outcome.missing c.deref.ensures.value c.loop-outcome.invariant.short
+progress_if_due-requires g c =
+    laws.short_of_equal c.deref.result.now c.loop-outcome.seen.items c.loop-outcome.missing c.deref.ensures.value
+    c.loop-outcome.invariant.short
 
 pub loop-outcome-preserved : goal.loop-outcome-preserved
 loop-outcome-preserved g c =

@@ -12,4 +12,6 @@ returns-in-Ok c =
     laws.found_route_is (λ text. text.now) c.get.result c.args.path.now params.path.now route c.route_in.result c.in-Ok.ensures.path c.utf8.path (subst (λ r. first r c.args.path.now ≡ Some route) c.requires c.in-Ok.ensures.found) c.get.ensures c.route_in.ensures
 
 pub returns-in-Err : goal.returns-in-Err
-returns-in-Err c = sym (laws.no_route_if_none_found c.args.path.now (subst (λ r. first r c.args.path.now ≡ None) c.requires c.in-Err.ensures.missing))
+returns-in-Err c =
+    sym
+    (laws.no_route_if_none_found c.args.path.now (subst (λ r. first r c.args.path.now ≡ None) c.requires c.in-Err.ensures.missing))

@@ -15,4 +15,6 @@ loop-faction-preserved c =
     (c.in_ok-mailing.ensures.kept ∙ c.as_slice.ensures) (rw (c.in_ok-wrong.ensures, c.as_slice-in-loop-faction.ensures) at c.in_ok-insert.ensures.ok) c.loop-faction.invariant
 
 pub returns : goal.returns
-returns c = read_ends c.args.world.now c.args.campaign.now.value _ c.loop-faction.faction-iterator c.in-None.ensures.steps.0 c.loop-faction.invariant
+returns c =
+    read_ends c.args.world.now c.args.campaign.now.value _ c.loop-faction.faction-iterator c.in-None.ensures.steps.0
+    c.loop-faction.invariant

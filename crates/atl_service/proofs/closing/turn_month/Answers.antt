@@ -4,7 +4,9 @@ use Rattle.atl_service.proofs.CloseLaws.{active_there, closed_is, own_factions, 
 use Rattle.atl_service.proofs.closing.turn_month.Goals as goal
 
 pub close_month-requires-clause-own : goal.close_month-requires-clause-own
-close_month-requires-clause-own c = own_factions c.args.world.now c.args.campaign.now.value c.in_ok-mailings.field-0.mailings.items c.requires.good c.in_ok-mailings.ensures.readings_are
+close_month-requires-clause-own c =
+    own_factions c.args.world.now c.args.campaign.now.value c.in_ok-mailings.field-0.mailings.items c.requires.good
+    c.in_ok-mailings.ensures.readings_are
 
 pub returns-clause-outcome : goal.returns-clause-outcome
 returns-clause-outcome c =

@@ -6,7 +6,8 @@ use Rattle.atl_service.proofs.FoundServiceLaws.{refuses_unchanged, founded_consi
 use Rattle.atl_service.proofs.service.found.Goals as goal
 
 pub returns-in-Err-clause-err : goal.returns-in-Err-clause-err
-returns-in-Err-clause-err g c = refuses_unchanged g.S.Store c.args.conn c.args.world_text.now c.args.pass.now c.in-Err.why c.in-Err.ensures.err
+returns-in-Err-clause-err g c =
+    refuses_unchanged g.S.Store c.args.conn c.args.world_text.now c.args.pass.now c.in-Err.why c.in-Err.ensures.err
 
 pub opened-requires : goal.opened-requires
 opened-requires g c = record {

@@ -4,7 +4,9 @@ use Rattle.atl_sql.proofs.PuttingLaws.{putting_begins, putting_more, putting_fai
 use Rattle.atl_store.proofs.amounts.put_amounts.Goals as goal
 
 pub loop-thing-init : goal.loop-thing-init
-loop-thing-init g c = putting_begins g.S.Store g.O.AmountWriter.table g.O.AmountWriter.key _ _ (ap (amount_rows (g.O.AmountWriter.line c.args.owner)) c.into_iter-thing-iterator.ensures.into_iter_gives)
+loop-thing-init g c =
+    putting_begins g.S.Store g.O.AmountWriter.table g.O.AmountWriter.key _ _
+    (ap (amount_rows (g.O.AmountWriter.line c.args.owner)) c.into_iter-thing-iterator.ensures.into_iter_gives)
 
 pub loop-thing-preserved : goal.loop-thing-preserved
 loop-thing-preserved g c =
@@ -17,4 +19,6 @@ returns-in_err-put_nonzero g c =
     putting_failed g.S.Store g.O.AmountWriter.table g.O.AmountWriter.key (thing_rows row c.in-Some.thing c.in-Some.amount.now) (amount_rows row c.next.new.self) _ _ (ap (amount_rows row) c.in-Some.ensures.steps) c.loop-thing.invariant c.in_err-put_nonzero.ensures c.from_residual.ensures
 
 pub returns : goal.returns
-returns g c = putting_ends g.S.Store g.O.AmountWriter.table g.O.AmountWriter.key _ _ (ap (amount_rows (g.O.AmountWriter.line c.args.owner)) c.in-None.ensures.steps.0) c.loop-thing.invariant
+returns g c =
+    putting_ends g.S.Store g.O.AmountWriter.table g.O.AmountWriter.key _ _
+    (ap (amount_rows (g.O.AmountWriter.line c.args.owner)) c.in-None.ensures.steps.0) c.loop-thing.invariant

@@ -11,4 +11,6 @@ returns g c =
 
 -- an amount of 0 has no row, so there is nothing to put
 pub returns-then-amount-eq0 : goal.returns-then-amount-eq0
-returns-then-amount-eq0 g c = none_written g.S.Store g.O.AmountWriter.table g.O.AmountWriter.key _ (ap (thing_rows (g.O.AmountWriter.line c.args.owner) c.args.thing) c.if-amount-eq0.true)
+returns-then-amount-eq0 g c =
+    none_written g.S.Store g.O.AmountWriter.table g.O.AmountWriter.key _
+    (ap (thing_rows (g.O.AmountWriter.line c.args.owner) c.args.thing) c.if-amount-eq0.true)

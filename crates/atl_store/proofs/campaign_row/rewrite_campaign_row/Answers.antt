@@ -5,7 +5,9 @@ use Rattle.atl_sql.proofs.WriteLaws.{begins, weaker, among_only}
 use Rattle.atl_store.proofs.campaign_row.rewrite_campaign_row.Goals as goal
 
 pub returns-then-is_row_marked : goal.returns-then-is_row_marked
-returns-then-is_row_marked g c = weaker g.S.Store (head_done c.args.campaign.now (sym c.is_row_marked.ensures ∙ c.if-is_row_marked.true)) (among_only g.S.Store _ _ changes_head c.put_campaign_row.ensures)
+returns-then-is_row_marked g c =
+    weaker g.S.Store (head_done c.args.campaign.now (sym c.is_row_marked.ensures ∙ c.if-is_row_marked.true))
+    (among_only g.S.Store _ _ changes_head c.put_campaign_row.ensures)
 
 pub returns : goal.returns
 returns g c = begins g.S.Store (head_left c.args.campaign.now (sym c.is_row_marked.ensures ∙ c.if-is_row_marked.false))

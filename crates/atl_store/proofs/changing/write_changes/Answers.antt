@@ -27,16 +27,24 @@ pub returns-clause-marked : goal.returns-clause-marked
 returns-clause-marked g c clean tables = ((c.in_ok-write_marked.ensures.ok clean).does tables).does
 
 pub returns-clause-others : goal.returns-clause-others
-returns-clause-others g c clean = commit_leaves_others (state g.S.Store c.args.conn.now) (state g.S.Store c.write_marked.new.conn) HasTables (WritesChanges c.args.campaign.now) (c.in_ok-write_marked.ensures.ok clean) (λ has. has)
+returns-clause-others g c clean =
+    commit_leaves_others (state g.S.Store c.args.conn.now) (state g.S.Store c.write_marked.new.conn) HasTables
+    (WritesChanges c.args.campaign.now) (c.in_ok-write_marked.ensures.ok clean) (λ has. has)
 
 pub returns-in_err-write_marked-clause-others : goal.returns-in_err-write_marked-clause-others
-returns-in_err-write_marked-clause-others g c clean = leaves_others (state g.S.Store c.args.conn.now) (state g.S.Store c.write_marked.new.conn) (c.in_err-write_marked.ensures.err clean)
+returns-in_err-write_marked-clause-others g c clean =
+    leaves_others (state g.S.Store c.args.conn.now) (state g.S.Store c.write_marked.new.conn)
+    (c.in_err-write_marked.ensures.err clean)
 
 pub returns-clause-later : goal.returns-clause-later
-returns-clause-later g c = survives_is_later (state g.S.Store c.args.conn.now) (state g.S.Store c.write_marked.new.conn) _ c.write_marked.ensures.crash
+returns-clause-later g c =
+    survives_is_later (state g.S.Store c.args.conn.now) (state g.S.Store c.write_marked.new.conn) _
+    c.write_marked.ensures.crash
 
 pub returns-in_err-write_marked-clause-later : goal.returns-in_err-write_marked-clause-later
-returns-in_err-write_marked-clause-later g c = survives_is_later (state g.S.Store c.args.conn.now) (state g.S.Store c.write_marked.new.conn) _ c.write_marked.ensures.crash
+returns-in_err-write_marked-clause-later g c =
+    survives_is_later (state g.S.Store c.args.conn.now) (state g.S.Store c.write_marked.new.conn) _
+    c.write_marked.ensures.crash
 
 pub returns-clause-unmarked : goal.returns-clause-unmarked
 returns-clause-unmarked g c clean text tables rest =
@@ -47,10 +55,13 @@ returns-clause-unmarked g c clean text tables rest =
     (λ did. unmarked_held campaign old.now new.now did text rest)
 
 pub returns-in_err-write_marked-clause-reports_error : goal.returns-in_err-write_marked-clause-reports_error
-returns-in_err-write_marked-clause-reports_error g c clean = error_of g.S.Store (OfChange c.args.campaign.now.value) write_fault c.args.conn.now c.write_marked.new.conn _ c.from_residual.result c.from_residual.ensures.1 (c.in_err-write_marked.ensures.error_given clean)
+returns-in_err-write_marked-clause-reports_error g c clean =
+    error_of g.S.Store (OfChange c.args.campaign.now.value) write_fault c.args.conn.now c.write_marked.new.conn _
+    c.from_residual.result c.from_residual.ensures.1 (c.in_err-write_marked.ensures.error_given clean)
 
 pub returns-in_err-write_marked-clause-left : goal.returns-in_err-write_marked-clause-left
-returns-in_err-write_marked-clause-left g c clean = on_err c.from_residual.result _ (c.in_err-write_marked.ensures.err clean)
+returns-in_err-write_marked-clause-left g c clean =
+    on_err c.from_residual.result _ (c.in_err-write_marked.ensures.err clean)
 
 pub returns-in_err-write_marked-clause-crash : goal.returns-in_err-write_marked-clause-crash
 returns-in_err-write_marked-clause-crash g c clean = on_err c.from_residual.result _ (λ text tables rest.

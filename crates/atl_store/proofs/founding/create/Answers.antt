@@ -13,7 +13,11 @@ returns-clause-ok g c =
     record {
       fresh = not_there g.S.Store c.args.conn.now c.schema.result.now _ c.schema.ensures.value c.has_campaign_table.ensures c.if-has_campaign_table.false;
       idle = c.write_founding.ensures.idle;
-      tables = λ clean. commits_keeps old new c.args.world_text.now (λ db up. g.met.S.Store.settled c.write_founding.new.conn.store db up) IsBlank (WritesFounding c.args.world_text.now c.args.campaign.now.value) c.args.campaign.now.value (c.in_ok-write_founding.ensures.ok clean)
+      tables =
+          λ clean. commits_keeps old new c.args.world_text.now
+          (λ db up. g.met.S.Store.settled c.write_founding.new.conn.store db up) IsBlank
+          (WritesFounding c.args.world_text.now c.args.campaign.now.value) c.args.campaign.now.value
+          (c.in_ok-write_founding.ensures.ok clean)
           (c.is_ready.ensures.ready.0 c.if-not-is_ready.false).0 (λ did. did);
     }
 
@@ -40,7 +44,11 @@ returns-then-not-is_ready-clause-err g c = (
 )
 
 pub returns-clause-later : goal.returns-clause-later
-returns-clause-later g c = survives_is_later (state g.S.Store c.args.conn.now) (state g.S.Store c.write_founding.new.conn) _ c.write_founding.ensures.crash
+returns-clause-later g c =
+    survives_is_later (state g.S.Store c.args.conn.now) (state g.S.Store c.write_founding.new.conn) _
+    c.write_founding.ensures.crash
 
 pub returns-in_err-write_founding-clause-later : goal.returns-in_err-write_founding-clause-later
-returns-in_err-write_founding-clause-later g c = survives_is_later (state g.S.Store c.args.conn.now) (state g.S.Store c.write_founding.new.conn) _ c.write_founding.ensures.crash
+returns-in_err-write_founding-clause-later g c =
+    survives_is_later (state g.S.Store c.args.conn.now) (state g.S.Store c.write_founding.new.conn) _
+    c.write_founding.ensures.crash

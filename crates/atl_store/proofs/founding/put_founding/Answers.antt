@@ -18,7 +18,9 @@ returns g c =
     (done_as g.S.Store (in_turn_changed (Fills campaign) written_parts refl) (writes_among_more g.S.Store (λ _ _. founds_row) c.fill.ensures)))
 
 pub returns-in_err-create_tables : goal.returns-in_err-create_tables
-returns-in_err-create_tables g c = stops g.S.Store (writes_among_more g.S.Store (λ _ _. founds_tables) c.in_err-create_tables.ensures) c.from_residual.ensures
+returns-in_err-create_tables g c =
+    stops g.S.Store (writes_among_more g.S.Store (λ _ _. founds_tables) c.in_err-create_tables.ensures)
+    c.from_residual.ensures
 
 pub returns-in_err-put_campaign_row : goal.returns-in_err-put_campaign_row
 returns-in_err-put_campaign_row g c =

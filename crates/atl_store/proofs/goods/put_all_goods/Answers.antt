@@ -5,7 +5,8 @@ use Rattle.atl_sql.proofs.PuttingLaws.{putting_begins, putting_more, putting_fai
 use Rattle.atl_store.proofs.goods.put_all_goods.Goals as goal
 
 pub loop-number-init : goal.loop-number-init
-loop-number-init g c = putting_begins g.S.Store has_table 3 _ _ (ap all_goods_lines c.into_iter-number-iterator.ensures.into_iter_gives)
+loop-number-init g c =
+    putting_begins g.S.Store has_table 3 _ _ (ap all_goods_lines c.into_iter-number-iterator.ensures.into_iter_gives)
 
 pub loop-number-preserved : goal.loop-number-preserved
 loop-number-preserved g c =
@@ -18,4 +19,5 @@ returns-in_err-put_goods g c =
     putting_failed g.S.Store has_table 3 goods (all_goods_lines c.next.new.self) _ _ (ap all_goods_lines c.in-Some.ensures.steps) c.loop-number.invariant c.in_err-put_goods.ensures c.from_residual.ensures
 
 pub returns : goal.returns
-returns g c = putting_ends g.S.Store has_table 3 _ _ (ap all_goods_lines c.in-None.ensures.steps.0) c.loop-number.invariant
+returns g c =
+    putting_ends g.S.Store has_table 3 _ _ (ap all_goods_lines c.in-None.ensures.steps.0) c.loop-number.invariant

@@ -5,4 +5,6 @@ use Rattle.atl_store.proofs.goods.put_all_goods.Given as goal
 
 -- at each turn the rows of all units' items and skills are put, but those of the units that are left (`HasPutSome`)
 abbrev pub invariant-loop-number : goal.invariant-loop-number
-invariant-loop-number g l = HasPutSome g.S.Store has_table 3 (all_goods_lines l.number-iterator) (all_goods_lines l.fn.units) l.fn.tx.conn l.tx.conn
+invariant-loop-number g l =
+    HasPutSome g.S.Store has_table 3 (all_goods_lines l.number-iterator) (all_goods_lines l.fn.units) l.fn.tx.conn
+    l.tx.conn

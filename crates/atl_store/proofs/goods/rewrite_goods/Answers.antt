@@ -26,7 +26,10 @@ returns g c =
     c.rewrite_singles-2.ensures
 
 pub returns-in_err-rewrite_marked_groups : goal.returns-in_err-rewrite_marked_groups
-returns-in_err-rewrite_marked_groups g c = stops g.S.Store c.in_err-rewrite_marked_groups.ensures c.from_residual.ensures
+returns-in_err-rewrite_marked_groups g c =
+    stops g.S.Store c.in_err-rewrite_marked_groups.ensures c.from_residual.ensures
 
 pub returns-in_err-rewrite_singles : goal.returns-in_err-rewrite_singles
-returns-in_err-rewrite_singles g c = stops_second g.S.Store c.in_ok-rewrite_marked_groups.ensures c.in_err-rewrite_singles.ensures c.from_residual-in_err-rewrite_singles.ensures
+returns-in_err-rewrite_singles g c =
+    stops_second g.S.Store c.in_ok-rewrite_marked_groups.ensures c.in_err-rewrite_singles.ensures
+    c.from_residual-in_err-rewrite_singles.ensures

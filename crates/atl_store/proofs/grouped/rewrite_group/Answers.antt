@@ -7,7 +7,10 @@ use Rattle.atl_sql.proofs.WriteLaws.{two_steps, stops, weaker, among_only, among
 use Rattle.atl_store.proofs.grouped.rewrite_group.Goals as goal
 
 pub returns-in_err-drop_rows : goal.returns-in_err-drop_rows
-returns-in_err-drop_rows g c = stops g.S.Store (among_only g.S.Store _ _ (drops_group g.V.Grouped.part g.V.Grouped.is_grouped) c.in_err-drop_rows.ensures) c.from_residual.ensures
+returns-in_err-drop_rows g c =
+    stops g.S.Store
+    (among_only g.S.Store _ _ (drops_group g.V.Grouped.part g.V.Grouped.is_grouped) c.in_err-drop_rows.ensures)
+    c.from_residual.ensures
 
 pub returns-in-Some : goal.returns-in-Some
 returns-in-Some g c =

@@ -6,7 +6,9 @@ use Rattle.atl_sql.proofs.WriteLaws.{begins, goes_on, stops_second, weaker}
 use Rattle.atl_store.proofs.grouped.rewrite_marked_groups.Goals as goal
 
 pub loop-number-init : goal.loop-number-init
-loop-number-init g c = begins g.S.Store (all_remaining (table_of g.V.Grouped.part) (g.V.Grouped.wanted c.args.campaign.now.value) _ _ (λ r. refl))
+loop-number-init g c =
+    begins g.S.Store
+    (all_remaining (table_of g.V.Grouped.part) (g.V.Grouped.wanted c.args.campaign.now.value) _ _ (λ r. refl))
 
 pub loop-number-preserved : goal.loop-number-preserved
 loop-number-preserved g c =
@@ -14,7 +16,8 @@ loop-number-preserved g c =
     goes_on g.S.Store (one_less_number (table_of g.V.Grouped.part) wanted c.in-Some.number c.loop-number.number-iterator c.next.new.self c.into_iter-number-iterator.result c.in-Some.ensures.steps) c.loop-number.invariant c.in_ok-rewrite_group.ensures
 
 pub returns-in_err-rewrite_group : goal.returns-in_err-rewrite_group
-returns-in_err-rewrite_group g c = stops_second g.S.Store c.loop-number.invariant c.in_err-rewrite_group.ensures c.from_residual.ensures
+returns-in_err-rewrite_group g c =
+    stops_second g.S.Store c.loop-number.invariant c.in_err-rewrite_group.ensures c.from_residual.ensures
 
 pub returns : goal.returns
 returns g c =

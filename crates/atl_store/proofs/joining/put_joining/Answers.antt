@@ -4,7 +4,9 @@ use Rattle.atl_sql.proofs.WriteLaws.{two_steps, stops}
 use Rattle.atl_store.proofs.joining.put_joining.Goals as goal
 
 pub returns : goal.returns
-returns g c = two_steps g.S.Store (λ old mid new. joining_done c.args.arrival.now.number c.args.arrival.now.faction.now c.args.arrival.now.unit_number c.args.arrival.now.unit.now c.args.arrival.now.report.now c.args.campaign.now.value [] old mid new c.requires)
+returns g c =
+    two_steps g.S.Store
+    (λ old mid new. joining_done c.args.arrival.now.number c.args.arrival.now.faction.now c.args.arrival.now.unit_number c.args.arrival.now.unit.now c.args.arrival.now.report.now c.args.campaign.now.value [] old mid new c.requires)
     c.in_ok-put_newcomer.ensures c.put_report_and_amounts.ensures
 
 pub returns-in_err-put_newcomer : goal.returns-in_err-put_newcomer

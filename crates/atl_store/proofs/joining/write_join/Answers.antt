@@ -29,16 +29,25 @@ returns-in_err-write_joining-clause-err g c clean = on_err c.from_residual.resul
     (λ db did. join_held _ _ _ _ _ after c.arrival_of-arrival.ensures.found old.now db did text before joins keeps.rows))
 
 pub returns-clause-others : goal.returns-clause-others
-returns-clause-others g c clean = commit_leaves_others (state g.S.Store c.args.conn.now) (state g.S.Store c.write_joining.new.conn) HasTables (WritesJoin c.arrival_of-arrival.result.number c.args.campaign.now.value) (c.in_ok-write_joining.ensures.ok clean) (λ has. has)
+returns-clause-others g c clean =
+    commit_leaves_others (state g.S.Store c.args.conn.now) (state g.S.Store c.write_joining.new.conn) HasTables
+    (WritesJoin c.arrival_of-arrival.result.number c.args.campaign.now.value) (c.in_ok-write_joining.ensures.ok clean)
+    (λ has. has)
 
 pub returns-in_err-write_joining-clause-others : goal.returns-in_err-write_joining-clause-others
-returns-in_err-write_joining-clause-others g c clean = leaves_others (state g.S.Store c.args.conn.now) (state g.S.Store c.write_joining.new.conn) (c.in_err-write_joining.ensures.err clean)
+returns-in_err-write_joining-clause-others g c clean =
+    leaves_others (state g.S.Store c.args.conn.now) (state g.S.Store c.write_joining.new.conn)
+    (c.in_err-write_joining.ensures.err clean)
 
 pub returns-clause-later : goal.returns-clause-later
-returns-clause-later g c = survives_is_later (state g.S.Store c.args.conn.now) (state g.S.Store c.write_joining.new.conn) _ c.write_joining.ensures.crash
+returns-clause-later g c =
+    survives_is_later (state g.S.Store c.args.conn.now) (state g.S.Store c.write_joining.new.conn) _
+    c.write_joining.ensures.crash
 
 pub returns-in_err-write_joining-clause-later : goal.returns-in_err-write_joining-clause-later
-returns-in_err-write_joining-clause-later g c = survives_is_later (state g.S.Store c.args.conn.now) (state g.S.Store c.write_joining.new.conn) _ c.write_joining.ensures.crash
+returns-in_err-write_joining-clause-later g c =
+    survives_is_later (state g.S.Store c.args.conn.now) (state g.S.Store c.write_joining.new.conn) _
+    c.write_joining.ensures.crash
 
 pub returns-clause-own : goal.returns-clause-own
 returns-clause-own g c clean tables =
@@ -55,4 +64,5 @@ returns-in_err-write_joining-clause-reports_error g c clean =
     (error_of g.S.Store (OfJoining c.arrival_of-arrival.result.number after) write_fault old new _ c.from_residual.result c.from_residual.ensures.1 (c.in_err-write_joining.ensures.error_given clean))
 
 pub returns-in_err-write_joining-clause-left : goal.returns-in_err-write_joining-clause-left
-returns-in_err-write_joining-clause-left g c clean = on_err c.from_residual.result _ (c.in_err-write_joining.ensures.err clean)
+returns-in_err-write_joining-clause-left g c clean =
+    on_err c.from_residual.result _ (c.in_err-write_joining.ensures.err clean)

@@ -30,7 +30,9 @@ returns-in_err-put_entries-clause-rows g c =
     (same_written g.S.Store books_table 2 _ _ (ap (λ thing. entries_lines campaign thing all_entries) c.of_number.ensures) c.in_err-put_entries.ensures) c.from_residual.ensures
 
 pub returns-in_err-put_entries-clause-books : goal.returns-in_err-put_entries-clause-books
-returns-in_err-put_entries-clause-books g c = subst (λ n. AreBooks n c.args.campaign.now.value.books) c.things-number-end.ensures.count c.things-number-end.ensures.books
+returns-in_err-put_entries-clause-books g c =
+    subst (λ n. AreBooks n c.args.campaign.now.value.books) c.things-number-end.ensures.count
+    c.things-number-end.ensures.books
 
 pub returns-clause-rows : goal.returns-clause-rows
 returns-clause-rows g c =
@@ -38,4 +40,6 @@ returns-clause-rows g c =
     putting_ends g.S.Store books_table 2 _ _ (ap (λ n. things_lines c.args.campaign.now.value (range_with_len c.loop-number.number n)) none) c.loop-number.invariant
 
 pub returns-clause-books : goal.returns-clause-books
-returns-clause-books g c = subst (λ n. AreBooks n c.args.campaign.now.value.books) c.things-number-end.ensures.count c.things-number-end.ensures.books
+returns-clause-books g c =
+    subst (λ n. AreBooks n c.args.campaign.now.value.books) c.things-number-end.ensures.count
+    c.things-number-end.ensures.books

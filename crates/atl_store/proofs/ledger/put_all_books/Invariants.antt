@@ -7,4 +7,7 @@ use Rattle.atl_store.proofs.ledger.put_all_books.Given as goal
 
 -- at each turn all rows of the books are put but those of the things that are left (`HasPutSome`)
 abbrev pub invariant-loop-number : goal.invariant-loop-number
-invariant-loop-number g l = HasPutSome g.S.Store books_table 2 (things_lines l.campaign.value (range_with_len l.number (l.campaign.value.books.things - l.number))) (things_lines l.campaign.value (range_with_len 0 l.campaign.value.books.things)) l.fn.tx.conn l.tx.conn
+invariant-loop-number g l =
+    HasPutSome g.S.Store books_table 2
+    (things_lines l.campaign.value (range_with_len l.number (l.campaign.value.books.things - l.number)))
+    (things_lines l.campaign.value (range_with_len 0 l.campaign.value.books.things)) l.fn.tx.conn l.tx.conn

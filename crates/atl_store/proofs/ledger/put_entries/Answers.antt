@@ -23,4 +23,7 @@ returns-in_err-put_amount g c =
     putting_failed g.S.Store books_table 2 _ (lines (drop (i + 1) entries)) _ _ (ap lines (drop_more entries i _ (omega (arith, c.loop-entry-test.true)))) c.loop-entry.invariant c.in_err-put_amount.ensures c.from_residual.ensures
 
 pub returns : goal.returns
-returns g c = putting_ends g.S.Store books_table 2 _ _ (at_drop_all (entries_lines c.args.campaign.now.value c.args.thing) c.args.entries.now c.loop-entry.entry-index c.loop-entry-test.false) c.loop-entry.invariant
+returns g c =
+    putting_ends g.S.Store books_table 2 _ _
+    (at_drop_all (entries_lines c.args.campaign.now.value c.args.thing) c.args.entries.now c.loop-entry.entry-index c.loop-entry-test.false)
+    c.loop-entry.invariant

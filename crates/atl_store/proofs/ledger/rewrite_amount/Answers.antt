@@ -10,7 +10,9 @@ use Rattle.atl_sql.proofs.WriteLaws.{begins, weaker, writes_among_more}
 use Rattle.atl_store.proofs.ledger.rewrite_amount.Goals as goal
 
 pub returns-then-is_amount_marked : goal.returns-then-is_amount_marked
-returns-then-is_amount_marked g c = weaker g.S.Store (amount_is_rewritten_inside c.args.campaign.now c.args.entry c.args.thing (sym c.is_amount_marked.ensures ∙ c.if-is_amount_marked.true))
+returns-then-is_amount_marked g c =
+    weaker g.S.Store
+    (amount_is_rewritten_inside c.args.campaign.now c.args.entry c.args.thing (sym c.is_amount_marked.ensures ∙ c.if-is_amount_marked.true))
     (writes_among_more g.S.Store (amount_changes c.args.campaign.now.value c.args.entry c.args.thing) c.write_amount.ensures)
 
 pub returns : goal.returns

@@ -29,7 +29,8 @@ loop-number-preserved g c =
     c.loop-number.invariant c.in_ok-rewrite_entries.ensures
 
 pub returns-in_err-rewrite_entries : goal.returns-in_err-rewrite_entries
-returns-in_err-rewrite_entries g c = stops_second g.S.Store c.loop-number.invariant c.in_err-rewrite_entries.ensures c.from_residual.ensures
+returns-in_err-rewrite_entries g c =
+    stops_second g.S.Store c.loop-number.invariant c.in_err-rewrite_entries.ensures c.from_residual.ensures
 
 pub returns : goal.returns
 returns g c =

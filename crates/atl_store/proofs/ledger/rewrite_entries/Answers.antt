@@ -18,7 +18,8 @@ loop-entry-preserved g c =
     goes_on g.S.Store (one_less_entry c.args.campaign.now (equals_number (thing_index c.args.thing)) _ (drop i entries) (drop (i + 1) entries) entries (drop_more entries i _ (omega (arith, c.loop-entry-test.true)))) c.loop-entry.invariant c.in_ok-rewrite_amount.ensures
 
 pub returns-in_err-rewrite_amount : goal.returns-in_err-rewrite_amount
-returns-in_err-rewrite_amount g c = stops_second g.S.Store c.loop-entry.invariant c.in_err-rewrite_amount.ensures c.from_residual.ensures
+returns-in_err-rewrite_amount g c =
+    stops_second g.S.Store c.loop-entry.invariant c.in_err-rewrite_amount.ensures c.from_residual.ensures
 
 pub returns : goal.returns
 returns g c =

@@ -9,4 +9,7 @@ use Rattle.atl_store.proofs.ledger.rewrite_entries.Given as goal
 
 -- at each turn the thing's marked amounts are rewritten, but those under the entries that are left
 abbrev pub invariant-loop-entry : goal.invariant-loop-entry
-invariant-loop-entry g l = HasDone g.S.Store (OfChange l.fn.campaign.value) (DoesInside HasTables (RemainingEntries l.fn.campaign (equals_number (thing_index l.fn.thing)) (drop l.entry-index l.entries) l.entries)) l.fn.tx.conn l.tx.conn
+invariant-loop-entry g l =
+    HasDone g.S.Store (OfChange l.fn.campaign.value)
+    (DoesInside HasTables (RemainingEntries l.fn.campaign (equals_number (thing_index l.fn.thing)) (drop l.entry-index l.entries) l.entries))
+    l.fn.tx.conn l.tx.conn

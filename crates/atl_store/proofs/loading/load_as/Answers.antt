@@ -9,4 +9,7 @@ returns-clause-ok g c =
     if_ok c.load_idle.result (λ both loaded. loads_in c.args.format g.S.Store old new both.0 both.1 loaded c.load_idle.ensures.leaves (λ clean up. c.is_autocommit.ensures.settled c.if-not-is_autocommit.false up)) c.load_idle.ensures.ok
 
 pub returns-clause-alone : goal.returns-clause-alone
-returns-clause-alone g c = leaves_alone g.S.Store c.args.conn.now c.load_idle.new.conn (is_idle g.S.Store c.is_autocommit.result c.args.conn.now.in_transaction c.is_autocommit.ensures.value c.if-not-is_autocommit.false) c.load_idle.ensures.leaves
+returns-clause-alone g c =
+    leaves_alone g.S.Store c.args.conn.now c.load_idle.new.conn
+    (is_idle g.S.Store c.is_autocommit.result c.args.conn.now.in_transaction c.is_autocommit.ensures.value c.if-not-is_autocommit.false)
+    c.load_idle.ensures.leaves

@@ -30,7 +30,9 @@ returns-in_default-clause-err g c clean =
     (confirmed_before g.S.Store f old mid new c.gather.ensures.leaves c.confirm.ensures.leaves clean_mid clean (c.in_ok-confirm.ensures.ok clean)).begins
 
 pub returns-in_default-clause-leaves : goal.returns-in_default-clause-leaves
-returns-in_default-clause-leaves g c = leaves_then g.S.Store c.args.conn.now c.gather.new.conn c.confirm.new.conn c.gather.ensures.leaves c.confirm.ensures.leaves
+returns-in_default-clause-leaves g c =
+    leaves_then g.S.Store c.args.conn.now c.gather.new.conn c.confirm.new.conn c.gather.ensures.leaves
+    c.confirm.ensures.leaves
 
 pub returns-in_err-campaign-clause-err : goal.returns-in_err-campaign-clause-err
 returns-in_err-campaign-clause-err g c clean =
@@ -58,4 +60,6 @@ returns-clause-ok g c =
     }
 
 pub returns-clause-leaves : goal.returns-clause-leaves
-returns-clause-leaves g c = leaves_then g.S.Store c.args.conn.now c.gather.new.conn c.confirm.new.conn c.gather.ensures.leaves c.confirm.ensures.leaves
+returns-clause-leaves g c =
+    leaves_then g.S.Store c.args.conn.now c.gather.new.conn c.confirm.new.conn c.gather.ensures.leaves
+    c.confirm.ensures.leaves

@@ -23,22 +23,33 @@ returns-in_err-write_mailing-clause-err g c clean = on_err c.from_residual.resul
     (λ db did. mail_held c.args.faction c.args.text.now old.now db did text before keeps.rows))
 
 pub returns-clause-others : goal.returns-clause-others
-returns-clause-others g c clean = commit_leaves_others (state g.S.Store c.args.conn.now) (state g.S.Store c.write_mailing.new.conn) HasTables (WritesMail c.args.faction c.args.text.now) (c.in_ok-write_mailing.ensures.ok clean) (λ has. has)
+returns-clause-others g c clean =
+    commit_leaves_others (state g.S.Store c.args.conn.now) (state g.S.Store c.write_mailing.new.conn) HasTables
+    (WritesMail c.args.faction c.args.text.now) (c.in_ok-write_mailing.ensures.ok clean) (λ has. has)
 
 pub returns-in_err-write_mailing-clause-others : goal.returns-in_err-write_mailing-clause-others
-returns-in_err-write_mailing-clause-others g c clean = leaves_others (state g.S.Store c.args.conn.now) (state g.S.Store c.write_mailing.new.conn) (c.in_err-write_mailing.ensures.err clean)
+returns-in_err-write_mailing-clause-others g c clean =
+    leaves_others (state g.S.Store c.args.conn.now) (state g.S.Store c.write_mailing.new.conn)
+    (c.in_err-write_mailing.ensures.err clean)
 
 pub returns-clause-later : goal.returns-clause-later
-returns-clause-later g c = survives_is_later (state g.S.Store c.args.conn.now) (state g.S.Store c.write_mailing.new.conn) _ c.write_mailing.ensures.crash
+returns-clause-later g c =
+    survives_is_later (state g.S.Store c.args.conn.now) (state g.S.Store c.write_mailing.new.conn) _
+    c.write_mailing.ensures.crash
 
 pub returns-in_err-write_mailing-clause-later : goal.returns-in_err-write_mailing-clause-later
-returns-in_err-write_mailing-clause-later g c = survives_is_later (state g.S.Store c.args.conn.now) (state g.S.Store c.write_mailing.new.conn) _ c.write_mailing.ensures.crash
+returns-in_err-write_mailing-clause-later g c =
+    survives_is_later (state g.S.Store c.args.conn.now) (state g.S.Store c.write_mailing.new.conn) _
+    c.write_mailing.ensures.crash
 
 pub returns-clause-own : goal.returns-clause-own
 returns-clause-own g c clean tables = ((c.in_ok-write_mailing.ensures.ok clean).does tables).does
 
 pub returns-in_err-write_mailing-clause-reports_error : goal.returns-in_err-write_mailing-clause-reports_error
-returns-in_err-write_mailing-clause-reports_error g c clean = error_of g.S.Store (OfMail c.args.faction c.args.text.now) write_fault c.args.conn.now c.write_mailing.new.conn _ c.from_residual.result c.from_residual.ensures.1 (c.in_err-write_mailing.ensures.error_given clean)
+returns-in_err-write_mailing-clause-reports_error g c clean =
+    error_of g.S.Store (OfMail c.args.faction c.args.text.now) write_fault c.args.conn.now c.write_mailing.new.conn _
+    c.from_residual.result c.from_residual.ensures.1 (c.in_err-write_mailing.ensures.error_given clean)
 
 pub returns-in_err-write_mailing-clause-left : goal.returns-in_err-write_mailing-clause-left
-returns-in_err-write_mailing-clause-left g c clean = on_err c.from_residual.result _ (c.in_err-write_mailing.ensures.err clean)
+returns-in_err-write_mailing-clause-left g c clean =
+    on_err c.from_residual.result _ (c.in_err-write_mailing.ensures.err clean)

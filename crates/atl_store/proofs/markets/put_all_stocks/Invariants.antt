@@ -5,4 +5,6 @@ use Rattle.atl_store.proofs.markets.put_all_stocks.Given as goal
 
 -- at each turn the rows of all regions' stocks are put, but those of the regions that are left (`HasPutSome`)
 abbrev pub invariant-loop-number : goal.invariant-loop-number
-invariant-loop-number g l = HasPutSome g.S.Store market_table 2 (all_stocks_lines l.number-iterator) (all_stocks_lines l.fn.regions) l.fn.tx.conn l.tx.conn
+invariant-loop-number g l =
+    HasPutSome g.S.Store market_table 2 (all_stocks_lines l.number-iterator) (all_stocks_lines l.fn.regions)
+    l.fn.tx.conn l.tx.conn

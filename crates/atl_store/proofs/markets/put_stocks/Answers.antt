@@ -6,4 +6,6 @@ use Rattle.atl_sql.proofs.PuttingLaws.{same_written}
 use Rattle.atl_store.proofs.markets.put_stocks.Goals as goal
 
 pub returns : goal.returns
-returns g c = same_written g.S.Store market_table 2 _ _ (ap (amount_rows (market_row c.args.number)) c.iter.ensures) c.put_amounts.ensures
+returns g c =
+    same_written g.S.Store market_table 2 _ _ (ap (amount_rows (market_row c.args.number)) c.iter.ensures)
+    c.put_amounts.ensures

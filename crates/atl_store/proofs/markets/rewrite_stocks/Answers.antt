@@ -19,4 +19,5 @@ returns g c =
     then_done g.S.Store (both_rewritten market_table (MarketRowsOf c.args.campaign.now.value.regions) (begins_marked marks.stocks) (region_and_item_pass (has_thing marks.stock_items))) c.in_ok-rewrite_marked_groups.ensures c.rewrite_singles.ensures
 
 pub returns-in_err-rewrite_marked_groups : goal.returns-in_err-rewrite_marked_groups
-returns-in_err-rewrite_marked_groups g c = stops g.S.Store c.in_err-rewrite_marked_groups.ensures c.from_residual.ensures
+returns-in_err-rewrite_marked_groups g c =
+    stops g.S.Store c.in_err-rewrite_marked_groups.ensures c.from_residual.ensures

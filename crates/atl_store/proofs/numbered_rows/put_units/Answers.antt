@@ -5,7 +5,9 @@ use Rattle.atl_sql.proofs.PuttingLaws.{one_written, putting_begins, putting_more
 use Rattle.atl_store.proofs.numbered_rows.put_units.Goals as goal
 
 pub loop-number-init : goal.loop-number-init
-loop-number-init g c = putting_begins g.S.Store unit_table 1 _ _ (ap (rows_in_order row_of_unit) c.into_iter-number-iterator.ensures.into_iter_gives)
+loop-number-init g c =
+    putting_begins g.S.Store unit_table 1 _ _
+    (ap (rows_in_order row_of_unit) c.into_iter-number-iterator.ensures.into_iter_gives)
 
 pub loop-number-preserved : goal.loop-number-preserved
 loop-number-preserved g c =
@@ -18,4 +20,6 @@ returns-in_err-put g c =
     putting_failed g.S.Store unit_table 1 (row ∷ []) (rows_in_order row_of_unit c.next.new.self) _ _ (ap (rows_in_order row_of_unit) c.in-Some.ensures.steps) c.loop-number.invariant (one_written g.S.Store unit_table 1 row _ refl c.in_err-put.ensures) c.from_residual.ensures
 
 pub returns : goal.returns
-returns g c = putting_ends g.S.Store unit_table 1 _ _ (ap (rows_in_order row_of_unit) c.in-None.ensures.steps.0) c.loop-number.invariant
+returns g c =
+    putting_ends g.S.Store unit_table 1 _ _ (ap (rows_in_order row_of_unit) c.in-None.ensures.steps.0)
+    c.loop-number.invariant

@@ -20,7 +20,9 @@ returns-in-Ok-over-clause-found g c =
     }
 
 pub returns-in-Ok-over-clause-kept : goal.returns-in-Ok-over-clause-kept
-returns-in-Ok-over-clause-kept g c = kept_again g.S.Store c.args.conn c.in-Ok-over.conn (returns-in-Ok-over-clause-found g c)
+returns-in-Ok-over-clause-kept g c =
+    kept_again g.S.Store c.args.conn c.in-Ok-over.conn (returns-in-Ok-over-clause-found g c)
 
 pub returns-in-Ok-over-clause-stopped : goal.returns-in-Ok-over-clause-stopped
-returns-in-Ok-over-clause-stopped g c = stopped_again g.S.Store c.args.conn c.in-Ok-over.conn (returns-in-Ok-over-clause-found g c)
+returns-in-Ok-over-clause-stopped g c =
+    stopped_again g.S.Store c.args.conn c.in-Ok-over.conn (returns-in-Ok-over-clause-found g c)

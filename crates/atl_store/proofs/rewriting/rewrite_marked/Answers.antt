@@ -7,7 +7,9 @@ use Rattle.atl_sql.proofs.WriteLaws.{begins, goes_on, stops_second, weaker}
 use Rattle.atl_store.proofs.rewriting.rewrite_marked.Goals as goal
 
 pub loop-number-init : goal.loop-number-init
-loop-number-init g c = begins g.S.Store (all_remaining (table_of g.V.NumberedRow.part) (RowsOf g.V.NumberedRow.line (g.V.NumberedRow.values c.args.campaign.now.value)) _ _ (λ r. refl))
+loop-number-init g c =
+    begins g.S.Store
+    (all_remaining (table_of g.V.NumberedRow.part) (RowsOf g.V.NumberedRow.line (g.V.NumberedRow.values c.args.campaign.now.value)) _ _ (λ r. refl))
 
 pub loop-number-preserved : goal.loop-number-preserved
 loop-number-preserved g c =
@@ -15,7 +17,8 @@ loop-number-preserved g c =
     goes_on g.S.Store (one_less_number (table_of g.V.NumberedRow.part) wanted c.in-Some.number c.loop-number.number-iterator c.next.new.self c.into_iter-number-iterator.result c.in-Some.ensures.steps) c.loop-number.invariant c.in_ok-rewrite.ensures
 
 pub returns-in_err-rewrite : goal.returns-in_err-rewrite
-returns-in_err-rewrite g c = stops_second g.S.Store c.loop-number.invariant c.in_err-rewrite.ensures c.from_residual.ensures
+returns-in_err-rewrite g c =
+    stops_second g.S.Store c.loop-number.invariant c.in_err-rewrite.ensures c.from_residual.ensures
 
 pub returns : goal.returns
 returns g c =

@@ -8,4 +8,7 @@ use Rattle.atl_store.proofs.rewriting.rewrite_marked.Given as goal
 
 -- at each turn the rows of all marked numbers are rewritten but those of the numbers that are left
 abbrev pub invariant-loop-number : goal.invariant-loop-number
-invariant-loop-number g l = HasDone g.S.Store (OfChange l.fn.campaign.value) (DoesInside HasTables (RemainingNumbers (table_of g.V.NumberedRow.part) (RowsOf g.V.NumberedRow.line (g.V.NumberedRow.values l.fn.campaign.value)) l.number-iterator l.initial.number-iterator)) l.fn.tx.conn l.tx.conn
+invariant-loop-number g l =
+    HasDone g.S.Store (OfChange l.fn.campaign.value)
+    (DoesInside HasTables (RemainingNumbers (table_of g.V.NumberedRow.part) (RowsOf g.V.NumberedRow.line (g.V.NumberedRow.values l.fn.campaign.value)) l.number-iterator l.initial.number-iterator))
+    l.fn.tx.conn l.tx.conn

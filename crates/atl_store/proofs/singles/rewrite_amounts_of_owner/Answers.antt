@@ -12,7 +12,8 @@ loop-number-preserved g c =
     goes_on g.S.Store (one_less_single g.A.SingleAmounts.table (g.A.SingleAmounts.wanted c.args.campaign.now.value) (g.A.SingleAmounts.finds c.args.amounts) c.requires c.args.owner _ c.loop-number.number-iterator c.next.new.self c.into_iter-number-iterator.result c.in-Some.ensures.steps) c.loop-number.invariant c.in_ok-rewrite_single.ensures
 
 pub returns-in_err-rewrite_single : goal.returns-in_err-rewrite_single
-returns-in_err-rewrite_single g c = stops_second g.S.Store c.loop-number.invariant c.in_err-rewrite_single.ensures c.from_residual.ensures
+returns-in_err-rewrite_single g c =
+    stops_second g.S.Store c.loop-number.invariant c.in_err-rewrite_single.ensures c.from_residual.ensures
 
 pub returns : goal.returns
 returns g c =

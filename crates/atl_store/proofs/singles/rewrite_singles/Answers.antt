@@ -12,7 +12,8 @@ loop-owner-preserved g c =
     goes_on g.S.Store (one_less_owner g.A.SingleAmounts.table (g.A.SingleAmounts.wanted c.args.campaign.now.value) (g.A.SingleAmounts.finds c.args.amounts) c.requires _ c.loop-owner.owner-iterator c.next.new.self c.into_iter-owner-iterator.result c.in-Some.ensures.steps) c.loop-owner.invariant c.in_ok-rewrite_amounts_of_owner.ensures
 
 pub returns-in_err-rewrite_amounts_of_owner : goal.returns-in_err-rewrite_amounts_of_owner
-returns-in_err-rewrite_amounts_of_owner g c = stops_second g.S.Store c.loop-owner.invariant c.in_err-rewrite_amounts_of_owner.ensures c.from_residual.ensures
+returns-in_err-rewrite_amounts_of_owner g c =
+    stops_second g.S.Store c.loop-owner.invariant c.in_err-rewrite_amounts_of_owner.ensures c.from_residual.ensures
 
 pub returns : goal.returns
 returns g c =

@@ -10,4 +10,5 @@ returns g c =
     (among_only g.S.Store _ _ upgrades_head c.upgrade_campaign_row.ensures)
 
 pub returns-in_err-create_market : goal.returns-in_err-create_market
-returns-in_err-create_market g c = stops g.S.Store (among_only g.S.Store _ _ upgrades_tables c.in_err-create_market.ensures) c.from_residual.ensures
+returns-in_err-create_market g c =
+    stops g.S.Store (among_only g.S.Store _ _ upgrades_tables c.in_err-create_market.ensures) c.from_residual.ensures

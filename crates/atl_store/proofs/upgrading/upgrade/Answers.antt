@@ -40,7 +40,13 @@ returns-clause-ok g c =
     (λ db up. g.met.S.Store.settled c.write_upgrade.new.conn.store db up) (sym c.schema.ensures.value ∙ c.is_first_format_only.ensures.0 c.if-not-is_first_format_only.false) c.in_ok-write_upgrade.ensures.ok c.write_upgrade.ensures.crash c.write_upgrade.ensures.idle
 
 pub returns-clause-later : goal.returns-clause-later
-returns-clause-later g c = later_both (state g.S.Store c.args.conn.now) (state g.S.Store c.world_and_campaign.new.conn) (state g.S.Store c.write_upgrade.new.conn) _ _ c.world_and_campaign.ensures.alone.survives c.write_upgrade.ensures.crash
+returns-clause-later g c =
+    later_both (state g.S.Store c.args.conn.now) (state g.S.Store c.world_and_campaign.new.conn)
+    (state g.S.Store c.write_upgrade.new.conn) _ _ c.world_and_campaign.ensures.alone.survives
+    c.write_upgrade.ensures.crash
 
 pub returns-in_err-write_upgrade-clause-later : goal.returns-in_err-write_upgrade-clause-later
-returns-in_err-write_upgrade-clause-later g c = later_both (state g.S.Store c.args.conn.now) (state g.S.Store c.world_and_campaign.new.conn) (state g.S.Store c.write_upgrade.new.conn) _ _ c.world_and_campaign.ensures.alone.survives c.write_upgrade.ensures.crash
+returns-in_err-write_upgrade-clause-later g c =
+    later_both (state g.S.Store c.args.conn.now) (state g.S.Store c.world_and_campaign.new.conn)
+    (state g.S.Store c.write_upgrade.new.conn) _ _ c.world_and_campaign.ensures.alone.survives
+    c.write_upgrade.ensures.crash

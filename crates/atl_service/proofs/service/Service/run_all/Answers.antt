@@ -15,10 +15,14 @@ loop-command-preserved g c =
     }
 
 pub returns-clause-runs : goal.returns-clause-runs
-returns-clause-runs g c = all_done g.S.Store _ _ _ c.loop-command.command-index _ c.loop-command-test.false c.loop-command.invariant.whole c.loop-command.invariant.tables
+returns-clause-runs g c =
+    all_done g.S.Store _ _ _ c.loop-command.command-index _ c.loop-command-test.false c.loop-command.invariant.whole
+    c.loop-command.invariant.tables
 
 pub returns-clause-headline : goal.returns-clause-headline
-returns-clause-headline g c = headline g.S.Store _ _ _ _ (all_done g.S.Store _ _ _ c.loop-command.command-index _ c.loop-command-test.false c.loop-command.invariant.whole c.loop-command.invariant.tables)
+returns-clause-headline g c =
+    headline g.S.Store _ _ _ _
+    (all_done g.S.Store _ _ _ c.loop-command.command-index _ c.loop-command-test.false c.loop-command.invariant.whole c.loop-command.invariant.tables)
 
 pub returns-clause-balances : goal.returns-clause-balances
 returns-clause-balances g c = c.loop-command.invariant.balances

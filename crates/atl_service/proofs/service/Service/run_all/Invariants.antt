@@ -10,7 +10,9 @@ use Rattle.atl_service.proofs.service.Service.run_all.Given as goal
 -- are answers that the whole list gets from the start.
 abbrev pub invariant-loop-command : goal.invariant-loop-command
 invariant-loop-command g l = record {
-  whole : (rs : List Answer) (new : ServiceValue g.row.S.Denot) → RunsAll g.S.Store l.self (drop l.command-index l.commands) rs new → RunsAll g.S.Store l.fn.self l.commands (l.answers.items ++ rs) new;
+  whole : (rs : List Answer) (new : ServiceValue g.row.S.Denot)
+      → RunsAll g.S.Store l.self (drop l.command-index l.commands) rs new
+      → RunsAll g.S.Store l.fn.self l.commands (l.answers.items ++ rs) new;
   tables : IfSome l.self.campaign (λ c. HoldsCampaign g.S.Store l.self.conn (text_in g.S.Store l.self.conn) c);
   balances : IfSome l.self.campaign Balances;
   count : vec_len l.answers ≡ l.command-index;

@@ -5,4 +5,6 @@ use Rattle.atl_sql.proofs.StatementLaws.{runs_with}
 use Rattle.atl_sql.proofs.rows.mail.put_mail.Goals as goal
 
 pub returns : goal.returns
-returns g c = runs_with g.S.Store _ _ _ _ (puts_part Mail tt c.args.faction _ (refl, tt)) (search rules) (rw c.statements.ensures.upsert at c.run.ensures)
+returns g c =
+    runs_with g.S.Store _ _ _ _ (puts_part Mail tt c.args.faction _ (refl, tt)) (search rules)
+    (rw c.statements.ensures.upsert at c.run.ensures)

@@ -7,4 +7,6 @@ use Rattle.atl_sql.proofs.rows.region.put_region.Goals as goal
 
 -- the upsert puts the row of the region's number (`WritesRow`)
 pub returns : goal.returns
-returns g c = runs_with g.S.Store _ _ _ _ (puts_part Regions tt c.args.number _ (cast_int _, (cast_int _, tt))) (search rules) (rw c.statements.ensures.upsert at c.run.ensures)
+returns g c =
+    runs_with g.S.Store _ _ _ _ (puts_part Regions tt c.args.number _ (cast_int _, (cast_int _, tt))) (search rules)
+    (rw c.statements.ensures.upsert at c.run.ensures)

@@ -7,4 +7,7 @@ use Rattle.atl_sql.proofs.rows.structure.put_structure.Goals as goal
 
 -- the upsert puts the row of the structure's number (`WritesRow`)
 pub returns : goal.returns
-returns g c = runs_with g.S.Store _ _ _ _ (puts_part Structures tt c.args.row.now.number _ (cast_int _, (refl, (cast_int _, (cast_int _, (cast_int _, tt)))))) (search rules) (rw c.statements.ensures.upsert at c.run.ensures)
+returns g c =
+    runs_with g.S.Store _ _ _ _
+    (puts_part Structures tt c.args.row.now.number _ (cast_int _, (refl, (cast_int _, (cast_int _, (cast_int _, tt))))))
+    (search rules) (rw c.statements.ensures.upsert at c.run.ensures)

@@ -6,7 +6,8 @@ use Rattle.atl_columns.specs.Fields.{strict_columns}
 use Rattle.atl_sql.proofs.schema.shapes.has_columns.Goals as goal
 
 pub are_columns-requires : goal.are_columns-requires
-are_columns-requires g c = sym (length-map c.table.result.names.now _) ∙ ap length c.table.ensures.names ∙ g.met.R.Record.is_wide
+are_columns-requires g c =
+    sym (length-map c.table.result.names.now _) ∙ ap length c.table.ensures.names ∙ g.met.R.Record.is_wide
 
 pub returns : goal.returns
 returns g c =
