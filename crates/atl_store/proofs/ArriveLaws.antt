@@ -32,8 +32,6 @@ use Rattle.atl_world.proofs.TrackLaws.{get_inserted}
 
 -- ---- one entry more in a map
 
-module _ {V : Type 0} where
-
 pub put_rows : {V : Type 0} (line : ℕ → V → Row) (numbered : (n : ℕ) (v : V) → take 1 (line n v) ≡ int n ∷ []) (rows news : List Row) (m : FinMap nat_cmp V) (n : ℕ) (v : V)
     → HasExactly rows (RowsOf line m) → HasExactly news (put 1 (line n v) (Has rows))
     → HasExactly news (RowsOf line (insert m n v))
