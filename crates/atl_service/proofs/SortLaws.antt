@@ -25,7 +25,7 @@ by_faction true o listed rest e h =
 by_faction false o listed rest e h = refl
 
 same_list : (sorted : FinMap nat_cmp (List Event)) (q r : ℕ) → (r == q) ≡ true → events_of sorted r ≡ events_of sorted q
-same_list sorted q r h = ap (events_of sorted) (is_equal q r h)
+same_list sorted q r h = ap (events_of sorted) (is_equal r q h)
 
 event_goes_on : (sorted : FinMap nat_cmp (List Event)) (e : Event) (es : List Event) (n : ℕ)
     → events_of (with_event sorted e) n ++ own_events n es ≡ events_of sorted n ++ own_events n (e ∷ es)
