@@ -225,7 +225,7 @@ impl PotPhase for Trade {
     fn want(&self, world: &World, unit: &Unit, order: PhaseOrder<'_>) -> u32 {
         match market_for(world, unit, named_item(order)) {
             Some(market) => named_count(order).min(most_tradable(*self, &unit.holding, market)),
-            None => 0,
+            None => unreachable!(),
         }
     }
 

@@ -154,7 +154,11 @@ fn index_of(numbers: &[u32], number: u32) -> Result<usize, usize>
     ensures found { IfOk result (λ index. IsAt numbers.now number index) }
     ensures missing { IfErr result (λ index. BelongsAt numbers.now number index) }
 {
-    numbers.binary_search(&number)
+    // Most numbers come in ascending order, so each belongs behind the last one.
+    match numbers.last() {
+        Some(last) if *last < number => Err(numbers.len()),
+        _ => numbers.binary_search(&number),
+    }
 }
 
 fn put_at(numbers: &mut Vec<u32>, index: usize, number: u32)
