@@ -2,20 +2,17 @@
 use Rattle.std.proofs.Common.{◌≡◌, ℕ, List, Bool, true, false, Option, Some, None, refl, sym, ap, ◌∙◌}
 use Rattle.std.specs.Str.{IsUtf8, is_utf8}
 use Rattle.std.proofs.lemmas.Str.{is_utf8-from_IsUtf8, IsUtf8-from_is_utf8}
-use Rattle.atl_columns.specs.Forms.{keep_if}
+use Rattle.atl_columns.specs.Forms.{keep_if, if_utf8}
 
-pub tests_true : (bs : List ℕ) → IsUtf8 bs → true ≡ is_utf8 bs
-tests_true bs is = sym (is_utf8-from_IsUtf8 bs is)
-
-pub tests_false : (bs : List ℕ) → ¬ (IsUtf8 bs) → false ≡ is_utf8 bs
+tests_false : (bs : List ℕ) → ¬ (IsUtf8 bs) → is_utf8 bs ≡ false
 tests_false bs broken = by_value (is_utf8 bs) refl
   where
-    by_value : (b : Bool) → is_utf8 bs ≡ b → false ≡ b
+    by_value : (b : Bool) → is_utf8 bs ≡ b → b ≡ false
     by_value true says = absurd (broken (IsUtf8-from_is_utf8 bs says))
     by_value false says = refl
 
-pub keeps_utf8 : (bs t : List ℕ) → IsUtf8 bs → t ≡ bs → Some t ≡ keep_if (is_utf8 bs) bs
-keeps_utf8 bs t is same = ap Some same ∙ ap (λ b. keep_if b bs) (tests_true bs is)
+pub keeps_utf8 : (bs t : List ℕ) → IsUtf8 bs → t ≡ bs → Some t ≡ if_utf8 bs
+keeps_utf8 bs t is same = ap Some same ∙ ap (λ b. keep_if b bs) (sym (is_utf8-from_IsUtf8 bs is))
 
-pub keeps_no_other : (bs : List ℕ) → ¬ (IsUtf8 bs) → None ≡ keep_if (is_utf8 bs) bs
-keeps_no_other bs broken = ap (λ b. keep_if b bs) (tests_false bs broken)
+pub keeps_no_other : (bs : List ℕ) → ¬ (IsUtf8 bs) → None ≡ if_utf8 bs
+keeps_no_other bs broken = ap (λ b. keep_if b bs) (sym (tests_false bs broken))

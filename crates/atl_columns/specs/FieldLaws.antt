@@ -1,13 +1,10 @@
 -- For proofs alone: columns give back the fields that they were given, if each column does. The laws of `Fields` cite these.
-use Rattle.std.proofs.Common.{arith, length, ℕ, suc, ◌≡◌, List, [], ◌∷◌, Option, Some, None, refl, ap}
+use Rattle.std.proofs.Common.{arith, length, ℕ, suc, ◌≡◌, ◌+◌, ◌⊎◌, inl, inr, List, [], ◌∷◌, Option, Some, None, refl, ap}
 use Rattle.sqlite_value.specs.declared.value.Value.{Value}
-use Rattle.sqlite_value.specs.Order.{Row}
-use Rattle.atl_columns.specs.Fields.{both, encode_then, decode_then, decode_end, Fits, strict_columns}
-use Rattle.sqlite_schema.specs.declared.schema.Kind.{Kind}
+use Rattle.sqlite_value.specs.Order.{Row, column}
+use Rattle.atl_columns.specs.Fields.{both, columns_from, encode_then, decode_then, decode_end, Fits, strict_columns}
+use Rattle.atl_columns.specs.Forms.{Form, HasForm, IsTypedFrom, kind_of}
 use Rattle.sqlite_rules.specs.Cast.{cast}
-
-pub both_there : {X Y : Type 0} (a : Option X) (b : Option Y) (x : X) (y : Y) → a ≡ Some x → b ≡ Some y → both a b ≡ Some (x, y)
-both_there a b x y p q = rw (p, q) refl
 
 pub both_first : {X Y : Type 0} (a : Option X) (b : Option Y) (p : X × Y) → both a b ≡ Some p → a ≡ Some p.0
 both_first None b p is = cc
@@ -20,12 +17,9 @@ both_second (Some x) None p is = cc
 both_second (Some x) (Some y) p is = let e : ◌≡◌ {A = _} (x, y) p = cc in ap (λ q. Some q.1) e
 
 module _ {X Y : Type 0} (one : X → Value) (read_one : Value → Option X) (more : Y → Row) (read_more : Row → Option Y) where
-  -- fields come back, if the first and the others do
-  pub then_back : (x : X × Y) → read_one (one x.0) ≡ Some x.0 → read_more (more x.1) ≡ Some x.1 → decode_then read_one read_more (encode_then one more x) ≡ Some x
-  then_back x p q = both_there _ _ x.0 x.1 p q
-
   -- a row that reads as fields is what they are written as, if this is so of the first value and the others
-  pub then_same : (row : Row) (x : X × Y) → ((v : Value) → read_one v ≡ Some x.0 → one x.0 ≡ v) → ((vs : Row) → read_more vs ≡ Some x.1 → more x.1 ≡ vs)
+  pub then_same : (row : Row) (x : X × Y) → ((v : Value) → read_one v ≡ Some x.0 → one x.0 ≡ v)
+      → ((vs : Row) → read_more vs ≡ Some x.1 → more x.1 ≡ vs)
       → decode_then read_one read_more row ≡ Some x → encode_then one more x ≡ row
   then_same [] x p q is = cc
   then_same (v ∷ vs) x p q is =
@@ -33,12 +27,40 @@ module _ {X Y : Type 0} (one : X → Value) (read_one : Value → Option X) (mor
       let later = q vs (both_second _ _ x is) in
       cc
 
+-- a row that reads as fields has its columns' forms, if this is so of the first value and the others; and a row that
+-- doesn't read hasn't
+module _ {X Y : Type 0} (read_one : Value → Option X) (read_more : Row → Option Y) (form : Form) (forms : List Form) where
+  pub then_typed : (row : Row) (at : ℕ) (x : X × Y) → (read_one (column row at) ≡ Some x.0 → HasForm form (column row at))
+      → (read_more (columns_from (at + 1) (length forms) row) ≡ Some x.1 → IsTypedFrom (at + 1) forms row)
+      → decode_then read_one read_more (columns_from at (suc (length forms)) row) ≡ Some x
+      → IsTypedFrom at (form ∷ forms) row
+  then_typed row at x first others is = (first (both_first _ _ x is), others (both_second _ _ x is))
+
+  neither : (a : Option X) (b : Option Y) → both a b ≡ None → (a ≡ None) ⊎ (b ≡ None)
+  neither None b is = inl refl
+  neither (Some x) None is = inr refl
+  neither (Some x) (Some y) is = absurd (let e : ◌≡◌ {A = Option (X × Y)} (Some (x, y)) None = is in cc)
+
+  pub then_other : (row : Row) (at : ℕ) → (read_one (column row at) ≡ None → ¬ HasForm form (column row at))
+      → (read_more (columns_from (at + 1) (length forms) row) ≡ None → ¬ IsTypedFrom (at + 1) forms row)
+      → decode_then read_one read_more (columns_from at (suc (length forms)) row) ≡ None
+      → ¬ IsTypedFrom at (form ∷ forms) row
+  then_other row at first others is typed =
+      elim (neither (read_one (column row at)) (read_more (columns_from (at + 1) (length forms) row)) is)
+      [ inl a ↦ first a typed.0 | inr b ↦ others b typed.1 ]
+
+pub end_other : decode_end [] ≡ None → ⊥
+end_other is = let e : ◌≡◌ {A = Option (Unit {0})} (Some tt) None = is in cc
+
 pub end_same : (row : Row) (x : Unit {0}) → decode_end row ≡ Some x → ◌≡◌ {A = Row} [] row
 end_same [] x is = refl
 end_same (v ∷ vs) x is = cc
 
 -- a row fits its columns, if the first value fits the first column, and the others the others
-pub fit_then : (names : List (List ℕ)) (kind : Kind) (kinds : List Kind) (width : ℕ) (v : Value) (vs : Row) → length names ≡ suc width → cast kind v ≡ v
-    → ((more : List (List ℕ)) → length more ≡ width → Fits (strict_columns kinds more) vs) → Fits (strict_columns (kind ∷ kinds) names) (v ∷ vs)
-fit_then [] kind kinds width v vs many one more = absurd (let e : 0 ≡ suc width = many in omega arith)
-fit_then (name ∷ names) kind kinds width v vs many one more = (one, more names (let e : suc (length names) ≡ suc width = many in omega arith))
+pub fit_then : (names : List (List ℕ)) (form : Form) (forms : List Form) (v : Value) (vs : Row)
+    → length names ≡ suc (length forms) → cast (kind_of form) v ≡ v
+    → ((more : List (List ℕ)) → length more ≡ length forms → Fits (strict_columns forms more) vs)
+    → Fits (strict_columns (form ∷ forms) names) (v ∷ vs)
+fit_then [] form forms v vs many one more = absurd (let e : 0 ≡ suc (length forms) = many in omega arith)
+fit_then (name ∷ names) form forms v vs many one more =
+    (one, more names (let e : suc (length names) ≡ suc (length forms) = many in omega arith))

@@ -1,5 +1,5 @@
 -- The columns of a row as a first column and the others, and what columns of a table in a schema are.
-use Rattle.std.specs.Prelude.{◌≡◌, ◌&&◌, ℕ, Bool, true, false, List, [], ◌∷◌, map, Option, Some, None}
+use Rattle.std.specs.Prelude.{◌≡◌, ℕ, true, List, [], ◌∷◌, map, Option, Some, None}
 use Rattle.std.specs.List.{range_with_len}
 use Rattle.sqlite_value.specs.declared.value.Value.{Value}
 use Rattle.sqlite_value.specs.Order.{Row, column}
@@ -8,6 +8,7 @@ use Rattle.sqlite_value.specs.declared.keys.Collation.TheVariants.{Binary}
 use Rattle.sqlite_schema.specs.declared.schema.Kind.{Kind}
 use Rattle.sqlite_schema.specs.declared.schema.Column.{Column}
 use Rattle.sqlite_rules.specs.Cast.{cast}
+use Rattle.atl_columns.specs.Forms.{Form, kind_of}
 
 -- the values in `count` columns of a row, from the column at index `at` on
 abbrev pub columns_from : ℕ → ℕ → Row → Row
@@ -17,12 +18,12 @@ columns_from at count row = map (column row) (range_with_len at count)
 abbrev pub strict_column : List ℕ → Kind → Column
 strict_column name kind = record { name = name; kind = kind; is_strict = true; not_null = true; default = Null; collation = Binary }
 
--- a column for each of these names and kinds in their order (`strict_column`); where one list is longer, its rest is
+-- a column for each of these names and forms in their order (`strict_column`); where one list is longer, its rest is
 -- left out
-abbrev pub strict_columns : List Kind → List (List ℕ) → List Column
+abbrev pub strict_columns : List Form → List (List ℕ) → List Column
 strict_columns [] names = []
-strict_columns (kind ∷ kinds) [] = []
-strict_columns (kind ∷ kinds) (name ∷ names) = strict_column name kind ∷ strict_columns kinds names
+strict_columns (form ∷ forms) [] = []
+strict_columns (form ∷ forms) (name ∷ names) = strict_column name (kind_of form) ∷ strict_columns forms names
 
 -- the row has one value for each column, and SQL stores it there unchanged
 abbrev pub Fits : List Column → Row → Type 0
@@ -50,13 +51,3 @@ decode_then one more (v ∷ vs) = both (one v) (more vs)
 abbrev pub decode_end : Row → Option (Unit {0})
 decode_end [] = Some tt
 decode_end (v ∷ vs) = None
-
--- whether the first value and the others have their columns' types
-abbrev pub have_types_then : (Value → Bool) → (Row → Bool) → Row → Bool
-have_types_then one more [] = false
-have_types_then one more (v ∷ vs) = one v && more vs
-
--- whether a row has no value
-abbrev pub have_types_end : Row → Bool
-have_types_end [] = true
-have_types_end (v ∷ vs) = false

@@ -1,74 +1,40 @@
 //! Columns of texts, as bytes or as UTF-8, and columns of bytes.
-ghost use Rattle.std.specs.Prelude.{◌≡◌, ℕ, List, Bool, true, IsTrue, IfOk, refl};
-ghost use Rattle.std.specs.Str.{is_utf8};
+ghost use Rattle.std.specs.Prelude.{◌≡◌, IfOk, refl};
+ghost use Rattle.std.proofs.Common.{sym};
 ghost use Rattle.sqlite_value.specs.declared.value.Value.TheVariants.{Text as SqlText, Blob as SqlBlob};
-ghost use Rattle.sqlite_schema.specs.declared.schema.Kind.TheVariants as kinds;
-ghost use Rattle.atl_columns.specs.Forms.{keep_if, is_text, is_text_of, decode_text, is_blob, decode_blob};
-ghost use Rattle.atl_columns.specs.FormLaws.{text_back, text_same, blob_same};
+ghost use Rattle.atl_columns.specs.Forms as forms;
+ghost use Rattle.atl_columns.specs.FormLaws.{text_same, text_other, utf8_text_same, utf8_text_typed, utf8_text_other, bytes_same, bytes_other};
 
 use crate::form::Form;
-use atl_world::Sequence;
+use atl_world::{Sequence, Text};
 use sqlite::types::ValueRef;
 use sqlite_schema::schema::Kind;
 use std::alloc::{AllocError, Global};
-use std::marker::PhantomData;
 
-/// A rule that the bytes of a text may keep.
-pub trait TextRule {
-    ghost keeps: { List ℕ → Bool };
-
-    fn keeps(text: &[u8]) -> bool
-        ensures { result ≡ keeps text.now };
-}
-
-/// The rule that any text keeps.
+/// Any text, as its bytes, UTF-8 or not: a name or a pass text, which a later rule judges.
 #[derive(Clone, Copy, Debug)]
-pub struct AnyText {}
+pub struct TextBytes {}
 
-impl TextRule for AnyText {
-    ghost keeps = { λ text. true };
-
-    fn keeps(_text: &[u8]) -> bool {
-        true
-    }
-}
-
-/// A text that keeps a rule, as its bytes, UTF-8 or not. One that breaks the rule is out of range.
-#[derive(Clone, Copy, Debug)]
-pub struct Text<R> {
-    rule: PhantomData<R>,
-}
-
-impl<R: TextRule> Form for Text<R> {
+impl Form for TextBytes {
     type Value = Sequence<u8>;
+
+    ghost form = { forms.TextBytes };
 
     ghost encode = { λ t. SqlText t };
 
-    ghost decode = { λ v. decode_text R.TextRule.keeps v };
-
-    ghost fits = { λ t. IsTrue (R.TextRule.keeps t) };
-
-    ghost kind = { kinds.Text };
-
-    ghost has_type = { λ v. is_text v };
-
-    ghost is_bound = { λ t. refl };
+    ghost decode = { λ v. forms.text_of v };
 
     ghost is_stored = { λ t. refl };
 
-    ghost back = { λ t fits. text_back R.TextRule.keeps t fits };
+    ghost same = { λ v t is. text_same v t is };
 
-    ghost same = { λ v t is fits. text_same R.TextRule.keeps v t is };
+    ghost typed = { λ v t is. (t, sym (text_same v t is)) };
+
+    ghost other = { λ v is. text_other v is };
 
     fn decode(alloc: Global, value: ValueRef<'_>) -> Result<Option<Sequence<u8>>, AllocError> {
         match value {
-            ValueRef::Text(text) => {
-                if R::keeps(text) {
-                    Ok(Some(Sequence::from_slice(alloc, text)?))
-                } else {
-                    Ok(None)
-                }
-            }
+            ValueRef::Text(text) => Ok(Some(Sequence::from_slice(alloc, text)?)),
             _ => Ok(None),
         }
     }
@@ -76,61 +42,40 @@ impl<R: TextRule> Form for Text<R> {
     fn kind() -> Kind {
         Kind::Text
     }
-
-    fn has_type(value: ValueRef<'_>) -> bool {
-        matches!(value, ValueRef::Text(_))
-    }
-
-    fn encode(field: &Sequence<u8>) -> ValueRef<'_> {
-        ValueRef::Text(field.as_slice())
-    }
 }
 
-/// A text of UTF-8. One that isn't UTF-8 counts as a value of another type.
+/// A text of UTF-8.
 #[derive(Clone, Copy, Debug)]
 pub struct Utf8Text {}
 
-fn is_utf8(bytes: &[u8]) -> bool
-    ensures { result ≡ is_utf8 bytes.now }
-{
-    match std::str::from_utf8(bytes) {
-        Ok(_) => true,
-        Err(_) => false,
-    }
-}
-
 /// A copy of bytes as a text; None if they aren't UTF-8.
-fn utf8_text(alloc: Global, bytes: &[u8]) -> Result<Option<atl_world::Text>, AllocError>
-    ensures { IfOk result (λ read. read ≡ keep_if (is_utf8 bytes.now) bytes.now) }
+fn utf8_text(alloc: Global, bytes: &[u8]) -> Result<Option<Text>, AllocError>
+    ensures { IfOk result (λ read. read ≡ forms.if_utf8 bytes.now) }
 {
     match std::str::from_utf8(bytes) {
-        Ok(text) => Ok(Some(atl_world::Text::from_str(alloc, text)?)),
+        Ok(text) => Ok(Some(Text::from_str(alloc, text)?)),
         Err(_) => Ok(None),
     }
 }
 
 impl Form for Utf8Text {
-    type Value = atl_world::Text;
+    type Value = Text;
+
+    ghost form = { forms.Utf8Text };
 
     ghost encode = { λ t. SqlText t };
 
-    ghost decode = { λ v. decode_text is_utf8 v };
-
-    ghost fits = { λ t. IsTrue (is_utf8 t) };
-
-    ghost kind = { kinds.Text };
-
-    ghost has_type = { λ v. is_text_of is_utf8 v };
-
-    ghost is_bound = { λ t. refl };
+    ghost decode = { λ v. forms.utf8_text_of v };
 
     ghost is_stored = { λ t. refl };
 
-    ghost back = { λ t fits. text_back is_utf8 t fits };
+    ghost same = { λ v t is. utf8_text_same v t is };
 
-    ghost same = { λ v t is fits. text_same is_utf8 v t is };
+    ghost typed = { λ v t is. utf8_text_typed v t is };
 
-    fn decode(alloc: Global, value: ValueRef<'_>) -> Result<Option<atl_world::Text>, AllocError> {
+    ghost other = { λ v is. utf8_text_other v is };
+
+    fn decode(alloc: Global, value: ValueRef<'_>) -> Result<Option<Text>, AllocError> {
         match value {
             ValueRef::Text(text) => utf8_text(alloc, text),
             _ => Ok(None),
@@ -140,43 +85,28 @@ impl Form for Utf8Text {
     fn kind() -> Kind {
         Kind::Text
     }
-
-    fn has_type(value: ValueRef<'_>) -> bool {
-        match value {
-            ValueRef::Text(text) => is_utf8(text),
-            _ => false,
-        }
-    }
-
-    fn encode(field: &atl_world::Text) -> ValueRef<'_> {
-        ValueRef::Text(field.as_bytes())
-    }
 }
 
 /// Any bytes.
 #[derive(Clone, Copy, Debug)]
-pub struct Blob {}
+pub struct Bytes {}
 
-impl Form for Blob {
+impl Form for Bytes {
     type Value = Sequence<u8>;
+
+    ghost form = { forms.Bytes };
 
     ghost encode = { λ b. SqlBlob b };
 
-    ghost decode = { λ v. decode_blob v };
-
-    ghost fits = { λ b. Unit {0} };
-
-    ghost kind = { kinds.Blob };
-
-    ghost has_type = { λ v. is_blob v };
-
-    ghost is_bound = { λ b. refl };
+    ghost decode = { λ v. forms.bytes_of v };
 
     ghost is_stored = { λ b. refl };
 
-    ghost back = { λ b fits. refl };
+    ghost same = { λ v b is. bytes_same v b is };
 
-    ghost same = { λ v b is fits. blob_same v b is };
+    ghost typed = { λ v b is. (b, sym (bytes_same v b is)) };
+
+    ghost other = { λ v is. bytes_other v is };
 
     fn decode(alloc: Global, value: ValueRef<'_>) -> Result<Option<Sequence<u8>>, AllocError> {
         match value {
@@ -187,13 +117,5 @@ impl Form for Blob {
 
     fn kind() -> Kind {
         Kind::Blob
-    }
-
-    fn has_type(value: ValueRef<'_>) -> bool {
-        matches!(value, ValueRef::Blob(_))
-    }
-
-    fn encode(field: &Sequence<u8>) -> ValueRef<'_> {
-        ValueRef::Blob(field.as_slice())
     }
 }

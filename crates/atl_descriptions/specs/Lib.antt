@@ -1,4 +1,3 @@
-pub mod Records
 pub mod Sets
 pub mod Tables
 pub mod Statements

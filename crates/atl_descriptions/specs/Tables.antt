@@ -166,6 +166,11 @@ all_parts = Own ∷ Factions ∷ Regions ∷ Units ∷ Goods ∷ Structures ∷ 
 abbrev pub written_parts : List Part
 written_parts = Factions ∷ Reports ∷ Regions ∷ Structures ∷ Books ∷ Markets ∷ Units ∷ Goods ∷ Mail ∷ []
 
+-- the part's rows are put by their key and deleted by it: any part but the campaign row
+abbrev pub IsWrittenPart : Part → Type 0
+IsWrittenPart Own = ⊥
+IsWrittenPart part = ⊤
+
 -- the part's rows come in groups: all goods of one unit, or all stocks of one region
 abbrev pub IsGroupedPart : Part → Type 0
 IsGroupedPart Goods = ⊤

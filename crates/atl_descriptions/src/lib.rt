@@ -2,7 +2,6 @@
 //! statements. See docs/FORMATS.md, "Tables".
 #![tactic(auto)]
 
-pub mod reading;
 pub mod record;
 pub mod records;
 pub mod table;

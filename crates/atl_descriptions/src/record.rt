@@ -1,20 +1,18 @@
-//! Records that are rows of a table of a campaign, and how all rows of a table are read as records.
-ghost use Rattle.std.specs.Prelude.{◌≡◌, ◌<◌, ◌^◌, ◌++◌, IfOk, IfSome, OnOk, length, map};
-ghost use Rattle.sqlite.specs.Values.{bound};
-ghost use Rattle.atl_columns.specs.Fields.{strict_columns};
+//! Records that are rows of a table of a campaign.
+ghost use Rattle.std.specs.Prelude.{◌≡◌, ◌<◌, ◌^◌, IfOk, IfSome, None, length, map};
+ghost use Rattle.atl_columns.specs.Fields.{columns_from, strict_columns};
+ghost use Rattle.atl_columns.specs.Forms.{IsTyped};
 ghost use Rattle.atl_descriptions.specs.PartSelects.{select_of_part};
 ghost use Rattle.atl_descriptions.specs.Statements.{column_names, deletion, upsert};
-ghost use Rattle.atl_descriptions.specs.Tables.{Part, creation_of, key_width_of, table_of};
+ghost use Rattle.atl_descriptions.specs.Tables.{IsWrittenPart, Part, creation_of, key_width_of, table_of};
 ghost use Rattle.atl_descriptions.specs.Described.{IsIndexOf, checks_of, unique_columns};
-ghost use Rattle.atl_descriptions.specs.Records.{read_row};
 
 use crate::table::{Statements, Table};
 use atl_columns::Fields;
 use sqlite::Row;
-use sqlite::types::ValueRef;
 use std::alloc::{AllocError, Global};
 
-/// A record that is a row of a table of a campaign.
+/// A record that is a row of a table of a campaign, as it is stored, whoever wrote it.
 pub trait Record: Drop + Sized {
     /// The forms of the columns, in their order.
     type Fields: Fields;
@@ -38,17 +36,20 @@ pub trait Record: Drop + Sized {
         ensures index { IfSome result.unique (IsIndexOf (table_of part)) }
         ensures single { checks_of result.is_single ≡ (table_of part).checks }
         ensures create { result.create.now ≡ creation_of part }
+        ensures since { result.since ≡ (select_of_part part).since }
         ensures select { result.select.now ≡ (select_of_part part).select };
 
     /// The record of the fields of a row.
     fn of_fields(fields: <Self::Fields as Fields>::Value) -> Self
         ensures { result ≡ of_fields fields };
 
-    /// The record that the first columns of a row are read as; None if a value is of another type, or
-    /// out of its range.
-    final fn read(alloc: Global, row: &Row) -> Result<Option<Self>, AllocError>
-        ensures { IfOk result
-            (λ read. read ≡ read_row Self.Fields.decode of_fields Self.Fields.width row.now) }
+    /// The record that the first columns of a row are read as; None if a value is of another form than
+    /// its column.
+    final fn read_columns(alloc: Global, row: &Row) -> Result<Option<Self>, AllocError>
+        ensures ok { IfOk result (λ read. IfSome read
+            (λ one. Self.Fields.encode (to_fields one) ≡ columns_from 0 (length Self.Fields.forms) row.now)) }
+        ensures typed { IfOk result (λ read. IfSome read (λ _. IsTyped Self.Fields.forms row.now)) }
+        ensures other { IfOk result (λ read. read ≡ None → ¬ IsTyped Self.Fields.forms row.now) }
     {
         match Self::Fields::decode(alloc, row, 0)? {
             Some(fields) => Ok(Some(Self::of_fields(fields))),
@@ -57,17 +58,15 @@ pub trait Record: Drop + Sized {
     }
 
     // A row has fewer columns than there are numbers of 32 bits.
-    ghost is_narrow: { Self.Fields.width < 2 ^ 32 };
+    ghost is_narrow: { length Self.Fields.forms < 2 ^ 32 };
 
     // The columns of the table are those of the fields.
-    ghost has_columns: { (table_of part).columns ≡ strict_columns Self.Fields.kinds (column_names (table_of part)) };
+    ghost has_columns: { (table_of part).columns ≡ strict_columns Self.Fields.forms (column_names (table_of part)) };
 
-    ghost is_wide: { length (column_names (table_of part)) ≡ Self.Fields.width };
+    ghost is_wide: { length (column_names (table_of part)) ≡ length Self.Fields.forms };
 
-    // A record and its fields are each made of the other.
+    // The fields that a record was made of are the record's fields.
     ghost again: { (x : Self.Fields.Value) → to_fields (of_fields x) ≡ x };
-
-    ghost back: { (r : Self) → of_fields (to_fields r) ≡ r };
 }
 
 /// A record whose row is put by its key, and deleted by it: a row of any table but `campaign`.
@@ -77,8 +76,5 @@ pub trait Written: Record {
         ensures upsert { result.upsert.now ≡ upsert (table_of Self.part) (key_width_of Self.part) }
         ensures delete { result.delete.now ≡ deletion (table_of Self.part) (key_width_of Self.part) };
 
-    /// Adds the values of the record's columns to the parameters of a statement.
-    fn push_parameters<'a>(&'a self, values: &mut Vec<ValueRef<'a>>) -> Result<(), AllocError>
-        ensures { OnOk result
-            (bound values.new.items ≡ bound values.old.items ++ Self.Fields.encode (Self.to_fields self.now)) };
+    ghost is_written: { IsWrittenPart Self.part };
 }

@@ -1,5 +1,7 @@
 //! A table and the texts of its statements, made of the names and types of its columns by `table!`.
 
+use atl_world::Format;
+
 /// A unique key of a table that isn't the row's number. The file keeps it in an index.
 #[derive(Clone, Copy, Debug)]
 pub struct UniqueKey {
@@ -28,6 +30,8 @@ pub struct Table {
     /// Whether the table has the check `id = 1` of its first column, and no other; else it has none.
     pub is_single: bool,
     pub create: &'static str,
+    /// The first format that has the table.
+    pub since: Format,
     pub select: &'static str,
 }
 
@@ -40,12 +44,12 @@ pub struct Statements {
 }
 
 /// A table and its statements by its columns, each with its parameter's number, its name and its
-/// type. Before them stands the number of the table's tree. The key is the row's number (`number`),
+/// type. Before them stand the first format that has the table, and the number of the table's tree. The key is the row's number (`number`),
 /// or several columns (`keys`, with the tree of its index); then the SELECT shows the rowid as a last
 /// column.
 #[macro_export]
 macro_rules! table {
-    ($tree:literal $name:literal
+    ($since:ident $tree:literal $name:literal
         number { $kn:literal $key:literal }
         columns { $n:literal $column:literal $kind:literal
             $(, $ns:literal $columns:literal $kinds:literal)* }) => {
@@ -60,6 +64,7 @@ macro_rules! table {
                 is_single: false,
                 create: concat!("CREATE TABLE ", $name, " (", $key, " INTEGER NOT NULL PRIMARY KEY, ",
                     $column, " ", $kind, " NOT NULL" $(, ", ", $columns, " ", $kinds, " NOT NULL")*, ") STRICT"),
+                since: Format::$since,
                 select: concat!("SELECT ", $key, ", ", $column $(, ", ", $columns)*,
                     " FROM ", $name, " ORDER BY ", $key),
             },
@@ -71,7 +76,7 @@ macro_rules! table {
             },
         )
     };
-    ($tree:literal $name:literal
+    ($since:ident $tree:literal $name:literal
         keys $index:literal { $kn:literal $key:literal $key_kind:literal
             $(, $kns:literal $keys:literal $key_kinds:literal)* }
         columns { $n:literal $column:literal $kind:literal
@@ -93,6 +98,7 @@ macro_rules! table {
                     $(, $keys, " ", $key_kinds, " NOT NULL, ")*,
                     $column, " ", $kind, " NOT NULL" $(, ", ", $columns, " ", $kinds, " NOT NULL")*,
                     ", PRIMARY KEY (", $key $(, ", ", $keys)*, ")) STRICT"),
+                since: Format::$since,
                 select: concat!("SELECT ", $key $(, ", ", $keys)*, ", ", $column $(, ", ", $columns)*,
                     ", rowid FROM ", $name, " ORDER BY ", $key $(, ", ", $keys)*),
             },

@@ -17,17 +17,11 @@ use Rattle.sqlite_schema.specs.declared.schema.Column.{Column}
 use Rattle.sqlite_schema.specs.Names.{place_of}
 use Rattle.sqlite_rules.specs.Cast.{cast, cast_all, cast_row}
 use Rattle.sqlite_trees.proofs.ListLemmas.{map-map}
+use Rattle.atl_columns.specs.Fields.{Fits}
 use Rattle.atl_descriptions.specs.Sets.{table, visible_row}
 use Rattle.atl_descriptions.specs.Tables.{integer_column}
 use Rattle.atl_sql.specs.Shown.{int}
 use Rattle.atl_sql.proofs.Terms.{cast_null, cast_int}
-
--- each value of a row is of its column's type, so that SQL stores it unchanged
-abbrev pub Fits : List Column → Row → Type 0
-Fits [] [] = Unit {0}
-Fits [] (v ∷ vs) = ⊥
-Fits (c ∷ cs) [] = ⊥
-Fits (c ∷ cs) (v ∷ vs) = (cast c.kind v ≡ v) × Fits cs vs
 
 pub fits_length : (cs : List Column) (vs : Row) → Fits cs vs → length vs ≡ length cs
 fits_length [] [] fits = refl

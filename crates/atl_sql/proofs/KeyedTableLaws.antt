@@ -3,7 +3,7 @@ use Rattle.std.proofs.Common.{◌≡◌, ◌+◌, ◌-◌, ◌++◌, ℕ, ℤ, p
 use Rattle.std.specs.List.{range_with_len}
 use Rattle.std.proofs.lemmas.Bool.{and_parts, not-true}
 use Rattle.sqlite_tied.specs.Compute.{everything}
-use Rattle.sqlite.specs.declared.types.Value.TheVariants.{Null}
+use Rattle.sqlite.specs.declared.types.Value.TheVariants.{Null, Int}
 use Rattle.sqlite.specs.Term.{Term, lit, col, op2}
 use Rattle.sqlite.specs.Listing.{understood}
 use Rattle.sqlite.specs.Order.{Row}
@@ -15,7 +15,7 @@ use Rattle.sqlite_value.specs.Keys.{first_key}
 use Rattle.sqlite_schema.specs.declared.schema.Constraint.TheVariants.{Datatype, NotNull}
 use Rattle.sqlite_schema.specs.Rules.{passes}
 use Rattle.atl_descriptions.specs.Tables.{Part, Goods, Books, Markets, has_table, has_unique, books_table, books_unique, market_table, market_unique, table_of, key_width_of}
-use Rattle.atl_sql.specs.Shown.{int, has_key, has_row, books_key, books_row, market_key, market_row}
+use Rattle.atl_sql.specs.Shown.{int, has_key, books_key, books_row, market_key}
 use Rattle.atl_descriptions.specs.Statements.{deletion, upsert}
 use Rattle.atl_sql.proofs.KeyLaws.{strict_integer_is_int, cons_is}
 use Rattle.atl_sql.proofs.KeyedRowLaws.{AreInts, HasKey, MeansUpsert, MeansDelete, MakesValues, puts_keyed, drops_keyed}
@@ -105,12 +105,12 @@ statement_meanings k =
 
 -- ---- a row is put
 
-makes_has : (unit sort thing amount : ℕ)
-    → MakesValues has_table has_unique 5 (keyed_insert_terms 4) 4 (update_terms 3 4) (has_row unit sort thing amount)
+makes_has : (unit sort thing : ℕ) (amount : ℤ)
+    → MakesValues has_table has_unique 5 (keyed_insert_terms 4) 4 (update_terms 3 4) (int unit ∷ int sort ∷ int thing ∷ Int amount ∷ [])
 makes_has unit sort thing amount = record {
   source = refl;
-  casted = rw (cast_null, cast_int (pos unit), cast_int (pos sort), cast_int (pos thing), cast_int (pos amount)) refl;
-  again = λ n. rw (cast_int n, cast_int (pos unit), cast_int (pos sort), cast_int (pos thing), cast_int (pos amount)) refl;
+  casted = rw (cast_null, cast_int (pos unit), cast_int (pos sort), cast_int (pos thing), cast_int amount) refl;
+  again = λ n. rw (cast_int n, cast_int (pos unit), cast_int (pos sort), cast_int (pos thing), cast_int amount) refl;
   shown = λ n. refl;
   ints = λ n. (refl, (refl, (refl, tt)));
   aimed = λ x more. refl;
@@ -118,23 +118,23 @@ makes_has unit sort thing amount = record {
       let one = cons_is _ _ _ _ same in
       let two = cons_is _ _ _ _ one.1 in
       let three = cons_is _ _ _ _ two.1 in
-      rw (one.0, two.0, three.0, cast_int (pos unit), cast_int (pos sort), cast_int (pos thing), cast_int (pos amount)) refl;
+      rw (one.0, two.0, three.0, cast_int (pos unit), cast_int (pos sort), cast_int (pos thing), cast_int amount) refl;
 }
 
-pub puts_has : (unit sort thing amount : ℕ) → PutsRow has_table 3 (has_row unit sort thing amount)
+pub puts_has : (unit sort thing : ℕ) (amount : ℤ) → PutsRow has_table 3 (int unit ∷ int sort ∷ int thing ∷ Int amount ∷ [])
 puts_has unit sort thing amount =
     let is = statement_meanings InHas in
-    puts_keyed has_table.tree _ _ has_unique 4 (key_is InHas) (upsert has_table 3) 5 4 (keyed_insert_terms 4) (update_terms 3 4) is.puts is.puts_plain (has_row unit sort thing amount) (makes_has unit sort thing amount)
+    puts_keyed has_table.tree _ _ has_unique 4 (key_is InHas) (upsert has_table 3) 5 4 (keyed_insert_terms 4) (update_terms 3 4) is.puts is.puts_plain (int unit ∷ int sort ∷ int thing ∷ Int amount ∷ []) (makes_has unit sort thing amount)
 
 pub puts_books : (entry thing : ℕ) (amount : ℤ) → PutsRow books_table 2 (books_row entry thing amount)
 puts_books entry thing amount =
     let is = statement_meanings InBooks in
     puts_keyed books_table.tree _ _ books_unique 8 (key_is InBooks) (upsert books_table 2) 4 3 (keyed_insert_terms 3) (update_terms 2 3) is.puts is.puts_plain (books_row entry thing amount) (makes_pair 10 (codes "books") (codes "entry") (codes "thing") (codes "amount") entry thing amount)
 
-pub puts_market : (region item stock : ℕ) → PutsRow market_table 2 (market_row region item stock)
+pub puts_market : (region item : ℕ) (stock : ℤ) → PutsRow market_table 2 (int region ∷ int item ∷ Int stock ∷ [])
 puts_market region item stock =
     let is = statement_meanings InMarket in
-    puts_keyed market_table.tree _ _ market_unique 9 (key_is InMarket) (upsert market_table 2) 4 3 (keyed_insert_terms 3) (update_terms 2 3) is.puts is.puts_plain (market_row region item stock) (makes_pair 12 (codes "market") (codes "region") (codes "item") (codes "stock") region item (pos stock))
+    puts_keyed market_table.tree _ _ market_unique 9 (key_is InMarket) (upsert market_table 2) 4 3 (keyed_insert_terms 3) (update_terms 2 3) is.puts is.puts_plain (int region ∷ int item ∷ Int stock ∷ []) (makes_pair 12 (codes "market") (codes "region") (codes "item") (codes "stock") region item stock)
 
 -- ---- rows are deleted
 

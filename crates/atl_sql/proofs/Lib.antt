@@ -25,7 +25,6 @@ pub mod OwnRowLaws
 pub mod UpgradeRowLaws
 pub mod CampaignRowLaws
 pub mod ShownLaws
-pub mod ReadAsLaws
 pub mod CheckTerms
 pub mod SchemaLaws
 pub mod SelectLaws
@@ -34,3 +33,4 @@ pub mod StreamLaws
 pub mod RowsLaws
 pub mod PutsLaws
 pub mod PuttingLaws
+pub mod WrittenLaws

@@ -35,7 +35,8 @@ use Rattle.atl_sql.proofs.UpsertLaws.{Upserted, update_query, conflict_clause}
 use Rattle.atl_sql.proofs.StatementLaws.{AlwaysPlain, PutsRow, DropsKey, upserting, removes, done_by}
 use Rattle.atl_sql.proofs.CarryLaws.{among_all, write_checks_no_reference, none_share, sound_under, done_with}
 use Rattle.atl_sql.proofs.MakeLaws.{write_does_command, upserts_make, loses_make}
-use Rattle.atl_sql.proofs.FitLaws.{Fits, given_row, changed_row, makes_row}
+use Rattle.atl_columns.specs.Fields.{Fits}
+use Rattle.atl_sql.proofs.FitLaws.{given_row, changed_row, makes_row}
 use Rattle.atl_sql.proofs.EditLaws.{delete_query, found_by}
 use Rattle.atl_sql.proofs.Terms.{head_is, upsert_finds_number, one_number, delete_finds_number}
 

@@ -1,11 +1,11 @@
 -- Laws on the statements of each table whose key is the row's number: what they mean and do.
-use Rattle.std.proofs.Common.{ℕ, [], ◌∷◌, length, drop, nat_eq, unwrap_or, position, refl}
+use Rattle.std.proofs.Common.{◌≡◌, ℕ, [], ◌∷◌, length, drop, nat_eq, unwrap_or, position, refl}
 use Rattle.sqlite_tied.specs.Compute.{everything}
 use Rattle.sqlite.specs.Listing.{understood}
 use Rattle.sqlite.specs.Order.{Row}
-use Rattle.atl_descriptions.specs.Tables.{Part, Own, Goods, Books, Markets, IsNumberedPart, table_of, all_parts}
+use Rattle.atl_descriptions.specs.Tables.{Part, Own, Goods, Books, Markets, IsNumberedPart, key_width_of, table_of, all_parts}
 use Rattle.atl_sql.specs.Shown.{int}
-use Rattle.atl_sql.proofs.FitLaws.{Fits}
+use Rattle.atl_columns.specs.Fields.{Fits}
 use Rattle.atl_sql.proofs.NumberedLaws.{IsNumberedTable, puts_numbered, drops_numbered}
 use Rattle.atl_sql.proofs.PartLaws.{listed, tree_of}
 use Rattle.atl_sql.proofs.StatementLaws.{PutsRow, DropsKey}
@@ -49,3 +49,11 @@ drops_part Goods is = absurd is
 drops_part Books is = absurd is
 drops_part Markets is = absurd is
 drops_part part is = drops_numbered (table_of part).tree _ _ _ _ (place_in part) (part_is_numbered part is)
+
+-- the key of a part whose key is the row's number is one column
+pub key_is_one : (part : Part) → IsNumberedPart part → key_width_of part ≡ 1
+key_is_one Own is = absurd is
+key_is_one Goods is = absurd is
+key_is_one Books is = absurd is
+key_is_one Markets is = absurd is
+key_is_one part is = refl

@@ -1,5 +1,5 @@
 -- Laws on a SELECT inside a transaction: what it leaves, and what is left once the transaction is rolled back.
-use Rattle.std.proofs.Common.{◌≡◌, ◌≢◌, ◌≤◌, ◌⊎◌, ℕ, Bool, List, [], true, false, cond, IsTrue, Option, Some, None, Result, Ok, Err, IsErrAnd, IfOk, IfErr, refl, sym, ap, ◌∙◌, subst, inl, inr, arith}
+use Rattle.std.proofs.Common.{◌≡◌, ◌≢◌, ◌≤◌, ◌⊎◌, ℕ, Bool, List, [], true, false, cond, IsTrue, Option, Some, None, Result, Ok, Err, IsErrAnd, IfOk, IfErr, map, length, refl, sym, ap, ◌∙◌, subst, inl, inr, arith}
 use Rattle.std.specs.declared.vec.Vec.{Vec}
 use Rattle.sqlite_trees.specs.declared.store.Store.{Ghosts}
 use Rattle.sqlite_schema.specs.declared.command.Returning.{Returning}
@@ -11,19 +11,17 @@ use Rattle.sqlite.proofs.InsideLemmas.{unchanged_keeps}
 use Rattle.sqlite.proofs.Callers.{survives_begin}
 use Rattle.atl_sql.specs.Errors.{is_memory, is_failure, read_fault}
 use Rattle.atl_sql.specs.Reading.{Rests, IsAsked, Asks, ReadsRows, RefusesToSelect}
-use Rattle.atl_sql.specs.Stored.{Form, AreReadAs, AreTyped, HasOutOfRange}
+use Rattle.atl_columns.specs.Forms.{Form}
+use Rattle.atl_sql.specs.Stored.{first_columns, AreTyped}
 use Rattle.atl_sql.specs.declared.fault.ReadFault.{ReadFault}
-use Rattle.atl_sql.specs.declared.fault.ReadFault.TheVariants.{Store, Refused, Memory, OtherType, OutOfRange}
+use Rattle.atl_sql.specs.declared.fault.ReadFault.TheVariants.{Store, Refused, Memory, OtherType}
 use Rattle.atl_sql.proofs.KeepLaws.{survives_more, if_ok, if_err}
 
 module _ (old new : State) (inside : IsTrue old.in_transaction) (sql : List ℕ) (params : Row) where
-  writes_keep : (what : Option Returning) (command : _) (text : List ℕ) (row : Row) (count : ℕ)
-      → Writes old new what command text row count → KeepsCommit old new
-  writes_keep what command text row count w =
-      record { was_open = λ _. w.shown.was_open; committed = λ _. w.shown.committed_is ∙ ap (λ b. cond b old.committed new.now) inside }
+  writes_keep : (what : Option Returning) (command : _) (text : List ℕ) (row : Row) (count : ℕ) → Writes old new what command text row count → KeepsCommit old new
+  writes_keep what command text row count w = record { was_open = λ _. w.shown.was_open; committed = λ _. w.shown.committed_is ∙ ap (λ b. cond b old.committed new.now) inside }
 
-  shows_keep : (c : _) (row : Row) (rows : List Row) (what : Option Returning) → ShowsRows old new sql c row rows what
-      → KeepsCommit old new
+  shows_keep : (c : _) (row : Row) (rows : List Row) (what : Option Returning) → ShowsRows old new sql c row rows what → KeepsCommit old new
   shows_keep c row rows None h = unchanged_keeps old new (inl h.3)
   shows_keep c row rows (Some what) h = writes_keep (Some what) _ _ row h.0 h.1
 
@@ -31,14 +29,12 @@ module _ (old new : State) (inside : IsTrue old.in_transaction) (sql : List ℕ)
   unfolding Shown
   shown_keeps rows h = shows_keep h.0 _ rows h.0.returning h.2
 
-  fails_keep : (c : _) (row : Row) (e : Error) (what : Option Returning) → FailsToShow old new sql c row e what
-      → KeepsCommit old new
+  fails_keep : (c : _) (row : Row) (e : Error) (what : Option Returning) → FailsToShow old new sql c row e what → KeepsCommit old new
   fails_keep c row e None h = unchanged_keeps old new (inl h.3)
   fails_keep c row e (Some what) (inl h) = unchanged_keeps old new (inl h.1)
   fails_keep c row e (Some what) (inr h) = unchanged_keeps old new (inr h.3)
 
-  pub refused_keeps : (e : Error) → FailsToQuery sql params old new e ⊎ IsTooLate sql params old new e
-      → KeepsCommit old new
+  pub refused_keeps : (e : Error) → FailsToQuery sql params old new e ⊎ IsTooLate sql params old new e → KeepsCommit old new
   unfolding FailsToQuery IsNotRun
   refused_keeps e (inl (inl (inl h))) = unchanged_keeps old new (inl h.1)
   refused_keeps e (inl (inl (inr h))) = unchanged_keeps old new (inr h.3)
@@ -56,14 +52,11 @@ module _ {S : Type 0} (g : Ghosts S) (sql : List ℕ) (old begun mid end : Held 
   begun_inside = ap (λ (h : Held S). h.in_transaction) begins
 
   survived : Survives (state g old) (state g end) (λ _. ⊥)
-  survived =
-      survives_begin g old (state g end) _
-      (subst (λ h. Survives (state g h) (state g end) (λ _. ⊥)) begins (survives_more (state g begun) (state g mid) (state g end) one two))
+  survived = survives_begin g old (state g end) _ (subst (λ h. Survives (state g h) (state g end) (λ _. ⊥)) begins (survives_more (state g begun) (state g mid) (state g end) one two))
 
   -- if the SELECT committed nothing and the disk is clean, the rollback leaves the tables of the last commit, and a
   -- connection that is open only if it was before (`Rests`)
-  rests : (HasCleanDisk (state g mid) → KeepsCommit (state g begun) (state g mid)) → HasCleanDisk (state g end)
-      → Rests (state g old) (state g end)
+  rests : (HasCleanDisk (state g mid) → KeepsCommit (state g begun) (state g mid)) → HasCleanDisk (state g end) → Rests (state g old) (state g end)
   rests keeps clean =
       let kept = subst (λ h. KeepsCommit (state g h) (state g mid)) begins (keeps (omega (arith, two.clean))) in
       let rolled = back clean in
@@ -73,13 +66,9 @@ module _ {S : Type 0} (g : Ghosts S) (sql : List ℕ) (old begun mid end : Held 
       }
 
   asked_after_begin : IsAsked (state g old) (state g begun)
-  asked_after_begin =
-      subst (λ h. IsAsked (state g old) (state g h)) (sym begins)
-      (record { was_open = λ up. up; is_open = λ up. up; same = refl; limit = refl; faults = no_fewer (state g old).faults })
+  asked_after_begin = subst (λ h. IsAsked (state g old) (state g h)) (sym begins) (record { was_open = λ up. up; is_open = λ up. up; same = refl; limit = refl; faults = no_fewer (state g old).faults })
 
-  pub showed : {Z : Type 0} (rows : Vec Row Z)
-      → (HasCleanDisk (state g mid) → Shown sql [] (state g begun) (state g mid) rows.items)
-      → Asks g sql old {Z = Z} (Ok rows) end
+  pub showed : {Z : Type 0} (rows : Vec Row Z) → (HasCleanDisk (state g mid) → Shown sql [] (state g begun) (state g mid) rows.items) → Asks g sql old {Z = Z} (Ok rows) end
   showed rows ok = record {
     rows = λ clean. (begun, mid, asked_after_begin, ok (omega (arith, two.clean)));
     refused = λ _. tt;
@@ -90,15 +79,11 @@ module _ {S : Type 0} (g : Ghosts S) (sql : List ℕ) (old begun mid end : Held 
 
   -- a SELECT that is refused inside the transaction failed as a query, and not because it needs a transaction and none
   -- was open (`IsTooLate`)
-  not_late : (e : Error)
-      → FailsToQuery sql [] (state g begun) (state g mid) e ⊎ IsTooLate sql [] (state g begun) (state g mid) e
-      → FailsToQuery sql [] (state g begun) (state g mid) e
+  not_late : (e : Error) → FailsToQuery sql [] (state g begun) (state g mid) e ⊎ IsTooLate sql [] (state g begun) (state g mid) e → FailsToQuery sql [] (state g begun) (state g mid) e
   not_late e (inl failed) = failed
   not_late e (inr late) = absurd (let no = sym begun_inside ∙ late.3 in cc)
 
-  was_refused : {Z : Type 0} (e : Error) (fault : ReadFault) → fault ≡ read_fault e
-      → (HasCleanDisk (state g mid) → FailsToQuery sql [] (state g begun) (state g mid) e ⊎ IsTooLate sql [] (state g begun) (state g mid) e)
-      → Asks g sql old {Z = Z} (Err fault) end
+  was_refused : {Z : Type 0} (e : Error) (fault : ReadFault) → fault ≡ read_fault e → (HasCleanDisk (state g mid) → FailsToQuery sql [] (state g begun) (state g mid) e ⊎ IsTooLate sql [] (state g begun) (state g mid) e) → Asks g sql old {Z = Z} (Err fault) end
   was_refused e fault is err = record {
     rows = λ _. tt;
     refused = λ clean. (begun, mid, e, asked_after_begin, not_late e (err (omega (arith, two.clean))), is);
@@ -107,9 +92,7 @@ module _ {S : Type 0} (g : Ghosts S) (sql : List ℕ) (old begun mid end : Held 
     idle = ended;
   }
 
-  pub says : {Z : Type 0} (e : Error) (r : Result (Vec Row Z) ReadFault) → IsErrAnd r (λ fault. fault ≡ read_fault e)
-      → (HasCleanDisk (state g mid) → FailsToQuery sql [] (state g begun) (state g mid) e ⊎ IsTooLate sql [] (state g begun) (state g mid) e)
-      → Asks g sql old {Z = Z} r end
+  pub says : {Z : Type 0} (e : Error) (r : Result (Vec Row Z) ReadFault) → IsErrAnd r (λ fault. fault ≡ read_fault e) → (HasCleanDisk (state g mid) → FailsToQuery sql [] (state g begun) (state g mid) e ⊎ IsTooLate sql [] (state g begun) (state g mid) e) → Asks g sql old {Z = Z} r end
   says e (Ok rows) is err = absurd is
   says e (Err fault) is err = was_refused e fault is err
 
@@ -123,54 +106,32 @@ not_other e same = by_memory (is_memory e) (is_failure e) same
     by_memory false true is = cc
     by_memory false false is = cc
 
-not_range : (e : Error) → read_fault e ≡ OutOfRange → ⊥
-not_range e same = by_memory (is_memory e) (is_failure e) same
-  where
-    by_memory : (a b : Bool) → cond a Memory (cond b Store Refused) ≡ OutOfRange → ⊥
-    by_memory true b is = cc
-    by_memory false true is = cc
-    by_memory false false is = cc
-
-pub never_range : {S : Type 0} (g : Ghosts S) (sql : List ℕ) (old : Held S) (fault : ReadFault)
-    → RefusesToSelect g sql old fault → fault ≡ OutOfRange → ⊥
-never_range g sql old fault says same = not_range says.2 (sym says.5 ∙ same)
-
-pub never_other : {S : Type 0} (g : Ghosts S) (sql : List ℕ) (old : Held S) (fault : ReadFault)
-    → RefusesToSelect g sql old fault → fault ≡ OtherType → ⊥
+pub never_other : {S : Type 0} (g : Ghosts S) (sql : List ℕ) (old : Held S) (fault : ReadFault) → RefusesToSelect g sql old fault → fault ≡ OtherType → ⊥
 never_other g sql old fault says same = not_other says.2 (sym says.5 ∙ same)
 
 if_both : {A E : Type 0} (P Q : A → Type 0) (r : Result A E) → IfOk r P → IfOk r Q → IfOk r (λ a. P a × Q a)
 if_both P Q (Ok a) p q = (p, q)
 if_both P Q (Err e) p q = tt
 
-module _ {S A Z : Type 0} (g : Ghosts S) (sql : List ℕ) (old new : Held S) (forms : List Form) (reads : Row → A → Type 0) (is_in_range : Row → Bool) where
-  pub unasked : {Y : Type 0} (fault : ReadFault) (r : Result (Vec A Z) ReadFault)
-      → Asks g sql old {Z = Y} (Err fault) new → IsErrAnd r (λ says. says ≡ fault)
-      → ReadsRows g sql old forms reads is_in_range r new
+module _ {S A Z : Type 0} (g : Ghosts S) (sql : List ℕ) (old new : Held S) (forms : List Form) (shown : A → Row) where
+  pub unasked : {Y : Type 0} (fault : ReadFault) (r : Result (Vec A Z) ReadFault) → Asks g sql old {Z = Y} (Err fault) new → IsErrAnd r (λ says. says ≡ fault) → ReadsRows g sql old forms shown r new
   unasked fault (Ok all) asks is = absurd is
   unasked fault (Err says) asks is = record {
     rows = λ _. tt;
     other = λ clean same. absurd (never_other g sql old says (subst (RefusesToSelect g sql old) (sym is) (asks.refused clean)) same);
-    range = λ clean same. absurd (never_range g sql old says (subst (RefusesToSelect g sql old) (sym is) (asks.refused clean)) same);
-    refused = λ clean _ _ _. subst (RefusesToSelect g sql old) (sym is) (asks.refused clean);
+    refused = λ clean _ _. subst (RefusesToSelect g sql old) (sym is) (asks.refused clean);
     memory = λ clean same. inl (subst (RefusesToSelect g sql old) (sym is ∙ same) (asks.refused clean));
     rests = asks.rests;
     survives = asks.survives;
     idle = asks.idle;
   }
 
-  pub parsed : {Y : Type 0} (rows : Vec Row Y) (lent : List Row) (r : Result (Vec A Z) ReadFault)
-      → Asks g sql old (Ok rows) new → lent ≡ rows.items
-      → IfOk r (λ all. AreReadAs forms reads lent all.items) → IfOk r (λ _. AreTyped forms lent)
-      → IfErr r (λ fault. fault ≡ OtherType → ¬ AreTyped forms lent)
-      → IfErr r (λ fault. fault ≡ OutOfRange → AreTyped forms lent × HasOutOfRange forms is_in_range lent)
-      → IfErr r (λ fault. fault ≢ OtherType → fault ≢ OutOfRange → fault ≡ Memory)
-      → ReadsRows g sql old forms reads is_in_range r new
-  parsed rows lent r asks same ok typed other range which = record {
-    rows = λ clean. if_ok r (λ all says. (rows.items, asks.rows clean, subst (λ l. AreReadAs forms reads l all.items) same says.0, subst (λ l. AreTyped forms l) same says.1)) (if_both _ _ r ok typed);
+  pub parsed : {Y : Type 0} (rows : Vec Row Y) (lent : List Row) (r : Result (Vec A Z) ReadFault) → Asks g sql old (Ok rows) new → lent ≡ rows.items
+      → IfOk r (λ all. map shown all.items ≡ map (first_columns (length forms)) lent) → IfOk r (λ _. AreTyped forms lent) → IfErr r (λ fault. fault ≡ OtherType → ¬ AreTyped forms lent) → IfErr r (λ fault. fault ≢ OtherType → fault ≡ Memory) → ReadsRows g sql old forms shown r new
+  parsed rows lent r asks same ok typed other which = record {
+    rows = λ clean. if_ok r (λ all says. (rows.items, asks.rows clean, says.0 ∙ ap (map (first_columns (length forms))) same, subst (λ l. AreTyped forms l) same says.1)) (if_both _ _ r ok typed);
     other = λ clean. if_err r (λ fault says is. (rows.items, asks.rows clean, subst (λ l. ¬ AreTyped forms l) same (says is))) other;
-    range = λ clean. if_err r (λ fault says is. let both = says is in (rows.items, asks.rows clean, subst (λ l. AreTyped forms l) same both.0, subst (λ l. HasOutOfRange forms is_in_range l) same both.1)) range;
-    refused = λ clean. if_err r (λ fault says no not never. absurd (never (says no not))) which;
+    refused = λ clean. if_err r (λ fault says no never. absurd (never (says no))) which;
     memory = λ clean. if_err r (λ fault says is. inr (rows.items, asks.rows clean)) which;
     rests = asks.rests;
     survives = asks.survives;

@@ -1,5 +1,5 @@
 -- Laws on reading the rows of a query one by one as they come (`stream`).
-use Rattle.std.proofs.Common.{◌≡◌, ℕ, Bool, false, List, [], ◌∷◌, ◌++◌, Option, Some, None, Result, Ok, Err, IsErrAnd, refl, sym, ◌∙◌, subst, inl, inr, arith}
+use Rattle.std.proofs.Common.{◌≡◌, ℕ, false, List, [], ◌∷◌, ◌++◌, map, length, Option, Some, None, Result, Ok, Err, IsErrAnd, refl, sym, ap, ◌∙◌, subst, inl, inr, arith}
 use Rattle.std.specs.declared.vec.Vec.{Vec}
 use Rattle.sqlite_schema.specs.declared.command.Returning.{Returning}
 use Rattle.sqlite_trees.specs.declared.store.Store.{Ghosts}
@@ -15,18 +15,18 @@ use Rattle.sqlite.proofs.Callers.{never_commits}
 use Rattle.sqlite.proofs.StateLemmas.{survives_weaker}
 use Rattle.atl_sql.specs.Errors.{read_fault}
 use Rattle.atl_sql.specs.Reading.{AddsRow, IsAsked, ReadsRows, RefusesToSelect, Rests, Selects, Streams}
-use Rattle.atl_sql.specs.Stored.{Form, AreReadAs, AreTyped, IsTyped}
+use Rattle.atl_columns.specs.Forms.{Form, IsTyped}
+use Rattle.atl_sql.specs.Stored.{first_columns, AreTyped}
 use Rattle.atl_sql.specs.declared.fault.ReadFault.{ReadFault}
 use Rattle.atl_sql.specs.declared.fault.ReadFault.TheVariants.{Memory}
 use Rattle.atl_sql.proofs.KeepLaws.{survives_more, if_ok, if_err}
-use Rattle.atl_sql.proofs.SelectingLaws.{never_other, never_range, no_fewer}
+use Rattle.atl_sql.proofs.SelectingLaws.{never_other, no_fewer}
 
 pub rests_unchanged : (old new : State) → IsUnchanged old new → Rests old new
 rests_unchanged old new h = record { was_open = λ _. h.0.was_open; same = λ _. (inr h.0.now_is, h.0.committed_is) }
 
 module _ (sql : List ℕ) (old new : State) (plain : IsPlain (understood old.now.schema sql)) where
-  pub fails_stay : (c : _) (row : Row) (e : Error) (what : Option Returning) → what ≡ None
-      → FailsToShow old new sql c row e what → IsUnchanged old new
+  pub fails_stay : (c : _) (row : Row) (e : Error) (what : Option Returning) → what ≡ None → FailsToShow old new sql c row e what → IsUnchanged old new
   fails_stay c row e None is h = h.3
   fails_stay c row e (Some what) is h = absurd (let k = is in cc)
 
@@ -34,14 +34,11 @@ module _ (sql : List ℕ) (old new : State) (plain : IsPlain (understood old.now
   pub refused_rests : (e : Error) → FailsToQuery sql [] old new e → Rests old new
   unfolding FailsToQuery IsNotRun
   refused_rests e (inl (inl h)) = rests_unchanged old new h.1
-  refused_rests e (inl (inr h)) =
-      record { was_open = h.3.was_open; same = λ up. let back = h.3.undone up in (inl back.0, back.1) }
-  refused_rests e (inr h) =
-      rests_unchanged old new (fails_stay h.0 _ e h.0.returning (subst IsPlain h.1.is plain).0 h.2)
+  refused_rests e (inl (inr h)) = record { was_open = h.3.was_open; same = λ up. let back = h.3.undone up in (inl back.0, back.1) }
+  refused_rests e (inr h) = rests_unchanged old new (fails_stay h.0 _ e h.0.returning (subst IsPlain h.1.is plain).0 h.2)
 
 asked_unchanged : (old now : State) → IsUnchanged old now → Survives old now (λ _. ⊥) → IsAsked old now
-asked_unchanged old now h survives =
-    record { was_open = λ _. h.0.was_open; is_open = λ _. h.0.is_open; same = h.0.now_is; limit = survives.limit; faults = survives.counts }
+asked_unchanged old now h survives = record { was_open = λ _. h.0.was_open; is_open = λ _. h.0.is_open; same = h.0.now_is; limit = survives.limit; faults = survives.counts }
 
 pub rests_then : (old mid new : State) → IsUnchanged old mid → Rests mid new → Rests old new
 rests_then old mid new first rests = record {
@@ -72,8 +69,7 @@ asked_then old mid new one two = record {
   faults = omega (arith, one.faults, two.faults);
 }
 
-pub commits_nothing : (sql : List ℕ) (old new : State) → IsPlain (understood old.now.schema sql)
-    → Survives old new (CommitsShowing sql [] old) → Survives old new (λ _. ⊥)
+pub commits_nothing : (sql : List ℕ) (old new : State) → IsPlain (understood old.now.schema sql) → Survives old new (CommitsShowing sql [] old) → Survives old new (λ _. ⊥)
 commits_nothing sql old new plain = survives_weaker old new _ _ (λ _ db. never_commits sql [] old db plain)
 
 unchanged_then : (old mid new : State) → IsUnchanged old mid → IsUnchanged mid new → IsUnchanged old new
@@ -83,6 +79,10 @@ unchanged_then old mid new a b = (
   b.2 ∙ a.2,
 )
 
+map_at_end : {A B : Type 0} (f : A → B) (xs : List A) (x : A) → map f (xs ++ x ∷ []) ≡ map f xs ++ f x ∷ []
+map_at_end f [] x = refl
+map_at_end f (y ∷ xs) x = ap (λ ys. f y ∷ ys) (map_at_end f xs x)
+
 -- a query is running, has given the rows `given`, and changed nothing
 pub record IsGiving {S : Type 0} (g : Ghosts S) (sql : List ℕ) (old : Held S) (given : List Row) (now : Held S) : Type 0 where
   pub idle : now.in_transaction ≡ false
@@ -90,12 +90,9 @@ pub record IsGiving {S : Type 0} (g : Ghosts S) (sql : List ℕ) (old : Held S) 
   pub given_so : HasCleanDisk (state g now) → HasGiven g sql [] now given × IsUnchanged (state g old) (state g now)
 
 module _ {S : Type 0} (g : Ghosts S) (sql : List ℕ) (old : Held S) where
-  module _ {A : Type 0} (forms : List Form) (reads : Row → A → Type 0) where
-    pub not_begun : {Z : Type 0} (now : Held S) (e : Error) (r : Result (Option (Vec A Z)) ReadFault)
-        → IsPlain (understood old.schema sql) → IsErrAnd r (λ fault. fault ≡ read_fault e)
-        → (HasCleanDisk (state g now) → FailsToQuery sql [] (state g old) (state g now) e)
-        → now.in_transaction ≡ false → Survives (state g old) (state g now) (CommitsShowing sql [] (state g old))
-        → Streams g sql old forms reads r now
+  module _ {A : Type 0} (forms : List Form) (shown : A → Row) where
+    pub not_begun : {Z : Type 0} (now : Held S) (e : Error) (r : Result (Option (Vec A Z)) ReadFault) → IsPlain (understood old.schema sql) → IsErrAnd r (λ fault. fault ≡ read_fault e) → (HasCleanDisk (state g now) → FailsToQuery sql [] (state g old) (state g now) e)
+        → now.in_transaction ≡ false → Survives (state g old) (state g now) (CommitsShowing sql [] (state g old)) → Streams g sql old forms shown r now
     not_begun now e (Ok read) plain says err idle survives = absurd says
     not_begun now e (Err fault) plain says err idle survives = record {
       rows = λ _. tt;
@@ -106,8 +103,7 @@ module _ {S : Type 0} (g : Ghosts S) (sql : List ℕ) (old : Held S) where
       idle = idle;
     }
 
-    pub given_up : {Z : Type 0} (given : List Row) (now : Held S) → IsGiving g sql old given now
-        → Streams g sql old {Z = Z} forms reads (Ok None) now
+    pub given_up : {Z : Type 0} (given : List Row) (now : Held S) → IsGiving g sql old given now → Streams g sql old {Z = Z} forms shown (Ok None) now
     given_up given now giving = record {
       rows = λ _. tt;
       refused = λ _. tt;
@@ -127,10 +123,8 @@ module _ {S : Type 0} (g : Ghosts S) (sql : List ℕ) (old : Held S) where
     same_before : HasCleanDisk (state g now) → IsUnchanged (state g old) (state g mid)
     same_before clean = (giving.given_so (clean_before clean)).1
 
-    module _ {A : Type 0} (forms : List Form) (reads : Row → A → Type 0) where
-      pub not_advanced : {Z : Type 0} (e : Error) (r : Result (Option (Vec A Z)) ReadFault)
-          → IsPlain (understood old.schema sql) → IsErrAnd r (λ fault. fault ≡ read_fault e)
-          → (HasCleanDisk (state g now) → FailsToAdvance g mid now e) → Streams g sql old forms reads r now
+    module _ {A : Type 0} (forms : List Form) (shown : A → Row) where
+      pub not_advanced : {Z : Type 0} (e : Error) (r : Result (Option (Vec A Z)) ReadFault) → IsPlain (understood old.schema sql) → IsErrAnd r (λ fault. fault ≡ read_fault e) → (HasCleanDisk (state g now) → FailsToAdvance g mid now e) → Streams g sql old forms shown r now
       not_advanced e (Ok read) plain says err = absurd says
       not_advanced e (Err fault) plain says err = record {
         rows = λ _. tt;
@@ -144,10 +138,8 @@ module _ {S : Type 0} (g : Ghosts S) (sql : List ℕ) (old : Held S) where
         idle = idle giving.idle;
       }
 
-      pub ended : {Z : Type 0} (all : Vec A Z) → AreReadAs forms reads given all.items → AreTyped forms given
-          → (HasCleanDisk (state g now) → Advances g mid now None)
-          → (HasCleanDisk (state g now) → IsUnchanged (state g mid) (state g now))
-          → Streams g sql old forms reads (Ok (Some all)) now
+      pub ended : {Z : Type 0} (all : Vec A Z) → map shown all.items ≡ map (first_columns (length forms)) given → AreTyped forms given → (HasCleanDisk (state g now) → Advances g mid now None) → (HasCleanDisk (state g now) → IsUnchanged (state g mid) (state g now))
+          → Streams g sql old forms shown (Ok (Some all)) now
       ended all read typed done same = record {
         rows = λ clean. (given, (mid, now, asked_unchanged (state g old) (state g mid) (same_before clean) giving.survives, done clean sql [] given (giving.given_so (clean_before clean)).0), read, typed);
         refused = λ _. tt;
@@ -157,17 +149,18 @@ module _ {S : Type 0} (g : Ghosts S) (sql : List ℕ) (old : Held S) where
         idle = idle giving.idle;
       }
 
-      pub typed_more : (old_items new_items : List A) (row : Row) → AreTyped forms given
-          → AddsRow forms reads old_items row new_items → AreTyped forms (given ++ row ∷ [])
+      pub read_more : (old_items new_items : List A) (row : Row) → map shown old_items ≡ map (first_columns (length forms)) given → AddsRow forms shown old_items row new_items → map shown new_items ≡ map (first_columns (length forms)) (given ++ row ∷ [])
+      read_more old_items new_items row read adds =
+          ap (map shown) adds.1 ∙ map_at_end shown old_items adds.0 ∙ ap (λ rs. rs ++ shown adds.0 ∷ []) read ∙ ap (λ r. map (first_columns (length forms)) given ++ r ∷ []) adds.2 ∙ sym (map_at_end (first_columns (length forms)) given row)
+
+      pub typed_more : (old_items new_items : List A) (row : Row) → AreTyped forms given → AddsRow forms shown old_items row new_items → AreTyped forms (given ++ row ∷ [])
       typed_more old_items new_items row typed adds one there = elim (has_either given (row ∷ []) one there) [
         | inl before ↦ typed one before
         | inr (inl here) ↦ subst (IsTyped forms) (sym here) adds.3
         | inr (inr none) ↦ absurd none
       ]
 
-    pub giving_more : (row : Row) → (HasCleanDisk (state g now) → Advances g mid now (Some row))
-        → (HasCleanDisk (state g now) → IsUnchanged (state g mid) (state g now))
-        → IsGiving g sql old (given ++ row ∷ []) now
+    pub giving_more : (row : Row) → (HasCleanDisk (state g now) → Advances g mid now (Some row)) → (HasCleanDisk (state g now) → IsUnchanged (state g mid) (state g now)) → IsGiving g sql old (given ++ row ∷ []) now
     giving_more row more same = record {
       idle = idle giving.idle;
       survives = survived;
@@ -176,13 +169,11 @@ module _ {S : Type 0} (g : Ghosts S) (sql : List ℕ) (old : Held S) where
 
 -- ---- what was streamed, as rows that are read
 
-module _ {S A Z : Type 0} (g : Ghosts S) (sql : List ℕ) (old : Held S) (forms : List Form) (reads : Row → A → Type 0) (is_in_range : Row → Bool) where
-  pub streamed : (all : Vec A Z) (new : Held S) → Streams g sql old {Z = Z} forms reads (Ok (Some all)) new
-      → ReadsRows g sql old {Z = Z} forms reads is_in_range (Ok all) new
+module _ {S A Z : Type 0} (g : Ghosts S) (sql : List ℕ) (old : Held S) (forms : List Form) (shown : A → Row) where
+  pub streamed : (all : Vec A Z) (new : Held S) → Streams g sql old {Z = Z} forms shown (Ok (Some all)) new → ReadsRows g sql old {Z = Z} forms shown (Ok all) new
   streamed all new streams = record {
     rows = streams.rows;
     other = λ _. tt;
-    range = λ _. tt;
     refused = λ _. tt;
     memory = λ _. tt;
     rests = streams.rests;
@@ -190,15 +181,12 @@ module _ {S A Z : Type 0} (g : Ghosts S) (sql : List ℕ) (old : Held S) (forms 
     idle = streams.idle;
   }
 
-  pub unstreamed : (fault : ReadFault) (r : Result (Vec A Z) ReadFault) (new : Held S)
-      → Streams g sql old {Z = Z} forms reads (Err fault) new → IsErrAnd r (λ says. says ≡ fault)
-      → ReadsRows g sql old forms reads is_in_range r new
+  pub unstreamed : (fault : ReadFault) (r : Result (Vec A Z) ReadFault) (new : Held S) → Streams g sql old {Z = Z} forms shown (Err fault) new → IsErrAnd r (λ says. says ≡ fault) → ReadsRows g sql old forms shown r new
   unstreamed fault (Ok all) new streams is = absurd is
   unstreamed fault (Err says) new streams is = record {
     rows = λ _. tt;
     other = λ clean same. absurd (never_other g sql old says (subst (RefusesToSelect g sql old) (sym is) (streams.refused clean)) same);
-    range = λ clean same. absurd (never_range g sql old says (subst (RefusesToSelect g sql old) (sym is) (streams.refused clean)) same);
-    refused = λ clean _ _ _. subst (RefusesToSelect g sql old) (sym is) (streams.refused clean);
+    refused = λ clean _ _. subst (RefusesToSelect g sql old) (sym is) (streams.refused clean);
     memory = λ clean same. inl (subst (RefusesToSelect g sql old) (sym is ∙ same) (streams.refused clean));
     rests = streams.rests;
     survives = streams.survives;
@@ -206,28 +194,22 @@ module _ {S A Z : Type 0} (g : Ghosts S) (sql : List ℕ) (old : Held S) (forms 
   }
 
   -- after reading the rows one by one gave None, a second read gives what a read at the start would (`ReadsRows`)
-  pub read_again : (mid new : Held S) (r : Result (Vec A Z) ReadFault)
-      → Streams g sql old {Z = Z} forms reads (Ok None) mid → ReadsRows g sql mid forms reads is_in_range r new
-      → ReadsRows g sql old forms reads is_in_range r new
-  read_again mid new r streams read = record {
-    rows = λ clean. if_ok r (λ all says. (says.0, selects clean says.0 says.1, says.2, says.3)) (read.rows clean);
-    other = λ clean. if_err r (λ fault says is. let other = says is in (other.0, selects clean other.0 other.1, other.2)) (read.other clean);
-    range = λ clean. if_err r (λ fault says is. let range = says is in (range.0, selects clean range.0 range.1, range.2, range.3)) (read.range clean);
-    refused = λ clean. if_err r (λ fault says a b c. refuses clean fault (says a b c)) (read.refused clean);
-    memory = λ clean. if_err r (λ fault says is. elim (says is) [ inl refused ↦ inl (refuses clean Memory refused) | inr shown ↦ inr (shown.0, selects clean shown.0 shown.1) ]) (read.memory clean);
-    rests = λ clean. rests_both (state g old) (state g mid) (state g new) (streams.rests (before clean)) (read.rests clean);
-    survives = survives_more (state g old) (state g mid) (state g new) streams.survives read.survives;
-    idle = read.idle;
+  pub read_again : (mid new : Held S) (r : Result (Vec A Z) ReadFault) → Streams g sql old {Z = Z} forms shown (Ok None) mid → ReadsRows g sql mid forms shown r new → ReadsRows g sql old forms shown r new
+  read_again mid new r streams reads = record {
+    rows = λ clean. if_ok r (λ all says. (says.0, selects clean says.0 says.1, says.2, says.3)) (reads.rows clean);
+    other = λ clean. if_err r (λ fault says is. let other = says is in (other.0, selects clean other.0 other.1, other.2)) (reads.other clean);
+    refused = λ clean. if_err r (λ fault says a b. refuses clean fault (says a b)) (reads.refused clean);
+    memory = λ clean. if_err r (λ fault says is. elim (says is) [ inl refused ↦ inl (refuses clean Memory refused) | inr shown ↦ inr (shown.0, selects clean shown.0 shown.1) ]) (reads.memory clean);
+    rests = λ clean. rests_both (state g old) (state g mid) (state g new) (streams.rests (before clean)) (reads.rests clean);
+    survives = survives_more (state g old) (state g mid) (state g new) streams.survives reads.survives;
+    idle = reads.idle;
   }
     where
       before : HasCleanDisk (state g new) → HasCleanDisk (state g mid)
-      before clean = omega (arith, read.survives.clean, clean)
+      before clean = omega (arith, reads.survives.clean, clean)
 
       selects : HasCleanDisk (state g new) → (rows : List Row) → Selects g sql mid rows → Selects g sql old rows
-      selects clean rows says =
-          (says.0, says.1, asked_then (state g old) (state g mid) (state g says.0) (streams.same (before clean)) says.2, says.3)
+      selects clean rows says = (says.0, says.1, asked_then (state g old) (state g mid) (state g says.0) (streams.same (before clean)) says.2, says.3)
 
-      refuses : HasCleanDisk (state g new) → (fault : ReadFault) → RefusesToSelect g sql mid fault
-          → RefusesToSelect g sql old fault
-      refuses clean fault says =
-          (says.0, says.1, says.2, asked_then (state g old) (state g mid) (state g says.0) (streams.same (before clean)) says.3, says.4, says.5)
+      refuses : HasCleanDisk (state g new) → (fault : ReadFault) → RefusesToSelect g sql mid fault → RefusesToSelect g sql old fault
+      refuses clean fault says = (says.0, says.1, says.2, asked_then (state g old) (state g mid) (state g says.0) (streams.same (before clean)) says.3, says.4, says.5)

@@ -25,7 +25,3 @@ is_failure _ = false
 -- the fault of a SELECT's error: Memory if memory ran out, Store if the database failed (`is_failure`), else Refused
 abbrev pub read_fault : Error → ReadFault
 read_fault e = if is_memory e then read.Memory else (if is_failure e then read.Store else read.Refused)
-
--- the fault of a value that could not be read: Memory if memory ran out, else OtherType
-abbrev pub value_fault : Error → ReadFault
-value_fault e = if is_memory e then read.Memory else read.OtherType

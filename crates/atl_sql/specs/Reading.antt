@@ -1,6 +1,5 @@
 -- What reading all rows of a table gives.
-use Rattle.std.specs.Prelude.{◌≡◌, ◌≢◌, ◌≤◌, ◌⊎◌, ◌++◌, ℕ, Bool, List, [], ◌∷◌, length, map, IsTrue, IsPermutation, false, Option, Result, IfOk, IfErr, IfSome, OnOk}
-use Rattle.std.specs.List.{AllZip}
+use Rattle.std.specs.Prelude.{◌≡◌, ◌≢◌, ◌≤◌, ◌⊎◌, ◌++◌, ℕ, List, [], ◌∷◌, length, map, IsTrue, IsPermutation, false, Option, Result, IfOk, IfErr, IfSome, OnOk}
 use Rattle.std.specs.declared.vec.Vec.{Vec}
 use Rattle.sqlite_trees.specs.declared.store.Store.{Ghosts}
 use Rattle.sqlite_trees.specs.Tree.{Trees}
@@ -11,9 +10,10 @@ use Rattle.sqlite.specs.State.{State, HasCleanDisk, Survives, Shown, FailsToQuer
 use Rattle.atl_world.specs.declared.format.Format.{Format}
 use Rattle.atl_descriptions.specs.Tables.{HasTablesOf}
 use Rattle.atl_sql.specs.Errors.{read_fault}
-use Rattle.atl_sql.specs.Stored.{Form, first_columns, AreReadAs, AreTyped, HasOutOfRange, IsTyped}
+use Rattle.atl_columns.specs.Forms.{Form, IsTyped}
+use Rattle.atl_sql.specs.Stored.{first_columns, AreTyped}
 use Rattle.atl_sql.specs.declared.fault.ReadFault.{ReadFault}
-use Rattle.atl_sql.specs.declared.fault.ReadFault.TheVariants.{OtherType, OutOfRange, Memory}
+use Rattle.atl_sql.specs.declared.fault.ReadFault.TheVariants.{OtherType, Memory}
 
 -- Nothing is changed: an open connection was open before, and its tables are as they were or as last committed.
 pub record Rests (old new : State) : Type 0 where
@@ -66,25 +66,20 @@ module _ {S : Type 0} (g : Ghosts S) (sql : List ℕ) (old : Held S) where
     -- The connection is in no transaction afterwards.
     pub idle : new.in_transaction ≡ false
 
-  -- All rows that the SELECT shows are read, each value in the form of its column and in its range, if the disk is
-  -- clean. Nothing is changed.
-  pub record ReadsRows {A Z : Type 0} (forms : List Form) (reads : Row → A → Type 0) (is_in_range : Row → Bool)
+  -- All rows that the SELECT shows are read, each value in the form of its column, if the disk is clean.
+  -- Nothing is changed.
+  pub record ReadsRows {A Z : Type 0} (forms : List Form) (shown : A → Row)
       (result : Result (Vec A Z) ReadFault) (new : Held S) : Type 0 where
-    -- Ok has what the rows that the SELECT shows are read as, in their order, and each value is of its column's form.
+    -- Ok has all rows that the SELECT shows, in their order, and each value is of its column's form.
     pub rows : HasCleanDisk (state g new)
         → IfOk result (λ all. (rows : List Row) × Selects rows
-        × AreReadAs forms reads rows all.items
+        × (map shown all.items ≡ map (first_columns (length forms)) rows)
         × AreTyped forms rows)
     -- OtherType is returned only if a value is of another form than its column.
     pub other : HasCleanDisk (state g new)
         → IfErr result (λ fault. fault ≡ OtherType → (rows : List Row) × Selects rows × ¬ AreTyped forms rows)
-    -- OutOfRange is returned only if each value is of its column's form, and one is out of its range.
-    pub range : HasCleanDisk (state g new)
-        → IfErr result (λ fault. fault ≡ OutOfRange
-        → (rows : List Row) × Selects rows × AreTyped forms rows × HasOutOfRange forms is_in_range rows)
-    -- A fault other than OtherType, OutOfRange and Memory is that of the SELECT's refusal.
-    pub refused : HasCleanDisk (state g new)
-        → IfErr result (λ fault. fault ≢ OtherType → fault ≢ OutOfRange → fault ≢ Memory → RefusesToSelect fault)
+    -- A fault other than OtherType and Memory is that of the SELECT's refusal.
+    pub refused : HasCleanDisk (state g new) → IfErr result (λ fault. fault ≢ OtherType → fault ≢ Memory → RefusesToSelect fault)
     -- Memory is returned only if the SELECT is refused for lack of memory, or shows rows, for which memory may run out.
     pub memory : HasCleanDisk (state g new)
         → IfErr result (λ fault. fault ≡ Memory → RefusesToSelect Memory ⊎ ((rows : List Row) × Selects rows))
@@ -99,13 +94,12 @@ module _ {S : Type 0} (g : Ghosts S) (sql : List ℕ) (old : Held S) where
 
   -- The rows of a query are read one by one: Ok has all of them, or None; Err has the fault of the refusal.
   -- When it is None isn't said. Nothing is changed.
-  pub record Streams {A Z : Type 0} (forms : List Form) (reads : Row → A → Type 0)
+  pub record Streams {A Z : Type 0} (forms : List Form) (shown : A → Row)
       (result : Result (Option (Vec A Z)) ReadFault) (new : Held S) : Type 0 where
-    -- With Ok of a list, it has what the rows that the SELECT shows are read as, and each value is of its column's
-    -- form.
+    -- With Ok of a list, it has all rows that the SELECT shows, and each value is of its column's form.
     pub rows : HasCleanDisk (state g new)
         → IfOk result (λ read. IfSome read (λ all. (rows : List Row) × Selects rows
-        × AreReadAs forms reads rows all.items
+        × (map shown all.items ≡ map (first_columns (length forms)) rows)
         × AreTyped forms rows))
     -- Err has the fault of the SELECT's refusal.
     pub refused : HasCleanDisk (state g new) → IfErr result RefusesToSelect
@@ -121,15 +115,15 @@ module _ {S : Type 0} (g : Ghosts S) (sql : List ℕ) (old : Held S) where
     pub idle : new.in_transaction ≡ false
 
 -- the list `new` is `old` and then one element read from this row, and the values of the row are of these forms
-abbrev pub AddsRow : {A : Type 0} → List Form → (Row → A → Type 0) → List A → Row → List A → Type 0
-AddsRow forms reads old row new =
-    (one : _) × (new ≡ old ++ one ∷ []) × reads (first_columns (length forms) row) one × IsTyped forms row
+abbrev pub AddsRow : {A : Type 0} → List Form → (A → Row) → List A → Row → List A → Type 0
+AddsRow forms shown old row new =
+    (one : _) × (new ≡ old ++ one ∷ []) × (shown one ≡ first_columns (length forms) row) × IsTyped forms row
 
--- Ok has what rows are read as, if the disk is clean. They are all rows of a table, each as often as it is there, if
--- moreover the schema begins with the tables of the format `since`.
-abbrev pub GivesTable : {S A Z : Type 0} → Ghosts S → Format → (Trees → List Row) → (Row → A → Type 0)
+-- Ok has all rows of a table, each as often as it is there, if the disk is clean and the schema begins with the tables
+-- of the format `since`.
+abbrev pub GivesTable : {S A Z : Type 0} → Ghosts S → Format → (Trees → List Row) → (A → Row)
     → Result (Vec A Z) ReadFault → Held S → Held S → Type 0
-GivesTable g since in_table reads result old new =
+GivesTable g since in_table shown result old new =
     HasCleanDisk (state g new)
-    → IfOk result (λ all. (rows : List Row) × AllZip reads rows all.items
-    × (HasTablesOf since old.schema → IsPermutation (in_table (state g old).now.trees) rows))
+    → HasTablesOf since old.schema
+    → IfOk result (λ all. IsPermutation (in_table (state g old).now.trees) (map shown all.items))

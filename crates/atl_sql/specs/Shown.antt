@@ -1,5 +1,5 @@
 -- The rows of each table as SQL shows them, and the forms of the columns. See docs/FORMATS.md, "Tables".
-use Rattle.std.specs.Prelude.{ℕ, ℤ, pos, Bool, if◌then◌else◌, List, [], ◌∷◌, ◌++◌, string_bytes}
+use Rattle.std.specs.Prelude.{ℕ, ℤ, pos, Bool, if◌then◌else◌, List, [], ◌∷◌, ◌++◌}
 use Rattle.sqlite.specs.declared.types.Value.{Value}
 use Rattle.sqlite.specs.declared.types.Value.TheVariants.{Int, Text, Blob}
 use Rattle.sqlite.specs.Order.{Row}
@@ -16,9 +16,9 @@ use Rattle.atl_rows.specs.declared.parts.StoredReport.{StoredReport}
 use Rattle.atl_rows.specs.declared.parts.StoredHas.{StoredHas}
 use Rattle.atl_rows.specs.declared.parts.StoredBooks.{StoredBooks}
 use Rattle.atl_rows.specs.declared.parts.StoredMarket.{StoredMarket}
-use Rattle.atl_sql.specs.declared.rows.campaign.StoredCampaign.{StoredCampaign}
+use Rattle.atl_descriptions.specs.declared.records.campaign.StoredCampaign.{StoredCampaign}
 use Rattle.atl_sql.specs.declared.rows.stored.RowWithId.{RowWithId}
-use Rattle.atl_sql.specs.Stored.{Form, Number, Utf8Text, TextBytes, Bytes}
+use Rattle.atl_columns.specs.Forms.{Form, Number, Utf8Text, TextBytes, Bytes}
 
 -- the SQL integer of a natural number
 abbrev pub int : ℕ → Value
@@ -117,7 +117,7 @@ campaign_row_forms = Number ∷ Number ∷ Number ∷ Number ∷ Number ∷ Numb
 
 -- the campaign row that was read, as SQL shows it, with its world text
 abbrev pub campaign_stored : StoredCampaign → Row
-campaign_stored s = campaign_row_stored s.head ++ Text (string_bytes s.world) ∷ []
+campaign_stored s = campaign_row_stored s.head ++ Text s.world ∷ []
 
 -- the forms in which all columns of `campaign` are read: numbers, the pass text as bytes, and the world text as UTF-8
 abbrev pub campaign_forms : List Form

@@ -1,6 +1,6 @@
 //! The fault of reading the rows of a table, and which error of the database becomes which fault.
 ghost use Rattle.std.specs.Prelude.{◌≡◌, if◌then◌else◌};
-ghost use Rattle.atl_sql.specs.Errors.{is_memory, read_fault, value_fault};
+ghost use Rattle.atl_sql.specs.Errors.{is_memory, read_fault};
 
 use sqlite::{Error, ErrorCode};
 use std::alloc::{AllocError, AllocFailed};
@@ -19,8 +19,6 @@ pub enum ReadFault {
     /// A value is of another type than its column, or is a text that is not UTF-8 where it has
     /// to be.
     OtherType,
-    /// All values are of the types of their columns, and one is out of its column's range.
-    OutOfRange,
 }
 
 /// Shows a fault of reading by its name, such as `Refused`.
@@ -81,11 +79,4 @@ impl From<AllocError> for ReadFault {
     fn from(_e: AllocError) -> ReadFault {
         ReadFault::Memory
     }
-}
-
-/// The fault for a value of a row that can't be read: Memory if memory ran out, else OtherType.
-pub(crate) fn fault_of_value(error: Error) -> ReadFault
-    ensures { result ≡ value_fault error }
-{
-    by_cause(error, ReadFault::Memory, ReadFault::OtherType)
 }

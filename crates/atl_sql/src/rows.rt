@@ -1,18 +1,11 @@
-//! The tables, one module each: how a row is put, deleted and read. See docs/FORMATS.md, "Tables".
+//! The rows of the tables: how they are put, deleted and read. See docs/FORMATS.md, "Tables".
 
-pub mod books;
 pub mod campaign;
-mod columns;
-pub mod faction;
 pub mod has;
-pub mod mail;
 pub mod market;
-mod numbered;
-pub mod region;
-pub mod report;
+mod shown;
 pub(crate) mod stored;
-pub mod structure;
-pub mod unit;
+mod written;
 
-pub use numbered::{NumberedTable, take_out};
-pub use stored::{HasSelect, RowWithId, Stored, parse_rows};
+pub use stored::{RowWithId, Stored, parse_rows};
+pub use written::{put, take_out, take_out_number};

@@ -9,17 +9,12 @@ ghost use Rattle.atl_sql.specs.Making.{AreEmpty};
 use crate::schema::shapes::is_table_of;
 use crate::statement::run;
 use atl_descriptions::Record;
-use atl_descriptions::records::books::BooksRecord;
-use atl_descriptions::records::campaign::CampaignRecord;
-use atl_descriptions::records::faction::FactionRecord;
-use atl_descriptions::records::has::HasRecord;
-use atl_descriptions::records::mail::MailRecord;
-use atl_descriptions::records::market::MarketRecord;
-use atl_descriptions::records::region::RegionRecord;
-use atl_descriptions::records::report::ReportRecord;
-use atl_descriptions::records::structure::StructureRecord;
-use atl_descriptions::records::unit::UnitRecord;
+use atl_descriptions::records::campaign::StoredCampaign;
 use atl_descriptions::table::Table as Description;
+use atl_rows::parts::{
+    StoredBooks, StoredFaction, StoredHas, StoredMail, StoredMarket, StoredRegion, StoredReport,
+    StoredStructure, StoredUnit,
+};
 use sqlite::{Alter, Error, Transaction};
 use sqlite_schema::schema::Table;
 
@@ -40,16 +35,16 @@ pub(crate) fn described_tables() -> [Description; 10]
     ensures trees { map (λ t. t.tree) result ≡ all_trees }
 {
     [
-        CampaignRecord::table(),
-        FactionRecord::table(),
-        RegionRecord::table(),
-        UnitRecord::table(),
-        HasRecord::table(),
-        StructureRecord::table(),
-        MailRecord::table(),
-        ReportRecord::table(),
-        BooksRecord::table(),
-        MarketRecord::table(),
+        StoredCampaign::table(),
+        StoredFaction::table(),
+        StoredRegion::table(),
+        StoredUnit::table(),
+        StoredHas::table(),
+        StoredStructure::table(),
+        StoredMail::table(),
+        StoredReport::table(),
+        StoredBooks::table(),
+        StoredMarket::table(),
     ]
 }
 
@@ -60,16 +55,16 @@ fn is_table(found: &Table, position: usize) -> bool
     ensures { IsTrue result ↔ (slice_get all_tables position ≡ Some found.now) }
 {
     match position {
-        0 => is_table_of::<CampaignRecord>(found),
-        1 => is_table_of::<FactionRecord>(found),
-        2 => is_table_of::<RegionRecord>(found),
-        3 => is_table_of::<UnitRecord>(found),
-        4 => is_table_of::<HasRecord>(found),
-        5 => is_table_of::<StructureRecord>(found),
-        6 => is_table_of::<MailRecord>(found),
-        7 => is_table_of::<ReportRecord>(found),
-        8 => is_table_of::<BooksRecord>(found),
-        9 => is_table_of::<MarketRecord>(found),
+        0 => is_table_of::<StoredCampaign>(found),
+        1 => is_table_of::<StoredFaction>(found),
+        2 => is_table_of::<StoredRegion>(found),
+        3 => is_table_of::<StoredUnit>(found),
+        4 => is_table_of::<StoredHas>(found),
+        5 => is_table_of::<StoredStructure>(found),
+        6 => is_table_of::<StoredMail>(found),
+        7 => is_table_of::<StoredReport>(found),
+        8 => is_table_of::<StoredBooks>(found),
+        9 => is_table_of::<StoredMarket>(found),
         _ => false,
     }
 }
@@ -114,5 +109,5 @@ pub fn create_market<S: Alter>(tx: &mut Transaction<'_, S>) -> Result<(), Error>
     ensures { Writes S.Store (OneStatement (creation_of Markets) [])
         (RunsStatement (creation_of Markets) []) result tx.old.conn tx.new.conn }
 {
-    run(tx, MarketRecord::table().create, &[])
+    run(tx, StoredMarket::table().create, &[])
 }

@@ -25,7 +25,6 @@ pub mod WorldTextLaws
 pub mod ConfirmLaws
 pub mod PartsLaws
 pub mod KeyedLaws
-pub mod OthersLaws
 pub mod LoadedLaws
 pub mod SchemaTableLaws
 pub mod ReopenLaws

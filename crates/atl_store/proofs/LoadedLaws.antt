@@ -1,6 +1,6 @@
 -- Laws on `load`: from the rows that were read to the campaign that is loaded, or to the fault that refuses it.
-use Rattle.std.proofs.Common.{◌≡◌, ℕ, List, [], ◌∷◌, Bool, true, false, not, filter, map, IsTrue, IsPermutation, true≢false, Option, Result, Ok, Err, IfErr, IsErrAnd, ◌⊎◌, Some, None, inl, arith, refl, sym, ap, ◌∙◌, subst, inr, string_bytes}
-use Rattle.std.specs.List.{AllZip, IsDistinct}
+use Rattle.std.proofs.Common.{◌≡◌, ℕ, List, [], ◌∷◌, Bool, true, false, not, filter, map, IsTrue, IsPermutation, true≢false, Option, Result, Ok, Err, IfErr, IsErrAnd, ◌⊎◌, Some, None, inl, arith, refl, sym, ap, ◌∙◌, subst, inr}
+use Rattle.std.specs.List.{IsDistinct}
 use Rattle.std.proofs.lemmas.Bool.{cases_Bool}
 use Rattle.sqlite_catalog.specs.Listing.{IsSound}
 use Rattle.sqlite_rules.specs.Lists.{Has}
@@ -26,21 +26,18 @@ use Rattle.atl_state.specs.declared.checking.Rule.TheVariants.{OneRow, Ranges, N
 use Rattle.atl_rows.specs.declared.parts.Parts.{Parts}
 use Rattle.atl_rows.specs.declared.parts.StoredCampaignRow.{StoredCampaignRow}
 use Rattle.atl_store.specs.Faults.{fault_of_check}
-use Rattle.atl_store.specs.Gathering.{IsCommitted, FailsWithout, FoundBySelects, FailsToRead, FailsToConfirm, ReadRows, AreOfFormat, AllHaveDistinctRowids, HaveDistinctIntegers, IsOfRows, without_ids, column_count, OwnRead, IsMadeOf, ReadsSome, Gathers, GathersAll, IsConfirmed, IsLoaded}
+use Rattle.atl_store.specs.Gathering.{IsCommitted, FailsWithout, FoundBySelects, FailsToRead, FailsToConfirm, ReadRows, AreOfFormat, AllHaveDistinctRowids, HaveDistinctIntegers, without_ids, column_count, OwnRead, IsMadeOf, ReadsSome, GathersAll, IsConfirmed, IsLoaded}
 use Rattle.atl_store.specs.Keeps.{Keeps, Stores}
-use Rattle.atl_store.specs.Loading.{HaveRows, AreRead, own_stored, KeepsOneRow, BreaksRule, MayReturnDamaged, RefusesToLoadIn, KeepsIn, LoadsIn, Loads, LeavesAlone, AfterReads, AreMade, AllSelectsShowTyped, MayReturnMemory, FailedMeanwhile, RefusesAgain, shows_rowids, tables_with_rowids, other_parts, other_selects}
+use Rattle.atl_store.specs.Loading.{HaveRows, rows_read, own_stored, KeepsOneRow, BreaksRule, MayReturnDamaged, RefusesToLoadIn, KeepsIn, LoadsIn, Loads, LeavesAlone, AfterReads, AreMade, AllSelectsShowTyped, MayReturnMemory, FailedMeanwhile, RefusesAgain, shows_rowids, tables_with_rowids, other_parts, other_selects}
 use Rattle.atl_store.specs.Rows.{HoldsIn}
 use Rattle.atl_descriptions.specs.Statements.{selection}
 use Rattle.atl_descriptions.specs.PartSelects.{select_of_part}
 use Rattle.atl_descriptions.specs.Sets.{AreKeyedByRowid, rows_in}
-use Rattle.atl_sql.specs.Stored.{IsShownAs}
 use Rattle.atl_descriptions.specs.Tables.{Part, Own, IsSoundDatabase, HasTablesOf, campaign_table, table_of, parts_in}
 use Rattle.atl_store.specs.WorldText.{world_text}
-use Rattle.atl_store.specs.declared.loading.gathered.Found.{Found}
-use Rattle.atl_store.specs.declared.loading.gathered.Found.TheVariants as found
 use Rattle.atl_store.specs.declared.fault.LoadFault.{LoadFault}
 use Rattle.atl_store.specs.declared.fault.LoadFault.TheVariants.{Store, Damaged, NotACampaign, OtherFormat, Memory}
-use Rattle.atl_sql.specs.declared.rows.campaign.StoredCampaign.{StoredCampaign}
+use Rattle.atl_descriptions.specs.declared.records.campaign.StoredCampaign.{StoredCampaign}
 use Rattle.atl_store.proofs.KeyedLaws.{cut_nothing, cut_places, places_keyed, keyed_places, unplaced_all}
 use Rattle.atl_store.proofs.GatherLaws.{shown_open, fails_then, format_before}
 use Rattle.atl_sql.proofs.ListLaws.{has_map, map_has}
@@ -54,7 +51,7 @@ module _ (f : Format) {S : Type 0} (g : Ghosts S) where
     rows = read.rows;
     selects = read.selects;
     head = own.head;
-    text = string_bytes own.world;
+    text = own.world;
     world = w;
     own = read.row;
   }
@@ -62,18 +59,15 @@ module _ (f : Format) {S : Type 0} (g : Ghosts S) where
 -- ---- the parts
 
 not_own : (part : Part) → shows_rowids part ≡ true → Has (other_parts Second) part
-not_own part is =
-    elim (every_part part) [ inl own ↦ absurd (true≢false (sym is ∙ ap shows_rowids own)) | inr other ↦ other ]
+not_own part is = elim (every_part part) [ inl own ↦ absurd (true≢false (sym is ∙ ap shows_rowids own)) | inr other ↦ other ]
 
 -- each format has the campaign's own row among its parts
 has_own : (f : Format) → Has (parts_in f) Own
 has_own First = inl refl
 has_own Second = inl refl
 
-read_of : (reads : ReadRows) → map (λ read. read.0) reads ≡ other_parts Second → (part : Part)
-    → Has (other_parts Second) part → (read : Part × List Row) × Has reads read × (part ≡ read.0)
-read_of reads parts part there =
-    map_has (λ (read : Part × List Row). read.0) reads part (subst (λ l. Has l part) (sym parts) there)
+read_of : (reads : ReadRows) → map (λ read. read.0) reads ≡ other_parts Second → (part : Part) → Has (other_parts Second) part → (read : Part × List Row) × Has reads read × (part ≡ read.0)
+read_of reads parts part there = map_has (λ (read : Part × List Row). read.0) reads part (subst (λ l. Has l part) (sym parts) there)
 
 nothing_unplaced : (part : Part) → without_ids part [] ≡ []
 nothing_unplaced part = elim (cases_Bool (shows_rowids part)) [
@@ -84,14 +78,11 @@ nothing_unplaced part = elim (cases_Bool (shows_rowids part)) [
 -- ---- the rows, as they were read
 
 since_first : (part : Part) → Has (parts_in First) part → (select_of_part part).since ≡ First
-since_first part there =
-    all_has (λ p. (select_of_part p).since ≡ First) (parts_in First) part
-    (refl, (refl, (refl, (refl, (refl, (refl, (refl, (refl, (refl, tt))))))))) there
+since_first part there = all_has (λ p. (select_of_part p).since ≡ First) (parts_in First) part (refl, (refl, (refl, (refl, (refl, (refl, (refl, (refl, (refl, tt))))))))) there
 
 -- a schema with a format's tables has, for each part of it, the tables of the earliest format that has the part
 -- (`since`)
-has_since : (f : Format) (schema : Schema) → HasTablesOf f schema → (part : Part) → Has (parts_in f) part
-    → HasTablesOf (select_of_part part).since schema
+has_since : (f : Format) (schema : Schema) → HasTablesOf f schema → (part : Part) → Has (parts_in f) part → HasTablesOf (select_of_part part).since schema
 has_since First schema has part there = subst (λ since. HasTablesOf since schema) (sym (since_first part there)) has
 has_since Second schema has part there = under (select_of_part part).since
   where
@@ -103,14 +94,10 @@ module _ (f : Format) {S : Type 0} (g : Ghosts S) (old : Held S) (reads : ReadRo
   abbrev db : Trees
   db = (state g old).now.trees
 
-  all_of : (read : Part × List Row) → Has reads read → Has (parts_in f) read.0 → HasTablesOf f old.schema
-      → IsPermutation ((select_of_part read.0).in_table db) read.1
-  all_of read there has begins =
-      elim (are.each read there)
-      [ inl all ↦ all.1 (has_since f old.schema begins read.0 has) | inr none ↦ absurd (none.0 has) ]
+  all_of : (read : Part × List Row) → Has reads read → Has (parts_in f) read.0 → HasTablesOf f old.schema → IsPermutation ((select_of_part read.0).in_table db) read.1
+  all_of read there has begins = elim (are.each read there) [ inl all ↦ all.1 (has_since f old.schema begins read.0 has) | inr none ↦ absurd (none.0 has) ]
 
-  all_keyed : map (λ read. read.0) reads ≡ other_parts Second → AllHaveDistinctRowids reads → HasTablesOf f old.schema
-      → (table : Table) → Has (tables_with_rowids f) table → AreKeyedByRowid (db table.tree)
+  all_keyed : map (λ read. read.0) reads ≡ other_parts Second → AllHaveDistinctRowids reads → HasTablesOf f old.schema → (table : Table) → Has (tables_with_rowids f) table → AreKeyedByRowid (db table.tree)
   all_keyed parts apart begins table there =
       let part = map_has table_of (filter shows_rowids (parts_in f)) table there in
       let kept = has_filtered shows_rowids (parts_in f) part.0 part.1 in
@@ -129,66 +116,51 @@ module _ (f : Format) {S : Type 0} (g : Ghosts S) (old : Held S) (reads : ReadRo
 
   -- the rows that are put together for the check are all rows of the tables
   module _ (head : StoredCampaignRow) (p : Parts) (made : IsMadeOf head reads p) where
-    none_read : (text : List ℕ) (part : Part) → ¬ Has (parts_in f) part → AreRead text p part []
+    none_read : (text : List ℕ) (part : Part) → ¬ Has (parts_in f) part → rows_read text p part ≡ []
     none_read text part lacks = elim (every_part part) [
       | inl own ↦ absurd (lacks (subst (Has (parts_in f)) (sym own) (has_own f)))
       | inr other ↦
           let read = read_of reads made.parts part other in
           elim (are.each read.0 read.1) [
             | inl all ↦ absurd (lacks (subst (Has (parts_in f)) (sym read.2) all.0))
-            | inr none ↦ subst (λ q. AreRead text p q []) (sym read.2) (subst (AreRead text p read.0.0) (ap (without_ids read.0.0) none.1 ∙ nothing_unplaced read.0.0) (made.rows text read.0 read.1))
+            | inr none ↦ ap (rows_read text p) read.2 ∙ made.rows text read.0 read.1 ∙ ap (without_ids read.0.0) none.1 ∙ nothing_unplaced read.0.0
           ]
     ]
 
-    abbrev IsReadInto : List ℕ → Part → Type 0
-    IsReadInto text part =
-        (rows : List Row) × IsPermutation (rows_in (table_of part) db) rows × AreRead text p part rows
-
-    rows_of_part : (text : List ℕ) → HasTablesOf f old.schema
-        → IsPermutation (rows_in campaign_table db) (own_stored text head ∷ []) → (part : Part) → Has (parts_in f) part
-        → IsReadInto text part
+    rows_of_part : (text : List ℕ) → HasTablesOf f old.schema → IsPermutation (rows_in campaign_table db) (own_stored text head ∷ []) → (part : Part) → Has (parts_in f) part → IsPermutation (rows_in (table_of part) db) (rows_read text p part)
     rows_of_part text begins own part there = elim (every_part part) [
-      | inl is ↦ subst (IsReadInto text) (sym is) (own_stored text head ∷ [], own, subst (AllZip (IsShownAs (own_stored text)) (own_stored text head ∷ [])) (sym made.campaign) (refl, tt))
+      | inl is ↦ subst (λ q. IsPermutation (rows_in (table_of q) db) (rows_read text p q)) (sym is) (subst (λ rows. IsPermutation (rows_in campaign_table db) (map (own_stored text) rows)) (sym made.campaign) own)
       | inr other ↦
           let read = read_of reads made.parts part other in
-          subst (IsReadInto text) (sym read.2) (
-            without_ids read.0.0 read.0.1,
-            unplaced_all read.0.0 db read.0.1 (all_of read.0 read.1 (subst (Has (parts_in f)) read.2 there) begins),
-            made.rows text read.0 read.1,
-          )
+          subst (λ q. IsPermutation (rows_in (table_of q) db) (rows_read text p q)) (sym read.2)
+          (subst (IsPermutation (rows_in (table_of read.0.0) db)) (sym (made.rows text read.0 read.1)) (unplaced_all read.0.0 db read.0.1 (all_of read.0 read.1 (subst (Has (parts_in f)) read.2 there) begins)))
     ]
 
-    have_rows : (text : List ℕ) → HasTablesOf f old.schema
-        → IsPermutation (rows_in campaign_table db) (own_stored text head ∷ []) → HaveRows f db text p
+    have_rows : (text : List ℕ) → HasTablesOf f old.schema → IsPermutation (rows_in campaign_table db) (own_stored text head ∷ []) → HaveRows f db text p
     have_rows text begins own = record { rows = rows_of_part text begins own; none = none_read text }
 
 module _ (f : Format) {S : Type 0} (g : Ghosts S) where
   -- all tables were read into `p` (`GathersAll`), if the campaign row was read, and all other tables without a value of
   -- another type, and `p` is made of these rows
-  gathered_of : (old : Held S) (own : StoredCampaign) (w : WorldValue) (reads : ReadRows) (p : Parts)
-      → OwnRead g old f own w → AllSelectsShowTyped g old (other_selects f) → AreOfFormat f (state g old).now reads
-      → (head : StoredCampaignRow) → head ≡ own.head → IsMadeOf head reads p → GathersAll f g old w p
+  gathered_of : (old : Held S) (own : StoredCampaign) (w : WorldValue) (reads : ReadRows) (p : Parts) → OwnRead g old f own w → AllSelectsShowTyped g old (other_selects f) → AreOfFormat f (state g old).now reads → (head : StoredCampaignRow) → head ≡ own.head → IsMadeOf head reads p → GathersAll f g old w p
   gathered_of old own w reads p row typed are head same made = record {
     one = own_kept f g old own w row;
     first = keeps_one_row f w p head (ap (λ (h : StoredCampaignRow). h.id) same ∙ row.row.id) (ap (λ (h : StoredCampaignRow). h.format) same ∙ row.row.format) made.campaign (none_read f g old reads are head p made);
-    text = string_bytes own.world;
+    text = own.world;
     world = row.row.world;
     typed = typed;
-    rows = λ begins. have_rows f g old reads are head p made (string_bytes own.world) begins (subst (λ h. IsPermutation (rows_in campaign_table (state g old).now.trees) (own_stored (string_bytes own.world) h ∷ [])) (sym same) (row.table (has_first f old.schema begins)));
+    rows = λ begins. have_rows f g old reads are head p made own.world begins (subst (λ h. IsPermutation (rows_in campaign_table (state g old).now.trees) (own_stored own.world h ∷ [])) (sym same) (row.table (has_first f old.schema begins)));
     keyed = all_keyed f g old reads are made.parts made.apart;
   }
 
   -- ---- what the check of the rows refuses
 
-  breaks : (old : Held S) (w : WorldValue) (p : Parts) → GathersAll f g old w p → HasTablesOf f old.schema
-      → (rule : Rule) → IsFirstBroken f w p rule → BreaksRule f g old rule
-  breaks old w p all begins rule first =
-      record { made = record { begins = begins; keyed = all.keyed begins }; world = w; text = all.text; is_world = all.world; parts = p; rows = all.rows begins; first = first }
+  breaks : (old : Held S) (w : WorldValue) (p : Parts) → GathersAll f g old w p → HasTablesOf f old.schema → (rule : Rule) → IsFirstBroken f w p rule → BreaksRule f g old rule
+  breaks old w p all begins rule first = record { made = record { begins = begins; keyed = all.keyed begins }; world = w; text = all.text; is_world = all.world; parts = p; rows = all.rows begins; first = first }
 
-  damaged_may_be_returned : (old : Held S) (w : WorldValue) (p : Parts) → GathersAll f g old w p
-      → HasTablesOf f old.schema → (rule : Rule) → IsFirstBroken f w p rule → MayReturnDamaged f g old rule
+  damaged_may_be_returned : (old : Held S) (w : WorldValue) (p : Parts) → GathersAll f g old w p → HasTablesOf f old.schema → (rule : Rule) → IsFirstBroken f w p rule → MayReturnDamaged f g old rule
   damaged_may_be_returned old w p all begins OneRow first = absurd (first.broken all.first)
-  damaged_may_be_returned old w p all begins Ranges first = inr (inr (breaks old w p all begins Ranges first))
+  damaged_may_be_returned old w p all begins Ranges first = inr (breaks old w p all begins Ranges first)
   damaged_may_be_returned old w p all begins Names first = breaks old w p all begins Names first
   damaged_may_be_returned old w p all begins Known first = breaks old w p all begins Known first
   damaged_may_be_returned old w p all begins Next first = breaks old w p all begins Next first
@@ -200,29 +172,19 @@ module _ (f : Format) {S : Type 0} (g : Ghosts S) where
   damaged_may_be_returned old w p all begins Books first = breaks old w p all begins Books first
   damaged_may_be_returned old w p all begins Mail first = breaks old w p all begins Mail first
 
-  -- with the format's schema, a row that isn't read refuses the load: Damaged by the second rule
-  pub unread_row_refuses : (old : Held S) (w : WorldValue) → Gathers f g old w None → HasTablesOf f old.schema
-      → RefusesToLoadIn f g old (Damaged Ranges)
-  unread_row_refuses old w unread begins = inr (inl (unread.0, begins, unread.1))
-
   may_return_memory : (old : Held S) → old.in_transaction ≡ false → KeepsOneRow f g old → MayReturnMemory g old
   may_return_memory old idle kept = (idle, inr (kept.rows, kept.selects))
 
   -- outside a transaction, with the format's schema, a fault of checking the rows refuses the load: Damaged with the
   -- first broken rule, or Memory
-  pub judged_damaged : (old : Held S) → old.in_transaction ≡ false → (w : WorldValue) (p : Parts)
-      → GathersAll f g old w p → HasTablesOf f old.schema → (fault : CheckFault) → Checks f w p (Err fault)
-      → RefusesToLoadIn f g old (fault_of_check fault)
-  judged_damaged old idle w p all begins (check.Damaged rule) first =
-      damaged_may_be_returned old w p all begins rule first
+  pub judged_damaged : (old : Held S) → old.in_transaction ≡ false → (w : WorldValue) (p : Parts) → GathersAll f g old w p → HasTablesOf f old.schema → (fault : CheckFault) → Checks f w p (Err fault) → RefusesToLoadIn f g old (fault_of_check fault)
+  judged_damaged old idle w p all begins (check.Damaged rule) first = damaged_may_be_returned old w p all begins rule first
   judged_damaged old idle w p all begins check.Memory none = may_return_memory old idle all.one
 
   -- ---- what else refuses the load after the first rule holds
 
-  pub unread_refuses : (old mid : Held S) → old.in_transaction ≡ false → KeepsOneRow f g old → AfterReads g old mid
-      → (fault : LoadFault) → FailsToRead g mid (other_selects f) fault → RefusesToLoadIn f g old fault
-  unread_refuses old mid idle kept first fault fails =
-      refused fault (fails_then g old mid first (other_selects f) fault fails)
+  pub unread_refuses : (old mid : Held S) → old.in_transaction ≡ false → KeepsOneRow f g old → AfterReads g old mid → (fault : LoadFault) → FailsToRead g mid (other_selects f) fault → RefusesToLoadIn f g old fault
+  unread_refuses old mid idle kept first fault fails = refused fault (fails_then g old mid first (other_selects f) fault fails)
     where
       refused : (fault : LoadFault) → FailsToRead g old (other_selects f) fault → RefusesToLoadIn f g old fault
       refused Store fails = inr (inr (kept, inl fails))
@@ -253,8 +215,7 @@ module _ (f : Format) {S : Type 0} (g : Ghosts S) where
 
     -- outside a transaction, if all values are of their columns' forms, a fault of testing the schema
     -- (`FailsToConfirm`) refuses the load
-    pub unconfirmed_refuses : old.in_transaction ≡ false → AllSelectsShowTyped g old (other_selects f)
-        → (fault : LoadFault) → FailsToConfirm g mid f fault → RefusesToLoadIn f g old fault
+    pub unconfirmed_refuses : old.in_transaction ≡ false → AllSelectsShowTyped g old (other_selects f) → (fault : LoadFault) → FailsToConfirm g mid f fault → RefusesToLoadIn f g old fault
     unconfirmed_refuses idle typed Store (inl other) = inr (inr (kept, inr (typed, other_schema other)))
     unconfirmed_refuses idle typed Store (inr again) =
         inr (inr (kept, inr (typed, inr (inr (record { before = mid; leaves = first; during = again.1.0; error = again.1.1; refused = again.1.2; memory_is = again.1.3 })))))
@@ -264,52 +225,29 @@ module _ (f : Format) {S : Type 0} (g : Ghosts S) where
     unconfirmed_refuses idle typed Memory fails = may_return_memory old idle kept
 
 -- what was read of the other tables after the campaign row was read
-module _ (f : Format) {S : Type 0} (g : Ghosts S) {A : Type 0} (rows : ReadRows → A → Type 0) (old mid new : Held S) (own : StoredCampaign) (w : WorldValue) (row : OwnRead g old f own w) (before : AfterReads g old mid) (r : Result (Found A) LoadFault)
-    (reads : ReadsSome g mid (other_selects f) (IsOfRows rows (AreOfFormat f (state g mid).now)) r new) (o : Found A) (was : r ≡ Ok o) (clean : HasCleanDisk (state g new)) where
-  abbrev Finds : Found A → Type 0
-  Finds = FoundBySelects g old (other_selects f) (IsOfRows rows (AreOfFormat f (state g old).now))
+module _ (f : Format) {S : Type 0} (g : Ghosts S) {A : Type 0} (rows : A → ReadRows) (old mid new : Held S) (own : StoredCampaign) (w : WorldValue) (row : OwnRead g old f own w) (before : AfterReads g old mid) (r : Result (Option A) LoadFault)
+    (reads : ReadsSome g mid (other_selects f) (λ a. AreOfFormat f (state g mid).now (rows a)) r new) (o : Option A) (was : r ≡ Ok o) (clean : HasCleanDisk (state g new)) where
+  found : (says : Option A) → o ≡ says → FoundBySelects g old (other_selects f) (λ a. AreOfFormat f (state g old).now (rows a)) says
+  found says is = subst (FoundBySelects g old (other_selects f) (λ a. AreOfFormat f (state g old).now (rows a))) is (format_before g f rows old mid new before (other_selects f) r reads o was clean)
 
-  finds : (says : Found A) → o ≡ says → Finds says
-  finds says is = subst Finds is (format_before g f rows old mid new before (other_selects f) r reads o was clean)
+  pub gathered_with : (a : A) → o ≡ Some a → (p : Parts) (head : StoredCampaignRow) → head ≡ own.head → IsMadeOf head (rows a) p → GathersAll f g old w p
+  gathered_with a is p head same made = let all = found (Some a) is in gathered_of f g old own w (rows a) p row all.0 all.1 head same made
 
-  pub gathered_with : (a : A) → o ≡ found.Rows a → (p : Parts) (head : StoredCampaignRow) → head ≡ own.head
-      → ((reads : ReadRows) → rows reads a → IsMadeOf head reads p) → Gathers f g old w (Some p)
-  gathered_with a is p head same made = let all = finds (found.Rows a) is in gathered_of f g old own w all.1.0 p row all.0 all.1.2 head same (made all.1.0 all.1.1)
+  pub mistyped_refuses : o ≡ None → RefusesToLoadIn f g old (Damaged Ranges)
+  mistyped_refuses is = inl (own_kept f g old own w row, found None is)
 
-  pub gathered_unread : o ≡ found.OutOfRange → Gathers f g old w None
-  gathered_unread is = (own_kept f g old own w row, finds found.OutOfRange is)
-
-  pub mistyped_refuses : o ≡ found.OtherType → RefusesToLoadIn f g old (Damaged Ranges)
-  mistyped_refuses is = inl (own_kept f g old own w row, finds found.OtherType is)
-
-  pub unmade_refuses : old.in_transaction ≡ false → (a : A) → o ≡ found.Rows a → (fault : LoadFault)
-      → ((reads : ReadRows) → rows reads a → FailsWithout (AllHaveDistinctRowids reads) fault)
-      → RefusesToLoadIn f g old fault
-  unmade_refuses idle a is fault lacks = let all = finds (found.Rows a) is in refused all.0 all.1.0 all.1.2 fault (lacks all.1.0 all.1.1)
+  pub unmade_refuses : old.in_transaction ≡ false → (a : A) → o ≡ Some a → (fault : LoadFault) → FailsWithout (AllHaveDistinctRowids (rows a)) fault → RefusesToLoadIn f g old fault
+  unmade_refuses idle a is fault = refused fault
     where
-      refused : AllSelectsShowTyped g old (other_selects f) → (reads : ReadRows) → AreOfFormat f (state g old).now reads
-          → (fault : LoadFault) → FailsWithout (AllHaveDistinctRowids reads) fault → RefusesToLoadIn f g old fault
-      refused typed reads are Store lacks =
-          inr (inr (own_kept f g old own w row, inr (typed, inl (λ made. lacks (all_apart f g old reads are made)))))
-      refused typed reads are (Damaged rule) lacks = absurd lacks
-      refused typed reads are NotACampaign lacks = absurd lacks
-      refused typed reads are OtherFormat lacks = absurd lacks
-      refused typed reads are Memory lacks = may_return_memory f g old idle (own_kept f g old own w row)
-
-module _ (f : Format) {S : Type 0} (g : Ghosts S) (old : Held S) (w : WorldValue) where
-  -- whatever was gathered, the campaign row keeps the first rule
-  pub gathers_one : (o : Option Parts) → Gathers f g old w o → KeepsOneRow f g old
-  gathers_one None gathers = gathers.0
-  gathers_one (Some p) gathers = gathers.one
-
-  -- whatever was gathered, each value is of its column's form
-  pub gathers_typed : (o : Option Parts) → Gathers f g old w o → AllSelectsShowTyped g old (other_selects f)
-  gathers_typed None gathers = gathers.1.typed
-  gathers_typed (Some p) gathers = gathers.typed
+      refused : (fault : LoadFault) → FailsWithout (AllHaveDistinctRowids (rows a)) fault → RefusesToLoadIn f g old fault
+      refused Store lacks = let all = found (Some a) is in inr (inr (own_kept f g old own w row, inr (all.0, inl (λ made. lacks (all_apart f g old (rows a) all.1 made)))))
+      refused (Damaged rule) lacks = absurd lacks
+      refused NotACampaign lacks = absurd lacks
+      refused OtherFormat lacks = absurd lacks
+      refused Memory lacks = may_return_memory f g old idle (own_kept f g old own w row)
 
 module _ {S : Type 0} (g : Ghosts S) where
-  pub holds_of_error : {A : Type 0} (P : LoadFault → Type 0) (fault : LoadFault) (r : Result A LoadFault)
-      → IsErrAnd r (λ says. says ≡ fault) → P fault → IfErr r P
+  pub holds_of_error : {A : Type 0} (P : LoadFault → Type 0) (fault : LoadFault) (r : Result A LoadFault) → IsErrAnd r (λ says. says ≡ fault) → P fault → IfErr r P
   holds_of_error P fault (Ok a) says p = tt
   holds_of_error P fault (Err f) says p = subst P (sym says) p
 
@@ -319,9 +257,7 @@ module _ {S : Type 0} (g : Ghosts S) where
   is_idle auto true is said = absurd (let k = sym is ∙ said in cc)
   is_idle auto false is said = refl
 
-  pub confirmed_before : (f : Format) (old mid new : Held S) → AfterReads g old mid → AfterReads g mid new
-      → HasCleanDisk (state g mid) → HasCleanDisk (state g new) → IsConfirmed f (state g mid) (state g new)
-      → IsConfirmed f (state g old) (state g new)
+  pub confirmed_before : (f : Format) (old mid new : Held S) → AfterReads g old mid → AfterReads g mid new → HasCleanDisk (state g mid) → HasCleanDisk (state g new) → IsConfirmed f (state g mid) (state g new) → IsConfirmed f (state g old) (state g new)
   confirmed_before f old mid new one two clean_mid clean confirmed =
       let up = (two.stays clean).was_open confirmed.is_open in
       let same = ((one.stays clean_mid).same up).0 in
@@ -374,9 +310,7 @@ module _ (f : Format) {S : Type 0} (g : Ghosts S) (old new : Held S) (w : WorldV
   }
 
 module _ {S : Type 0} (g : Ghosts S) (old new : Held S) where
-  keeps_second : (text : List ℕ) (c : CampaignValue)
-      → ((db : Trees) → IsTrue (state g new).is_open → (state g new).may_leave db → db ≡ (state g new).committed.trees)
-      → KeepsIn Second (state g new) text c → Keeps (state g new) text c
+  keeps_second : (text : List ℕ) (c : CampaignValue) → ((db : Trees) → IsTrue (state g new).is_open → (state g new).may_leave db → db ≡ (state g new).committed.trees) → KeepsIn Second (state g new) text c → Keeps (state g new) text c
   keeps_second text c store keeps =
       let sound : IsSoundDatabase (state g new).now.schema (state g new).now.trees = record { keyed = keeps.keyed; listed = keeps.listed } in
       let rows = holds_all (state g new).now.trees text c keeps.rows in
@@ -389,8 +323,7 @@ module _ {S : Type 0} (g : Ghosts S) (old new : Held S) where
         crash = λ db may. subst (λ t. Stores t text c) (sym (store db keeps.is_open may ∙ ap (λ (d : Database). d.trees) keeps.settled)) (record { schema = (state g new).now.schema; begins = keeps.begins; sound = sound; rows = rows });
       }
 
-  pub loads : ((db : Trees) → IsTrue (state g new).is_open → (state g new).may_leave db → db ≡ (state g new).committed.trees)
-      → (w : WorldValue) (c : MarkedCampaign) → LoadsIn Second g old new w c → Loads g old new w c
+  pub loads : ((db : Trees) → IsTrue (state g new).is_open → (state g new).may_leave db → db ≡ (state g new).committed.trees) → (w : WorldValue) (c : MarkedCampaign) → LoadsIn Second g old new w c → Loads g old new w c
   loads store w c loaded = record {
     world = loaded.world;
     tables = λ clean. keeps_second (world_text (state g new)) c.value store (loaded.keeps clean);

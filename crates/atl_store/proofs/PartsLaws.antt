@@ -1,6 +1,6 @@
 -- Laws on tables whose rows are those of a campaign: if the rows that were read are made of it, the tables hold it.
 use Rattle.std.proofs.Common.{◌≡◌, ◌≢◌, ◌==◌, ℕ, ℤ, pos, Bool, true, false, cond, not, unwrap_or, Some, None, List, [], ◌∷◌, filter, map, refl, sym, ap, ◌∙◌, subst, inl, inr, true≢false, IsTrue}
-use Rattle.std.specs.List.{AllByRecursion, AllZip}
+use Rattle.std.specs.List.{AllByRecursion}
 use Rattle.std.specs.List.Sorted.{IsPermutation}
 use Rattle.std.specs.Ordering.{nat_cmp}
 use Rattle.std.specs.FinMap.{FinMap, entries, get}
@@ -37,11 +37,10 @@ use Rattle.atl_records.proofs.AmountListLaws.{each_amount, amount_of_each}
 use Rattle.atl_sql.specs.declared.rows.has.ThingKind.{ThingKind}
 use Rattle.atl_sql.specs.declared.rows.has.ThingKind.TheVariants.{Item, Skill}
 use Rattle.atl_store.specs.Gathering.{HaveDistinctIntegers}
-use Rattle.atl_store.specs.Loading.{HaveRows, AreRead, own_stored, has_row_values, books_values, market_values, shows_rowids, tables_with_rowids}
+use Rattle.atl_store.specs.Loading.{HaveRows, rows_read, own_stored, has_row_values, books_values, market_values, shows_rowids, tables_with_rowids}
 use Rattle.atl_store.specs.Rows.{RowsOf, rows_in_order, HasRowsOf, BooksRowsOf, MarketRowsOf, rows_for, Holds, HoldsIn, campaign_row_of, row_of_faction, row_of_region, row_of_unit, row_of_structure, things_of}
 use Rattle.atl_descriptions.specs.Sets.{HasExactly, AreKeyedByRowid, rows_in}
 use Rattle.atl_sql.specs.Shown.{flag, campaign_row_in, mail_row, report_row, faction_stored, region_stored, unit_stored, structure_stored, mail_stored, report_stored}
-use Rattle.atl_sql.specs.Stored.{IsShownAs}
 use Rattle.atl_descriptions.specs.Tables.{Part, Own, Factions, Regions, Units, Goods, Structures, Mail, Reports, Books, Markets, table_of, all_parts, parts_in}
 use Rattle.atl_sql.specs.Written.{sort_number}
 use Rattle.atl_sql.proofs.EditLaws.{has_permuted}
@@ -50,15 +49,12 @@ use Rattle.atl_store.proofs.HasTableLaws.{is_not_zero}
 use Rattle.atl_store.proofs.KeyedLaws.{mapped_twice, lines_keys, one_keys, numbers_keyed}
 use Rattle.atl_sql.proofs.ListLaws.{has_map, map_has}
 use Rattle.atl_sql.proofs.PartLaws.{all_among, is_among, not_among}
-use Rattle.atl_sql.proofs.ReadAsLaws.{shown_all}
 
 -- ---- rows of a table, rows that were read of it, and rows that are made of a campaign
 
 module _ {A : Type 0} (shown : A → Row) (rows : List Row) (read made : List A) (in_table : IsPermutation rows (map shown read)) (of_them : IsPermutation made read) where
   rows_made : IsPermutation rows (map shown made)
-  rows_made =
-      IsPermutation-trans rows (map shown read) (map shown made) in_table
-      (IsPermutation-sym (map shown made) (map shown read) (IsPermutation-map shown made read of_them))
+  rows_made = IsPermutation-trans rows (map shown read) (map shown made) in_table (IsPermutation-sym (map shown made) (map shown read) (IsPermutation-map shown made read of_them))
 
   are_made : HasExactly rows (λ r. (a : A) × Has made a × (r ≡ shown a))
   are_made r = (
@@ -66,33 +62,21 @@ module _ {A : Type 0} (shown : A → Row) (rows : List Row) (read made : List A)
     λ of. has_permuted (map shown made) rows r (IsPermutation-sym rows (map shown made) rows_made) (subst (Has (map shown made)) (sym of.2) (has_map shown made of.0 of.1)),
   )
 
--- a table whose rows are read as what is shown as them has what is shown as these
-in_table_shown : {A : Type 0} (shown : A → Row) (in_table : List Row) (read : List A)
-    → (rows : List Row) × IsPermutation in_table rows × AllZip (IsShownAs shown) rows read
-    → IsPermutation in_table (map shown read)
-in_table_shown shown in_table read are = subst (IsPermutation in_table) (sym (shown_all shown are.0 read are.2)) are.1
-
 -- ---- the tables by number
 
 abbrev HasKeys : List Row → Type 0
 HasKeys rows = (shown : List Row) × IsPermutation rows shown × HaveDistinctIntegers 0 shown
 
 -- a table has exactly the rows of a map, with different numbers, if the rows read of it are made of the map's entries
-table_has_rows_of_map : {A V : Type 0} {Q : Type 0} (shown : A → Row) (row : ℕ → V → A) (line : ℕ → V → Row)
-    → ((n : ℕ) (v : V) → shown (row n v) ≡ line n v) → ((n : ℕ) (v : V) → column (line n v) 0 ≡ Int (pos n))
-    → (rows : List Row) (read : List A) (m : FinMap nat_cmp V) → IsPermutation rows (map shown read)
-    → IsPermutation (rows_by row (entries m)) read → HasExactly rows (RowsOf line m) × (Q → HasKeys rows)
-table_has_rows_of_map {A} {V} shown row line same numbered rows read m in_table of_them =
-    (held, λ _. (lines, is, lines_keys line numbered m))
+table_has_rows_of_map : {A V : Type 0} {Q : Type 0} (shown : A → Row) (row : ℕ → V → A) (line : ℕ → V → Row) → ((n : ℕ) (v : V) → shown (row n v) ≡ line n v) → ((n : ℕ) (v : V) → column (line n v) 0 ≡ Int (pos n))
+    → (rows : List Row) (read : List A) (m : FinMap nat_cmp V) → IsPermutation rows (map shown read) → IsPermutation (rows_by row (entries m)) read → HasExactly rows (RowsOf line m) × (Q → HasKeys rows)
+table_has_rows_of_map {A} {V} shown row line same numbered rows read m in_table of_them = (held, λ _. (lines, is, lines_keys line numbered m))
   where
     lines : List Row
     lines = rows_in_order line (entries m)
 
     is : IsPermutation rows lines
-    is =
-        subst (IsPermutation rows)
-        (mapped_twice (λ (e : ℕ × V). row e.0 e.1) shown (λ (e : ℕ × V). line e.0 e.1) (λ e. same e.0 e.1) (entries m))
-        (rows_made shown rows read (rows_by row (entries m)) in_table of_them)
+    is = subst (IsPermutation rows) (mapped_twice (λ (e : ℕ × V). row e.0 e.1) shown (λ (e : ℕ × V). line e.0 e.1) (λ e. same e.0 e.1) (entries m)) (rows_made shown rows read (rows_by row (entries m)) in_table of_them)
 
     held : HasExactly rows (RowsOf line m)
     held r = (
@@ -105,8 +89,7 @@ stored_flag_is_flag true = refl
 stored_flag_is_flag false = refl
 
 faction_row_is_line : (n : ℕ) (f : Faction) → faction_stored (made.faction_row n f) ≡ row_of_faction n f
-faction_row_is_line n f =
-    ap (λ v. Int (pos n) ∷ Text f.joined_as ∷ Text f.name ∷ Text f.pass ∷ v ∷ []) (stored_flag_is_flag f.gone)
+faction_row_is_line n f = ap (λ v. Int (pos n) ∷ Text f.joined_as ∷ Text f.name ∷ Text f.pass ∷ v ∷ []) (stored_flag_is_flag f.gone)
 
 unit_row_is_line : (n : ℕ) (u : Unit) → unit_stored (made.unit_row n u) ≡ row_of_unit n u
 unit_row_is_line n u =
@@ -114,9 +97,7 @@ unit_row_is_line n u =
 
 -- ---- the campaign's own row
 
-own_held : {Q : Type 0} (f : Format) (text : List ℕ) (c : CampaignValue) (rows : List Row) (read : List StoredCampaignRow)
-    → IsPermutation rows (map (own_stored text) read) → IsPermutation (made.campaign_row f c ∷ []) read
-    → HasExactly rows (λ r. r ≡ campaign_row_in f (campaign_row_of c) text) × (Q → HasKeys rows)
+own_held : {Q : Type 0} (f : Format) (text : List ℕ) (c : CampaignValue) (rows : List Row) (read : List StoredCampaignRow) → IsPermutation rows (map (own_stored text) read) → IsPermutation (made.campaign_row f c ∷ []) read → HasExactly rows (λ r. r ≡ campaign_row_in f (campaign_row_of c) text) × (Q → HasKeys rows)
 own_held f text c rows read in_table of_them = (
   λ r.
       let is = are_made (own_stored text) rows read (made.campaign_row f c ∷ []) in_table of_them r in (
@@ -129,59 +110,38 @@ own_held f text c rows read in_table of_them = (
 -- ---- amounts that are not 0
 
 module _ {R : Type 0} (amount : R → ℤ) (row : ℕ → ℕ → R) (is : (thing count : ℕ) → amount (row thing count) ≡ pos count) where
-  amount_row_is_of_entry : (es : List (ℕ × ℕ)) (s : R) → Has (amount_rows amount row es) s
-      → (e : ℕ × ℕ) × Has es e × (e.1 ≢ 0) × (s ≡ row e.0 e.1)
+  amount_row_is_of_entry : (es : List (ℕ × ℕ)) (s : R) → Has (amount_rows amount row es) s → (e : ℕ × ℕ) × Has es e × (e.1 ≢ 0) × (s ≡ row e.0 e.1)
   amount_row_is_of_entry es s there =
       let kept = has_filtered (λ r. not (is_zero (amount r))) (rows_by row es) s there in
       let e = map_has (λ (e : ℕ × ℕ). row e.0 e.1) es s kept.0 in
       (e.0, e.1, λ zero. true≢false (sym kept.1 ∙ ap (λ r. not (is_zero (amount r))) e.2 ∙ ap (λ z. not (is_zero z)) (is e.0.0 e.0.1) ∙ ap (λ a. not (a == 0)) zero), e.2)
 
-  entry_has_amount_row : (es : List (ℕ × ℕ)) (thing count : ℕ) → Has es (thing, count) → count ≢ 0
-      → Has (amount_rows amount row es) (row thing count)
+  entry_has_amount_row : (es : List (ℕ × ℕ)) (thing count : ℕ) → Has es (thing, count) → count ≢ 0 → Has (amount_rows amount row es) (row thing count)
   entry_has_amount_row es thing count there some =
       has_kept (λ r. not (is_zero (amount r))) (rows_by row es) (row thing count) (has_map (λ (e : ℕ × ℕ). row e.0 e.1) es (thing, count) there) (ap (λ z. not (is_zero z)) (is thing count) ∙ ap not (is_not_zero count some))
 
 -- ---- what units have
 
-kind_row_is_of_entry : (n sort : ℕ) (es : List (ℕ × ℕ)) (s : StoredHas) → Has (made.rows_of_sort n sort es) s
-    → (e : ℕ × ℕ) × Has es e × (e.1 ≢ 0) × (s ≡ made.has_row n sort e.0 e.1)
-kind_row_is_of_entry n sort =
-    amount_row_is_of_entry (λ (r : StoredHas). r.amount) (made.has_row n sort) (λ thing count. refl)
+kind_row_is_of_entry : (n sort : ℕ) (es : List (ℕ × ℕ)) (s : StoredHas) → Has (made.rows_of_sort n sort es) s → (e : ℕ × ℕ) × Has es e × (e.1 ≢ 0) × (s ≡ made.has_row n sort e.0 e.1)
+kind_row_is_of_entry n sort = amount_row_is_of_entry (λ (r : StoredHas). r.amount) (made.has_row n sort) (λ thing count. refl)
 
-entry_has_kind_row : (n sort : ℕ) (es : List (ℕ × ℕ)) (thing amount : ℕ) → Has es (thing, amount) → amount ≢ 0
-    → Has (made.rows_of_sort n sort es) (made.has_row n sort thing amount)
-entry_has_kind_row n sort =
-    entry_has_amount_row (λ (r : StoredHas). r.amount) (made.has_row n sort) (λ thing count. refl)
+entry_has_kind_row : (n sort : ℕ) (es : List (ℕ × ℕ)) (thing amount : ℕ) → Has es (thing, amount) → amount ≢ 0 → Has (made.rows_of_sort n sort es) (made.has_row n sort thing amount)
+entry_has_kind_row n sort = entry_has_amount_row (λ (r : StoredHas). r.amount) (made.has_row n sort) (λ thing count. refl)
 
-goods_row_is_of_entry : (n : ℕ) (held : HoldingValue) (s : StoredHas) → Has (made.held_rows n held) s
-    → (sort : ThingKind) × (e : ℕ × ℕ) × Has (entries (things_of sort held)) e × (e.1 ≢ 0)
-    × (s ≡ made.has_row n (sort_number sort) e.0 e.1)
-goods_row_is_of_entry n held s there =
-    elim (has_either (made.rows_of_sort n 0 (entries held.items)) (made.rows_of_sort n 1 (entries held.days)) s there) [
-      | inl item ↦ let e = kind_row_is_of_entry n 0 (entries held.items) s item in (Item, e.0, e.1, e.2, e.3)
-      | inr skill ↦ let e = kind_row_is_of_entry n 1 (entries held.days) s skill in (Skill, e.0, e.1, e.2, e.3)
-    ]
+goods_row_is_of_entry : (n : ℕ) (held : HoldingValue) (s : StoredHas) → Has (made.held_rows n held) s → (sort : ThingKind) × (e : ℕ × ℕ) × Has (entries (things_of sort held)) e × (e.1 ≢ 0) × (s ≡ made.has_row n (sort_number sort) e.0 e.1)
+goods_row_is_of_entry n held s there = elim (has_either (made.rows_of_sort n 0 (entries held.items)) (made.rows_of_sort n 1 (entries held.days)) s there) [
+  | inl item ↦ let e = kind_row_is_of_entry n 0 (entries held.items) s item in (Item, e.0, e.1, e.2, e.3)
+  | inr skill ↦ let e = kind_row_is_of_entry n 1 (entries held.days) s skill in (Skill, e.0, e.1, e.2, e.3)
+]
 
-entry_has_goods_row : (n : ℕ) (held : HoldingValue) (sort : ThingKind) (thing amount : ℕ)
-    → Has (entries (things_of sort held)) (thing, amount) → amount ≢ 0
-    → Has (made.held_rows n held) (made.has_row n (sort_number sort) thing amount)
-entry_has_goods_row n held Item thing amount there some =
-    has_left (made.rows_of_sort n 0 (entries held.items)) (made.rows_of_sort n 1 (entries held.days)) _
-    (entry_has_kind_row n 0 (entries held.items) thing amount there some)
-entry_has_goods_row n held Skill thing amount there some =
-    has_right (made.rows_of_sort n 0 (entries held.items)) (made.rows_of_sort n 1 (entries held.days)) _
-    (entry_has_kind_row n 1 (entries held.days) thing amount there some)
+entry_has_goods_row : (n : ℕ) (held : HoldingValue) (sort : ThingKind) (thing amount : ℕ) → Has (entries (things_of sort held)) (thing, amount) → amount ≢ 0 → Has (made.held_rows n held) (made.has_row n (sort_number sort) thing amount)
+entry_has_goods_row n held Item thing amount there some = has_left (made.rows_of_sort n 0 (entries held.items)) (made.rows_of_sort n 1 (entries held.days)) _ (entry_has_kind_row n 0 (entries held.items) thing amount there some)
+entry_has_goods_row n held Skill thing amount there some = has_right (made.rows_of_sort n 0 (entries held.items)) (made.rows_of_sort n 1 (entries held.days)) _ (entry_has_kind_row n 1 (entries held.days) thing amount there some)
 
-row_of_goods : (units : FinMap nat_cmp Unit) (r : Row) (n : ℕ) (unit : Unit) → Has (entries units) (n, unit)
-    → (a : StoredHas) → r ≡ has_row_values a → (sort : ThingKind) (e : ℕ × ℕ)
-    → Has (entries (things_of sort unit.holding)) e → e.1 ≢ 0 → a ≡ made.has_row n (sort_number sort) e.0 e.1
-    → HasRowsOf units r
-row_of_goods units r n unit there a is sort e has some made_is =
-    (n, unit, entry_got units n unit there, sort, e.0, e.1, entry_got (things_of sort unit.holding) e.0 e.1 has, some, is ∙ ap has_row_values made_is)
+row_of_goods : (units : FinMap nat_cmp Unit) (r : Row) (n : ℕ) (unit : Unit) → Has (entries units) (n, unit) → (a : StoredHas) → r ≡ has_row_values a → (sort : ThingKind) (e : ℕ × ℕ) → Has (entries (things_of sort unit.holding)) e → e.1 ≢ 0 → a ≡ made.has_row n (sort_number sort) e.0 e.1 → HasRowsOf units r
+row_of_goods units r n unit there a is sort e has some made_is = (n, unit, entry_got units n unit there, sort, e.0, e.1, entry_got (things_of sort unit.holding) e.0 e.1 has, some, is ∙ ap has_row_values made_is)
 
-goods_held : (rows : List Row) (read : List StoredHas) (units : FinMap nat_cmp Unit)
-    → IsPermutation rows (map has_row_values read) → IsPermutation (made.has_rows (entries units)) read
-    → HasExactly rows (HasRowsOf units)
+goods_held : (rows : List Row) (read : List StoredHas) (units : FinMap nat_cmp Unit) → IsPermutation rows (map has_row_values read) → IsPermutation (made.has_rows (entries units)) read → HasExactly rows (HasRowsOf units)
 goods_held rows read units in_table of_them r =
     let is = are_made has_row_values rows read (made.has_rows (entries units)) in_table of_them r in (
       λ there.
@@ -198,9 +158,7 @@ goods_held rows read units in_table of_them r =
 
 -- ---- the stocks
 
-stocks_held : (rows : List Row) (read : List StoredMarket) (regions : FinMap nat_cmp Region)
-    → IsPermutation rows (map market_values read) → IsPermutation (made.market_rows Second (entries regions)) read
-    → HasExactly rows (MarketRowsOf regions)
+stocks_held : (rows : List Row) (read : List StoredMarket) (regions : FinMap nat_cmp Region) → IsPermutation rows (map market_values read) → IsPermutation (made.market_rows Second (entries regions)) read → HasExactly rows (MarketRowsOf regions)
 stocks_held rows read regions in_table of_them r =
     let is = are_made market_values rows read (made.market_rows Second (entries regions)) in_table of_them r in (
       λ there.
@@ -238,9 +196,7 @@ all_has xs (y ∷ ys) within = (within y (inl refl), all_has xs ys (λ x there. 
 abbrev made_line : Account × ℤ → StoredBooks
 made_line x = made.books_row x.0.0 x.0.1 x.1
 
-books_held : (things : ℕ) (books : BooksValue) → AreBooks things books → (rows : List Row) (read : List StoredBooks)
-    → IsPermutation rows (map books_values read) → IsPermutation (made.books_rows books) read
-    → HasExactly rows (BooksRowsOf books)
+books_held : (things : ℕ) (books : BooksValue) → AreBooks things books → (rows : List Row) (read : List StoredBooks) → IsPermutation rows (map books_values read) → IsPermutation (made.books_rows books) read → HasExactly rows (BooksRowsOf books)
 books_held things books are rows read in_table of_them r =
     let m = books.amounts in
     let is = are_made books_values rows read (made.books_rows books) in_table of_them r in (
@@ -263,51 +219,31 @@ books_held things books are rows read in_table of_them r =
 pub every_part : (part : Part) → Has all_parts part
 every_part = all_among all_parts refl
 
-second_by_late_part : (f : Format) (part : Part) → is_among (parts_in First) part ≡ false → Has (parts_in f) part
-    → f ≡ Second
+second_by_late_part : (f : Format) (part : Part) → is_among (parts_in First) part ≡ false → Has (parts_in f) part → f ≡ Second
 second_by_late_part First part late there = absurd (not_among (parts_in First) part late there)
 second_by_late_part Second part late there = refl
 
 -- tables that have the rows of a campaign
 module _ (f : Format) (db : Trees) (text : List ℕ) (p : Parts) (c : CampaignValue) (have : HaveRows f db text p) (are : AreRowsOf f c p) (things : ℕ) (books : AreBooks things c.books) where
   -- Each part's table has exactly the campaign's rows; these differ in the first column if it is the rowid.
-  by_part : (part : Part) → Has (parts_in f) part
-      → HasExactly (rows_in (table_of part) db) (rows_for (campaign_row_in f (campaign_row_of c) text) c part)
-      × (shows_rowids part ≡ false → HasKeys (rows_in (table_of part) db))
+  by_part : (part : Part) → Has (parts_in f) part → HasExactly (rows_in (table_of part) db) (rows_for (campaign_row_in f (campaign_row_of c) text) c part) × (shows_rowids part ≡ false → HasKeys (rows_in (table_of part) db))
   unfolding rows_of
-  by_part Own there =
-      own_held f text c _ p.campaign (in_table_shown (own_stored text) _ _ (have.rows Own there)) are.campaign
-  by_part Factions there =
-      table_has_rows_of_map faction_stored made.faction_row row_of_faction faction_row_is_line (λ n v. refl) _
-      p.factions c.factions (in_table_shown faction_stored _ _ (have.rows Factions there)) are.factions
-  by_part Regions there =
-      table_has_rows_of_map region_stored made.region_row row_of_region (λ n v. refl) (λ n v. refl) _ p.regions
-      c.regions (in_table_shown region_stored _ _ (have.rows Regions there)) are.regions
-  by_part Units there =
-      table_has_rows_of_map unit_stored made.unit_row row_of_unit unit_row_is_line (λ n v. refl) _ p.units c.units
-      (in_table_shown unit_stored _ _ (have.rows Units there)) are.units
-  by_part Goods there =
-      (goods_held _ p.has c.units (in_table_shown has_row_values _ _ (have.rows Goods there)) are.has, λ number. absurd (true≢false number))
-  by_part Structures there =
-      table_has_rows_of_map structure_stored made.structure_row row_of_structure (λ n v. refl) (λ n v. refl) _
-      p.structures c.structures (in_table_shown structure_stored _ _ (have.rows Structures there)) are.structures
-  by_part Mail there =
-      table_has_rows_of_map mail_stored made.mail_row mail_row (λ n v. refl) (λ n v. refl) _ p.mail c.mail
-      (in_table_shown mail_stored _ _ (have.rows Mail there)) are.mail
-  by_part Reports there =
-      table_has_rows_of_map report_stored made.report_row report_row (λ n v. refl) (λ n v. refl) _ p.reports c.reports
-      (in_table_shown report_stored _ _ (have.rows Reports there)) are.reports
-  by_part Books there =
-      (books_held things c.books books _ p.books (in_table_shown books_values _ _ (have.rows Books there)) are.books, λ number. absurd (true≢false number))
-  by_part Markets there =
-      (stocks_held _ p.markets c.regions (in_table_shown market_values _ _ (have.rows Markets there)) (subst (λ f. IsPermutation (made.market_rows f (entries c.regions)) p.markets) (second_by_late_part f Markets refl there) are.markets), λ number. absurd (true≢false number))
+  by_part Own there = own_held f text c _ p.campaign (have.rows Own there) are.campaign
+  by_part Factions there = table_has_rows_of_map faction_stored made.faction_row row_of_faction faction_row_is_line (λ n v. refl) _ p.factions c.factions (have.rows Factions there) are.factions
+  by_part Regions there = table_has_rows_of_map region_stored made.region_row row_of_region (λ n v. refl) (λ n v. refl) _ p.regions c.regions (have.rows Regions there) are.regions
+  by_part Units there = table_has_rows_of_map unit_stored made.unit_row row_of_unit unit_row_is_line (λ n v. refl) _ p.units c.units (have.rows Units there) are.units
+  by_part Goods there = (goods_held _ p.has c.units (have.rows Goods there) are.has, λ number. absurd (true≢false number))
+  by_part Structures there = table_has_rows_of_map structure_stored made.structure_row row_of_structure (λ n v. refl) (λ n v. refl) _ p.structures c.structures (have.rows Structures there) are.structures
+  by_part Mail there = table_has_rows_of_map mail_stored made.mail_row mail_row (λ n v. refl) (λ n v. refl) _ p.mail c.mail (have.rows Mail there) are.mail
+  by_part Reports there = table_has_rows_of_map report_stored made.report_row report_row (λ n v. refl) (λ n v. refl) _ p.reports c.reports (have.rows Reports there) are.reports
+  by_part Books there = (books_held things c.books books _ p.books (have.rows Books there) are.books, λ number. absurd (true≢false number))
+  by_part Markets there = (stocks_held _ p.markets c.regions (have.rows Markets there) (subst (λ f. IsPermutation (made.market_rows f (entries c.regions)) p.markets) (second_by_late_part f Markets refl there) are.markets), λ number. absurd (true≢false number))
 
   -- tables whose rows are made of the campaign hold it in the format
   pub rows_hold : HoldsIn f db text c
   rows_hold = record { rows = λ part there. (by_part part there).0 }
 
-  pub rows_keyed : ((table : Table) → Has (tables_with_rowids f) table → AreKeyedByRowid (db table.tree))
-      → (table : Table) → Has (map table_of (parts_in f)) table → AreKeyedByRowid (db table.tree)
+  pub rows_keyed : ((table : Table) → Has (tables_with_rowids f) table → AreKeyedByRowid (db table.tree)) → (table : Table) → Has (map table_of (parts_in f)) table → AreKeyedByRowid (db table.tree)
   rows_keyed placed table there =
       let part = map_has table_of (parts_in f) table there in
       subst (λ (t : Table). AreKeyedByRowid (db t.tree)) (sym part.2) (elim (cases_Bool (shows_rowids part.0)) [
@@ -320,22 +256,17 @@ holds_all db text c holds = record { rows = λ part. holds.rows part (every_part
 
 -- ---- the first rule
 
-one_head : (f : Format) (h : StoredCampaignRow) (rows : List StoredCampaignRow) → h.id ≡ pos 1
-    → h.format ≡ pos (format_number f) → rows ≡ h ∷ [] → IsTrue (is_one_campaign_row f rows)
+one_head : (f : Format) (h : StoredCampaignRow) (rows : List StoredCampaignRow) → h.id ≡ pos 1 → h.format ≡ pos (format_number f) → rows ≡ h ∷ [] → IsTrue (is_one_campaign_row f rows)
 one_head First h rows id format is = rw (is, id, format) refl
 one_head Second h rows id format is = rw (is, id, format) refl
 
-no_markets : (f : Format) (p : Parts)
-    → ((text : List ℕ) (part : Part) → ¬ Has (parts_in f) part → AreRead text p part [])
-    → IsTrue (are_of_format f p.markets)
+no_markets : (f : Format) (p : Parts) → ((text : List ℕ) (part : Part) → ¬ Has (parts_in f) part → rows_read text p part ≡ []) → IsTrue (are_of_format f p.markets)
 no_markets First p none = nothing p.markets (none [] Markets (not_among (parts_in First) Markets refl))
   where
-    nothing : (rows : List StoredMarket) → AllZip (IsShownAs market_values) [] rows → IsTrue (are_of_format First rows)
+    nothing : (rows : List StoredMarket) → map market_values rows ≡ [] → IsTrue (are_of_format First rows)
     nothing [] is = refl
-    nothing (row ∷ rows) is = absurd is
+    nothing (row ∷ rows) is = absurd (let k = is in cc)
 no_markets Second p none = refl
 
-pub keeps_one_row : (f : Format) (w : WorldValue) (p : Parts) (h : StoredCampaignRow) → h.id ≡ pos 1
-    → h.format ≡ pos (format_number f) → p.campaign ≡ h ∷ []
-    → ((text : List ℕ) (part : Part) → ¬ Has (parts_in f) part → AreRead text p part []) → KeepsRule f w p OneRow
+pub keeps_one_row : (f : Format) (w : WorldValue) (p : Parts) (h : StoredCampaignRow) → h.id ≡ pos 1 → h.format ≡ pos (format_number f) → p.campaign ≡ h ∷ [] → ((text : List ℕ) (part : Part) → ¬ Has (parts_in f) part → rows_read text p part ≡ []) → KeepsRule f w p OneRow
 keeps_one_row f w p h id format is none = (one_head f h p.campaign id format is, no_markets f p none)

@@ -1,6 +1,6 @@
 -- For proofs and for private functions: what each step of loading has read, and which fault it returns.
-use Rattle.std.specs.Prelude.{◌≡◌, ◌≢◌, ◌++◌, ℕ, List, [], ◌∷◌, Bool, false, true, if◌then◌else◌, ◌⊎◌, IsTrue, IsPermutation, drop, length, map, take, pos, Option, Some, None, Result, Ok, Err, IfOk, IfErr, ⊤, string_bytes}
-use Rattle.std.specs.List.{AllByRecursion, AllZip, IsDistinct}
+use Rattle.std.specs.Prelude.{◌≡◌, ◌≢◌, ◌++◌, ℕ, List, [], ◌∷◌, Bool, false, true, if◌then◌else◌, ◌⊎◌, IsTrue, IsPermutation, drop, length, map, take, pos, Option, Some, None, Result, Ok, Err, IfOk, IfErr, ⊤}
+use Rattle.std.specs.List.{AllByRecursion, IsDistinct}
 use Rattle.std.specs.Ordering.{eq_by_cmp, int_cmp, is_eq}
 use Rattle.std.specs.declared.vec.Vec.{Vec}
 use Rattle.sqlite.specs.declared.error.Error.{Error}
@@ -20,24 +20,23 @@ use Rattle.atl_world.specs.declared.format.Format.TheVariants.{First, Second}
 use Rattle.atl_tables.specs.World.{world_of_text}
 use Rattle.atl_state.specs.Checking.{IsChecked, KeepsRule}
 use Rattle.atl_campaign.specs.Campaign.{MarkedCampaign}
-use Rattle.atl_state.specs.declared.checking.Rule.TheVariants.{OneRow, Ranges}
+use Rattle.atl_state.specs.declared.checking.Rule.TheVariants.{OneRow}
 use Rattle.atl_rows.specs.declared.parts.Parts.{Parts}
 use Rattle.atl_rows.specs.declared.parts.StoredCampaignRow.{StoredCampaignRow}
 use Rattle.atl_sql.specs.Errors.{is_memory}
-use Rattle.atl_store.specs.Loading.{HaveRows, AreOwnRow, AreOfOtherFormat, AreRead, HasOtherType, HasUnread, KeepsOneRow, TypedSelect, other_parts, other_selects, shows_rowids, tables_with_rowids, AfterReads, AllSelectsShowTyped, RefusesOne}
+use Rattle.atl_store.specs.Loading.{HaveRows, AreOwnRow, AreOfOtherFormat, HasOtherType, KeepsOneRow, other_parts, other_selects, shows_rowids, tables_with_rowids, rows_read, AfterReads, AllSelectsShowTyped, RefusesOne}
 use Rattle.atl_sql.specs.Reading.{Selects}
 use Rattle.atl_descriptions.specs.PartSelects.{select_of_part}
 use Rattle.atl_descriptions.specs.Statements.{selection, selection_with_ids}
 use Rattle.atl_descriptions.specs.Sets.{AreKeyedByRowid, rows_in}
 use Rattle.atl_sql.specs.Shown.{campaign_stored}
+use Rattle.atl_columns.specs.Forms.{Form}
 use Rattle.atl_descriptions.specs.Tables.{Part, all_parts, campaign_table, books_table, table_of, parts_in, HasTablesOf}
 use Rattle.atl_sql.specs.declared.fault.ReadFault.{ReadFault}
 use Rattle.atl_sql.specs.declared.fault.ReadFault.TheVariants as read
 use Rattle.atl_store.specs.declared.fault.LoadFault.{LoadFault}
 use Rattle.atl_store.specs.declared.fault.LoadFault.TheVariants.{Store, Damaged, NotACampaign, OtherFormat, Memory}
-use Rattle.atl_store.specs.declared.loading.gathered.Found.{Found}
-use Rattle.atl_store.specs.declared.loading.gathered.Found.TheVariants as found
-use Rattle.atl_sql.specs.declared.rows.campaign.StoredCampaign.{StoredCampaign}
+use Rattle.atl_descriptions.specs.declared.records.campaign.StoredCampaign.{StoredCampaign}
 use Rattle.atl_sql.specs.declared.rows.stored.RowWithId.{RowWithId}
 
 -- ---- what a step leaves
@@ -49,36 +48,21 @@ IsCommitted s = HasCleanDisk s → IsTrue s.is_open → s.now ≡ s.committed
 -- ---- which fault is returned
 
 -- The fault of loading for a fault of reading `campaign`: Refused becomes NotACampaign, and OtherType becomes
--- Damaged by the first rule; Store and Memory stay. OutOfRange, which no campaign row gives, becomes Damaged by the
--- second.
+-- Damaged by the first rule; Store and Memory stay.
 abbrev pub campaign_row_fault : ReadFault → LoadFault
 campaign_row_fault read.Store = Store
 campaign_row_fault read.Refused = NotACampaign
 campaign_row_fault read.Memory = Memory
 campaign_row_fault read.OtherType = Damaged OneRow
-campaign_row_fault read.OutOfRange = Damaged Ranges
 
--- What reading a table other than `campaign` gives: its rows, or that a value is of another type than its column or out
--- of its range.
+-- What reading a table other than `campaign` gives: its rows, or None if a value is of another type than its column.
 -- Else the fault that ends the loading: Memory if memory ran out, Store for every other.
-abbrev pub found_of : {A Z : Type 0} → Result (Vec A Z) ReadFault → Result (Found (Vec A Z)) LoadFault
-found_of (Ok rows) = Ok (found.Rows rows)
-found_of (Err read.Store) = Err Store
-found_of (Err read.Refused) = Err Store
-found_of (Err read.Memory) = Err Memory
-found_of (Err read.OtherType) = Ok found.OtherType
-found_of (Err read.OutOfRange) = Ok found.OutOfRange
-
--- what reading some tables and then others found: the rows of both, else a value of another type, else one out of its
--- range
-abbrev pub found_both : {A B : Type 0} → Found A → Found B → Found (A × B)
-found_both found.OtherType others = found.OtherType
-found_both found.OutOfRange found.OtherType = found.OtherType
-found_both found.OutOfRange found.OutOfRange = found.OutOfRange
-found_both found.OutOfRange (found.Rows b) = found.OutOfRange
-found_both (found.Rows a) found.OtherType = found.OtherType
-found_both (found.Rows a) found.OutOfRange = found.OutOfRange
-found_both (found.Rows a) (found.Rows b) = found.Rows (a, b)
+abbrev pub rows_or_none : {A Z : Type 0} → Result (Vec A Z) ReadFault → Result (Option (Vec A Z)) LoadFault
+rows_or_none (Ok rows) = Ok (Some rows)
+rows_or_none (Err read.Store) = Err Store
+rows_or_none (Err read.Refused) = Err Store
+rows_or_none (Err read.Memory) = Err Memory
+rows_or_none (Err read.OtherType) = Ok None
 
 -- when a step that needs `P` may return each fault: Store if `P` doesn't hold, Memory at any time, and no other fault
 abbrev pub FailsWithout : Type 0 → LoadFault → Type 0
@@ -102,7 +86,7 @@ pub record IsOwnRow (f : Format) (rows : List StoredCampaign) (own : StoredCampa
   pub only : rows ≡ own ∷ []
   pub id : own.head.id ≡ pos 1
   pub format : own.head.format ≡ pos (format_number f)
-  pub world : world_of_text f (string_bytes own.world) ≡ Ok w
+  pub world : world_of_text f own.world ≡ Ok w
 
 -- The result of judging: Ok of a value that fulfils the first condition (`Is`), Damaged by the first rule if the second
 -- (`Nothing`) holds, or Memory.
@@ -127,7 +111,7 @@ JudgesOwn f rows r =
 -- first rule if they break it, or Memory
 abbrev pub JudgesRows : Format → List Row → Result (StoredCampaign × WorldValue) LoadFault → Type 0
 JudgesRows f rows r =
-    Judges (λ both. AreOwnRow f rows both.0.head (string_bytes both.0.world) both.1)
+    Judges (λ both. AreOwnRow f rows both.0.head both.0.world both.1)
     ((h : StoredCampaignRow) (text : List ℕ) (w : WorldValue) → ¬ AreOwnRow f rows h text w) r
 
 -- the result of judging the rows of `campaign`: OtherFormat if they are one row of the other format, else what judging
@@ -157,18 +141,6 @@ pub record AreOfFormat (f : Format) (db : Database) (reads : ReadRows) : Type 0 
   pub each : (read : Part × List Row) → Has reads read
       → (Has (parts_in f) read.0 × AreRows db read.0 read.1) ⊎ ((¬ Has (parts_in f) read.0) × (read.1 ≡ []))
 
--- these rows were read, as these values, and `P` holds of the rows
-abbrev pub IsOfRows : {A : Type 0} → (ReadRows → A → Type 0) → (ReadRows → Type 0) → A → Type 0
-IsOfRows reads P all = (rows : ReadRows) × reads rows all × P rows
-
--- the rows of one part were read as these values
-abbrev pub ReadsPart : {A Z : Type 0} → Part → (Row → A → Type 0) → ReadRows → Vec A Z → Type 0
-ReadsPart part reads rows all = (shown : List Row) × (rows ≡ (part, shown) ∷ []) × AllZip reads shown all.items
-
--- the rows of some parts and then of others were read as these two values
-abbrev pub ReadsBoth : {A B : Type 0} → (ReadRows → A → Type 0) → (ReadRows → B → Type 0) → ReadRows → A × B → Type 0
-ReadsBoth some others rows both = (x y : ReadRows) × (rows ≡ x ++ y) × some x both.0 × others y both.1
-
 -- no row was read of any part
 abbrev pub AreNone : ReadRows → Type 0
 AreNone reads = (read : Part × List Row) → Has reads read → read.1 ≡ []
@@ -179,7 +151,7 @@ second_format_parts = drop (length (parts_in First)) all_parts
 
 -- the SELECTs that are asked in a format: `some` and, in the second format, also `others`, of the tables that the first
 -- lacks
-abbrev pub selects_by : Format → List TypedSelect → List TypedSelect → List TypedSelect
+abbrev pub selects_by : Format → List (List ℕ × List Form) → List (List ℕ × List Form) → List (List ℕ × List Form)
 selects_by First some others = some
 selects_by Second some others = some ++ others
 
@@ -192,25 +164,23 @@ module _ {S : Type 0} (g : Ghosts S) (old : Held S) where
     -- the SELECT of `campaign` showed `rows`
     pub selects : Selects g (selection campaign_table 1) old rows
     -- the rows are one row, `own`, which keeps the first rule
-    pub row : AreOwnRow f rows own.head (string_bytes own.world) w
+    pub row : AreOwnRow f rows own.head own.world w
     -- `own` is the only row of the table, if the schema begins with the tables of the first format
     pub table : HasTablesOf First old.schema
         → IsPermutation (rows_in campaign_table (state g old).now.trees) (campaign_stored own ∷ [])
 
   -- ---- the other tables
 
-  -- What reading by the SELECTs `selects` found: rows, if each value is of its column's form and in its range;
-  -- OutOfRange if each is of its form, and one is out of its range; else OtherType.
+  -- What reading by the SELECTs `selects` found: Some, if each value is of its column's form, or None, if one isn't.
   -- In the first case `P` holds of what was read.
-  abbrev pub FoundBySelects : {A : Type 0} → List TypedSelect → (A → Type 0) → Found A → Type 0
-  FoundBySelects selects P found.OtherType = HasOtherType g old selects
-  FoundBySelects selects P found.OutOfRange = HasUnread g old selects
-  FoundBySelects selects P (found.Rows a) = AllSelectsShowTyped g old selects × P a
+  abbrev pub FoundBySelects : {A : Type 0} → List (List ℕ × List Form) → (A → Type 0) → Option A → Type 0
+  FoundBySelects selects P None = HasOtherType g old selects
+  FoundBySelects selects P (Some a) = AllSelectsShowTyped g old selects × P a
 
   -- one SELECT of the list `selects`, asked after other reads, shows some rows
-  pub record AnswersOne (selects : List TypedSelect) : Type 0 where
+  pub record AnswersOne (selects : List (List ℕ × List Form)) : Type 0 where
     -- the SELECT that is answered, with the forms of its columns
-    pub select : TypedSelect
+    pub select : List ℕ × List Form
     -- this SELECT is in the list `selects`
     pub one : Has selects select
     -- the connection after the reads that came before this SELECT
@@ -220,12 +190,12 @@ module _ {S : Type 0} (g : Ghosts S) (old : Held S) where
     -- the rows that this SELECT shows
     pub rows : List Row
     -- asked of the tables of `before`, this SELECT shows `rows`
-    pub answered : Selects g select.text before rows
+    pub answered : Selects g select.0 before rows
 
   -- When reading by the SELECTs `selects` may return each fault: Store if one is refused for another cause than memory,
   -- Memory if one is refused for lack of memory or shows rows.
   -- It returns no other fault.
-  abbrev pub FailsToRead : List TypedSelect → LoadFault → Type 0
+  abbrev pub FailsToRead : List (List ℕ × List Form) → LoadFault → Type 0
   FailsToRead selects Store = RefusesOne g old selects read.Store ⊎ RefusesOne g old selects read.Refused
   FailsToRead selects (Damaged rule) = ⊥
   FailsToRead selects NotACampaign = ⊥
@@ -234,8 +204,8 @@ module _ {S : Type 0} (g : Ghosts S) (old : Held S) where
 
   -- Reading by the SELECTs `selects` gives what `FoundBySelects` says, or a fault (`FailsToRead`), if the disk is
   -- clean. The connection is as after reads: the tables are as they were (`AfterReads`).
-  pub record ReadsSome {A : Type 0} (selects : List TypedSelect) (P : A → Type 0)
-      (result : Result (Found A) LoadFault) (new : Held S) : Type 0 where
+  pub record ReadsSome {A : Type 0} (selects : List (List ℕ × List Form)) (P : A → Type 0)
+      (result : Result (Option A) LoadFault) (new : Held S) : Type 0 where
     -- if the reads succeed, and the disk is clean, the connection was open before them
     pub was_open : HasCleanDisk (state g new) → IfOk result (λ _. IsTrue (state g old).is_open)
     -- if the reads succeed, and the disk is clean, the result is what the SELECTs found (`FoundBySelects`)
@@ -295,9 +265,8 @@ pub record IsMadeOf (head : StoredCampaignRow) (reads : ReadRows) (p : Parts) : 
   pub parts : map (λ read. read.0) reads ≡ other_parts Second
   -- `head` is the only campaign row of `p`
   pub campaign : p.campaign ≡ head ∷ []
-  -- the rows of each part, without their rowids, were read as the part's rows in `p`
-  pub rows : (text : List ℕ) (read : Part × List Row) → Has reads read
-      → AreRead text p read.0 (without_ids read.0 read.1)
+  -- each part of `p` has the rows that were read of it, without their rowids
+  pub rows : (text : List ℕ) (read : Part × List Row) → Has reads read → rows_read text p read.0 ≡ without_ids read.0 read.1
   -- the rowids that were read are integers, and differ in each part
   pub apart : AllHaveDistinctRowids reads
 
@@ -322,12 +291,6 @@ pub record GathersAll (f : Format) {S : Type 0} (g : Ghosts S) (old : Held S) (w
   -- if the tables are the format's, the rowids of those without an INTEGER PRIMARY KEY are integers, no two alike
   pub keyed : HasTablesOf f old.schema → (table : Table) → Has (tables_with_rowids f) table
       → AreKeyedByRowid ((state g old).now.trees table.tree)
-
--- What reading all tables gives: all rows (`GathersAll`), or None if a value is out of the range of its column.
--- In either case the campaign row keeps the first rule, and each value is of its column's form.
-abbrev pub Gathers : {S : Type 0} → Format → Ghosts S → Held S → WorldValue → Option Parts → Type 0
-Gathers f g old w None = KeepsOneRow f g old × HasUnread g old (other_selects f)
-Gathers f g old w (Some p) = GathersAll f g old w p
 
 -- After the reads the tables are confirmed as those of the format.
 -- The old schema begins with the format's tables, the trees list and obey it (`IsSound`), and `new` is open.

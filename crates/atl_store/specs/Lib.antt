@@ -5,7 +5,6 @@ pub mod Filling
 pub mod Keeps
 pub mod Loading
 pub mod Gathering
-pub mod GatheringLaws
 pub mod Arriving
 pub mod Changing
 pub mod Reopening

@@ -1,6 +1,5 @@
 -- What `load` returns and leaves. See docs/FORMATS.md, "Opening a file".
 use Rattle.std.specs.Prelude.{◌≡◌, ◌⊎◌, ◌++◌, ℕ, Bool, List, [], ◌∷◌, length, drop, filter, map, is_some, not, pos, true, false, IsTrue, IsPermutation, IsUtf8, Ok}
-use Rattle.std.specs.List.{AllZip}
 use Rattle.sqlite.specs.declared.error.Error.{Error}
 use Rattle.sqlite.specs.declared.types.Value.TheVariants.{Int, Text}
 use Rattle.sqlite.specs.Held.{Held, state}
@@ -36,7 +35,8 @@ use Rattle.atl_store.specs.Rows.{HoldsIn}
 use Rattle.atl_sql.specs.Shown.{int, campaign_row_stored, faction_stored, region_stored, unit_stored, structure_stored, mail_stored, report_stored, campaign_forms, faction_forms, region_forms, unit_forms, has_forms, structure_forms, mail_forms, report_forms, books_forms, market_forms}
 use Rattle.atl_descriptions.specs.Statements.{selection, selection_with_ids}
 use Rattle.atl_descriptions.specs.Sets.{rows_in, AreKeyedByRowid}
-use Rattle.atl_sql.specs.Stored.{Form, first_columns, AreTyped, HasOutOfRange, IsShownAs, without_ranges}
+use Rattle.atl_columns.specs.Forms.{Form}
+use Rattle.atl_sql.specs.Stored.{first_columns, AreTyped}
 use Rattle.atl_descriptions.specs.Tables.{Part, Own, Factions, Regions, Units, Goods, Structures, Mail, Reports, Books, Markets, campaign_table, books_table, table_of, parts_in, HasTablesOf}
 use Rattle.atl_store.specs.WorldText.{world_text}
 use Rattle.atl_sql.specs.declared.fault.ReadFault.{ReadFault}
@@ -64,27 +64,26 @@ books_values s = Int s.entry ∷ Int s.thing ∷ Int s.amount ∷ []
 abbrev pub market_values : StoredMarket → Row
 market_values s = Int s.region ∷ Int s.item ∷ Int s.stock ∷ []
 
--- the rows of a part, in this order, are read as the part's rows in `p`; the campaign row is given this world text
-abbrev pub AreRead : List ℕ → Parts → Part → List Row → Type 0
-AreRead text p Own rows = AllZip (IsShownAs (own_stored text)) rows p.campaign
-AreRead text p Factions rows = AllZip (IsShownAs faction_stored) rows p.factions
-AreRead text p Regions rows = AllZip (IsShownAs region_stored) rows p.regions
-AreRead text p Units rows = AllZip (IsShownAs unit_stored) rows p.units
-AreRead text p Goods rows = AllZip (IsShownAs has_row_values) rows p.has
-AreRead text p Structures rows = AllZip (IsShownAs structure_stored) rows p.structures
-AreRead text p Mail rows = AllZip (IsShownAs mail_stored) rows p.mail
-AreRead text p Reports rows = AllZip (IsShownAs report_stored) rows p.reports
-AreRead text p Books rows = AllZip (IsShownAs books_values) rows p.books
-AreRead text p Markets rows = AllZip (IsShownAs market_values) rows p.markets
+-- the rows of each part that were read, as SQL shows them; the campaign row is given this world text
+abbrev pub rows_read : List ℕ → Parts → Part → List Row
+rows_read text p Own = map (own_stored text) p.campaign
+rows_read text p Factions = map faction_stored p.factions
+rows_read text p Regions = map region_stored p.regions
+rows_read text p Units = map unit_stored p.units
+rows_read text p Goods = map has_row_values p.has
+rows_read text p Structures = map structure_stored p.structures
+rows_read text p Mail = map mail_stored p.mail
+rows_read text p Reports = map report_stored p.reports
+rows_read text p Books = map books_values p.books
+rows_read text p Markets = map market_values p.markets
 
--- The tables of a format are read as exactly the rows in `p`, each as often as `p` has it.
+-- The tables of a format have exactly the rows in `p`, each as often as `p` has it.
 -- In `p` there is no row of a part that the format doesn't have.
 pub record HaveRows (f : Format) (db : Trees) (text : List ℕ) (p : Parts) : Type 0 where
-  -- the table of each part of the format has exactly the rows that are read as the part's rows in `p`
-  pub rows : (part : Part) → Has (parts_in f) part
-      → (rows : List Row) × IsPermutation (rows_in (table_of part) db) rows × AreRead text p part rows
+  -- the table of each part of the format has exactly the part's rows in `p`
+  pub rows : (part : Part) → Has (parts_in f) part → IsPermutation (rows_in (table_of part) db) (rows_read text p part)
   -- `p` has no row of a part that the format lacks
-  pub none : (part : Part) → ¬ Has (parts_in f) part → AreRead text p part []
+  pub none : (part : Part) → ¬ Has (parts_in f) part → rows_read text p part ≡ []
 
 -- ---- the first rule
 
@@ -130,22 +129,9 @@ forms_of Markets = market_forms
 abbrev pub other_parts : Format → List Part
 other_parts f = drop 1 (parts_in f)
 
--- a SELECT, with the forms and the ranges of its columns
-pub record TypedSelect : Type 0 where
-  -- the text of the SELECT
-  pub text : List ℕ
-  -- the forms of the columns that the SELECT shows
-  pub forms : List Form
-  -- whether each value of a row that the SELECT shows is in the range of its column
-  pub is_in_range : Row → Bool
-
--- the SELECT of a part, with the forms of its columns, which have no ranges: rule 2 judges the numbers
-abbrev pub typed_select : Part → TypedSelect
-typed_select part = record { text = (select_of_part part).select; forms = forms_of part; is_in_range = without_ranges }
-
--- the SELECTs of all parts of a format but the campaign row, each with the forms and the ranges of its columns
-abbrev pub other_selects : Format → List TypedSelect
-other_selects f = map typed_select (other_parts f)
+-- the SELECTs of all parts of a format but the campaign row, each with the forms of its columns
+abbrev pub other_selects : Format → List (List ℕ × List Form)
+other_selects f = map (λ part. ((select_of_part part).select, forms_of part)) (other_parts f)
 
 -- whether a part's table has no INTEGER PRIMARY KEY, so that its rows are shown with their rowids
 abbrev pub shows_rowids : Part → Bool
@@ -188,16 +174,16 @@ module _ {S : Type 0} (g : Ghosts S) (old : Held S) where
     -- asked on `before`, the SELECT shows `rows`, and leaves the connection as `during`
     pub shown : Shown sql [] (state g before) (state g during) rows
 
-  module _ (selects : List TypedSelect) where
+  module _ (selects : List (List ℕ × List Form)) where
     -- each SELECT of the list `selects` shows some rows
     abbrev pub AllSelectsShow : Type 0
-    AllSelectsShow = (select : TypedSelect) → Has selects select → (rows : List Row) × SelectShows select.text rows
+    AllSelectsShow = (select : List ℕ × List Form) → Has selects select → (rows : List Row) × SelectShows select.0 rows
 
     -- each SELECT of the list `selects` shows some rows, in which each value is of its column's form
     abbrev pub AllSelectsShowTyped : Type 0
     AllSelectsShowTyped =
-        (select : TypedSelect) → Has selects select
-        → (rows : List Row) × SelectShows select.text rows × AreTyped select.forms rows
+        (select : List ℕ × List Form) → Has selects select
+        → (rows : List Row) × SelectShows select.0 rows × AreTyped select.1 rows
 
     -- each SELECT of the list `selects` shows some rows, and in those of one of them a value is of another form than
     -- its column
@@ -205,36 +191,20 @@ module _ {S : Type 0} (g : Ghosts S) (old : Held S) where
       -- each SELECT of the list `selects` shows some rows
       pub all : AllSelectsShow
       -- the SELECT that shows a value of another form than its column, with the forms of its columns
-      pub select : TypedSelect
+      pub select : List ℕ × List Form
       -- this SELECT is in the list `selects`
       pub one : Has selects select
       -- the rows that this SELECT shows
       pub rows : List Row
       -- this SELECT shows `rows`
-      pub shows : SelectShows select.text rows
+      pub shows : SelectShows select.0 rows
       -- in `rows` some value is of another form than its column
-      pub other : ¬ AreTyped select.forms rows
-
-    -- each SELECT of the list `selects` shows some rows, in which each value is of its column's form, and in those of
-    -- one of them a value is out of the range of its column
-    pub record HasUnread : Type 0 where
-      -- each SELECT of the list `selects` shows some rows, in which each value is of its column's form
-      pub typed : AllSelectsShowTyped
-      -- the SELECT that shows a value out of the range of its column
-      pub select : TypedSelect
-      -- this SELECT is in the list `selects`
-      pub one : Has selects select
-      -- the rows that this SELECT shows
-      pub rows : List Row
-      -- this SELECT shows `rows`
-      pub shows : SelectShows select.text rows
-      -- in `rows` some value is out of the range of its column
-      pub unread : HasOutOfRange select.forms select.is_in_range rows
+      pub other : ¬ AreTyped select.1 rows
 
     -- a SELECT of the list `selects`, asked after other reads, is refused, and this is the fault of its error
     pub record RefusesOne (fault : ReadFault) : Type 0 where
       -- the SELECT that is refused, with the forms of its columns
-      pub select : TypedSelect
+      pub select : List ℕ × List Form
       -- this SELECT is in the list `selects`
       pub one : Has selects select
       -- the connection after the reads that came before this SELECT
@@ -242,7 +212,7 @@ module _ {S : Type 0} (g : Ghosts S) (old : Held S) where
       -- the reads before this SELECT left the tables as they were
       pub leaves : AfterReads g old before
       -- this SELECT is refused with the fault `fault`
-      pub refused : RefusesToSelect g select.text before fault
+      pub refused : RefusesToSelect g select.0 before fault
 
   -- ---- the disk and the memory
 
@@ -329,18 +299,11 @@ module _ (f : Format) {S : Type 0} (g : Ghosts S) (old : Held S) where
     -- the SELECT doesn't show just one row with the number of the other format (the fault for that is OtherFormat)
     pub of_format : ¬ AreOfOtherFormat f rows
 
-  -- The first rule is kept, the schema begins with the tables of the format, and each value of another table is of its
-  -- column's form. A value of one of these tables is out of the range of its column, so its row isn't read.
-  abbrev pub CannotReadRow : Type 0
-  CannotReadRow = KeepsOneRow × HasTablesOf f old.schema × HasUnread g old (other_selects f)
-
   -- When Damaged may be returned with each rule: it is the first rule that the rows break.
-  -- Ranges also comes if the first rule is kept and a value of another table is of another type than its column, or out
-  -- of its range (`CannotReadRow`).
+  -- Ranges also comes if the first rule is kept and a value of another table is of another type than its column.
   abbrev pub MayReturnDamaged : Rule → Type 0
   MayReturnDamaged rules.OneRow = BreaksOneRow
-  MayReturnDamaged rules.Ranges =
-      (KeepsOneRow × HasOtherType g old (other_selects f)) ⊎ (CannotReadRow ⊎ BreaksRule rules.Ranges)
+  MayReturnDamaged rules.Ranges = (KeepsOneRow × HasOtherType g old (other_selects f)) ⊎ BreaksRule rules.Ranges
   MayReturnDamaged rules.Names = BreaksRule rules.Names
   MayReturnDamaged rules.Known = BreaksRule rules.Known
   MayReturnDamaged rules.Next = BreaksRule rules.Next

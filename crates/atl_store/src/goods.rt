@@ -6,7 +6,7 @@ ghost use Rattle.atl_sql.specs.Written.{sort_number};
 ghost use Rattle.atl_store.specs.Rows.{HasRowsOf};
 ghost use Rattle.atl_store.specs.GroupedRows.{goods_lines, unit_goods_lines, all_goods_lines};
 ghost use Rattle.atl_store.specs.OwnStatements.{OfChange};
-ghost use Rattle.atl_sql.specs.Writes.{Writes, WritesRows};
+ghost use Rattle.atl_sql.specs.Writes.{Writes, WritesRow, WritesRows};
 ghost use Rattle.atl_sql.specs.Inside.{DoesInside, HasTables};
 ghost use Rattle.atl_store.specs.Rewriting.{RewritesGoods};
 
@@ -14,9 +14,25 @@ use crate::amounts::{AmountWriter, put_amounts};
 use crate::grouped::{Grouped, rewrite_marked_groups};
 use crate::singles::rewrite_singles;
 use atl_campaign::{Campaign, Holding, SlotEntries, Unit};
-use atl_sql::rows::has::{HasRow, ThingKind, drop_goods, put_has};
+use atl_rows::parts::StoredHas;
+use atl_sql::rows::has::{ThingKind, drop_goods};
+use atl_sql::rows::put;
 use atl_world::MarkedNumbers;
-use sqlite::{Alter, Error, Transaction};
+use sqlite::{Alter, Error, Transaction, params};
+
+/// Inserts the row of an item or a skill of a unit into `has`, or changes the row that is there.
+pub(crate) fn put_thing<S: Alter>(
+    tx: &mut Transaction<'_, S>,
+    unit: u32,
+    sort: ThingKind,
+    thing: u32,
+    amount: u32,
+) -> Result<(), Error>
+    ensures { WritesRow S.Store has_table 3 (has_row unit (sort_number sort) thing amount) result
+        tx.old.conn tx.new.conn }
+{
+    put::<StoredHas, S>(tx, params![unit, sort.number(), thing, amount])
+}
 
 /// The items, or the skills, of one unit as amounts to write, by the unit's number and the kind.
 #[derive(Clone, Copy)]
@@ -38,13 +54,7 @@ impl AmountWriter for UnitThings {
         thing: u32,
         amount: u32,
     ) -> Result<(), Error> {
-        let row = HasRow {
-            unit: self.unit,
-            sort: self.sort,
-            thing,
-            amount,
-        };
-        put_has(tx, &row)
+        put_thing(tx, self.unit, self.sort, thing, amount)
     }
 }
 

@@ -6,14 +6,29 @@ ghost use Rattle.atl_records.specs.Books.{AreBooks, entry_index, thing_index};
 ghost use Rattle.atl_descriptions.specs.Tables.{books_table};
 ghost use Rattle.atl_store.specs.GroupedRows.{amount_lines, entries_lines, things_lines};
 ghost use Rattle.atl_store.specs.OwnStatements.{OfAmount, OfChange};
-ghost use Rattle.atl_sql.specs.Writes.{Writes, WritesRows};
+ghost use Rattle.atl_sql.specs.Shown.{books_row};
+ghost use Rattle.atl_sql.specs.Writes.{Writes, WritesRow, WritesRows};
 ghost use Rattle.atl_sql.specs.Inside.{DoesInside, HasTables};
 ghost use Rattle.atl_store.specs.Arriving.{WritesAmount};
 ghost use Rattle.atl_store.specs.Rewriting.{RewritesAmounts, RewritesBooks, equals_number, is_among};
 
 use atl_campaign::{BooksEntry, Campaign, Thing};
-use atl_sql::rows::books::{BooksRow, drop_books, put_books};
-use sqlite::{Alter, Error, Transaction};
+use atl_rows::parts::StoredBooks;
+use atl_sql::rows::{put, take_out};
+use sqlite::{Alter, Error, Transaction, params};
+
+/// Inserts the row of an amount into `books`, or changes the row of the entry and the thing.
+fn put_booked<S: Alter>(
+    tx: &mut Transaction<'_, S>,
+    entry: u32,
+    thing: u32,
+    amount: i64,
+) -> Result<(), Error>
+    ensures { WritesRow S.Store books_table 2 (books_row entry thing amount) result tx.old.conn
+        tx.new.conn }
+{
+    put::<StoredBooks, S>(tx, params![entry, thing, amount])
+}
 
 fn put_amount<S: Alter>(
     tx: &mut Transaction<'_, S>,
@@ -29,12 +44,7 @@ fn put_amount<S: Alter>(
     if amount == 0 {
         return Ok(());
     }
-    let row = BooksRow {
-        entry: entry.number(),
-        thing: thing.number(),
-        amount,
-    };
-    put_books(tx, &row)
+    put_booked(tx, entry.number(), thing.number(), amount)
 }
 
 /// Puts the row of an amount of the books, or deletes the row if the amount is 0.
@@ -51,14 +61,9 @@ pub(crate) fn write_amount<S: Alter>(
 {
     let amount = campaign.booked(entry, thing);
     if amount == 0 {
-        return drop_books(tx, entry.number(), thing.number());
+        return take_out::<StoredBooks, S>(tx, params![entry.number(), thing.number()]);
     }
-    let row = BooksRow {
-        entry: entry.number(),
-        thing: thing.number(),
-        amount,
-    };
-    put_books(tx, &row)
+    put_booked(tx, entry.number(), thing.number(), amount)
 }
 
 fn put_entries<S: Alter>(

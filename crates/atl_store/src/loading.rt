@@ -2,7 +2,7 @@
 ghost use Rattle.std.specs.Prelude.{◌≡◌, false, IfOk, IfErr};
 ghost use Rattle.sqlite.specs.Held.{state};
 ghost use Rattle.sqlite.specs.State.{HasCleanDisk};
-ghost use Rattle.atl_store.specs.Gathering.{IsCommitted, Gathers, IsLoaded};
+ghost use Rattle.atl_store.specs.Gathering.{IsCommitted, GathersAll, IsLoaded};
 ghost use Rattle.atl_store.specs.Loading.{AfterReads, Loads, LoadsIn, RefusesToLoad, RefusesToLoadIn, LeavesAlone};
 
 mod confirmed;
@@ -16,36 +16,30 @@ use atl_campaign::parts::Parts;
 use atl_state::{Rule, check_as};
 use atl_world::{Format, World};
 use confirmed::confirm;
-use gathered::Found;
 use others::{parts_with, read_others};
 use own::read_own;
 use sqlite::{Alter, Connection};
 use std::alloc::Global;
 
-/// Reads all tables; None if each value is of the type of its column, and one is out of its range.
 fn gather<S: Alter>(
     alloc: Global,
     conn: &mut Connection<S>,
     format: Format,
-) -> Result<(World, Option<Parts>), LoadFault>
+) -> Result<(World, Parts), LoadFault>
     requires idle { conn.old.in_transaction ≡ false }
     requires settled { IsCommitted (state S.Store conn.old) }
     ensures ok { HasCleanDisk (state S.Store conn.new)
-        → IfOk result (λ both. Gathers format S.Store conn.old both.0 both.1) }
+        → IfOk result (λ both. GathersAll format S.Store conn.old both.0 both.1) }
     ensures err { HasCleanDisk (state S.Store conn.new)
         → IfErr result (RefusesToLoadIn format S.Store conn.old) }
     ensures leaves { AfterReads S.Store conn.old conn.new }
 {
     let (own, world) = read_own(alloc, conn, format)?;
-    let found = read_others(alloc, conn, format)?;
-    match found {
-        Found::OtherType => Err(LoadFault::Damaged(Rule::Ranges)),
-        Found::OutOfRange => Ok((world, None)),
-        Found::Rows(others) => {
-            let parts = parts_with(alloc, own.into_campaign_row(), others)?;
-            Ok((world, Some(parts)))
-        }
-    }
+    let Some(others) = read_others(alloc, conn, format)? else {
+        return Err(LoadFault::Damaged(Rule::Ranges));
+    };
+    let parts = parts_with(alloc, own.into_campaign_row(), others)?;
+    Ok((world, parts))
 }
 
 /// Loads the campaign in a format, over a connection that is in no transaction: reads the tables,
@@ -64,9 +58,6 @@ fn load_idle<S: Alter>(
 {
     let (world, parts) = gather(alloc, conn, format)?;
     confirm(conn, format)?;
-    let Some(parts) = parts else {
-        return Err(LoadFault::Damaged(Rule::Ranges));
-    };
     let campaign = check_as(alloc, &world, parts, format)?;
     Ok((world, campaign))
 }

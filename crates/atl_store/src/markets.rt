@@ -6,7 +6,7 @@ ghost use Rattle.atl_store.specs.Marked.{region_and_item_pass};
 ghost use Rattle.atl_store.specs.Rows.{MarketRowsOf};
 ghost use Rattle.atl_store.specs.GroupedRows.{region_stock_lines, all_stocks_lines};
 ghost use Rattle.atl_store.specs.OwnStatements.{OfChange};
-ghost use Rattle.atl_sql.specs.Writes.{Writes, WritesRows};
+ghost use Rattle.atl_sql.specs.Writes.{Writes, WritesRow, WritesRows};
 ghost use Rattle.atl_sql.specs.Inside.{DoesInside, HasTables};
 ghost use Rattle.atl_store.specs.Rewriting.{RewritesStocks};
 
@@ -14,9 +14,24 @@ use crate::amounts::{AmountWriter, put_amounts};
 use crate::grouped::{Grouped, rewrite_marked_groups};
 use crate::singles::{SingleAmounts, rewrite_singles};
 use atl_campaign::{Campaign, Region};
-use atl_sql::rows::market::{drop_stock, drop_stocks, put_stock};
+use atl_rows::parts::StoredMarket;
+use atl_sql::rows::market::drop_stocks;
+use atl_sql::rows::{put, take_out};
 use atl_world::{Entries, MarkedNumbers, Numbered};
-use sqlite::{Alter, Error, Transaction};
+use sqlite::{Alter, Error, Transaction, params};
+
+/// Inserts the row of a stock into `market`, or changes the row of the region and the item.
+fn put_stock<S: Alter>(
+    tx: &mut Transaction<'_, S>,
+    region: u32,
+    item: u32,
+    stock: u32,
+) -> Result<(), Error>
+    ensures { WritesRow S.Store market_table 2 (market_row region item stock) result tx.old.conn
+        tx.new.conn }
+{
+    put::<StoredMarket, S>(tx, params![region, item, stock])
+}
 
 /// The stocks of one region as amounts to write, by the region's number.
 #[derive(Clone, Copy)]
@@ -124,7 +139,7 @@ impl SingleAmounts for SingleStocks {
     ) -> Result<(), Error> {
         let stock = campaign.stock(owner, number);
         if stock == 0 {
-            return drop_stock(tx, owner, number);
+            return take_out::<StoredMarket, S>(tx, params![owner, number]);
         }
         put_stock(tx, owner, number, stock)
     }

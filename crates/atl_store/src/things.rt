@@ -8,11 +8,14 @@ ghost use Rattle.atl_sql.specs.Inside.{DoesInside, HasTables};
 ghost use Rattle.atl_store.specs.Marked.{unit_and_thing_pass};
 ghost use Rattle.atl_store.specs.Rewriting.{RewritesThings, is_owner_and_thing, marked_things};
 
+use crate::goods::put_thing;
 use crate::singles::SingleAmounts;
 use atl_campaign::Campaign;
-use atl_sql::rows::has::{HasRow, ThingKind, drop_has, put_has};
+use atl_rows::parts::StoredHas;
+use atl_sql::rows::has::ThingKind;
+use atl_sql::rows::take_out;
 use atl_world::{Entries, Numbered};
-use sqlite::{Alter, Error, Transaction};
+use sqlite::{Alter, Error, Transaction, params};
 
 fn amount_of(campaign: &Campaign, unit: u32, sort: ThingKind, thing: u32) -> u32
     ensures { result ≡ amount_under campaign.now.value.units unit sort thing }
@@ -40,15 +43,9 @@ fn rewrite_thing<S: Alter>(
 {
     let amount = amount_of(campaign, unit, sort, thing);
     if amount == 0 {
-        return drop_has(tx, unit, sort, thing);
+        return take_out::<StoredHas, S>(tx, params![unit, sort.number(), thing]);
     }
-    let row = HasRow {
-        unit,
-        sort,
-        thing,
-        amount,
-    };
-    put_has(tx, &row)
+    put_thing(tx, unit, sort, thing, amount)
 }
 
 /// Rewrites items, or skills, that are marked one by one: each has a row of `has`, by its unit, its

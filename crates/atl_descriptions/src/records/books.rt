@@ -6,28 +6,16 @@ ghost use Rattle.atl_descriptions.specs.Tables.{Books};
 use crate::record::{Record, Written};
 use crate::table;
 use crate::table::{Statements, Table, UniqueKey};
-use atl_columns::numbers::{Reference, Signed};
-use atl_columns::parameters::Parameters;
-use sqlite::types::ValueRef;
-use std::alloc::AllocError;
+use atl_columns::numbers::Number;
+use atl_rows::parts::StoredBooks;
+use atl_world::Format;
 
-const BOOKS: (Table, Statements) = table!(10 "books"
+const BOOKS: (Table, Statements) = table!(First 10 "books"
     keys 11 { 1 "entry" "INTEGER", 2 "thing" "INTEGER" }
     columns { 3 "amount" "INTEGER" });
 
-/// A row of `books`: what is booked of a thing under an entry.
-#[derive(Clone, Copy, Debug)]
-pub struct BooksRecord {
-    /// The entry's number, from 1.
-    pub entry: u32,
-    /// The thing's number: 0 of money, 1 of people, and more of the items.
-    pub thing: u32,
-    /// What came in less what went.
-    pub amount: i64,
-}
-
-impl Record for BooksRecord {
-    type Fields = (Reference, (Reference, (Signed, ())));
+impl Record for StoredBooks {
+    type Fields = (Number, (Number, (Number, ())));
 
     ghost part = { Books };
 
@@ -43,14 +31,12 @@ impl Record for BooksRecord {
 
     ghost again = { λ x. refl };
 
-    ghost back = { λ r. refl };
-
     fn table() -> Table {
         BOOKS.0
     }
 
-    fn of_fields((entry, (thing, (amount, ()))): (u32, (u32, (i64, ())))) -> BooksRecord {
-        BooksRecord {
+    fn of_fields((entry, (thing, (amount, ()))): (i64, (i64, (i64, ())))) -> StoredBooks {
+        StoredBooks {
             entry,
             thing,
             amount,
@@ -58,12 +44,10 @@ impl Record for BooksRecord {
     }
 }
 
-impl Written for BooksRecord {
+impl Written for StoredBooks {
+    ghost is_written = { tt };
+
     fn statements() -> Statements {
         BOOKS.1
-    }
-
-    fn push_parameters<'a>(&'a self, values: &mut Vec<ValueRef<'a>>) -> Result<(), AllocError> {
-        (self.entry, (self.thing, (self.amount, ()))).push_to(values)
     }
 }

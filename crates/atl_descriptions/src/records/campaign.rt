@@ -1,16 +1,15 @@
 //! The table `campaign` of one row, the campaign row. Its texts are written out, since the table has a
 //! check.
-ghost use Rattle.std.specs.Prelude.{refl};
+ghost use Rattle.std.specs.Prelude.{◌≡◌, refl};
 ghost use Rattle.std.proofs.Common.{lit<};
 ghost use Rattle.atl_descriptions.specs.Tables.{Own};
 
 use crate::record::Record;
 use crate::table::Table;
-use atl_columns::numbers::{Integer, Signed};
-use atl_columns::texts::{AnyText, Text, Utf8Text};
-use atl_orders::LAST_FACTION;
-use atl_records::{LAST_MONTH, LAST_UNIT, MOST_STRUCTURES};
-use atl_world::{Sequence, let_go};
+use atl_columns::numbers::Number;
+use atl_columns::texts::{TextBytes, Utf8Text};
+use atl_rows::parts::StoredCampaignRow;
+use atl_world::{Format, Sequence, Text};
 
 const CAMPAIGN: Table = Table {
     tree: 0,
@@ -30,72 +29,52 @@ const CAMPAIGN: Table = Table {
     unique: None,
     is_single: true,
     create: "CREATE TABLE campaign (id INTEGER NOT NULL PRIMARY KEY CHECK (id = 1), format INTEGER NOT NULL, month INTEGER NOT NULL, next_faction INTEGER NOT NULL, next_unit INTEGER NOT NULL, next_structure INTEGER NOT NULL, pass TEXT NOT NULL, world TEXT NOT NULL) STRICT",
+    since: Format::First,
     select: "SELECT id, format, month, next_faction, next_unit, next_structure, pass, world FROM campaign ORDER BY id",
 };
 
-/// The next number of a faction once all numbers are given.
-const LAST_NEXT_FACTION: u32 = LAST_FACTION + 1;
-
-/// The next number of a unit once all numbers are given.
-const LAST_NEXT_UNIT: u32 = LAST_UNIT + 1;
-
-/// The next number of a structure once all numbers are given.
-const LAST_NEXT_STRUCTURE: u32 = MOST_STRUCTURES + 1;
-
-/// The campaign row. Rule 1 of docs/FORMATS.md, "Rules of the tables", judges id and format, so these
-/// are read whatever they are.
+/// A row of `campaign` as it is in the table, whoever wrote it, with its world text.
 #[derive(Debug)]
-pub struct CampaignRecord {
-    /// The id of the campaign row, which has to be 1.
-    pub id: i64,
-    /// The number of the tables' format.
-    pub format: i64,
-    /// The month last closed, 0 before the first.
-    pub month: u32,
-    /// The number of the faction that joins next.
-    pub next_faction: u32,
-    /// The number of the unit that comes next.
-    pub next_unit: u32,
-    /// The number of the structure that is begun next.
-    pub next_structure: u32,
-    /// The moderator's pass text.
-    pub pass: Sequence<u8>,
-    /// The text of the world file, byte for byte as it was handed in.
-    pub world: atl_world::Text,
+pub struct StoredCampaign {
+    /// All columns of the row but the world text.
+    pub head: StoredCampaignRow,
+    /// The text of a world file, byte for byte as it was handed in.
+    pub world: Text,
 }
 
-impl Drop for CampaignRecord {
+impl Drop for StoredCampaign {
     fn drop(self) {
-        let_go!(self: CampaignRecord { id, format, month, next_faction, next_unit, next_structure, pass, world });
+        let StoredCampaign { head: _, world: _ } = self;
     }
 }
 
-impl Record for CampaignRecord {
+impl StoredCampaign {
+    /// All columns of the row but the world text, which is dropped.
+    pub fn into_campaign_row(self) -> StoredCampaignRow
+        ensures { result ≡ self.head }
+    {
+        let StoredCampaign { head, world: _ } = self;
+        head
+    }
+}
+
+impl Record for StoredCampaign {
     type Fields = (
-        Signed,
+        Number,
         (
-            Signed,
+            Number,
             (
-                Integer<0, LAST_MONTH>,
-                (
-                    Integer<1, LAST_NEXT_FACTION>,
-                    (
-                        Integer<1, LAST_NEXT_UNIT>,
-                        (
-                            Integer<1, LAST_NEXT_STRUCTURE>,
-                            (Text<AnyText>, (Utf8Text, ())),
-                        ),
-                    ),
-                ),
+                Number,
+                (Number, (Number, (Number, (TextBytes, (Utf8Text, ()))))),
             ),
         ),
     );
 
     ghost part = { Own };
 
-    ghost of_fields = { λ (id, (format, (month, (next_faction, (next_unit, (next_structure, (pass, (world, end)))))))). record { id = id; format = format; month = month; next_faction = next_faction; next_unit = next_unit; next_structure = next_structure; pass = pass; world = world } };
+    ghost of_fields = { λ (id, (format, (month, (next_faction, (next_unit, (next_structure, (pass, (world, end)))))))). record { head = record { id = id; format = format; month = month; next_faction = next_faction; next_unit = next_unit; next_structure = next_structure; pass = pass }; world = world } };
 
-    ghost to_fields = { λ r. (r.id, (r.format, (r.month, (r.next_faction, (r.next_unit, (r.next_structure, (r.pass, (r.world, tt)))))))) };
+    ghost to_fields = { λ r. (r.head.id, (r.head.format, (r.head.month, (r.head.next_faction, (r.head.next_unit, (r.head.next_structure, (r.head.pass, (r.world, tt)))))))) };
 
     ghost is_narrow = { lit< tt };
 
@@ -104,8 +83,6 @@ impl Record for CampaignRecord {
     ghost is_wide = { refl };
 
     ghost again = { λ x. refl };
-
-    ghost back = { λ r. refl };
 
     fn table() -> Table {
         CAMPAIGN
@@ -117,16 +94,10 @@ impl Record for CampaignRecord {
             (format, (month, (next_faction, (next_unit, (next_structure, (pass, (world, ()))))))),
         ): (
             i64,
-            (
-                i64,
-                (
-                    u32,
-                    (u32, (u32, (u32, (Sequence<u8>, (atl_world::Text, ()))))),
-                ),
-            ),
+            (i64, (i64, (i64, (i64, (i64, (Sequence<u8>, (Text, ()))))))),
         ),
-    ) -> CampaignRecord {
-        CampaignRecord {
+    ) -> StoredCampaign {
+        let head = StoredCampaignRow {
             id,
             format,
             month,
@@ -134,7 +105,7 @@ impl Record for CampaignRecord {
             next_unit,
             next_structure,
             pass,
-            world,
-        }
+        };
+        StoredCampaign { head, world }
     }
 }

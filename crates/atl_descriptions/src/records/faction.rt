@@ -6,14 +6,10 @@ ghost use Rattle.atl_descriptions.specs.Tables.{Factions};
 
 use crate::record::{Record, Written};
 use crate::table::{Statements, Table, UniqueKey};
-use atl_columns::flags::Flag;
-use atl_columns::numbers::Integer;
-use atl_columns::parameters::{AsText, Parameters};
-use atl_columns::texts::{AnyText, Text};
-use atl_orders::LAST_FACTION;
-use atl_world::{Sequence, let_go};
-use sqlite::types::ValueRef;
-use std::alloc::AllocError;
+use atl_columns::numbers::Number;
+use atl_columns::texts::TextBytes;
+use atl_rows::parts::StoredFaction;
+use atl_world::{Format, Sequence};
 
 const FACTION: (Table, Statements) = (
     Table {
@@ -29,6 +25,7 @@ const FACTION: (Table, Statements) = (
         }),
         is_single: false,
         create: "CREATE TABLE faction (number INTEGER NOT NULL PRIMARY KEY, joined_as TEXT NOT NULL UNIQUE, name TEXT NOT NULL, pass TEXT NOT NULL, gone INTEGER NOT NULL) STRICT",
+        since: Format::First,
         select: "SELECT number, joined_as, name, pass, gone FROM faction ORDER BY number",
     },
     Statements {
@@ -37,32 +34,8 @@ const FACTION: (Table, Statements) = (
     },
 );
 
-/// A row of `faction`: a faction's number, names and pass text, and whether it is gone.
-#[derive(Debug)]
-pub struct FactionRecord {
-    /// The faction's number.
-    pub number: u32,
-    /// The name that the faction joined under.
-    pub joined_as: Sequence<u8>,
-    /// The name that the faction shows.
-    pub name: Sequence<u8>,
-    /// The faction's pass text.
-    pub pass: Sequence<u8>,
-    /// Whether the faction has no unit left.
-    pub gone: bool,
-}
-
-impl Drop for FactionRecord {
-    fn drop(self) {
-        let_go!(self: FactionRecord { number, joined_as, name, pass, gone });
-    }
-}
-
-impl Record for FactionRecord {
-    type Fields = (
-        Integer<1, LAST_FACTION>,
-        (Text<AnyText>, (Text<AnyText>, (Text<AnyText>, (Flag, ())))),
-    );
+impl Record for StoredFaction {
+    type Fields = (Number, (TextBytes, (TextBytes, (TextBytes, (Number, ())))));
 
     ghost part = { Factions };
 
@@ -78,19 +51,17 @@ impl Record for FactionRecord {
 
     ghost again = { λ x. refl };
 
-    ghost back = { λ r. refl };
-
     fn table() -> Table {
         FACTION.0
     }
 
     fn of_fields(
         (number, (joined_as, (name, (pass, (gone, ()))))): (
-            u32,
-            (Sequence<u8>, (Sequence<u8>, (Sequence<u8>, (bool, ())))),
+            i64,
+            (Sequence<u8>, (Sequence<u8>, (Sequence<u8>, (i64, ())))),
         ),
-    ) -> FactionRecord {
-        FactionRecord {
+    ) -> StoredFaction {
+        StoredFaction {
             number,
             joined_as,
             name,
@@ -100,31 +71,10 @@ impl Record for FactionRecord {
     }
 }
 
-impl Written for FactionRecord {
+impl Written for StoredFaction {
+    ghost is_written = { tt };
+
     fn statements() -> Statements {
         FACTION.1
-    }
-
-    fn push_parameters<'a>(&'a self, values: &mut Vec<ValueRef<'a>>) -> Result<(), AllocError> {
-        (
-            self.number,
-            (
-                AsText {
-                    bytes: self.joined_as.as_slice(),
-                },
-                (
-                    AsText {
-                        bytes: self.name.as_slice(),
-                    },
-                    (
-                        AsText {
-                            bytes: self.pass.as_slice(),
-                        },
-                        (self.gone, ()),
-                    ),
-                ),
-            ),
-        )
-            .push_to(values)
     }
 }

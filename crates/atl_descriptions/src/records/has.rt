@@ -6,31 +6,16 @@ ghost use Rattle.atl_descriptions.specs.Tables.{Goods};
 use crate::record::{Record, Written};
 use crate::table;
 use crate::table::{Statements, Table, UniqueKey};
-use atl_columns::flags::Flag;
-use atl_columns::numbers::Reference;
-use atl_columns::parameters::Parameters;
-use sqlite::types::ValueRef;
-use std::alloc::AllocError;
+use atl_columns::numbers::Number;
+use atl_rows::parts::StoredHas;
+use atl_world::Format;
 
-const HAS: (Table, Statements) = table!(5 "has"
+const HAS: (Table, Statements) = table!(First 5 "has"
     keys 6 { 1 "unit" "INTEGER", 2 "sort" "INTEGER", 3 "thing" "INTEGER" }
     columns { 4 "amount" "INTEGER" });
 
-/// A row of `has`: what a unit has of an item or a skill.
-#[derive(Clone, Copy, Debug)]
-pub struct HasRecord {
-    /// The unit's number.
-    pub unit: u32,
-    /// Whether the row is of an item (0, false) or of a skill (1, true).
-    pub sort: bool,
-    /// The index of the item, or of the skill, in the world's list of them, from 0.
-    pub thing: u32,
-    /// How many pieces of the item, or the days of the skill over all men.
-    pub amount: u32,
-}
-
-impl Record for HasRecord {
-    type Fields = (Reference, (Flag, (Reference, (Reference, ()))));
+impl Record for StoredHas {
+    type Fields = (Number, (Number, (Number, (Number, ()))));
 
     ghost part = { Goods };
 
@@ -46,16 +31,14 @@ impl Record for HasRecord {
 
     ghost again = { λ x. refl };
 
-    ghost back = { λ r. refl };
-
     fn table() -> Table {
         HAS.0
     }
 
     fn of_fields(
-        (unit, (sort, (thing, (amount, ())))): (u32, (bool, (u32, (u32, ())))),
-    ) -> HasRecord {
-        HasRecord {
+        (unit, (sort, (thing, (amount, ())))): (i64, (i64, (i64, (i64, ())))),
+    ) -> StoredHas {
+        StoredHas {
             unit,
             sort,
             thing,
@@ -64,12 +47,10 @@ impl Record for HasRecord {
     }
 }
 
-impl Written for HasRecord {
+impl Written for StoredHas {
+    ghost is_written = { tt };
+
     fn statements() -> Statements {
         HAS.1
-    }
-
-    fn push_parameters<'a>(&'a self, values: &mut Vec<ValueRef<'a>>) -> Result<(), AllocError> {
-        (self.unit, (self.sort, (self.thing, (self.amount, ())))).push_to(values)
     }
 }

@@ -6,28 +6,17 @@ ghost use Rattle.atl_descriptions.specs.Tables.{Mail};
 use crate::record::{Record, Written};
 use crate::table;
 use crate::table::{Statements, Table};
-use atl_columns::numbers::Reference;
-use atl_columns::parameters::Parameters;
-use atl_columns::texts::Blob;
-use atl_world::Sequence;
-use sqlite::types::ValueRef;
-use std::alloc::AllocError;
+use atl_columns::numbers::Number;
+use atl_columns::texts::Bytes;
+use atl_rows::parts::StoredMail;
+use atl_world::{Format, Sequence};
 
-const MAIL: (Table, Statements) = table!(8 "mail"
+const MAIL: (Table, Statements) = table!(First 8 "mail"
     number { 1 "faction" }
     columns { 2 "text" "BLOB" });
 
-/// A row of `mail`: a faction's mail for the month to come.
-#[derive(Debug, Drop)]
-pub struct MailRecord {
-    /// The number of the faction that sent the mail.
-    pub faction: u32,
-    /// The mailing byte for byte as it was sent.
-    pub text: Sequence<u8>,
-}
-
-impl Record for MailRecord {
-    type Fields = (Reference, (Blob, ()));
+impl Record for StoredMail {
+    type Fields = (Number, (Bytes, ()));
 
     ghost part = { Mail };
 
@@ -43,23 +32,19 @@ impl Record for MailRecord {
 
     ghost again = { λ x. refl };
 
-    ghost back = { λ r. refl };
-
     fn table() -> Table {
         MAIL.0
     }
 
-    fn of_fields((faction, (text, ())): (u32, (Sequence<u8>, ()))) -> MailRecord {
-        MailRecord { faction, text }
+    fn of_fields((faction, (text, ())): (i64, (Sequence<u8>, ()))) -> StoredMail {
+        StoredMail { faction, text }
     }
 }
 
-impl Written for MailRecord {
+impl Written for StoredMail {
+    ghost is_written = { tt };
+
     fn statements() -> Statements {
         MAIL.1
-    }
-
-    fn push_parameters<'a>(&'a self, values: &mut Vec<ValueRef<'a>>) -> Result<(), AllocError> {
-        (self.faction, (self.text.as_slice(), ())).push_to(values)
     }
 }

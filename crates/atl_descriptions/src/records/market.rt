@@ -6,28 +6,16 @@ ghost use Rattle.atl_descriptions.specs.Tables.{Markets};
 use crate::record::{Record, Written};
 use crate::table;
 use crate::table::{Statements, Table, UniqueKey};
-use atl_columns::numbers::Reference;
-use atl_columns::parameters::Parameters;
-use sqlite::types::ValueRef;
-use std::alloc::AllocError;
+use atl_columns::numbers::Number;
+use atl_rows::parts::StoredMarket;
+use atl_world::Format;
 
-const MARKET: (Table, Statements) = table!(12 "market"
+const MARKET: (Table, Statements) = table!(Second 12 "market"
     keys 13 { 1 "region" "INTEGER", 2 "item" "INTEGER" }
     columns { 3 "stock" "INTEGER" });
 
-/// A row of `market`: the stock of an item in a region.
-#[derive(Clone, Copy, Debug)]
-pub struct MarketRecord {
-    /// The number of the region that has the stock.
-    pub region: u32,
-    /// The index of the item in the world's list of them, from 0.
-    pub item: u32,
-    /// How many pieces are in stock.
-    pub stock: u32,
-}
-
-impl Record for MarketRecord {
-    type Fields = (Reference, (Reference, (Reference, ())));
+impl Record for StoredMarket {
+    type Fields = (Number, (Number, (Number, ())));
 
     ghost part = { Markets };
 
@@ -43,14 +31,12 @@ impl Record for MarketRecord {
 
     ghost again = { λ x. refl };
 
-    ghost back = { λ r. refl };
-
     fn table() -> Table {
         MARKET.0
     }
 
-    fn of_fields((region, (item, (stock, ()))): (u32, (u32, (u32, ())))) -> MarketRecord {
-        MarketRecord {
+    fn of_fields((region, (item, (stock, ()))): (i64, (i64, (i64, ())))) -> StoredMarket {
+        StoredMarket {
             region,
             item,
             stock,
@@ -58,12 +44,10 @@ impl Record for MarketRecord {
     }
 }
 
-impl Written for MarketRecord {
+impl Written for StoredMarket {
+    ghost is_written = { tt };
+
     fn statements() -> Statements {
         MARKET.1
-    }
-
-    fn push_parameters<'a>(&'a self, values: &mut Vec<ValueRef<'a>>) -> Result<(), AllocError> {
-        (self.region, (self.item, (self.stock, ()))).push_to(values)
     }
 }

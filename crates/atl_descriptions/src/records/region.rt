@@ -6,32 +6,16 @@ ghost use Rattle.atl_descriptions.specs.Tables.{Regions};
 use crate::record::{Record, Written};
 use crate::table;
 use crate::table::{Statements, Table};
-use atl_columns::numbers::{Integer, Reference};
-use atl_columns::parameters::Parameters;
-use atl_world::limits::MOST_AMOUNT;
-use sqlite::types::ValueRef;
-use std::alloc::AllocError;
+use atl_columns::numbers::Number;
+use atl_rows::parts::StoredRegion;
+use atl_world::Format;
 
-const REGION: (Table, Statements) = table!(3 "region"
+const REGION: (Table, Statements) = table!(First 3 "region"
     number { 1 "number" }
     columns { 2 "peasants" "INTEGER", 3 "money" "INTEGER" });
 
-/// A row of `region`: a region's number, peasants and money.
-#[derive(Clone, Copy, Debug)]
-pub struct RegionRecord {
-    /// The number that the world gives the region.
-    pub number: u32,
-    /// How many peasants the region has.
-    pub peasants: u32,
-    /// The money of the region.
-    pub money: u32,
-}
-
-impl Record for RegionRecord {
-    type Fields = (
-        Reference,
-        (Integer<0, MOST_AMOUNT>, (Integer<0, MOST_AMOUNT>, ())),
-    );
+impl Record for StoredRegion {
+    type Fields = (Number, (Number, (Number, ())));
 
     ghost part = { Regions };
 
@@ -47,14 +31,12 @@ impl Record for RegionRecord {
 
     ghost again = { λ x. refl };
 
-    ghost back = { λ r. refl };
-
     fn table() -> Table {
         REGION.0
     }
 
-    fn of_fields((number, (peasants, (money, ()))): (u32, (u32, (u32, ())))) -> RegionRecord {
-        RegionRecord {
+    fn of_fields((number, (peasants, (money, ()))): (i64, (i64, (i64, ())))) -> StoredRegion {
+        StoredRegion {
             number,
             peasants,
             money,
@@ -62,12 +44,10 @@ impl Record for RegionRecord {
     }
 }
 
-impl Written for RegionRecord {
+impl Written for StoredRegion {
+    ghost is_written = { tt };
+
     fn statements() -> Statements {
         REGION.1
-    }
-
-    fn push_parameters<'a>(&'a self, values: &mut Vec<ValueRef<'a>>) -> Result<(), AllocError> {
-        (self.number, (self.peasants, (self.money, ()))).push_to(values)
     }
 }

@@ -6,27 +6,17 @@ ghost use Rattle.atl_descriptions.specs.Tables.{Reports};
 use crate::record::{Record, Written};
 use crate::table;
 use crate::table::{Statements, Table};
-use atl_columns::numbers::Reference;
-use atl_columns::parameters::Parameters;
+use atl_columns::numbers::Number;
 use atl_columns::texts::Utf8Text;
-use sqlite::types::ValueRef;
-use std::alloc::AllocError;
+use atl_rows::parts::StoredReport;
+use atl_world::{Format, Text};
 
-const REPORT: (Table, Statements) = table!(9 "report"
+const REPORT: (Table, Statements) = table!(First 9 "report"
     number { 1 "faction" }
     columns { 2 "text" "TEXT" });
 
-/// A row of `report`: a faction's last report.
-#[derive(Debug, Drop)]
-pub struct ReportRecord {
-    /// The number of the faction whose report it is.
-    pub faction: u32,
-    /// The report as the faction reads it.
-    pub text: atl_world::Text,
-}
-
-impl Record for ReportRecord {
-    type Fields = (Reference, (Utf8Text, ()));
+impl Record for StoredReport {
+    type Fields = (Number, (Utf8Text, ()));
 
     ghost part = { Reports };
 
@@ -42,23 +32,19 @@ impl Record for ReportRecord {
 
     ghost again = { λ x. refl };
 
-    ghost back = { λ r. refl };
-
     fn table() -> Table {
         REPORT.0
     }
 
-    fn of_fields((faction, (text, ())): (u32, (atl_world::Text, ()))) -> ReportRecord {
-        ReportRecord { faction, text }
+    fn of_fields((faction, (text, ())): (i64, (Text, ()))) -> StoredReport {
+        StoredReport { faction, text }
     }
 }
 
-impl Written for ReportRecord {
+impl Written for StoredReport {
+    ghost is_written = { tt };
+
     fn statements() -> Statements {
         REPORT.1
-    }
-
-    fn push_parameters<'a>(&'a self, values: &mut Vec<ValueRef<'a>>) -> Result<(), AllocError> {
-        (self.faction, (self.text.as_str(), ())).push_to(values)
     }
 }

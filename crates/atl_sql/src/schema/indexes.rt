@@ -8,11 +8,8 @@ ghost use Rattle.atl_descriptions.specs.Tables.{all_tables, all_indexes, table_o
 use crate::schema::keys::is_plain;
 use crate::tables::described_tables;
 use atl_descriptions::Record;
-use atl_descriptions::records::books::BooksRecord;
-use atl_descriptions::records::faction::FactionRecord;
-use atl_descriptions::records::has::HasRecord;
-use atl_descriptions::records::market::MarketRecord;
 use atl_descriptions::table::Table as Description;
+use atl_rows::parts::{StoredBooks, StoredFaction, StoredHas, StoredMarket};
 use sqlite_schema::schema::Index;
 
 fn is_index(found: &Index, name: &[u8], tree: u32, table: u32, columns: &[usize]) -> bool
@@ -57,10 +54,10 @@ fn is_key_index(found: &Index, position: usize) -> bool
     ensures { IsTrue result ↔ (slice_get all_indexes position ≡ Some found.now) }
 {
     match position {
-        0 => is_index_of::<FactionRecord>(found),
-        1 => is_index_of::<HasRecord>(found),
-        2 => is_index_of::<BooksRecord>(found),
-        3 => is_index_of::<MarketRecord>(found),
+        0 => is_index_of::<StoredFaction>(found),
+        1 => is_index_of::<StoredHas>(found),
+        2 => is_index_of::<StoredBooks>(found),
+        3 => is_index_of::<StoredMarket>(found),
         _ => false,
     }
 }

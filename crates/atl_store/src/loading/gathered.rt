@@ -1,105 +1,81 @@
 //! Reads all rows of several tables, and tests that the rowids of a table differ.
-ghost use Rattle.std.specs.Prelude.{◌≡◌, ◌++◌, false, [], ◌∷◌, List, map, Ok, Err, if◌then◌else◌, IfOk, IfErr, ◌↔◌, IsTrue};
+ghost use Rattle.std.specs.Prelude.{◌≡◌, ◌++◌, ℕ, false, [], ◌∷◌, List, map, refl, Ok, Err, if◌then◌else◌, IfOk, IfErr, ◌↔◌, IsTrue};
+ghost use Rattle.std.proofs.Common.{ap, ◌∙◌};
+ghost use Rattle.std.proofs.lemmas.List.{map-append};
 ghost use Rattle.sqlite.specs.Held.{state};
+ghost use Rattle.sqlite.specs.Order.{Row as SqlRow};
 ghost use Rattle.atl_store.specs.declared.fault.LoadFault.TheVariants.{Store};
 ghost use Rattle.atl_world.specs.declared.format.Format.TheVariants.{First};
-ghost use Rattle.atl_store.specs.Gathering.{IsCommitted, ReadRows, AreAllRows, AreNone, AreOfFormat, IsOfRows, ReadsBoth, ReadsPart, ReadsSome, FailsWithout, HaveDistinctRowids, found_both, found_of, second_format_parts, selects_by};
-ghost use Rattle.atl_store.specs.Loading.{TypedSelect, other_parts};
-ghost use Rattle.atl_store.specs.GatheringLaws.{both_of_parts, one_of_part};
+ghost use Rattle.atl_store.specs.Gathering.{IsCommitted, ReadRows, AreAllRows, AreNone, AreOfFormat, ReadsSome, FailsWithout, HaveDistinctRowids, rows_or_none, second_format_parts, selects_by};
+ghost use Rattle.atl_store.specs.Loading.{other_parts};
 ghost use Rattle.atl_descriptions.specs.PartSelects.{select_of_part};
+ghost use Rattle.atl_columns.specs.Forms.{Form};
 ghost use Rattle.atl_descriptions.specs.Tables.{Part};
 
 use crate::fault::{LoadFault, ReadFault};
-use atl_sql::rows::{HasSelect, RowWithId};
+use atl_sql::rows::{RowWithId, Stored};
 use atl_state::are_distinct;
 use atl_world::{Format, Sequence};
 use sqlite::{Alter, Connection};
 use std::alloc::{AllocError, Global};
 
-/// What was read of one table, or of several: the worst that was found, in the order from rows on.
-#[derive(Debug, Drop)]
-pub(crate) enum Found<T> {
-    /// Each value is of the type of its column, and in its range.
-    Rows(T),
-    /// Each value is of the type of its column, and one is out of its column's range.
-    OutOfRange,
-    /// A value is of another type than its column.
-    OtherType,
-}
-
-impl<X: Drop> Found<X> {
-    /// The rows of these tables and of others, or the worse of what was found.
-    fn zip<Y: Drop>(self, others: Found<Y>) -> Found<(X, Y)>
-        ensures { result ≡ found_both self others }
-    {
-        match (self, others) {
-            (Found::Rows(some), Found::Rows(others)) => Found::Rows((some, others)),
-            (Found::OtherType, _) | (_, Found::OtherType) => Found::OtherType,
-            (Found::OutOfRange, _) | (_, Found::OutOfRange) => Found::OutOfRange,
-        }
-    }
-}
-
 /// The rows of one table, or of several, which are read whole, one table after another. All tables
-/// are read before a value of another type is reported, so another fault comes first. So is one of
-/// another type before one out of its range.
+/// are read before a value of another type is reported, so another fault comes first.
 pub(crate) trait AllRows: Drop + Sized {
     // The parts that the tables are of.
     ghost parts: { List Part };
 
-    // The SELECTs that are asked, each with the forms and the ranges of its columns.
-    ghost selects: { List TypedSelect };
+    // The SELECTs that are asked, each with the forms of its columns.
+    ghost selects: { List (List ℕ × List Form) };
 
-    // As what rows that SQL shows are read.
-    ghost reads: { ReadRows → Self → Type 0 };
+    // What was read, as SQL shows it.
+    ghost rows: { Self → ReadRows };
 
-    /// Reads all rows of the tables.
-    fn read_all<S: Alter>(alloc: Global, conn: &mut Connection<S>) -> Result<Found<Self>, LoadFault>
+    /// Reads all rows of the tables; None if a value is of another type than its column.
+    fn read_all<S: Alter>(
+        alloc: Global,
+        conn: &mut Connection<S>,
+    ) -> Result<Option<Self>, LoadFault>
         requires idle { conn.old.in_transaction ≡ false }
         requires settled { IsCommitted (state S.Store conn.old) }
         ensures { ReadsSome S.Store conn.old selects
-            (IsOfRows reads (AreAllRows (state S.Store conn.old).now)) result conn.new };
+            (λ all. AreAllRows (state S.Store conn.old).now (rows all)) result conn.new };
 
     /// Gives no rows of any of the tables, as for tables that a format doesn't have.
     fn without_rows(alloc: Global) -> Self
-        ensures { IsOfRows reads AreNone result };
+        ensures { AreNone (rows result) };
 
     // What was read is of the parts `parts`, in their order.
-    ghost of_parts: { (rows : ReadRows) (all : Self) → reads rows all
-        → map (λ read. read.0) rows ≡ parts };
+    ghost of_parts: { (all : Self) → map (λ read. read.0) (rows all) ≡ parts };
 }
 
-/// Turns the result of reading one table into what was found, or the fault of loading.
-fn found_of<T: Drop>(rows: Result<Vec<T>, ReadFault>) -> Result<Found<Vec<T>>, LoadFault>
-    ensures { result ≡ found_of rows }
+/// Turns the result of reading one table into its rows, None if a value is of another type than its
+/// column, or the fault of loading.
+fn rows_or_none<T: Drop>(rows: Result<Vec<T>, ReadFault>) -> Result<Option<Vec<T>>, LoadFault>
+    ensures { result ≡ rows_or_none rows }
 {
     match rows {
-        Ok(rows) => Ok(Found::Rows(rows)),
-        Err(ReadFault::OtherType) => Ok(Found::OtherType),
-        Err(ReadFault::OutOfRange) => Ok(Found::OutOfRange),
+        Ok(rows) => Ok(Some(rows)),
+        Err(ReadFault::OtherType) => Ok(None),
         Err(ReadFault::Memory) => Err(LoadFault::Memory),
         Err(ReadFault::Store | ReadFault::Refused) => Err(LoadFault::Store),
     }
 }
 
-impl<A: HasSelect> AllRows for Vec<A> {
-    ghost parts = { A.HasSelect.part ∷ [] };
+impl<A: Stored> AllRows for Vec<A> {
+    ghost parts = { A.Stored.part ∷ [] };
 
-    ghost selects = { record {
-      text = (select_of_part A.HasSelect.part).select;
-      forms = A.Stored.forms;
-      is_in_range = A.Stored.is_in_range;
-    } ∷ [] };
+    ghost selects = { ((select_of_part A.Stored.part).select, A.Stored.forms) ∷ [] };
 
-    ghost reads = { ReadsPart A.HasSelect.part A.Stored.reads };
+    ghost rows = { λ all. (A.Stored.part, map A.Stored.shown all.items) ∷ [] };
 
-    ghost of_parts = { λ rows all read. one_of_part A.HasSelect.part A.Stored.reads rows all read };
+    ghost of_parts = { λ all. refl };
 
     fn read_all<S: Alter>(
         alloc: Global,
         conn: &mut Connection<S>,
-    ) -> Result<Found<Vec<A>>, LoadFault> {
-        found_of(A::read(alloc, conn))
+    ) -> Result<Option<Vec<A>>, LoadFault> {
+        rows_or_none(A::read(alloc, conn))
     }
 
     fn without_rows(alloc: Global) -> Vec<A> {
@@ -113,15 +89,17 @@ impl<X: AllRows, Y: AllRows> AllRows for (X, Y) {
 
     ghost selects = { X.AllRows.selects ++ Y.AllRows.selects };
 
-    ghost reads = { ReadsBoth X.AllRows.reads Y.AllRows.reads };
+    ghost rows = { λ both. X.AllRows.rows both.0 ++ Y.AllRows.rows both.1 };
 
-    ghost of_parts = { λ rows both read. both_of_parts X.AllRows.parts Y.AllRows.parts X.AllRows.reads
-        Y.AllRows.reads X.AllRows.of_parts Y.AllRows.of_parts rows both read };
+    ghost of_parts = { λ both. map-append (λ (read : Part × List SqlRow). read.0)
+        (X.AllRows.rows both.0) (Y.AllRows.rows both.1) ∙ ap
+        (λ parts. parts ++ map (λ read. read.0) (Y.AllRows.rows both.1)) (X.AllRows.of_parts both.0)
+        ∙ ap (λ parts. X.AllRows.parts ++ parts) (Y.AllRows.of_parts both.1) };
 
     fn read_all<S: Alter>(
         alloc: Global,
         conn: &mut Connection<S>,
-    ) -> Result<Found<(X, Y)>, LoadFault> {
+    ) -> Result<Option<(X, Y)>, LoadFault> {
         let some = X::read_all(alloc, conn)?;
         let others = Y::read_all(alloc, conn)?;
         Ok(some.zip(others))
@@ -132,24 +110,25 @@ impl<X: AllRows, Y: AllRows> AllRows for (X, Y) {
     }
 }
 
-/// Reads all rows of the tables `X` and, in the second format, of `Y`, which the first lacks.
+/// Reads all rows of the tables `X` and, in the second format, of `Y`, which the first lacks; None
+/// if a value is of another type than its column.
 pub(crate) fn read_by<X: AllRows, Y: AllRows, S: Alter>(
     alloc: Global,
     conn: &mut Connection<S>,
     format: Format,
-) -> Result<Found<(X, Y)>, LoadFault>
+) -> Result<Option<(X, Y)>, LoadFault>
     requires idle { conn.old.in_transaction ≡ false }
     requires settled { IsCommitted (state S.Store conn.old) }
     requires some { X.AllRows.parts ≡ other_parts First }
     requires others { Y.AllRows.parts ≡ second_format_parts }
     ensures { ReadsSome S.Store conn.old (selects_by format X.AllRows.selects Y.AllRows.selects)
-        (IsOfRows (ReadsBoth X.AllRows.reads Y.AllRows.reads)
-        (AreOfFormat format (state S.Store conn.old).now)) result conn.new }
+        (λ both. AreOfFormat format (state S.Store conn.old).now
+        (X.AllRows.rows both.0 ++ Y.AllRows.rows both.1)) result conn.new }
 {
     match format {
         Format::First => {
             let some = X::read_all(alloc, conn)?;
-            Ok(some.zip(Found::Rows(Y::without_rows(alloc))))
+            Ok(some.zip(Some(Y::without_rows(alloc))))
         }
         Format::Second => <(X, Y)>::read_all(alloc, conn),
     }

@@ -1,11 +1,11 @@
 //! Reads all tables but `campaign`, and puts the rows of all tables together.
 ghost use Rattle.std.specs.Prelude.{◌≡◌, false, IfOk, IfErr};
 ghost use Rattle.sqlite.specs.Held.{state};
-ghost use Rattle.atl_store.specs.Gathering.{IsCommitted, AreOfFormat, IsOfRows, ReadRows, ReadsSome, FailsWithout, AllHaveDistinctRowids, IsMadeOf};
+ghost use Rattle.atl_store.specs.Gathering.{IsCommitted, AreOfFormat, ReadsSome, FailsWithout, AllHaveDistinctRowids, IsMadeOf};
 ghost use Rattle.atl_store.specs.Loading.{other_selects};
 
 use crate::fault::LoadFault;
-use crate::loading::gathered::{AllRows, Found, read_by, rows_after_check};
+use crate::loading::gathered::{AllRows, read_by, rows_after_check};
 use atl_campaign::parts::{
     Parts, StoredBooks, StoredCampaignRow, StoredFaction, StoredHas, StoredMail, StoredMarket,
     StoredRegion, StoredReport, StoredStructure, StoredUnit,
@@ -40,17 +40,17 @@ type SecondFormatRows = Vec<RowWithId<StoredMarket>>;
 /// The rows of all tables but `campaign`, in the order in which the tables are made.
 pub(crate) type OtherRows = (FirstFormatRows, SecondFormatRows);
 
-/// Reads all tables of the format but `campaign`.
+/// Reads all tables of the format but `campaign`; None if a value is not of its column's type.
 pub(crate) fn read_others<S: Alter>(
     alloc: Global,
     conn: &mut Connection<S>,
     format: Format,
-) -> Result<Found<OtherRows>, LoadFault>
+) -> Result<Option<OtherRows>, LoadFault>
     requires idle { conn.old.in_transaction ≡ false }
     requires settled { IsCommitted (state S.Store conn.old) }
     ensures { ReadsSome S.Store conn.old (other_selects format)
-        (IsOfRows ⟦<OtherRows as AllRows>⟧.reads
-        (AreOfFormat format (state S.Store conn.old).now)) result conn.new }
+        (λ others. AreOfFormat format (state S.Store conn.old).now
+        (⟦<OtherRows as AllRows>⟧.rows others)) result conn.new }
 {
     read_by(alloc, conn, format)
 }
@@ -62,11 +62,9 @@ pub(crate) fn parts_with(
     head: StoredCampaignRow,
     others: OtherRows,
 ) -> Result<Parts, LoadFault>
-    ensures ok { IfOk result (λ parts. (rows : ReadRows)
-        → ⟦<OtherRows as AllRows>⟧.reads rows others → IsMadeOf head rows parts) }
-    ensures fails { IfErr result (λ fault. (rows : ReadRows)
-        → ⟦<OtherRows as AllRows>⟧.reads rows others
-        → FailsWithout (AllHaveDistinctRowids rows) fault) }
+    ensures ok { IfOk result (λ parts. IsMadeOf head (⟦<OtherRows as AllRows>⟧.rows others) parts) }
+    ensures fails { IfErr result (FailsWithout
+        (AllHaveDistinctRowids (⟦<OtherRows as AllRows>⟧.rows others))) }
 {
     let ((people, works), markets) = others;
     let (factions, (regions, (units, has))) = people;

@@ -22,7 +22,7 @@ use sqlite::{Alter, Connection, Row};
 use std::alloc::Global;
 
 /// The fault of loading for a fault of reading `campaign`: Refused becomes NotACampaign, OtherType
-/// becomes Damaged by the first rule, OutOfRange by the second, and Store and Memory stay.
+/// becomes Damaged by the first rule, and Store and Memory stay.
 fn campaign_row_fault(fault: ReadFault) -> LoadFault
     ensures { result ≡ campaign_row_fault fault }
 {
@@ -31,7 +31,6 @@ fn campaign_row_fault(fault: ReadFault) -> LoadFault
         ReadFault::Refused => LoadFault::NotACampaign,
         ReadFault::Memory => LoadFault::Memory,
         ReadFault::OtherType => LoadFault::Damaged(Rule::OneRow),
-        ReadFault::OutOfRange => LoadFault::Damaged(Rule::Ranges),
     }
 }
 

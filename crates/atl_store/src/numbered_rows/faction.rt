@@ -6,10 +6,9 @@ ghost use Rattle.atl_store.specs.Rows.{row_of_faction};
 use super::{Mapped, NumberedRow};
 use atl_campaign::{Campaign, Faction};
 use atl_rows::parts::StoredFaction;
-use atl_sql::rows::faction::{FactionRow, put_faction};
-use atl_sql::rows::take_out;
+use atl_sql::rows::{put, take_out_number};
 use atl_world::{Entries, MarkedNumbers};
-use sqlite::{Alter, Error, Transaction};
+use sqlite::{Alter, Error, Transaction, params};
 
 /// Its row has its number, names and pass text, and whether it is gone.
 impl NumberedRow for Faction {
@@ -38,18 +37,20 @@ impl NumberedRow for Faction {
     }
 
     fn put<S: Alter>(&self, tx: &mut Transaction<'_, S>, number: u32) -> Result<(), Error> {
-        let row = FactionRow {
-            number,
-            joined_as: self.joined_as.as_str(),
-            name: self.name.as_str(),
-            pass: self.pass.as_str(),
-            gone: self.gone,
-        };
-        put_faction(tx, &row)
+        put::<StoredFaction, S>(
+            tx,
+            params![
+                number,
+                self.joined_as.as_str(),
+                self.name.as_str(),
+                self.pass.as_str(),
+                self.gone
+            ],
+        )
     }
 
     fn take_out<S: Alter>(tx: &mut Transaction<'_, S>, number: u32) -> Result<(), Error> {
-        take_out::<StoredFaction, S>(tx, number)
+        take_out_number::<StoredFaction, S>(tx, number)
     }
 }
 

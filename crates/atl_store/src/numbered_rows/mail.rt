@@ -4,10 +4,10 @@ ghost use Rattle.atl_descriptions.specs.Tables.{Mail};
 ghost use Rattle.atl_sql.specs.Shown.{mail_row};
 
 use super::{Mapped, NumberedRow};
+use crate::mailing::put_mail;
 use atl_campaign::Campaign;
 use atl_rows::parts::StoredMail;
-use atl_sql::rows::mail::put_mail;
-use atl_sql::rows::take_out;
+use atl_sql::rows::take_out_number;
 use atl_world::{Entries, MarkedNumbers, Sequence};
 use sqlite::{Alter, Error, Transaction};
 
@@ -42,7 +42,7 @@ impl NumberedRow for Sequence<u8> {
     }
 
     fn take_out<S: Alter>(tx: &mut Transaction<'_, S>, number: u32) -> Result<(), Error> {
-        take_out::<StoredMail, S>(tx, number)
+        take_out_number::<StoredMail, S>(tx, number)
     }
 }
 

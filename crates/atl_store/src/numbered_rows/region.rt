@@ -6,10 +6,9 @@ ghost use Rattle.atl_store.specs.Rows.{row_of_region};
 use super::{Mapped, NumberedRow};
 use atl_campaign::{Campaign, Region};
 use atl_rows::parts::StoredRegion;
-use atl_sql::rows::region::put_region;
-use atl_sql::rows::take_out;
+use atl_sql::rows::{put, take_out_number};
 use atl_world::{Entries, MarkedNumbers};
-use sqlite::{Alter, Error, Transaction};
+use sqlite::{Alter, Error, Transaction, params};
 
 /// Its row has its number, peasants and money; its stocks are rows of `market`.
 impl NumberedRow for Region {
@@ -38,11 +37,11 @@ impl NumberedRow for Region {
     }
 
     fn put<S: Alter>(&self, tx: &mut Transaction<'_, S>, number: u32) -> Result<(), Error> {
-        put_region(tx, number, self.peasants, self.money)
+        put::<StoredRegion, S>(tx, params![number, self.peasants, self.money])
     }
 
     fn take_out<S: Alter>(tx: &mut Transaction<'_, S>, number: u32) -> Result<(), Error> {
-        take_out::<StoredRegion, S>(tx, number)
+        take_out_number::<StoredRegion, S>(tx, number)
     }
 }
 

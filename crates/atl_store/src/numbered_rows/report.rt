@@ -6,10 +6,9 @@ ghost use Rattle.atl_sql.specs.Shown.{report_row};
 use super::{Mapped, NumberedRow};
 use atl_campaign::Campaign;
 use atl_rows::parts::StoredReport;
-use atl_sql::rows::report::put_report;
-use atl_sql::rows::take_out;
+use atl_sql::rows::{put, take_out_number};
 use atl_world::{Entries, MarkedNumbers, Text};
-use sqlite::{Alter, Error, Transaction};
+use sqlite::{Alter, Error, Transaction, params};
 
 /// Its row has its faction's number, and the report.
 impl NumberedRow for Text {
@@ -38,11 +37,11 @@ impl NumberedRow for Text {
     }
 
     fn put<S: Alter>(&self, tx: &mut Transaction<'_, S>, number: u32) -> Result<(), Error> {
-        put_report(tx, number, self.as_str())
+        put::<StoredReport, S>(tx, params![number, self.as_str()])
     }
 
     fn take_out<S: Alter>(tx: &mut Transaction<'_, S>, number: u32) -> Result<(), Error> {
-        take_out::<StoredReport, S>(tx, number)
+        take_out_number::<StoredReport, S>(tx, number)
     }
 }
 

@@ -6,10 +6,9 @@ ghost use Rattle.atl_store.specs.Rows.{row_of_structure};
 use super::{Mapped, NumberedRow};
 use atl_campaign::{Campaign, Structure};
 use atl_rows::parts::StoredStructure;
-use atl_sql::rows::structure::{StructureRow, put_structure};
-use atl_sql::rows::take_out;
+use atl_sql::rows::{put, take_out_number};
 use atl_world::{Entries, MarkedNumbers};
-use sqlite::{Alter, Error, Transaction};
+use sqlite::{Alter, Error, Transaction, params};
 
 /// Its row has its number, kind, name and region, how much of it is done, and its owner.
 impl NumberedRow for Structure {
@@ -38,19 +37,21 @@ impl NumberedRow for Structure {
     }
 
     fn put<S: Alter>(&self, tx: &mut Transaction<'_, S>, number: u32) -> Result<(), Error> {
-        let row = StructureRow {
-            number,
-            kind: self.kind,
-            name: self.name.as_str(),
-            region: self.region,
-            done: self.done,
-            owner: self.owner,
-        };
-        put_structure(tx, &row)
+        put::<StoredStructure, S>(
+            tx,
+            params![
+                number,
+                u32::from(self.kind),
+                self.name.as_str(),
+                self.region,
+                self.done,
+                self.owner
+            ],
+        )
     }
 
     fn take_out<S: Alter>(tx: &mut Transaction<'_, S>, number: u32) -> Result<(), Error> {
-        take_out::<StoredStructure, S>(tx, number)
+        take_out_number::<StoredStructure, S>(tx, number)
     }
 }
 

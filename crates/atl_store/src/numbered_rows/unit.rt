@@ -6,10 +6,9 @@ ghost use Rattle.atl_store.specs.Rows.{row_of_unit};
 use super::NumberedRow;
 use atl_campaign::{Campaign, Unit};
 use atl_rows::parts::StoredUnit;
-use atl_sql::rows::take_out;
-use atl_sql::rows::unit::{UnitRow, put_unit};
+use atl_sql::rows::{put, take_out_number};
 use atl_world::MarkedNumbers;
-use sqlite::{Alter, Error, Transaction};
+use sqlite::{Alter, Error, Transaction, params};
 
 /// Its row has its number, faction, name, place, men, money and guard flag; its items and days of
 /// study are rows of `has`.
@@ -39,20 +38,22 @@ impl NumberedRow for Unit {
     }
 
     fn put<S: Alter>(&self, tx: &mut Transaction<'_, S>, number: u32) -> Result<(), Error> {
-        let row = UnitRow {
-            number,
-            faction: self.faction,
-            name: self.holding.name().as_str(),
-            region: self.region,
-            structure: self.structure,
-            men: self.holding.men(),
-            money: self.holding.money(),
-            guard: self.holding.guard(),
-        };
-        put_unit(tx, &row)
+        put::<StoredUnit, S>(
+            tx,
+            params![
+                number,
+                self.faction,
+                self.holding.name().as_str(),
+                self.region,
+                self.structure,
+                self.holding.men(),
+                self.holding.money(),
+                self.holding.guard()
+            ],
+        )
     }
 
     fn take_out<S: Alter>(tx: &mut Transaction<'_, S>, number: u32) -> Result<(), Error> {
-        take_out::<StoredUnit, S>(tx, number)
+        take_out_number::<StoredUnit, S>(tx, number)
     }
 }

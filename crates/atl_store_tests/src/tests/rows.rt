@@ -7,7 +7,7 @@ use atl_campaign::parts::{
     StoredStructure, StoredUnit,
 };
 use atl_store::rows::campaign::StoredCampaign;
-use atl_store::rows::{HasSelect, RowWithId};
+use atl_store::rows::{RowWithId, Stored};
 use sqlite::{Alter, Connection};
 use std::alloc::{AllocError, Global};
 use std::test::Fail;
@@ -139,7 +139,7 @@ fn rows_text<T: PrintableRow>(alloc: Global, rows: &[T]) -> Result<String, Alloc
 }
 
 /// The text of all rows of a table, or of the fault of reading them; fails in a transaction.
-fn rows_of<T: PrintableRow + HasSelect, S: Alter>(
+fn rows_of<T: PrintableRow + Stored, S: Alter>(
     alloc: Global,
     conn: &mut Connection<S>,
 ) -> Result<String, Fail> {

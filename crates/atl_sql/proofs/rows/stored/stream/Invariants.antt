@@ -1,6 +1,6 @@
-use Rattle.std.proofs.Common.{◌≡◌, List}
+use Rattle.std.proofs.Common.{◌≡◌, List, map, length}
 use Rattle.sqlite.specs.Order.{Row}
-use Rattle.atl_sql.specs.Stored.{AreReadAs, AreTyped}
+use Rattle.atl_sql.specs.Stored.{first_columns, AreTyped}
 use Rattle.atl_sql.proofs.StreamLaws.{IsGiving}
 use Rattle.atl_sql.proofs.rows.stored.stream.Given as goal
 
@@ -10,6 +10,6 @@ invariant-rows g l = record {
   lent : l.rows.conn.ghost_name ≡ l.initial.rows.conn.ghost_name;
   given : List Row;
   giving : IsGiving g.S.Store l.sql l.fn.conn given l.rows.conn.now;
-  read : AreReadAs g.T.Stored.forms g.T.Stored.reads given l.all.items;
+  read : map g.T.Stored.shown l.all.items ≡ map (first_columns (length g.T.Stored.forms)) given;
   typed : AreTyped g.T.Stored.forms given;
 }

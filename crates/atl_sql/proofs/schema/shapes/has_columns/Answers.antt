@@ -12,4 +12,4 @@ are_columns-requires g c =
 pub returns : goal.returns
 returns g c =
     subst (λ (columns : List Column). Decides c.are_columns.result (c.args.columns.now ≡ columns))
-    (ap (strict_columns g.R.Fields.Fields.kinds) c.table.ensures.names ∙ sym g.met.R.Record.has_columns) c.are_columns.ensures
+    (ap (strict_columns g.R.Fields.Fields.forms) c.table.ensures.names ∙ sym g.met.R.Record.has_columns) c.are_columns.ensures
