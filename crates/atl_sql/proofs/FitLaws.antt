@@ -15,7 +15,7 @@ use Rattle.sqlite.specs.Order.{Row, column}
 use Rattle.sqlite.specs.Table.{Table}
 use Rattle.sqlite_schema.specs.declared.schema.Column.{Column}
 use Rattle.sqlite_schema.specs.Names.{place_of}
-use Rattle.sqlite_rules.specs.Cast.{cast, cast_all, cast_row}
+use Rattle.sqlite_rules.specs.Cast.{cast_all, cast_row}
 use Rattle.sqlite_trees.proofs.ListLemmas.{map-map}
 use Rattle.atl_columns.specs.Fields.{Fits}
 use Rattle.atl_descriptions.specs.Sets.{table, visible_row}

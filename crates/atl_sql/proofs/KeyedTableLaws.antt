@@ -121,7 +121,8 @@ makes_has unit sort thing amount = record {
       rw (one.0, two.0, three.0, cast_int (pos unit), cast_int (pos sort), cast_int (pos thing), cast_int amount) refl;
 }
 
-pub puts_has : (unit sort thing : ℕ) (amount : ℤ) → PutsRow has_table 3 (int unit ∷ int sort ∷ int thing ∷ Int amount ∷ [])
+pub puts_has : (unit sort thing : ℕ) (amount : ℤ)
+    → PutsRow has_table 3 (int unit ∷ int sort ∷ int thing ∷ Int amount ∷ [])
 puts_has unit sort thing amount =
     let is = statement_meanings InHas in
     puts_keyed has_table.tree _ _ has_unique 4 (key_is InHas) (upsert has_table 3) 5 4 (keyed_insert_terms 4) (update_terms 3 4) is.puts is.puts_plain (int unit ∷ int sort ∷ int thing ∷ Int amount ∷ []) (makes_has unit sort thing amount)

@@ -19,12 +19,15 @@ use Rattle.atl_sql.proofs.KeepLaws.{if_ok}
 abbrev pub Reads : Format → List ℕ → (Trees → List Row) → ℕ → Type 1
 Reads f sql in_table count = (old new : State) (rows : List Row) → Shown sql [] old new rows → HasTablesOf f old.now.schema → IsPermutation (in_table old.now.trees) (map (first_columns count) rows)
 
-pub asked_has_tables : (f : Format) (old before : State) → IsAsked old before → HasTablesOf f old.now.schema → HasTablesOf f before.now.schema
+pub asked_has_tables : (f : Format) (old before : State) → IsAsked old before → HasTablesOf f old.now.schema
+    → HasTablesOf f before.now.schema
 asked_has_tables f old before select_of has = subst (λ (d : Database). HasTablesOf f d.schema) (sym select_of.same) has
 
 -- A SELECT of a whole table (`Reads`) shows all rows that the table has in `old`, if `old` has the tables of the
 -- format. The SELECT is asked on a connection with the tables of `old` (`IsAsked`).
-pub asked_rows : (f : Format) (sql : List ℕ) (in_table : Trees → List Row) (count : ℕ) → Reads f sql in_table count → (old before during : State) (rows : List Row) → IsAsked old before → Shown sql [] before during rows → HasTablesOf f old.now.schema
+pub asked_rows : (f : Format) (sql : List ℕ) (in_table : Trees → List Row) (count : ℕ) → Reads f sql in_table count
+    → (old before during : State) (rows : List Row) → IsAsked old before → Shown sql [] before during rows
+    → HasTablesOf f old.now.schema
     → IsPermutation (in_table old.now.trees) (map (first_columns count) rows)
 asked_rows f sql in_table count means old before during rows select_of shown has =
     subst (λ (d : Database). IsPermutation (in_table d.trees) (map (first_columns count) rows)) select_of.same (means before during rows shown (asked_has_tables f old before select_of has))
@@ -32,6 +35,7 @@ asked_rows f sql in_table count means old before during rows select_of shown has
 module _ {S A Z : Type 0} (g : Ghosts S) (sql : List ℕ) (old new : Held S) (forms : List Form) (shown : A → Row) (r : Result (Vec A Z) ReadFault) where
   -- on a clean disk, under the tables of the format, a read by a SELECT of a whole table (`Reads`) gives all rows of
   -- the table, if the read succeeds (`GivesTable`)
-  pub gives_table : (since : Format) (in_table : Trees → List Row) → Reads since sql in_table (length forms) → ReadsRows g sql old forms shown r new → GivesTable g since in_table shown r old new
+  pub gives_table : (since : Format) (in_table : Trees → List Row) → Reads since sql in_table (length forms)
+      → ReadsRows g sql old forms shown r new → GivesTable g since in_table shown r old new
   gives_table since in_table means read clean has =
       if_ok r (λ all did. subst (IsPermutation (in_table (state g old).now.trees)) (sym did.2) (asked_rows since sql in_table (length forms) means (state g old) (state g did.1.0) (state g did.1.1) did.0 did.1.2 did.1.3 has)) (read.rows clean)

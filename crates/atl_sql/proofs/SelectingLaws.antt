@@ -18,10 +18,12 @@ use Rattle.atl_sql.specs.declared.fault.ReadFault.TheVariants.{Store, Refused, M
 use Rattle.atl_sql.proofs.KeepLaws.{survives_more, if_ok, if_err}
 
 module _ (old new : State) (inside : IsTrue old.in_transaction) (sql : List ℕ) (params : Row) where
-  writes_keep : (what : Option Returning) (command : _) (text : List ℕ) (row : Row) (count : ℕ) → Writes old new what command text row count → KeepsCommit old new
+  writes_keep : (what : Option Returning) (command : _) (text : List ℕ) (row : Row) (count : ℕ)
+      → Writes old new what command text row count → KeepsCommit old new
   writes_keep what command text row count w = record { was_open = λ _. w.shown.was_open; committed = λ _. w.shown.committed_is ∙ ap (λ b. cond b old.committed new.now) inside }
 
-  shows_keep : (c : _) (row : Row) (rows : List Row) (what : Option Returning) → ShowsRows old new sql c row rows what → KeepsCommit old new
+  shows_keep : (c : _) (row : Row) (rows : List Row) (what : Option Returning) → ShowsRows old new sql c row rows what
+      → KeepsCommit old new
   shows_keep c row rows None h = unchanged_keeps old new (inl h.3)
   shows_keep c row rows (Some what) h = writes_keep (Some what) _ _ row h.0 h.1
 
@@ -29,12 +31,14 @@ module _ (old new : State) (inside : IsTrue old.in_transaction) (sql : List ℕ)
   unfolding Shown
   shown_keeps rows h = shows_keep h.0 _ rows h.0.returning h.2
 
-  fails_keep : (c : _) (row : Row) (e : Error) (what : Option Returning) → FailsToShow old new sql c row e what → KeepsCommit old new
+  fails_keep : (c : _) (row : Row) (e : Error) (what : Option Returning) → FailsToShow old new sql c row e what
+      → KeepsCommit old new
   fails_keep c row e None h = unchanged_keeps old new (inl h.3)
   fails_keep c row e (Some what) (inl h) = unchanged_keeps old new (inl h.1)
   fails_keep c row e (Some what) (inr h) = unchanged_keeps old new (inr h.3)
 
-  pub refused_keeps : (e : Error) → FailsToQuery sql params old new e ⊎ IsTooLate sql params old new e → KeepsCommit old new
+  pub refused_keeps : (e : Error) → FailsToQuery sql params old new e ⊎ IsTooLate sql params old new e
+      → KeepsCommit old new
   unfolding FailsToQuery IsNotRun
   refused_keeps e (inl (inl (inl h))) = unchanged_keeps old new (inl h.1)
   refused_keeps e (inl (inl (inr h))) = unchanged_keeps old new (inr h.3)
@@ -56,7 +60,8 @@ module _ {S : Type 0} (g : Ghosts S) (sql : List ℕ) (old begun mid end : Held 
 
   -- if the SELECT committed nothing and the disk is clean, the rollback leaves the tables of the last commit, and a
   -- connection that is open only if it was before (`Rests`)
-  rests : (HasCleanDisk (state g mid) → KeepsCommit (state g begun) (state g mid)) → HasCleanDisk (state g end) → Rests (state g old) (state g end)
+  rests : (HasCleanDisk (state g mid) → KeepsCommit (state g begun) (state g mid)) → HasCleanDisk (state g end)
+      → Rests (state g old) (state g end)
   rests keeps clean =
       let kept = subst (λ h. KeepsCommit (state g h) (state g mid)) begins (keeps (omega (arith, two.clean))) in
       let rolled = back clean in
@@ -79,7 +84,9 @@ module _ {S : Type 0} (g : Ghosts S) (sql : List ℕ) (old begun mid end : Held 
 
   -- a SELECT that is refused inside the transaction failed as a query, and not because it needs a transaction and none
   -- was open (`IsTooLate`)
-  not_late : (e : Error) → FailsToQuery sql [] (state g begun) (state g mid) e ⊎ IsTooLate sql [] (state g begun) (state g mid) e → FailsToQuery sql [] (state g begun) (state g mid) e
+  not_late : (e : Error)
+      → FailsToQuery sql [] (state g begun) (state g mid) e ⊎ IsTooLate sql [] (state g begun) (state g mid) e
+      → FailsToQuery sql [] (state g begun) (state g mid) e
   not_late e (inl failed) = failed
   not_late e (inr late) = absurd (let no = sym begun_inside ∙ late.3 in cc)
 
@@ -106,7 +113,8 @@ not_other e same = by_memory (is_memory e) (is_failure e) same
     by_memory false true is = cc
     by_memory false false is = cc
 
-pub never_other : {S : Type 0} (g : Ghosts S) (sql : List ℕ) (old : Held S) (fault : ReadFault) → RefusesToSelect g sql old fault → fault ≡ OtherType → ⊥
+pub never_other : {S : Type 0} (g : Ghosts S) (sql : List ℕ) (old : Held S) (fault : ReadFault)
+    → RefusesToSelect g sql old fault → fault ≡ OtherType → ⊥
 never_other g sql old fault says same = not_other says.2 (sym says.5 ∙ same)
 
 if_both : {A E : Type 0} (P Q : A → Type 0) (r : Result A E) → IfOk r P → IfOk r Q → IfOk r (λ a. P a × Q a)
@@ -126,7 +134,8 @@ module _ {S A Z : Type 0} (g : Ghosts S) (sql : List ℕ) (old new : Held S) (fo
     idle = asks.idle;
   }
 
-  pub parsed : {Y : Type 0} (rows : Vec Row Y) (lent : List Row) (r : Result (Vec A Z) ReadFault) → Asks g sql old (Ok rows) new → lent ≡ rows.items
+  pub parsed : {Y : Type 0} (rows : Vec Row Y) (lent : List Row) (r : Result (Vec A Z) ReadFault)
+      → Asks g sql old (Ok rows) new → lent ≡ rows.items
       → IfOk r (λ all. map shown all.items ≡ map (first_columns (length forms)) lent) → IfOk r (λ _. AreTyped forms lent) → IfErr r (λ fault. fault ≡ OtherType → ¬ AreTyped forms lent) → IfErr r (λ fault. fault ≢ OtherType → fault ≡ Memory) → ReadsRows g sql old forms shown r new
   parsed rows lent r asks same ok typed other which = record {
     rows = λ clean. if_ok r (λ all says. (rows.items, asks.rows clean, says.0 ∙ ap (map (first_columns (length forms))) same, subst (λ l. AreTyped forms l) same says.1)) (if_both _ _ r ok typed);

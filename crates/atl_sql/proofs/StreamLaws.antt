@@ -26,7 +26,8 @@ pub rests_unchanged : (old new : State) → IsUnchanged old new → Rests old ne
 rests_unchanged old new h = record { was_open = λ _. h.0.was_open; same = λ _. (inr h.0.now_is, h.0.committed_is) }
 
 module _ (sql : List ℕ) (old new : State) (plain : IsPlain (understood old.now.schema sql)) where
-  pub fails_stay : (c : _) (row : Row) (e : Error) (what : Option Returning) → what ≡ None → FailsToShow old new sql c row e what → IsUnchanged old new
+  pub fails_stay : (c : _) (row : Row) (e : Error) (what : Option Returning) → what ≡ None
+      → FailsToShow old new sql c row e what → IsUnchanged old new
   fails_stay c row e None is h = h.3
   fails_stay c row e (Some what) is h = absurd (let k = is in cc)
 
@@ -69,7 +70,8 @@ asked_then old mid new one two = record {
   faults = omega (arith, one.faults, two.faults);
 }
 
-pub commits_nothing : (sql : List ℕ) (old new : State) → IsPlain (understood old.now.schema sql) → Survives old new (CommitsShowing sql [] old) → Survives old new (λ _. ⊥)
+pub commits_nothing : (sql : List ℕ) (old new : State) → IsPlain (understood old.now.schema sql)
+    → Survives old new (CommitsShowing sql [] old) → Survives old new (λ _. ⊥)
 commits_nothing sql old new plain = survives_weaker old new _ _ (λ _ db. never_commits sql [] old db plain)
 
 unchanged_then : (old mid new : State) → IsUnchanged old mid → IsUnchanged mid new → IsUnchanged old new
@@ -91,7 +93,9 @@ pub record IsGiving {S : Type 0} (g : Ghosts S) (sql : List ℕ) (old : Held S) 
 
 module _ {S : Type 0} (g : Ghosts S) (sql : List ℕ) (old : Held S) where
   module _ {A : Type 0} (forms : List Form) (shown : A → Row) where
-    pub not_begun : {Z : Type 0} (now : Held S) (e : Error) (r : Result (Option (Vec A Z)) ReadFault) → IsPlain (understood old.schema sql) → IsErrAnd r (λ fault. fault ≡ read_fault e) → (HasCleanDisk (state g now) → FailsToQuery sql [] (state g old) (state g now) e)
+    pub not_begun : {Z : Type 0} (now : Held S) (e : Error) (r : Result (Option (Vec A Z)) ReadFault)
+        → IsPlain (understood old.schema sql) → IsErrAnd r (λ fault. fault ≡ read_fault e)
+        → (HasCleanDisk (state g now) → FailsToQuery sql [] (state g old) (state g now) e)
         → now.in_transaction ≡ false → Survives (state g old) (state g now) (CommitsShowing sql [] (state g old)) → Streams g sql old forms shown r now
     not_begun now e (Ok read) plain says err idle survives = absurd says
     not_begun now e (Err fault) plain says err idle survives = record {
@@ -124,7 +128,9 @@ module _ {S : Type 0} (g : Ghosts S) (sql : List ℕ) (old : Held S) where
     same_before clean = (giving.given_so (clean_before clean)).1
 
     module _ {A : Type 0} (forms : List Form) (shown : A → Row) where
-      pub not_advanced : {Z : Type 0} (e : Error) (r : Result (Option (Vec A Z)) ReadFault) → IsPlain (understood old.schema sql) → IsErrAnd r (λ fault. fault ≡ read_fault e) → (HasCleanDisk (state g now) → FailsToAdvance g mid now e) → Streams g sql old forms shown r now
+      pub not_advanced : {Z : Type 0} (e : Error) (r : Result (Option (Vec A Z)) ReadFault)
+          → IsPlain (understood old.schema sql) → IsErrAnd r (λ fault. fault ≡ read_fault e)
+          → (HasCleanDisk (state g now) → FailsToAdvance g mid now e) → Streams g sql old forms shown r now
       not_advanced e (Ok read) plain says err = absurd says
       not_advanced e (Err fault) plain says err = record {
         rows = λ _. tt;
@@ -138,7 +144,9 @@ module _ {S : Type 0} (g : Ghosts S) (sql : List ℕ) (old : Held S) where
         idle = idle giving.idle;
       }
 
-      pub ended : {Z : Type 0} (all : Vec A Z) → map shown all.items ≡ map (first_columns (length forms)) given → AreTyped forms given → (HasCleanDisk (state g now) → Advances g mid now None) → (HasCleanDisk (state g now) → IsUnchanged (state g mid) (state g now))
+      pub ended : {Z : Type 0} (all : Vec A Z) → map shown all.items ≡ map (first_columns (length forms)) given
+          → AreTyped forms given → (HasCleanDisk (state g now) → Advances g mid now None)
+          → (HasCleanDisk (state g now) → IsUnchanged (state g mid) (state g now))
           → Streams g sql old forms shown (Ok (Some all)) now
       ended all read typed done same = record {
         rows = λ clean. (given, (mid, now, asked_unchanged (state g old) (state g mid) (same_before clean) giving.survives, done clean sql [] given (giving.given_so (clean_before clean)).0), read, typed);
@@ -149,18 +157,23 @@ module _ {S : Type 0} (g : Ghosts S) (sql : List ℕ) (old : Held S) where
         idle = idle giving.idle;
       }
 
-      pub read_more : (old_items new_items : List A) (row : Row) → map shown old_items ≡ map (first_columns (length forms)) given → AddsRow forms shown old_items row new_items → map shown new_items ≡ map (first_columns (length forms)) (given ++ row ∷ [])
+      pub read_more : (old_items new_items : List A) (row : Row)
+          → map shown old_items ≡ map (first_columns (length forms)) given → AddsRow forms shown old_items row new_items
+          → map shown new_items ≡ map (first_columns (length forms)) (given ++ row ∷ [])
       read_more old_items new_items row read adds =
           ap (map shown) adds.1 ∙ map_at_end shown old_items adds.0 ∙ ap (λ rs. rs ++ shown adds.0 ∷ []) read ∙ ap (λ r. map (first_columns (length forms)) given ++ r ∷ []) adds.2 ∙ sym (map_at_end (first_columns (length forms)) given row)
 
-      pub typed_more : (old_items new_items : List A) (row : Row) → AreTyped forms given → AddsRow forms shown old_items row new_items → AreTyped forms (given ++ row ∷ [])
+      pub typed_more : (old_items new_items : List A) (row : Row) → AreTyped forms given
+          → AddsRow forms shown old_items row new_items → AreTyped forms (given ++ row ∷ [])
       typed_more old_items new_items row typed adds one there = elim (has_either given (row ∷ []) one there) [
         | inl before ↦ typed one before
         | inr (inl here) ↦ subst (IsTyped forms) (sym here) adds.3
         | inr (inr none) ↦ absurd none
       ]
 
-    pub giving_more : (row : Row) → (HasCleanDisk (state g now) → Advances g mid now (Some row)) → (HasCleanDisk (state g now) → IsUnchanged (state g mid) (state g now)) → IsGiving g sql old (given ++ row ∷ []) now
+    pub giving_more : (row : Row) → (HasCleanDisk (state g now) → Advances g mid now (Some row))
+        → (HasCleanDisk (state g now) → IsUnchanged (state g mid) (state g now))
+        → IsGiving g sql old (given ++ row ∷ []) now
     giving_more row more same = record {
       idle = idle giving.idle;
       survives = survived;
@@ -211,5 +224,6 @@ module _ {S A Z : Type 0} (g : Ghosts S) (sql : List ℕ) (old : Held S) (forms 
       selects : HasCleanDisk (state g new) → (rows : List Row) → Selects g sql mid rows → Selects g sql old rows
       selects clean rows says = (says.0, says.1, asked_then (state g old) (state g mid) (state g says.0) (streams.same (before clean)) says.2, says.3)
 
-      refuses : HasCleanDisk (state g new) → (fault : ReadFault) → RefusesToSelect g sql mid fault → RefusesToSelect g sql old fault
+      refuses : HasCleanDisk (state g new) → (fault : ReadFault) → RefusesToSelect g sql mid fault
+          → RefusesToSelect g sql old fault
       refuses clean fault says = (says.0, says.1, says.2, asked_then (state g old) (state g mid) (state g says.0) (streams.same (before clean)) says.3, says.4, says.5)

@@ -1,6 +1,6 @@
 -- Laws on the rows of any part but the campaign row: the upsert puts a row that can be written, and the DELETE by its
 -- whole key deletes it.
-use Rattle.std.proofs.Common.{◌≡◌, ◌&&◌, ℕ, ℤ, zero, suc, pos, negsuc, Bool, true, false, List, [], ◌∷◌, codes, drop, refl, sym, ap, ◌∙◌, subst, true≢false, Result}
+use Rattle.std.proofs.Common.{◌≡◌, ℕ, ℤ, suc, pos, negsuc, true, List, [], ◌∷◌, codes, drop, refl, sym, ap, ◌∙◌, subst, true≢false, Result}
 use Rattle.std.proofs.lemmas.Bool.{and_parts}
 use Rattle.sqlite.specs.declared.types.Value.{Value}
 use Rattle.sqlite.specs.declared.types.Value.TheVariants.{Null, Int, Real, Text, Blob}

@@ -29,7 +29,8 @@ use Rattle.atl_sql.proofs.PartLaws.{is_among, not_among}
 use Rattle.atl_sql.proofs.WriteLaws.{survives_start}
 use Rattle.atl_store.proofs.PartsLaws.{every_part}
 
-shows_open : (old new : State) (sql : List ℕ) (c : _) (row : Row) (rows : List Row) (what : Option Returning) → ShowsRows old new sql c row rows what → IsTrue old.is_open
+shows_open : (old new : State) (sql : List ℕ) (c : _) (row : Row) (rows : List Row) (what : Option Returning)
+    → ShowsRows old new sql c row rows what → IsTrue old.is_open
 shows_open old new sql c row rows None h = h.3.0.was_open
 shows_open old new sql c row rows (Some what) h = h.1.shown.was_open
 
@@ -49,7 +50,8 @@ store_no_memory is = cc
 refused_no_memory : read.Refused ≢ read.Memory
 refused_no_memory is = cc
 
-each_of_both : {X : Type 0} (P : X → Type 0) (xs ys : List X) → ((x : X) → Has xs x → P x) → ((x : X) → Has ys x → P x) → (x : X) → Has (xs ++ ys) x → P x
+each_of_both : {X : Type 0} (P : X → Type 0) (xs ys : List X) → ((x : X) → Has xs x → P x) → ((x : X) → Has ys x → P x)
+    → (x : X) → Has (xs ++ ys) x → P x
 each_of_both P xs ys first second x there = elim (has_either xs ys x there) [
   | inl one ↦ first x one
   | inr one ↦ second x one
@@ -108,7 +110,10 @@ module _ {S : Type 0} (g : Ghosts S) where
 
     -- on a clean disk, a read of one table without a fault found all rows, or a value of another type than its column
     -- (`FoundBySelects`)
-    found_one : {Z : Type 0} (r : Result (Vec A Z) ReadFault) → ReadsRows g sql old forms shown r new → GivesTable g (select_of_part part).since (select_of_part part).in_table shown r old new → HasCleanDisk (state g new) → IfOk (rows_or_none r) (FoundBySelects g old this_select (λ all. AreAllRows (state g old).now ((part, map shown all.items) ∷ [])))
+    found_one : {Z : Type 0} (r : Result (Vec A Z) ReadFault) → ReadsRows g sql old forms shown r new
+        → GivesTable g (select_of_part part).since (select_of_part part).in_table shown r old new
+        → HasCleanDisk (state g new)
+        → IfOk (rows_or_none r) (FoundBySelects g old this_select (λ all. AreAllRows (state g old).now ((part, map shown all.items) ∷ [])))
     found_one (Ok all) reads gives clean =
         let says = reads.rows clean in
         (each_of_one (λ s. (rows : List Row) × SelectShows g old s.0 rows × AreTyped s.1 rows) (sql, forms) (says.0, shows_rows says.0 says.1, says.3), each_of_one (λ read. AreRows (state g old).now read.0 read.1) (part, map shown all.items) (gives clean))
@@ -126,7 +131,8 @@ module _ {S : Type 0} (g : Ghosts S) where
     found_one (Err read.Store) reads gives clean = tt
     found_one (Err read.Refused) reads gives clean = tt
 
-    open_one : {Z : Type 0} (r : Result (Vec A Z) ReadFault) → ReadsRows g sql old forms shown r new → HasCleanDisk (state g new) → IfOk (rows_or_none r) (λ _. IsTrue (state g old).is_open)
+    open_one : {Z : Type 0} (r : Result (Vec A Z) ReadFault) → ReadsRows g sql old forms shown r new
+        → HasCleanDisk (state g new) → IfOk (rows_or_none r) (λ _. IsTrue (state g old).is_open)
     open_one (Ok all) reads clean = let says = reads.rows clean in selects_open says.0 says.1
     open_one (Err read.OtherType) reads clean = let says = reads.other clean refl in selects_open says.0 says.1
     open_one (Err read.Memory) reads clean = tt
@@ -136,11 +142,13 @@ module _ {S : Type 0} (g : Ghosts S) where
     refuses : (fault : ReadFault) → RefusesToSelect g sql old fault → RefusesOne g old this_select fault
     refuses fault refused = record { select = (sql, forms); one = inl refl; before = old; leaves = leaves_none old idle; refused = refused }
 
-    may_lack_memory : RefusesToSelect g sql old read.Memory ⊎ ((rows : List Row) × Selects g sql old rows) → FailsToRead g old this_select Memory
+    may_lack_memory : RefusesToSelect g sql old read.Memory ⊎ ((rows : List Row) × Selects g sql old rows)
+        → FailsToRead g old this_select Memory
     may_lack_memory (inl refused) = inl (refuses read.Memory refused)
     may_lack_memory (inr says) = inr (record { select = (sql, forms); one = inl refl; before = old; leaves = leaves_none old idle; rows = says.0; answered = says.1 })
 
-    fails_one : {Z : Type 0} (r : Result (Vec A Z) ReadFault) → ReadsRows g sql old forms shown r new → HasCleanDisk (state g new) → IfErr (rows_or_none r) (FailsToRead g old this_select)
+    fails_one : {Z : Type 0} (r : Result (Vec A Z) ReadFault) → ReadsRows g sql old forms shown r new
+        → HasCleanDisk (state g new) → IfErr (rows_or_none r) (FailsToRead g old this_select)
     fails_one (Ok all) reads clean = tt
     fails_one (Err read.OtherType) reads clean = tt
     fails_one (Err read.Memory) reads clean = may_lack_memory (reads.memory clean refl)
@@ -148,7 +156,9 @@ module _ {S : Type 0} (g : Ghosts S) where
     fails_one (Err read.Refused) reads clean = inr (refuses read.Refused (reads.refused clean not_refused refused_no_memory))
 
     -- reading one table is reading the list with its SELECT alone (`ReadsSome`)
-    pub reads_one : {Z : Type 0} (r : Result (Vec A Z) ReadFault) → ReadsRows g sql old forms shown r new → GivesTable g (select_of_part part).since (select_of_part part).in_table shown r old new → (kept : Result (Option (Vec A Z)) LoadFault) → kept ≡ rows_or_none r
+    pub reads_one : {Z : Type 0} (r : Result (Vec A Z) ReadFault) → ReadsRows g sql old forms shown r new
+        → GivesTable g (select_of_part part).since (select_of_part part).in_table shown r old new
+        → (kept : Result (Option (Vec A Z)) LoadFault) → kept ≡ rows_or_none r
         → ReadsSome g old this_select (λ all. AreAllRows (state g old).now ((part, map shown all.items) ∷ [])) kept new
     reads_one r reads gives kept is = record {
       was_open = λ clean. subst (λ k. IfOk k (λ _. IsTrue (state g old).is_open)) (sym is) (open_one r reads clean);
@@ -170,7 +180,8 @@ module _ {S : Type 0} (g : Ghosts S) where
     all_show_then : (selects : List (List ℕ × List Form)) → AllSelectsShow g mid selects → AllSelectsShow g old selects
     all_show_then selects all select one = let says = all select one in (says.0, shows_then select.0 says.0 says.1)
 
-    found_then : {A : Type 0} (selects : List (List ℕ × List Form)) (P Q : A → Type 0) (o : Option A) → ((a : A) → P a → Q a) → FoundBySelects g mid selects P o → FoundBySelects g old selects Q o
+    found_then : {A : Type 0} (selects : List (List ℕ × List Form)) (P Q : A → Type 0) (o : Option A)
+        → ((a : A) → P a → Q a) → FoundBySelects g mid selects P o → FoundBySelects g old selects Q o
     found_then selects P Q (Some a) weaker found = (λ select one. let says = found.0 select one in (says.0, shows_then select.0 says.0 says.1, says.2), weaker a found.1)
     found_then selects P Q None weaker found = record {
       all = all_show_then selects found.all;
@@ -181,7 +192,8 @@ module _ {S : Type 0} (g : Ghosts S) where
       other = found.other;
     }
 
-  refuses_then : (old mid : Held S) → AfterReads g old mid → (selects : List (List ℕ × List Form)) (fault : ReadFault) → RefusesOne g mid selects fault → RefusesOne g old selects fault
+  refuses_then : (old mid : Held S) → AfterReads g old mid → (selects : List (List ℕ × List Form)) (fault : ReadFault)
+      → RefusesOne g mid selects fault → RefusesOne g old selects fault
   refuses_then old mid first selects fault refused = record {
     select = refused.select;
     one = refused.one;
@@ -190,7 +202,8 @@ module _ {S : Type 0} (g : Ghosts S) where
     refused = refused.refused;
   }
 
-  answers_then : (old mid : Held S) → AfterReads g old mid → (selects : List (List ℕ × List Form)) → AnswersOne g mid selects → AnswersOne g old selects
+  answers_then : (old mid : Held S) → AfterReads g old mid → (selects : List (List ℕ × List Form))
+      → AnswersOne g mid selects → AnswersOne g old selects
   answers_then old mid first selects answers = record {
     select = answers.select;
     one = answers.one;
@@ -200,7 +213,8 @@ module _ {S : Type 0} (g : Ghosts S) where
     answered = answers.answered;
   }
 
-  pub fails_then : (old mid : Held S) → AfterReads g old mid → (selects : List (List ℕ × List Form)) (fault : LoadFault) → FailsToRead g mid selects fault → FailsToRead g old selects fault
+  pub fails_then : (old mid : Held S) → AfterReads g old mid → (selects : List (List ℕ × List Form)) (fault : LoadFault)
+      → FailsToRead g mid selects fault → FailsToRead g old selects fault
   fails_then old mid first selects Store (inl refused) = inl (refuses_then old mid first selects read.Store refused)
   fails_then old mid first selects Store (inr refused) = inr (refuses_then old mid first selects read.Refused refused)
   fails_then old mid first selects (Damaged rule) fails = fails
@@ -228,10 +242,13 @@ module _ {S : Type 0} (g : Ghosts S) where
     other_within : AllSelectsShow g old more → HasOtherType g old few → HasOtherType g old more
     other_within all other = record { all = all; select = other.select; one = within other.select other.one; rows = other.rows; shows = other.shows; other = other.other }
 
-  typed_shows : (old : Held S) (selects : List (List ℕ × List Form)) → AllSelectsShowTyped g old selects → AllSelectsShow g old selects
+  typed_shows : (old : Held S) (selects : List (List ℕ × List Form)) → AllSelectsShowTyped g old selects
+      → AllSelectsShow g old selects
   typed_shows old selects typed select one = let says = typed select one in (says.0, says.1)
 
-  found_both : {A B : Type 0} (xs ys : List (List ℕ × List Form)) (P : A → Type 0) (Q : B → Type 0) (old : Held S) (a : Option A) (b : Option B) → FoundBySelects g old xs P a → FoundBySelects g old ys Q b → FoundBySelects g old (xs ++ ys) (λ x. P x.0 × Q x.1) (option_zip a b)
+  found_both : {A B : Type 0} (xs ys : List (List ℕ × List Form)) (P : A → Type 0) (Q : B → Type 0) (old : Held S) (a : Option A) (b : Option B)
+      → FoundBySelects g old xs P a → FoundBySelects g old ys Q b
+      → FoundBySelects g old (xs ++ ys) (λ x. P x.0 × Q x.1) (option_zip a b)
   found_both xs ys P Q old (Some a) (Some b) p q = (each_of_both (λ s. (rows : List Row) × SelectShows g old s.0 rows × AreTyped s.1 rows) xs ys p.0 q.0, (p.1, q.1))
   found_both xs ys P Q old (Some a) None p q = other_within old ys (xs ++ ys) (has_right xs ys) (each_of_both (λ s. (rows : List Row) × SelectShows g old s.0 rows) xs ys (typed_shows old xs p.0) q.all) q
   found_both xs ys P Q old None (Some b) p q = other_within old xs (xs ++ ys) (has_left xs ys) (each_of_both (λ s. (rows : List Row) × SelectShows g old s.0 rows) xs ys p.all (typed_shows old ys q.0)) p
@@ -239,17 +256,21 @@ module _ {S : Type 0} (g : Ghosts S) where
 
   -- on a clean disk, what reads after `mid` found with `P` was found with `Q` in the tables of `old`
   -- (`FoundBySelects`), if `P` implies `Q`
-  found_before : {A : Type 0} (old mid new : Held S) → AfterReads g old mid → (selects : List (List ℕ × List Form)) (P Q : A → Type 0) (r : Result (Option A) LoadFault) → ReadsSome g mid selects P r new → (o : Option A) → r ≡ Ok o
+  found_before : {A : Type 0} (old mid new : Held S) → AfterReads g old mid
+      → (selects : List (List ℕ × List Form)) (P Q : A → Type 0) (r : Result (Option A) LoadFault)
+      → ReadsSome g mid selects P r new → (o : Option A) → r ≡ Ok o
       → ((state g mid).now ≡ (state g old).now → (a : A) → P a → Q a) → HasCleanDisk (state g new) → FoundBySelects g old selects Q o
   found_before old mid new before selects P Q r reads o was weaker clean =
       let up = subst (λ r. IfOk r (λ _. IsTrue (state g mid).is_open)) was (reads.was_open clean) in
       let same = ((before.stays (omega (arith, reads.leaves.survives.clean, clean))).same up).0 in
       found_then old mid same selects P Q o (weaker same) (subst (λ r. IfOk r (FoundBySelects g mid selects P)) was (reads.found clean))
 
-  reads_as : {A : Type 0} (selects : List (List ℕ × List Form)) (P Q : A → Type 0) (old new : Held S) (r : Result (Option A) LoadFault) → ((a : A) → P a → Q a) → ReadsSome g old selects P r new → ReadsSome g old selects Q r new
+  reads_as : {A : Type 0} (selects : List (List ℕ × List Form)) (P Q : A → Type 0) (old new : Held S) (r : Result (Option A) LoadFault)
+      → ((a : A) → P a → Q a) → ReadsSome g old selects P r new → ReadsSome g old selects Q r new
   reads_as {A} selects P Q old new r weaker reads = record { was_open = reads.was_open; found = λ clean. found r (reads.found clean); fails = reads.fails; leaves = reads.leaves }
     where
-      found : (r : Result (Option A) LoadFault) → IfOk r (FoundBySelects g old selects P) → IfOk r (FoundBySelects g old selects Q)
+      found : (r : Result (Option A) LoadFault) → IfOk r (FoundBySelects g old selects P)
+          → IfOk r (FoundBySelects g old selects Q)
       found (Ok (Some a)) h = (h.0, weaker a h.1)
       found (Ok None) h = h
       found (Err fault) h = tt
@@ -267,7 +288,8 @@ module _ {S : Type 0} (g : Ghosts S) where
   -- the second stage begins at `mid`, where the first ended
   module _ {A B : Type 0} (xs ys : List (List ℕ × List Form)) (P : A → Type 0) (Q : B → Type 0) (old mid new : Held S) (one : Result (Option A) LoadFault) (two : Result (Option B) LoadFault)
       (first : ReadsSome g old xs P one mid) (second : ReadsSome g mid ys Q two new) (a : Option A) (was_first : one ≡ Ok a) where
-    pub second_fails : {C : Type 0} (R : C → Type 0) (fault : LoadFault) (r : Result (Option C) LoadFault) → two ≡ Err fault → IsErrAnd r (λ says. says ≡ fault) → ReadsSome g old (xs ++ ys) R r new
+    pub second_fails : {C : Type 0} (R : C → Type 0) (fault : LoadFault) (r : Result (Option C) LoadFault)
+        → two ≡ Err fault → IsErrAnd r (λ says. says ≡ fault) → ReadsSome g old (xs ++ ys) R r new
     second_fails R fault (Ok o) was says = absurd says
     second_fails R fault (Err f) was says = record {
       was_open = λ _. tt;
@@ -278,7 +300,9 @@ module _ {S : Type 0} (g : Ghosts S) where
       leaves = leaves_then old mid new first.leaves second.leaves;
     }
 
-    reads_both : (Q2 : B → Type 0) (b : Option B) → two ≡ Ok b → ((state g mid).now ≡ (state g old).now → (b : B) → Q b → Q2 b) → (o : Option (A × B)) → o ≡ option_zip a b → ReadsSome g old (xs ++ ys) (λ x. P x.0 × Q2 x.1) (Ok o) new
+    reads_both : (Q2 : B → Type 0) (b : Option B) → two ≡ Ok b
+        → ((state g mid).now ≡ (state g old).now → (b : B) → Q b → Q2 b) → (o : Option (A × B)) → o ≡ option_zip a b
+        → ReadsSome g old (xs ++ ys) (λ x. P x.0 × Q2 x.1) (Ok o) new
     reads_both Q2 b was weaker o is = record {
       was_open = λ clean. subst (λ r. IfOk r (λ _. IsTrue (state g old).is_open)) was_first (first.was_open (clean_mid clean));
       found = λ clean.
@@ -303,20 +327,25 @@ module _ {S : Type 0} (g : Ghosts S) where
 
   -- ---- by the format
 
-  found_with : {A B : Type 0} (old : Held S) (selects : List (List ℕ × List Form)) (P : A → Type 0) (Q : A × B → Type 0) (b : B) → ((a : A) → P a → Q (a, b)) → (o : Option A) → FoundBySelects g old selects P o → FoundBySelects g old selects Q (option_zip o (Some b))
+  found_with : {A B : Type 0} (old : Held S) (selects : List (List ℕ × List Form)) (P : A → Type 0) (Q : A × B → Type 0) (b : B)
+      → ((a : A) → P a → Q (a, b)) → (o : Option A) → FoundBySelects g old selects P o
+      → FoundBySelects g old selects Q (option_zip o (Some b))
   found_with old selects P Q b weaker (Some a) found = (found.0, weaker a found.1)
   found_with old selects P Q b weaker None found = found
 
   -- if `some` has all rows of the first format's parts, and `others` no row of the other parts, both together are rows
   -- of that format
-  of_first : (db : Database) (some others : ReadRows) → AreAllRows db some → map (λ read. read.0) some ≡ other_parts First → AreNone others → map (λ read. read.0) others ≡ second_format_parts → AreOfFormat First db (some ++ others)
+  of_first : (db : Database) (some others : ReadRows) → AreAllRows db some
+      → map (λ read. read.0) some ≡ other_parts First → AreNone others
+      → map (λ read. read.0) others ≡ second_format_parts → AreOfFormat First db (some ++ others)
   of_first db some others are early none late = record {
     each =
         each_of_both (λ read. (Has (parts_in First) read.0 × AreRows db read.0 read.1) ⊎ ((¬ Has (parts_in First) read.0) × (read.1 ≡ []))) some others (λ read there. inl (inr (is_there some (other_parts First) early read there), are read there))
         (λ read there. inr (not_early read.0 (is_there others second_format_parts late read there), none read there));
   }
     where
-      is_there : (reads : ReadRows) (parts : List Part) → map (λ read. read.0) reads ≡ parts → (read : Part × List Row) → Has reads read → Has parts read.0
+      is_there : (reads : ReadRows) (parts : List Part) → map (λ read. read.0) reads ≡ parts → (read : Part × List Row)
+          → Has reads read → Has parts read.0
       is_there reads parts same read there = subst (λ l. Has l read.0) same (has_map (λ (read : Part × List Row). read.0) reads read there)
 
       no : (b : Bool) → not b ≡ true → b ≡ false
@@ -326,7 +355,8 @@ module _ {S : Type 0} (g : Ghosts S) where
       not_early : (part : Part) → Has second_format_parts part → ¬ Has (parts_in First) part
       not_early part there = not_among (parts_in First) part (no (is_among (parts_in First) part) (test_has (λ p. not (is_among (parts_in First) p)) second_format_parts part refl there))
 
-  pub reads_first : {A B : Type 0} (selects : List (List ℕ × List Form)) (some : A → ReadRows) (others : B → ReadRows) (old new : Held S) (one : Result (Option A) LoadFault) → ReadsSome g old selects (λ a. AreAllRows (state g old).now (some a)) one new
+  pub reads_first : {A B : Type 0} (selects : List (List ℕ × List Form)) (some : A → ReadRows) (others : B → ReadRows) (old new : Held S) (one : Result (Option A) LoadFault)
+      → ReadsSome g old selects (λ a. AreAllRows (state g old).now (some a)) one new
       → (a : Option A) → one ≡ Ok a → (b : B) → AreNone (others b) → ((a : A) → map (λ read. read.0) (some a) ≡ other_parts First) → map (λ read. read.0) (others b) ≡ second_format_parts
       → (o : Option (A × B)) → o ≡ option_zip a (Some b) → ReadsSome g old selects (λ x. AreOfFormat First (state g old).now (some x.0 ++ others x.1)) (Ok o) new
   reads_first selects some others old new one first a was b none early late o is = record {
@@ -339,7 +369,9 @@ module _ {S : Type 0} (g : Ghosts S) where
     leaves = first.leaves;
   }
 
-  pub reads_second : {A : Type 0} (selects : List (List ℕ × List Form)) (rows : A → ReadRows) (old new : Held S) (r : Result (Option A) LoadFault) → ReadsSome g old selects (λ a. AreAllRows (state g old).now (rows a)) r new → ReadsSome g old selects (λ a. AreOfFormat Second (state g old).now (rows a)) r new
+  pub reads_second : {A : Type 0} (selects : List (List ℕ × List Form)) (rows : A → ReadRows) (old new : Held S) (r : Result (Option A) LoadFault)
+      → ReadsSome g old selects (λ a. AreAllRows (state g old).now (rows a)) r new
+      → ReadsSome g old selects (λ a. AreOfFormat Second (state g old).now (rows a)) r new
   reads_second selects rows old new r reads = reads_as selects _ _ old new r (λ a are. record { each = λ read there. inl (every_part read.0, are read there) }) reads
 
   pub fails_as : {A B : Type 0} (selects : List (List ℕ × List Form)) (P : A → Type 0) (Q : B → Type 0) (old new : Held S) (fault : LoadFault) (one : Result (Option A) LoadFault) (r : Result (Option B) LoadFault)
@@ -352,11 +384,14 @@ module _ {S : Type 0} (g : Ghosts S) where
     leaves = first.leaves;
   }
 
-  pub reads_by : {A : Type 0} (some others : List (List ℕ × List Form)) (rows : A → ReadRows) (old new : Held S) (r : Result (Option A) LoadFault) (f is : Format) → f ≡ is
+  pub reads_by : {A : Type 0} (some others : List (List ℕ × List Form)) (rows : A → ReadRows) (old new : Held S) (r : Result (Option A) LoadFault) (f is : Format)
+      → f ≡ is
       → ReadsSome g old (selects_by is some others) (λ a. AreOfFormat is (state g old).now (rows a)) r new → ReadsSome g old (selects_by f some others) (λ a. AreOfFormat f (state g old).now (rows a)) r new
   reads_by some others rows old new r f is same reads = subst (λ f. ReadsSome g old (selects_by f some others) (λ a. AreOfFormat f (state g old).now (rows a)) r new) (sym same) reads
 
-  pub format_before : {A : Type 0} (f : Format) (rows : A → ReadRows) (old mid new : Held S) → AfterReads g old mid → (selects : List (List ℕ × List Form)) (r : Result (Option A) LoadFault) → ReadsSome g mid selects (λ a. AreOfFormat f (state g mid).now (rows a)) r new → (o : Option A) → r ≡ Ok o
+  pub format_before : {A : Type 0} (f : Format) (rows : A → ReadRows) (old mid new : Held S) → AfterReads g old mid
+      → (selects : List (List ℕ × List Form)) (r : Result (Option A) LoadFault)
+      → ReadsSome g mid selects (λ a. AreOfFormat f (state g mid).now (rows a)) r new → (o : Option A) → r ≡ Ok o
       → HasCleanDisk (state g new) → FoundBySelects g old selects (λ a. AreOfFormat f (state g old).now (rows a)) o
   format_before f rows old mid new before selects r reads o was clean =
       found_before old mid new before selects (λ a. AreOfFormat f (state g mid).now (rows a)) (λ a. AreOfFormat f (state g old).now (rows a)) r reads o was (λ same a are. subst (λ (db : Database). AreOfFormat f db (rows a)) same are) clean
@@ -366,10 +401,12 @@ both_none some others first second = each_of_both (λ read. read.1 ≡ []) some 
 
 -- `selects_by` gives the SELECTs of all tables of a format but `campaign`, if `some` are those of the first format, and
 -- `some` with `others` those of the second
-same_selects : (some others : List (List ℕ × List Form)) → some ≡ other_selects First → some ++ others ≡ other_selects Second → (f : Format) → selects_by f some others ≡ other_selects f
+same_selects : (some others : List (List ℕ × List Form)) → some ≡ other_selects First
+    → some ++ others ≡ other_selects Second → (f : Format) → selects_by f some others ≡ other_selects f
 same_selects some others first second First = first
 same_selects some others first second Second = second
 
-pub reads_others : {A S : Type 0} (g : Ghosts S) (some others : List (List ℕ × List Form)) (P : A → Type 0) (old new : Held S) (r : Result (Option A) LoadFault) (f : Format) → some ≡ other_selects First → some ++ others ≡ other_selects Second
+pub reads_others : {A S : Type 0} (g : Ghosts S) (some others : List (List ℕ × List Form)) (P : A → Type 0) (old new : Held S) (r : Result (Option A) LoadFault) (f : Format)
+    → some ≡ other_selects First → some ++ others ≡ other_selects Second
     → ReadsSome g old (selects_by f some others) P r new → ReadsSome g old (other_selects f) P r new
 reads_others g some others P old new r f first second reads = subst (λ selects. ReadsSome g old selects P r new) (same_selects some others first second f) reads

@@ -39,11 +39,13 @@ module _ {A : Type 0} (shown : A → Row) (number : A → ℤ) (at : ℕ) (is : 
   same_test : (a b : A) → is_eq (value_cmp (column (shown a) at) (column (shown b) at)) ≡ int_eq (number a) (number b)
   same_test a b = ap (λ v. is_eq (value_cmp v (column (shown b) at))) (is a) ∙ ap (λ v. is_eq (value_cmp (Int (number a)) v)) (is b) ∙ ap is_eq (value_cmp-Int (number a) (number b))
 
-  each_apart : (a : A) (xs : List A) → AllByRecursion (λ n. int_eq (number a) n ≡ false) (map number xs) → AllByRecursion (λ r. is_eq (value_cmp (column (shown a) at) (column r at)) ≡ false) (map shown xs)
+  each_apart : (a : A) (xs : List A) → AllByRecursion (λ n. int_eq (number a) n ≡ false) (map number xs)
+      → AllByRecursion (λ r. is_eq (value_cmp (column (shown a) at) (column r at)) ≡ false) (map shown xs)
   each_apart a [] all = tt
   each_apart a (x ∷ xs) all = (same_test a x ∙ all.0, each_apart a xs all.1)
 
-  columns_apart : (xs : List A) → IsDistinct int_eq (map number xs) → IsDistinct (λ a b. is_eq (value_cmp (column a at) (column b at))) (map shown xs)
+  columns_apart : (xs : List A) → IsDistinct int_eq (map number xs)
+      → IsDistinct (λ a b. is_eq (value_cmp (column a at) (column b at))) (map shown xs)
   unfolding IsDistinct
   columns_apart [] apart = tt
   columns_apart (x ∷ xs) apart = (each_apart x xs apart.0, columns_apart xs apart.1)
@@ -55,11 +57,14 @@ module _ {A : Type 0} (shown : A → Row) (number : A → ℤ) (at : ℕ) (is : 
   numbers_keys : (xs : List A) → IsDistinct int_eq (map number xs) → HaveDistinctIntegers at (map shown xs)
   numbers_keys xs apart = record { apart = columns_apart xs apart; ints = are_ints xs }
 
-  each_number_apart : (a : A) (xs : List A) → AllByRecursion (λ r. is_eq (value_cmp (column (shown a) at) (column r at)) ≡ false) (map shown xs) → AllByRecursion (λ n. int_eq (number a) n ≡ false) (map number xs)
+  each_number_apart : (a : A) (xs : List A)
+      → AllByRecursion (λ r. is_eq (value_cmp (column (shown a) at) (column r at)) ≡ false) (map shown xs)
+      → AllByRecursion (λ n. int_eq (number a) n ≡ false) (map number xs)
   each_number_apart a [] all = tt
   each_number_apart a (x ∷ xs) all = (sym (same_test a x) ∙ all.0, each_number_apart a xs all.1)
 
-  numbers_apart : (xs : List A) → IsDistinct (λ a b. is_eq (value_cmp (column a at) (column b at))) (map shown xs) → IsDistinct int_eq (map number xs)
+  numbers_apart : (xs : List A) → IsDistinct (λ a b. is_eq (value_cmp (column a at) (column b at))) (map shown xs)
+      → IsDistinct int_eq (map number xs)
   unfolding IsDistinct
   numbers_apart [] apart = tt
   numbers_apart (x ∷ xs) apart = (each_number_apart x xs apart.0, numbers_apart xs apart.1)
@@ -69,7 +74,8 @@ module _ {A : Type 0} (shown : A → Row) (number : A → ℤ) (at : ℕ) (is : 
 differ : (m n : ℕ) → m ≢ n → int_eq (pos m) (pos n) ≡ false
 differ m n apart = elim (cases_Bool (int_eq (pos m) (pos n))) [ inl same ↦ absurd (apart (grind (ints, arith))) | inr differs ↦ differs ]
 
-entries_apart : {V : Type 0} (es : List (ℕ × V)) → is_sorted nat_cmp es ≡ true → IsDistinct int_eq (map (λ (e : ℕ × V). pos e.0) es)
+entries_apart : {V : Type 0} (es : List (ℕ × V)) → is_sorted nat_cmp es ≡ true
+    → IsDistinct int_eq (map (λ (e : ℕ × V). pos e.0) es)
 unfolding IsDistinct
 entries_apart [] sorted = tt
 entries_apart {V} (e ∷ es) sorted = (
@@ -79,7 +85,8 @@ entries_apart {V} (e ∷ es) sorted = (
   entries_apart es (and_parts _ _ sorted).1,
 )
 
-pub lines_keys : {V : Type 0} (line : ℕ → V → Row) → ((n : ℕ) (v : V) → column (line n v) 0 ≡ Int (pos n)) → (m : FinMap nat_cmp V) → HaveDistinctIntegers 0 (rows_in_order line (entries m))
+pub lines_keys : {V : Type 0} (line : ℕ → V → Row) → ((n : ℕ) (v : V) → column (line n v) 0 ≡ Int (pos n))
+    → (m : FinMap nat_cmp V) → HaveDistinctIntegers 0 (rows_in_order line (entries m))
 lines_keys {V} line numbered m = numbers_keys (λ (e : ℕ × V). line e.0 e.1) (λ (e : ℕ × V). pos e.0) 0 (λ e. numbered e.0 e.1) (entries m) (entries_apart (entries m) (in_order m))
 
 pub one_keys : (row : Row) (n : ℤ) → column row 0 ≡ Int n → HaveDistinctIntegers 0 (row ∷ [])
@@ -88,7 +95,8 @@ one_keys row n is = record { apart = (tt, tt); ints = (ap is_int is, tt) }
 
 -- ---- the rows of a part, as its listing shows them
 
-pub mapped_twice : {X Y Z : Type 0} (f : X → Y) (g : Y → Z) (h : X → Z) → ((x : X) → g (f x) ≡ h x) → (xs : List X) → map g (map f xs) ≡ map h xs
+pub mapped_twice : {X Y Z : Type 0} (f : X → Y) (g : Y → Z) (h : X → Z) → ((x : X) → g (f x) ≡ h x) → (xs : List X)
+    → map g (map f xs) ≡ map h xs
 mapped_twice f g h same [] = refl
 mapped_twice f g h same (x ∷ xs) = ap (λ y. y ∷ map g (map f xs)) (same x) ∙ ap (λ ys. h x ∷ ys) (mapped_twice f g h same xs)
 
@@ -105,27 +113,31 @@ row_place part r = refl
 
 -- The rows that a part's SELECT shows (its listing) are all rows with their rowids or, where the first column is the
 -- rowid, without them.
-shown_by : (part : Part) → ((shows_rowids part ≡ true) × ((db : Trees) → (select_of_part part).in_table db ≡ map (placed_row part) (db (table_of part).tree)))
+shown_by : (part : Part)
+    → ((shows_rowids part ≡ true) × ((db : Trees) → (select_of_part part).in_table db ≡ map (placed_row part) (db (table_of part).tree)))
     ⊎ ((shows_rowids part ≡ false) × ((db : Trees) → (select_of_part part).in_table db ≡ rows_in (table_of part) db) × ((r : Row) → column (visible_row (table_of part) r) 0 ≡ rowid r))
 shown_by Goods = inl (refl, λ db. refl)
 shown_by Books = inl (refl, λ db. refl)
 shown_by Markets = inl (refl, λ db. refl)
 shown_by part = inr (refl, λ db. refl, λ r. refl)
 
-in_places : (part : Part) → shows_rowids part ≡ true → (db : Trees) → (select_of_part part).in_table db ≡ map (placed_row part) (db (table_of part).tree)
+in_places : (part : Part) → shows_rowids part ≡ true → (db : Trees)
+    → (select_of_part part).in_table db ≡ map (placed_row part) (db (table_of part).tree)
 in_places part is = elim (shown_by part) [ inl positions ↦ positions.1 | inr whole ↦ absurd (true≢false (sym is ∙ whole.0)) ]
 
 row_number : (part : Part) → shows_rowids part ≡ false → (r : Row) → column (visible_row (table_of part) r) 0 ≡ rowid r
 row_number part is = elim (shown_by part) [ inl positions ↦ absurd (true≢false (sym positions.0 ∙ is)) | inr whole ↦ whole.2 ]
 
-pub cut_places : (part : Part) (rows : List Row) → shows_rowids part ≡ true → without_ids part rows ≡ map (take (column_count part)) rows
+pub cut_places : (part : Part) (rows : List Row) → shows_rowids part ≡ true
+    → without_ids part rows ≡ map (take (column_count part)) rows
 cut_places part rows is = ap (λ b. if b then map (take (column_count part)) rows else rows) is
 
 pub cut_nothing : (part : Part) (rows : List Row) → shows_rowids part ≡ false → without_ids part rows ≡ rows
 cut_nothing part rows is = ap (λ b. if b then map (take (column_count part)) rows else rows) is
 
 module _ (part : Part) (db : Trees) (rows : List Row) where
-  without_places : IsPermutation (map (placed_row part) (db (table_of part).tree)) rows → IsPermutation (rows_in (table_of part) db) (map (take (column_count part)) rows)
+  without_places : IsPermutation (map (placed_row part) (db (table_of part).tree)) rows
+      → IsPermutation (rows_in (table_of part) db) (map (take (column_count part)) rows)
   without_places same =
       subst (λ l. IsPermutation l (map (take (column_count part)) rows)) (mapped_twice (placed_row part) (take (column_count part)) (visible_row (table_of part)) (cut_row part) (db (table_of part).tree))
       (IsPermutation-map (take (column_count part)) (map (placed_row part) (db (table_of part).tree)) rows same)
@@ -142,10 +154,12 @@ module _ (part : Part) (db : Trees) (rows : List Row) where
 
   -- the rowids in the table's tree are different integers, if the first column shows the rowids, and as different
   -- integers
-  pub numbers_keyed : shows_rowids part ≡ false → IsPermutation (rows_in (table_of part) db) rows → HaveDistinctIntegers 0 rows → AreKeyedByRowid (db (table_of part).tree)
+  pub numbers_keyed : shows_rowids part ≡ false → IsPermutation (rows_in (table_of part) db) rows
+      → HaveDistinctIntegers 0 rows → AreKeyedByRowid (db (table_of part).tree)
   numbers_keyed is same keys = keyed_by (visible_row (table_of part)) 0 (db (table_of part).tree) rows (row_number part is) same keys
 
-  pub unplaced_all : IsPermutation ((select_of_part part).in_table db) rows → IsPermutation (rows_in (table_of part) db) (without_ids part rows)
+  pub unplaced_all : IsPermutation ((select_of_part part).in_table db) rows
+      → IsPermutation (rows_in (table_of part) db) (without_ids part rows)
   unplaced_all same = elim (shown_by part) [
     | inl positions ↦ subst (IsPermutation (rows_in (table_of part) db)) (sym (cut_places part rows positions.0)) (without_places (same_placed positions.0 same))
     | inr whole ↦ subst (IsPermutation (rows_in (table_of part) db)) (sym (cut_nothing part rows whole.0)) (subst (λ l. IsPermutation l rows) (whole.1 db) same)
@@ -186,13 +200,15 @@ pub record IsMadeAs (p : Parts) (read : Part × List Row) : Type 0 where
   pub rows : (text : List ℕ) → rows_read text p read.0 ≡ without_ids read.0 read.1
   pub apart : shows_rowids read.0 ≡ true → HaveDistinctIntegers (column_count read.0) read.1
 
-pub made_whole : {p : Parts} {rows : List Row} (part : Part) → shows_rowids part ≡ false → ((text : List ℕ) → rows_read text p part ≡ rows) → IsMadeAs p (part, rows)
+pub made_whole : {p : Parts} {rows : List Row} (part : Part) → shows_rowids part ≡ false
+    → ((text : List ℕ) → rows_read text p part ≡ rows) → IsMadeAs p (part, rows)
 made_whole {p} {rows} part free are = record {
   rows = λ text. are text ∙ sym (cut_nothing part rows free);
   apart = λ placed. absurd (true≢false (sym placed ∙ free));
 }
 
-pub made_placed : {p : Parts} {A : Type 0} {part : Part} {stored : RowWithId A → Row} {values : A → Row} → IsPlacedAs part stored values → shows_rowids part ≡ true → (placed : List (RowWithId A))
+pub made_placed : {p : Parts} {A : Type 0} {part : Part} {stored : RowWithId A → Row} {values : A → Row}
+    → IsPlacedAs part stored values → shows_rowids part ≡ true → (placed : List (RowWithId A))
     → ((text : List ℕ) → rows_read text p part ≡ map values (map (λ s. s.row) placed)) → HaveDistinctRowids placed → IsMadeAs p (part, map stored placed)
 made_placed {p} {A} {part} {stored} {values} is has placed are apart = record {
   rows = λ text. are text ∙ placed_values is placed ∙ sym (cut_places part (map stored placed) has);
@@ -201,7 +217,9 @@ made_placed {p} {A} {part} {stored} {values} is has placed are apart = record {
 
 -- all parts are made of what was read (`IsMadeOf`), if each part but the campaign row is, and `head` is the only
 -- campaign row of `p`
-pub made_of : {head : StoredCampaignRow} {reads : ReadRows} {p : Parts} → map (λ read. read.0) reads ≡ other_parts Second → p.campaign ≡ head ∷ [] → AllByRecursion (IsMadeAs p) reads → IsMadeOf head reads p
+pub made_of : {head : StoredCampaignRow} {reads : ReadRows} {p : Parts}
+    → map (λ read. read.0) reads ≡ other_parts Second → p.campaign ≡ head ∷ [] → AllByRecursion (IsMadeAs p) reads
+    → IsMadeOf head reads p
 made_of {head} {reads} {p} parts campaign all = record {
   parts = parts;
   campaign = campaign;
@@ -211,12 +229,15 @@ made_of {head} {reads} {p} parts campaign all = record {
 
 -- a fault of testing the rowids of one part, Store if two are alike, or Memory, is a fault of testing those of all
 -- parts (`FailsWithout`)
-pub part_fault_is_of_all : {A B : Type 0} {part : Part} {stored : RowWithId A → Row} {values : A → Row} → IsPlacedAs part stored values → shows_rowids part ≡ true → (placed : List (RowWithId A)) (reads : ReadRows) → Has reads (part, map stored placed)
+pub part_fault_is_of_all : {A B : Type 0} {part : Part} {stored : RowWithId A → Row} {values : A → Row}
+    → IsPlacedAs part stored values → shows_rowids part ≡ true → (placed : List (RowWithId A)) (reads : ReadRows)
+    → Has reads (part, map stored placed)
     → (fault : LoadFault) → FailsWithout (HaveDistinctRowids placed) fault → (r : Result B LoadFault) → IsErrAnd r (λ says. says ≡ fault) → IfErr r (FailsWithout (AllHaveDistinctRowids reads))
 part_fault_is_of_all is has placed reads there fault lacks (Ok b) says = tt
 part_fault_is_of_all {A} {B} {part} {stored} is has placed reads there fault lacks (Err f) says = subst (FailsWithout (AllHaveDistinctRowids reads)) (sym says) (all fault lacks)
   where
-    all : (fault : LoadFault) → FailsWithout (HaveDistinctRowids placed) fault → FailsWithout (AllHaveDistinctRowids reads) fault
+    all : (fault : LoadFault) → FailsWithout (HaveDistinctRowids placed) fault
+        → FailsWithout (AllHaveDistinctRowids reads) fault
     all Store lacks = λ apart. lacks (placed_apart is placed (apart.each (part, map stored placed) there has))
     all (Damaged rule) lacks = lacks
     all NotACampaign lacks = lacks

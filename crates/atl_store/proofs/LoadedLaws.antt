@@ -66,7 +66,8 @@ has_own : (f : Format) → Has (parts_in f) Own
 has_own First = inl refl
 has_own Second = inl refl
 
-read_of : (reads : ReadRows) → map (λ read. read.0) reads ≡ other_parts Second → (part : Part) → Has (other_parts Second) part → (read : Part × List Row) × Has reads read × (part ≡ read.0)
+read_of : (reads : ReadRows) → map (λ read. read.0) reads ≡ other_parts Second → (part : Part)
+    → Has (other_parts Second) part → (read : Part × List Row) × Has reads read × (part ≡ read.0)
 read_of reads parts part there = map_has (λ (read : Part × List Row). read.0) reads part (subst (λ l. Has l part) (sym parts) there)
 
 nothing_unplaced : (part : Part) → without_ids part [] ≡ []
@@ -82,7 +83,8 @@ since_first part there = all_has (λ p. (select_of_part p).since ≡ First) (par
 
 -- a schema with a format's tables has, for each part of it, the tables of the earliest format that has the part
 -- (`since`)
-has_since : (f : Format) (schema : Schema) → HasTablesOf f schema → (part : Part) → Has (parts_in f) part → HasTablesOf (select_of_part part).since schema
+has_since : (f : Format) (schema : Schema) → HasTablesOf f schema → (part : Part) → Has (parts_in f) part
+    → HasTablesOf (select_of_part part).since schema
 has_since First schema has part there = subst (λ since. HasTablesOf since schema) (sym (since_first part there)) has
 has_since Second schema has part there = under (select_of_part part).since
   where
@@ -94,10 +96,12 @@ module _ (f : Format) {S : Type 0} (g : Ghosts S) (old : Held S) (reads : ReadRo
   abbrev db : Trees
   db = (state g old).now.trees
 
-  all_of : (read : Part × List Row) → Has reads read → Has (parts_in f) read.0 → HasTablesOf f old.schema → IsPermutation ((select_of_part read.0).in_table db) read.1
+  all_of : (read : Part × List Row) → Has reads read → Has (parts_in f) read.0 → HasTablesOf f old.schema
+      → IsPermutation ((select_of_part read.0).in_table db) read.1
   all_of read there has begins = elim (are.each read there) [ inl all ↦ all.1 (has_since f old.schema begins read.0 has) | inr none ↦ absurd (none.0 has) ]
 
-  all_keyed : map (λ read. read.0) reads ≡ other_parts Second → AllHaveDistinctRowids reads → HasTablesOf f old.schema → (table : Table) → Has (tables_with_rowids f) table → AreKeyedByRowid (db table.tree)
+  all_keyed : map (λ read. read.0) reads ≡ other_parts Second → AllHaveDistinctRowids reads → HasTablesOf f old.schema
+      → (table : Table) → Has (tables_with_rowids f) table → AreKeyedByRowid (db table.tree)
   all_keyed parts apart begins table there =
       let part = map_has table_of (filter shows_rowids (parts_in f)) table there in
       let kept = has_filtered shows_rowids (parts_in f) part.0 part.1 in
@@ -127,7 +131,9 @@ module _ (f : Format) {S : Type 0} (g : Ghosts S) (old : Held S) (reads : ReadRo
           ]
     ]
 
-    rows_of_part : (text : List ℕ) → HasTablesOf f old.schema → IsPermutation (rows_in campaign_table db) (own_stored text head ∷ []) → (part : Part) → Has (parts_in f) part → IsPermutation (rows_in (table_of part) db) (rows_read text p part)
+    rows_of_part : (text : List ℕ) → HasTablesOf f old.schema
+        → IsPermutation (rows_in campaign_table db) (own_stored text head ∷ []) → (part : Part) → Has (parts_in f) part
+        → IsPermutation (rows_in (table_of part) db) (rows_read text p part)
     rows_of_part text begins own part there = elim (every_part part) [
       | inl is ↦ subst (λ q. IsPermutation (rows_in (table_of q) db) (rows_read text p q)) (sym is) (subst (λ rows. IsPermutation (rows_in campaign_table db) (map (own_stored text) rows)) (sym made.campaign) own)
       | inr other ↦
@@ -136,13 +142,16 @@ module _ (f : Format) {S : Type 0} (g : Ghosts S) (old : Held S) (reads : ReadRo
           (subst (IsPermutation (rows_in (table_of read.0.0) db)) (sym (made.rows text read.0 read.1)) (unplaced_all read.0.0 db read.0.1 (all_of read.0 read.1 (subst (Has (parts_in f)) read.2 there) begins)))
     ]
 
-    have_rows : (text : List ℕ) → HasTablesOf f old.schema → IsPermutation (rows_in campaign_table db) (own_stored text head ∷ []) → HaveRows f db text p
+    have_rows : (text : List ℕ) → HasTablesOf f old.schema
+        → IsPermutation (rows_in campaign_table db) (own_stored text head ∷ []) → HaveRows f db text p
     have_rows text begins own = record { rows = rows_of_part text begins own; none = none_read text }
 
 module _ (f : Format) {S : Type 0} (g : Ghosts S) where
   -- all tables were read into `p` (`GathersAll`), if the campaign row was read, and all other tables without a value of
   -- another type, and `p` is made of these rows
-  gathered_of : (old : Held S) (own : StoredCampaign) (w : WorldValue) (reads : ReadRows) (p : Parts) → OwnRead g old f own w → AllSelectsShowTyped g old (other_selects f) → AreOfFormat f (state g old).now reads → (head : StoredCampaignRow) → head ≡ own.head → IsMadeOf head reads p → GathersAll f g old w p
+  gathered_of : (old : Held S) (own : StoredCampaign) (w : WorldValue) (reads : ReadRows) (p : Parts)
+      → OwnRead g old f own w → AllSelectsShowTyped g old (other_selects f) → AreOfFormat f (state g old).now reads
+      → (head : StoredCampaignRow) → head ≡ own.head → IsMadeOf head reads p → GathersAll f g old w p
   gathered_of old own w reads p row typed are head same made = record {
     one = own_kept f g old own w row;
     first = keeps_one_row f w p head (ap (λ (h : StoredCampaignRow). h.id) same ∙ row.row.id) (ap (λ (h : StoredCampaignRow). h.format) same ∙ row.row.format) made.campaign (none_read f g old reads are head p made);
@@ -155,10 +164,12 @@ module _ (f : Format) {S : Type 0} (g : Ghosts S) where
 
   -- ---- what the check of the rows refuses
 
-  breaks : (old : Held S) (w : WorldValue) (p : Parts) → GathersAll f g old w p → HasTablesOf f old.schema → (rule : Rule) → IsFirstBroken f w p rule → BreaksRule f g old rule
+  breaks : (old : Held S) (w : WorldValue) (p : Parts) → GathersAll f g old w p → HasTablesOf f old.schema
+      → (rule : Rule) → IsFirstBroken f w p rule → BreaksRule f g old rule
   breaks old w p all begins rule first = record { made = record { begins = begins; keyed = all.keyed begins }; world = w; text = all.text; is_world = all.world; parts = p; rows = all.rows begins; first = first }
 
-  damaged_may_be_returned : (old : Held S) (w : WorldValue) (p : Parts) → GathersAll f g old w p → HasTablesOf f old.schema → (rule : Rule) → IsFirstBroken f w p rule → MayReturnDamaged f g old rule
+  damaged_may_be_returned : (old : Held S) (w : WorldValue) (p : Parts) → GathersAll f g old w p
+      → HasTablesOf f old.schema → (rule : Rule) → IsFirstBroken f w p rule → MayReturnDamaged f g old rule
   damaged_may_be_returned old w p all begins OneRow first = absurd (first.broken all.first)
   damaged_may_be_returned old w p all begins Ranges first = inr (breaks old w p all begins Ranges first)
   damaged_may_be_returned old w p all begins Names first = breaks old w p all begins Names first
@@ -177,13 +188,16 @@ module _ (f : Format) {S : Type 0} (g : Ghosts S) where
 
   -- outside a transaction, with the format's schema, a fault of checking the rows refuses the load: Damaged with the
   -- first broken rule, or Memory
-  pub judged_damaged : (old : Held S) → old.in_transaction ≡ false → (w : WorldValue) (p : Parts) → GathersAll f g old w p → HasTablesOf f old.schema → (fault : CheckFault) → Checks f w p (Err fault) → RefusesToLoadIn f g old (fault_of_check fault)
+  pub judged_damaged : (old : Held S) → old.in_transaction ≡ false → (w : WorldValue) (p : Parts)
+      → GathersAll f g old w p → HasTablesOf f old.schema → (fault : CheckFault) → Checks f w p (Err fault)
+      → RefusesToLoadIn f g old (fault_of_check fault)
   judged_damaged old idle w p all begins (check.Damaged rule) first = damaged_may_be_returned old w p all begins rule first
   judged_damaged old idle w p all begins check.Memory none = may_return_memory old idle all.one
 
   -- ---- what else refuses the load after the first rule holds
 
-  pub unread_refuses : (old mid : Held S) → old.in_transaction ≡ false → KeepsOneRow f g old → AfterReads g old mid → (fault : LoadFault) → FailsToRead g mid (other_selects f) fault → RefusesToLoadIn f g old fault
+  pub unread_refuses : (old mid : Held S) → old.in_transaction ≡ false → KeepsOneRow f g old → AfterReads g old mid
+      → (fault : LoadFault) → FailsToRead g mid (other_selects f) fault → RefusesToLoadIn f g old fault
   unread_refuses old mid idle kept first fault fails = refused fault (fails_then g old mid first (other_selects f) fault fails)
     where
       refused : (fault : LoadFault) → FailsToRead g old (other_selects f) fault → RefusesToLoadIn f g old fault
@@ -215,7 +229,8 @@ module _ (f : Format) {S : Type 0} (g : Ghosts S) where
 
     -- outside a transaction, if all values are of their columns' forms, a fault of testing the schema
     -- (`FailsToConfirm`) refuses the load
-    pub unconfirmed_refuses : old.in_transaction ≡ false → AllSelectsShowTyped g old (other_selects f) → (fault : LoadFault) → FailsToConfirm g mid f fault → RefusesToLoadIn f g old fault
+    pub unconfirmed_refuses : old.in_transaction ≡ false → AllSelectsShowTyped g old (other_selects f)
+        → (fault : LoadFault) → FailsToConfirm g mid f fault → RefusesToLoadIn f g old fault
     unconfirmed_refuses idle typed Store (inl other) = inr (inr (kept, inr (typed, other_schema other)))
     unconfirmed_refuses idle typed Store (inr again) =
         inr (inr (kept, inr (typed, inr (inr (record { before = mid; leaves = first; during = again.1.0; error = again.1.1; refused = again.1.2; memory_is = again.1.3 })))))
@@ -227,19 +242,23 @@ module _ (f : Format) {S : Type 0} (g : Ghosts S) where
 -- what was read of the other tables after the campaign row was read
 module _ (f : Format) {S : Type 0} (g : Ghosts S) {A : Type 0} (rows : A → ReadRows) (old mid new : Held S) (own : StoredCampaign) (w : WorldValue) (row : OwnRead g old f own w) (before : AfterReads g old mid) (r : Result (Option A) LoadFault)
     (reads : ReadsSome g mid (other_selects f) (λ a. AreOfFormat f (state g mid).now (rows a)) r new) (o : Option A) (was : r ≡ Ok o) (clean : HasCleanDisk (state g new)) where
-  found : (says : Option A) → o ≡ says → FoundBySelects g old (other_selects f) (λ a. AreOfFormat f (state g old).now (rows a)) says
+  found : (says : Option A) → o ≡ says
+      → FoundBySelects g old (other_selects f) (λ a. AreOfFormat f (state g old).now (rows a)) says
   found says is = subst (FoundBySelects g old (other_selects f) (λ a. AreOfFormat f (state g old).now (rows a))) is (format_before g f rows old mid new before (other_selects f) r reads o was clean)
 
-  pub gathered_with : (a : A) → o ≡ Some a → (p : Parts) (head : StoredCampaignRow) → head ≡ own.head → IsMadeOf head (rows a) p → GathersAll f g old w p
+  pub gathered_with : (a : A) → o ≡ Some a → (p : Parts) (head : StoredCampaignRow) → head ≡ own.head
+      → IsMadeOf head (rows a) p → GathersAll f g old w p
   gathered_with a is p head same made = let all = found (Some a) is in gathered_of f g old own w (rows a) p row all.0 all.1 head same made
 
   pub mistyped_refuses : o ≡ None → RefusesToLoadIn f g old (Damaged Ranges)
   mistyped_refuses is = inl (own_kept f g old own w row, found None is)
 
-  pub unmade_refuses : old.in_transaction ≡ false → (a : A) → o ≡ Some a → (fault : LoadFault) → FailsWithout (AllHaveDistinctRowids (rows a)) fault → RefusesToLoadIn f g old fault
+  pub unmade_refuses : old.in_transaction ≡ false → (a : A) → o ≡ Some a → (fault : LoadFault)
+      → FailsWithout (AllHaveDistinctRowids (rows a)) fault → RefusesToLoadIn f g old fault
   unmade_refuses idle a is fault = refused fault
     where
-      refused : (fault : LoadFault) → FailsWithout (AllHaveDistinctRowids (rows a)) fault → RefusesToLoadIn f g old fault
+      refused : (fault : LoadFault) → FailsWithout (AllHaveDistinctRowids (rows a)) fault
+          → RefusesToLoadIn f g old fault
       refused Store lacks = let all = found (Some a) is in inr (inr (own_kept f g old own w row, inr (all.0, inl (λ made. lacks (all_apart f g old (rows a) all.1 made)))))
       refused (Damaged rule) lacks = absurd lacks
       refused NotACampaign lacks = absurd lacks
@@ -247,7 +266,8 @@ module _ (f : Format) {S : Type 0} (g : Ghosts S) {A : Type 0} (rows : A → Rea
       refused Memory lacks = may_return_memory f g old idle (own_kept f g old own w row)
 
 module _ {S : Type 0} (g : Ghosts S) where
-  pub holds_of_error : {A : Type 0} (P : LoadFault → Type 0) (fault : LoadFault) (r : Result A LoadFault) → IsErrAnd r (λ says. says ≡ fault) → P fault → IfErr r P
+  pub holds_of_error : {A : Type 0} (P : LoadFault → Type 0) (fault : LoadFault) (r : Result A LoadFault)
+      → IsErrAnd r (λ says. says ≡ fault) → P fault → IfErr r P
   holds_of_error P fault (Ok a) says p = tt
   holds_of_error P fault (Err f) says p = subst P (sym says) p
 
@@ -257,7 +277,9 @@ module _ {S : Type 0} (g : Ghosts S) where
   is_idle auto true is said = absurd (let k = sym is ∙ said in cc)
   is_idle auto false is said = refl
 
-  pub confirmed_before : (f : Format) (old mid new : Held S) → AfterReads g old mid → AfterReads g mid new → HasCleanDisk (state g mid) → HasCleanDisk (state g new) → IsConfirmed f (state g mid) (state g new) → IsConfirmed f (state g old) (state g new)
+  pub confirmed_before : (f : Format) (old mid new : Held S) → AfterReads g old mid → AfterReads g mid new
+      → HasCleanDisk (state g mid) → HasCleanDisk (state g new) → IsConfirmed f (state g mid) (state g new)
+      → IsConfirmed f (state g old) (state g new)
   confirmed_before f old mid new one two clean_mid clean confirmed =
       let up = (two.stays clean).was_open confirmed.is_open in
       let same = ((one.stays clean_mid).same up).0 in
@@ -310,7 +332,9 @@ module _ (f : Format) {S : Type 0} (g : Ghosts S) (old new : Held S) (w : WorldV
   }
 
 module _ {S : Type 0} (g : Ghosts S) (old new : Held S) where
-  keeps_second : (text : List ℕ) (c : CampaignValue) → ((db : Trees) → IsTrue (state g new).is_open → (state g new).may_leave db → db ≡ (state g new).committed.trees) → KeepsIn Second (state g new) text c → Keeps (state g new) text c
+  keeps_second : (text : List ℕ) (c : CampaignValue)
+      → ((db : Trees) → IsTrue (state g new).is_open → (state g new).may_leave db → db ≡ (state g new).committed.trees)
+      → KeepsIn Second (state g new) text c → Keeps (state g new) text c
   keeps_second text c store keeps =
       let sound : IsSoundDatabase (state g new).now.schema (state g new).now.trees = record { keyed = keeps.keyed; listed = keeps.listed } in
       let rows = holds_all (state g new).now.trees text c keeps.rows in
@@ -323,7 +347,8 @@ module _ {S : Type 0} (g : Ghosts S) (old new : Held S) where
         crash = λ db may. subst (λ t. Stores t text c) (sym (store db keeps.is_open may ∙ ap (λ (d : Database). d.trees) keeps.settled)) (record { schema = (state g new).now.schema; begins = keeps.begins; sound = sound; rows = rows });
       }
 
-  pub loads : ((db : Trees) → IsTrue (state g new).is_open → (state g new).may_leave db → db ≡ (state g new).committed.trees) → (w : WorldValue) (c : MarkedCampaign) → LoadsIn Second g old new w c → Loads g old new w c
+  pub loads : ((db : Trees) → IsTrue (state g new).is_open → (state g new).may_leave db → db ≡ (state g new).committed.trees)
+      → (w : WorldValue) (c : MarkedCampaign) → LoadsIn Second g old new w c → Loads g old new w c
   loads store w c loaded = record {
     world = loaded.world;
     tables = λ clean. keeps_second (world_text (state g new)) c.value store (loaded.keeps clean);

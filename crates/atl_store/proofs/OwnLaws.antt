@@ -30,7 +30,8 @@ use Rattle.atl_sql.proofs.RowsLaws.{asked_rows}
 use Rattle.atl_sql.proofs.SelectLaws.{reads_part}
 use Rattle.atl_sql.proofs.SelectingLaws.{never_other}
 
-pub one_mapped : {A B : Type 0} (f : A → B) (xs : List A) (y : B) → map f xs ≡ y ∷ [] → (x : A) × (xs ≡ x ∷ []) × (f x ≡ y)
+pub one_mapped : {A B : Type 0} (f : A → B) (xs : List A) (y : B) → map f xs ≡ y ∷ []
+    → (x : A) × (xs ≡ x ∷ []) × (f x ≡ y)
 one_mapped f [] y is = absurd (let k = is in cc)
 one_mapped f (x ∷ []) y is = (x, refl, let k = is in cc)
 one_mapped f (x ∷ z ∷ xs) y is = absurd (let k = is in cc)
@@ -64,7 +65,8 @@ own_read f items rows h text w shown own =
       },
     )
 
-pub own_typed : (f : Format) (rows : List Row) (h : StoredCampaignRow) (text : List ℕ) (w : WorldValue) → AreOwnRow f rows h text w → AreTyped campaign_forms rows
+pub own_typed : (f : Format) (rows : List Row) (h : StoredCampaignRow) (text : List ℕ) (w : WorldValue)
+    → AreOwnRow f rows h text w → AreTyped campaign_forms rows
 own_typed f rows h text w own row there =
     let one = one_mapped (first_columns (length campaign_forms)) rows (own_stored text h) own.shown in
     typed row (found row there one.0 one.1 ∙ one.2)
@@ -91,7 +93,9 @@ own_utf8 own rows typed shown =
     subst IsUtf8 (let e : Text text ≡ Text own.world = sym is ∙ there in cc) utf8
 
 -- what is true of Ok, of Memory and of Damaged by the first rule is true of any judged result (`Judges`)
-judged_as : (Is : StoredCampaign × WorldValue → Type 0) (Nothing : Type 0) (P : Result (StoredCampaign × WorldValue) LoadFault → Type 0) → ((both : StoredCampaign × WorldValue) → Is both → P (Ok both)) → P (Err Memory) → (Nothing → P (Err (Damaged OneRow)))
+judged_as : (Is : StoredCampaign × WorldValue → Type 0) (Nothing : Type 0) (P : Result (StoredCampaign × WorldValue) LoadFault → Type 0)
+    → ((both : StoredCampaign × WorldValue) → Is both → P (Ok both)) → P (Err Memory)
+    → (Nothing → P (Err (Damaged OneRow)))
     → (r : Result (StoredCampaign × WorldValue) LoadFault) → Judges Is Nothing r → P r
 judged_as Is Nothing P read lacks broken (Ok both) judged = read both judged
 judged_as Is Nothing P read lacks broken (Err Memory) judged = lacks
@@ -129,22 +133,26 @@ module _ (f : Format) where
   unread_rows rows read.Refused other which = absurd (let e = which (λ e. cc) in cc)
 
 module _ (f : Format) {S : Type 0} (g : Ghosts S) (old : Held S) where
-  pub refuses_own : old.in_transaction ≡ false → (rows : List Row) (r : Result (StoredCampaign × WorldValue) LoadFault) → JudgesFormat f rows r → Selects g (selection campaign_table 1) old rows
+  pub refuses_own : old.in_transaction ≡ false → (rows : List Row) (r : Result (StoredCampaign × WorldValue) LoadFault)
+      → JudgesFormat f rows r → Selects g (selection campaign_table 1) old rows
       → IfErr r (RefusesToLoadIn f g old)
   refuses_own idle rows r (inl other) says = subst (λ answer. IfErr answer (RefusesToLoadIn f g old)) (sym other.1) (rows, says, other.0)
   refuses_own idle rows r (inr judged) says =
       judged_as (λ both. AreOwnRow f rows both.0.head both.0.world both.1) ((h : StoredCampaignRow) (text : List ℕ) (w : WorldValue) → ¬ AreOwnRow f rows h text w) (λ answer. IfErr answer (RefusesToLoadIn f g old)) (λ both own. tt) (idle, inr (rows, says)) (λ none. record { rows = rows; selects = says; broken = none; of_format = judged.0 }) r judged.1
 
-  rows_own : (rows : List Row) (r : Result (StoredCampaign × WorldValue) LoadFault) → JudgesRows f rows r → Selects g (selection campaign_table 1) old rows → IfOk r (λ both. OwnRead g old f both.0 both.1)
+  rows_own : (rows : List Row) (r : Result (StoredCampaign × WorldValue) LoadFault) → JudgesRows f rows r
+      → Selects g (selection campaign_table 1) old rows → IfOk r (λ both. OwnRead g old f both.0 both.1)
   rows_own rows (Err fault) judged says = tt
   rows_own rows (Ok both) judged says = record { rows = rows; selects = says; row = judged; table = λ begins. subst (IsPermutation (rows_in campaign_table (state g old).now.trees)) judged.shown (asked_rows First (selection campaign_table 1) (rows_in campaign_table) 8 (reads_part Own 8 refl) (state g old) (state g says.0) (state g says.1) rows says.2 says.3 begins) }
 
-  pub own_is : (rows : List Row) (r : Result (StoredCampaign × WorldValue) LoadFault) → JudgesFormat f rows r → Selects g (selection campaign_table 1) old rows
+  pub own_is : (rows : List Row) (r : Result (StoredCampaign × WorldValue) LoadFault) → JudgesFormat f rows r
+      → Selects g (selection campaign_table 1) old rows
       → IfOk r (λ both. OwnRead g old f both.0 both.1)
   own_is rows r (inl other) says = subst (λ answer. IfOk answer (λ both. OwnRead g old f both.0 both.1)) (sym other.1) tt
   own_is rows r (inr judged) says = rows_own rows r judged.1 says
 
-  pub unasked_own : old.in_transaction ≡ false → (fault : ReadFault) → RefusesToSelect g (selection campaign_table 1) old fault → RefusesToLoadIn f g old (campaign_row_fault fault)
+  pub unasked_own : old.in_transaction ≡ false → (fault : ReadFault)
+      → RefusesToSelect g (selection campaign_table 1) old fault → RefusesToLoadIn f g old (campaign_row_fault fault)
   unasked_own idle read.Store refused = inr (inl refused)
   unasked_own idle read.Memory refused = (idle, inl refused)
   unasked_own idle read.Refused refused = refused

@@ -1,4 +1,4 @@
-use Rattle.std.proofs.Common.{arith, length, sym, ◌∙◌}
+use Rattle.std.proofs.Common.{arith, length}
 use Rattle.atl_sql.specs.Stored.{first_columns}
 use Rattle.atl_sql.proofs.ShownLaws.{refuses_row, mapped_next, typed_next}
 use Rattle.atl_sql.proofs.rows.stored.parse_rows.Goals as goal
