@@ -24,7 +24,7 @@ use Rattle.atl_campaign.proofs.StockLaws.{restocked}
 use Rattle.atl_phase.specs.PhaseOrders.{Task}
 use Rattle.atl_phase.proofs.StructureLaws.{changed_else}
 use Rattle.atl_market.specs.AtOnce.{HasNewStocks, UnitChange, paid_unit, is_in_region}
-use Rattle.atl_market.specs.ItemPots.{asks_for_item}
+use Rattle.atl_market.specs.Pots.{asks_for}
 use Rattle.atl_market.specs.AfterPots.{TradesAtOnce, stock_after, trader_of, with_trade}
 use Rattle.atl_market.specs.PotPhase.{after_sharing, count_in, given_by, item_in, items_by}
 use Rattle.atl_market.specs.Trade.{after_trade, market_for, trade_entry, trade_pots, trade_result_of, trade_want, with_trade_booked, with_trade_result}
@@ -133,8 +133,8 @@ module _ (trade : Trade) (items : FinMap nat_cmp ℕ) (w : WorldValue) (units : 
     -- the unit draws from the pot of its own region and of the market's item, and from no other
     draws : (r i : ℕ) → draws_item units items (r, i) e.0 ≡ (u.region == r && m.item == i)
     draws r i =
-        ap (λ o. is_in_region r o && asks_for_item i (get items e.0)) there
-        ∙ ap (λ o. u.region == r && asks_for_item i o) says
+        ap (λ o. is_in_region r o && asks_for i (get items e.0)) there
+        ∙ ap (λ o. u.region == r && asks_for i o) says
 
     undrawn : (r i stock : ℕ) → draws_item units items (r, i) e.0 ≡ false
         → stock ≡ stock_after trade stock (drawn_here r i)

@@ -19,6 +19,7 @@ pub mod BuildUsedLaws
 pub mod BuildBegunLaws
 pub mod BuildPlaceLaws
 pub mod BuildLaws
+pub mod WantGroupLaws
 pub mod ItemPotLaws
 pub mod MakesLaws
 pub mod ItemUseLaws

@@ -1,27 +1,26 @@
 -- Laws of what units get of the pots of their regions.
-use Rattle.std.proofs.Common.{◌≡◌, ◌≢◌, ℕ, ◌<◌, ◌≤◌, ◌==◌, ◌||◌, suc, Bool, true, false, cond, List, [], ◌∷◌, ◌++◌, length, get_or, map, filter, sum, Option, Some, None, is_some, refl, sym, ap, subst, ◌∙◌, inl, inr, arith}
-use Rattle.std.specs.Prelude.{⊤, reverse, unwrap_or}
-use Rattle.std.specs.List.{AllByRecursion, flat_map, list_any, zip}
+use Rattle.std.proofs.Common.{◌≡◌, ◌≢◌, ℕ, ◌<◌, ◌≤◌, ◌==◌, ◌||◌, suc, Bool, true, false, cond, List, [], ◌∷◌, ◌++◌, length, get_or, map, sum, Option, Some, None, is_some, refl, sym, ap, subst, ◌∙◌, inl, inr, arith}
+use Rattle.std.specs.Prelude.{⊤, reverse, option_map, unwrap_or}
+use Rattle.std.specs.List.{All, AllByRecursion, flat_map, list_any, zip}
 use Rattle.std.specs.Ordering.{nat_cmp, is_eq, eq_by_cmp}
 use Rattle.std.specs.declared.cmp.Ordering.TheVariants.{Less, Equal, Greater}
 use Rattle.std.specs.Cmp.{nat_cmp_total, unsigned_ties}
-use Rattle.std.specs.FinMap.{FinMap, get, insert, find, empty, entries, keys, from_entries, contains_key-keys, get-empty, get-insert, get-from_entries, same_map, nat_cmp-IsAntisymmetric}
+use Rattle.std.specs.FinMap.{FinMap, get, insert, find, empty, entries, keys, from_entries, contains_key-keys, get-empty, get-entries, get-insert, get-from_entries, get-retain_keys, same_map, nat_cmp-IsAntisymmetric}
 use Rattle.std.proofs.lemmas.Bool.{cases_eq, eqb-true, false≢true, or_left, or_right}
+use Rattle.std.proofs.lemmas.Option.{same_Some}
 use Rattle.std.proofs.lemmas.List.{reverse-append, length-map}
-use Rattle.std.proofs.lemmas.List.Sums.{fold-append}
+use Rattle.std.proofs.lemmas.List.Elements.{All-from_recursion}
+use Rattle.atl_world.specs.Limits.{most_amount}
 use Rattle.atl_records.specs.Every.{HasValue, EachEntry}
-use Rattle.atl_campaign.specs.Campaign.{CampaignValue, numbers_in_region}
-use Rattle.atl_records.specs.declared.records.Region.{Region}
+use Rattle.atl_campaign.specs.Campaign.{CampaignValue}
 use Rattle.atl_records.specs.declared.records.Unit.{Unit}
-use Rattle.atl_campaign.proofs.GroupLaws.{filter_each}
-use Rattle.atl_campaign.proofs.NumberListLaws.{IsListed, listed_passing, passing_listed}
+use Rattle.atl_campaign.proofs.NumberListLaws.{IsListed}
 use Rattle.atl_campaign.proofs.ReadBackLaws.{InOrder, Rise, entries_rise}
 use Rattle.atl_records.proofs.EveryLaws.{each-from_every, every-from_each, first, found_of, get-insert_other, none_some, other_number, same_number}
 use Rattle.atl_records.proofs.AmountListLaws.{all_append}
 use Rattle.atl_campaign.proofs.RegionLaws.{get-insert_same}
-use Rattle.atl_market.specs.RegionsWithWants.{region_at, regions_with_wants}
 use Rattle.atl_shares.specs.Share.{shares}
-use Rattle.atl_market.specs.Pots.{want_of, takers_in, wants_in, shares_in, pot_shares, share_of, OnlyTakersGet, EachTakerGets, SharesEachPot, GivesEachPot, OtherRegionsDoNotCount}
+use Rattle.atl_market.specs.Pots.{AreWants, amounts_of, asks_for, wants_for, wants_at, region_of_unit, takers_in, wants_in, shares_in, pot_shares, share_of, OnlyTakersGet, EachTakerGets, SharesEachPot, GivesEachPot, OtherRegionsDoNotCount}
 use Rattle.atl_market.specs.Puts.{with_entries}
 use Rattle.atl_shares.proofs.ShareLaws.{all_is_given, share_at_most, length-shares}
 
@@ -151,7 +150,7 @@ lower_number_not_found k [] above = refl
 lower_number_not_found k (e ∷ es) above =
     found_other e es k (λ same. absurd (omega (arith, same, above.0))) ∙ lower_number_not_found k es above.1
 
-rise_apart : (es : Entries) → Rise es → IsApart es
+pub rise_apart : (es : Entries) → Rise es → IsApart es
 rise_apart [] rise = tt
 rise_apart (e ∷ es) rise = (lower_number_not_found e.0 es rise.0, rise_apart es rise.1)
 
@@ -272,10 +271,6 @@ zip_all g (n ∷ ns) (s ∷ ss) l apart h =
 
 -- ---- lists of numbers
 
-all_listed : (P : ℕ → Type 0) (ns : List ℕ) → ((n : ℕ) → IsListed n ns → P n) → AllByRecursion P ns
-all_listed P [] h = tt
-all_listed P (n ∷ ns) h = (h n (inl refl), all_listed P ns (λ k is. h k (inr is)))
-
 each_mapped : {X Y : Type 0} (f : X → Y) (P : Y → Type 0) (xs : List X) → AllByRecursion (λ x. P (f x)) xs
     → AllByRecursion P (map f xs)
 each_mapped f P [] h = tt
@@ -285,36 +280,61 @@ keys_risen : {V : Type 0} (es : List (ℕ × V)) → Rise es → IsRisen (map (�
 keys_risen [] h = tt
 keys_risen (e ∷ es) h = (each_mapped (λ f. f.0) (λ k. e.0 < k) es h.0, keys_risen es h.1)
 
-module _ {X : Type 0} (p : X → Bool) where
-  kept_in_order : (R : X → X → Type 0) (xs : List X) → InOrder R xs → InOrder R (filter p xs)
-  kept_in_order R [] h = tt
-  kept_in_order R (x ∷ xs) h = either (kept_in_order R xs h.1) (p x)
-    where
-      either : InOrder R (filter p xs) → (b : Bool) → InOrder R (cond b (x ∷ filter p xs) (filter p xs))
-      either rest true = (filter_each p (R x) xs h.0, rest)
-      either rest false = rest
+each_key : {V : Type 0} (P : ℕ → Type 0) (m : FinMap nat_cmp V) → ((n : ℕ) (v : V) → get m n ≡ Some v → P n)
+    → AllByRecursion P (keys m)
+each_key {V} P m h = by_entries (entries m) (each-from_every (λ n v. P n) m h)
+  where
+    by_entries : (es : List (ℕ × V)) → EachEntry (λ n v. P n) es → AllByRecursion P (map (λ e. e.0) es)
+    by_entries [] all = tt
+    by_entries (e ∷ es) all = (all.0, by_entries es all.1)
 
-module _ (p : ℕ → Bool) (n : ℕ) where
-  kept_listed : (ns : List ℕ) → p n ≡ true → IsListed n ns → IsListed n (filter p ns)
-  kept_listed [] h is = is
-  kept_listed (k ∷ ns) h is = by_test (kept_listed ns h) (p k) refl is
-    where
-      by_test : (IsListed n ns → IsListed n (filter p ns)) → (b : Bool) → p k ≡ b → IsListed n (k ∷ ns)
-          → IsListed n (cond b (k ∷ filter p ns) (filter p ns))
-      by_test rest true e (inl same) = inl same
-      by_test rest true e (inr later) = inr (rest later)
-      by_test rest false e (inl same) = absurd (false≢true (sym e ∙ ap p (sym same) ∙ h))
-      by_test rest false e (inr later) = rest later
+found_listed : (es : Entries) (n v : ℕ) → find nat_cmp n es ≡ Some v → IsListed n (map (λ e. e.0) es)
+found_listed [] n v is = none_some v is
+found_listed (e ∷ es) n v is = elim (cases_eq n e.0) [
+  | inl same ↦ inl same
+  | inr apart ↦ inr (found_listed es n v (sym (found_other e es n apart) ∙ is))
+]
 
-  kept_was : (ns : List ℕ) → IsListed n (filter p ns) → IsListed n ns × (p n ≡ true)
-  kept_was [] is = absurd is
-  kept_was (k ∷ ns) is = by_test (kept_was ns) (p k) refl is
+pub amounts_are_low : (wants : FinMap nat_cmp ℕ) → AreWants wants → All (λ want. want ≤ most_amount) (amounts_of wants)
+amounts_are_low wants low =
+    All-from_recursion (λ want. want ≤ most_amount) (amounts_of wants)
+    (by_entries (entries wants) (each-from_every (λ n want. want ≤ most_amount) wants low))
+  where
+    by_entries : (es : Entries) → EachEntry (λ n want. want ≤ most_amount) es
+        → AllByRecursion (λ want. want ≤ most_amount) (map (λ e. e.1) es)
+    by_entries [] all = tt
+    by_entries (e ∷ es) all = (all.0, by_entries es all.1)
+
+-- ---- the wants for one pot
+
+module _ (asked_by : ℕ → Option ℕ) (wants : FinMap nat_cmp ℕ) where
+  pub want_at : (pot n : ℕ)
+      → get (wants_for asked_by wants pot) n ≡ cond (asks_for pot (asked_by n)) (get wants n) None
+  want_at pot n =
+      get-retain_keys wants (λ k. asks_for pot (asked_by k)) n
+      (λ k tie. ap (λ j. asks_for pot (asked_by j)) (sym (nat_cmp-IsAntisymmetric n k tie)))
+
+  -- a unit that has a want for a pot asks for the pot, and the want is its own
+  pub asking : (pot n want : ℕ) → get (wants_for asked_by wants pot) n ≡ Some want
+      → (asked_by n ≡ Some pot) × (get wants n ≡ Some want)
+  asking pot n want is = by_pot (asked_by n) refl (sym (want_at pot n) ∙ is)
     where
-      by_test : (IsListed n (filter p ns) → IsListed n ns × (p n ≡ true)) → (b : Bool) → p k ≡ b
-          → IsListed n (cond b (k ∷ filter p ns) (filter p ns)) → IsListed n (k ∷ ns) × (p n ≡ true)
-      by_test rest true e (inl same) = (inl same, ap p same ∙ e)
-      by_test rest true e (inr later) = let (was, passes) = rest later in (inr was, passes)
-      by_test rest false e later = let (was, passes) = rest later in (inr was, passes)
+      by_pot : (o : Option ℕ) → asked_by n ≡ o → cond (asks_for pot o) (get wants n) None ≡ Some want
+          → (asked_by n ≡ Some pot) × (get wants n ≡ Some want)
+      by_pot None at h = none_some want h
+      by_pot (Some j) at h = by_test (j == pot) refl h
+        where
+          by_test : (b : Bool) → (j == pot) ≡ b → cond b (get wants n) None ≡ Some want
+              → (asked_by n ≡ Some pot) × (get wants n ≡ Some want)
+          by_test true same h = (at ∙ ap Some (eqb-true j pot same), h)
+          by_test false same h = none_some want h
+
+  wanted_of : (pot n want : ℕ) → asked_by n ≡ Some pot → get wants n ≡ Some want
+      → get (wants_for asked_by wants pot) n ≡ Some want
+  wanted_of pot n want at wanted =
+      want_at pot n ∙ ap (λ o. cond (asks_for pot o) (get wants n) None) at
+      ∙ ap (λ b. cond b (get wants n) None) (same_number pot)
+      ∙ wanted
 
 -- ---- units with a want
 
@@ -323,22 +343,32 @@ module _ (wants : FinMap nat_cmp ℕ) (units : FinMap nat_cmp Unit) where
   abbrev pub IsTaker : ℕ → ℕ → Type 0
   IsTaker r n = ((u : Unit) × (get units n ≡ Some u) × (u.region ≡ r)) × HasValue wants n
 
+  is_taker : (r n want : ℕ) → get (wants_at wants units r) n ≡ Some want → IsTaker r n
+  is_taker r n want is =
+      let (at, wanted) = asking (region_of_unit units) wants r n want is in
+      (by_unit (get units n) refl at, (want, wanted))
+    where
+      by_unit : (o : Option Unit) → get units n ≡ o → option_map (λ u. u.region) o ≡ Some r
+          → (u : Unit) × (get units n ≡ Some u) × (u.region ≡ r)
+      by_unit None is at = none_some r at
+      by_unit (Some u) is at = (u, is, same_Some _ _ at)
+
   takers_each : (r : ℕ) → AllByRecursion (IsTaker r) (takers_in wants units r)
-  takers_each r = all_listed (IsTaker r) (takers_in wants units r) (λ n is.
-      let (among, want) = kept_was (λ k. is_some (get wants k)) n (numbers_in_region r units) is in
-      let (u, at, here) = listed_passing (λ (v : Unit). v.region == r) units n among in
-      ((u, at, eqb-true u.region r here), has_value_if_some (get wants n) want))
+  takers_each r = each_key (IsTaker r) (wants_at wants units r) (is_taker r)
 
   pub takers_risen : (r : ℕ) → IsRisen (takers_in wants units r)
-  takers_risen r =
-      let here = λ (e : ℕ × Unit). e.1.region == r in
-      kept_in_order (λ n. is_some (get wants n)) (λ (n k : ℕ). n < k) (numbers_in_region r units)
-      (keys_risen (filter here (entries units)) (kept_in_order here (λ (e f : ℕ × Unit). e.0 < f.0) (entries units) (entries_rise units)))
+  takers_risen r = keys_risen (entries (wants_at wants units r)) (entries_rise (wants_at wants units r))
+
+  pub taker_wants : (n want : ℕ) (u : Unit) → get wants n ≡ Some want → get units n ≡ Some u
+      → get (wants_at wants units u.region) n ≡ Some want
+  taker_wants n want u wanted is =
+      wanted_of (region_of_unit units) wants u.region n want (ap (option_map (λ (v : Unit). v.region)) is) wanted
 
   pub taker_listed : (n want : ℕ) (u : Unit) → get wants n ≡ Some want → get units n ≡ Some u
       → IsListed n (takers_in wants units u.region)
   taker_listed n want u wanted is =
-      kept_listed (λ k. is_some (get wants k)) n (numbers_in_region u.region units) (ap is_some wanted) (passing_listed (λ (v : Unit). v.region == u.region) units n u is (same_number u.region))
+      let claims = wants_at wants units u.region in
+      found_listed (entries claims) n want (sym (get-entries claims n) ∙ taker_wants n want u wanted is)
 
 -- ---- shares of all regions
 
@@ -366,16 +396,6 @@ module _ (pot_of : ℕ → ℕ) (wants : FinMap nat_cmp ℕ) (units : FinMap nat
       let share : Some s ≡ Some t = sym is ∙ ap (λ k. find nat_cmp n (given_in k)) region ∙ also in
       cc
 
-pub each_region : (P : ℕ → Type 0) (c : CampaignValue) → ((r : ℕ) → HasValue c.regions r → P r)
-    → AllByRecursion P (keys c.regions)
-each_region P c h =
-    by_entries (entries c.regions) (each-from_every (λ r q. get c.regions r ≡ Some q) c.regions (λ r q is. is))
-  where
-    by_entries : (es : List (ℕ × Region)) → EachEntry (λ r q. get c.regions r ≡ Some q) es
-        → AllByRecursion P (map (λ e. e.0) es)
-    by_entries [] all = tt
-    by_entries (e ∷ es) all = (h e.0 (e.1, all.0), by_entries es all.1)
-
 module _ (pot_of : ℕ → ℕ) (wants : FinMap nat_cmp ℕ) (c : CampaignValue) where
   -- the share of a unit (`share_of`) is the one found under its number among the shares of all regions
   pub found_is : (n : ℕ)
@@ -395,86 +415,31 @@ module _ (pot_of : ℕ → ℕ) (wants : FinMap nat_cmp ℕ) (c : CampaignValue)
       each_found (λ e. share_of pot_of wants c e.0 ≡ Some e.1) (shares_in pot_of wants c.units r)
       (given_apart pot_of wants c.units r) (λ n s is. given_is r n s region is)
 
-  -- once no region is left to come, the map into which all shares were put is `pot_shares` of the definition
-  pub all_put : (given : FinMap nat_cmp ℕ) (coming : List (ℕ × Region)) → coming ≡ []
-      → with_entries given (flat_map (shares_in pot_of wants c.units) (map (λ e. e.0) coming)) ≡ with_entries empty (flat_map (shares_in pot_of wants c.units) (keys c.regions))
-      → given ≡ pot_shares pot_of wants c
-  all_put given [] none so_far = so_far ∙ same_map nat_cmp_total nat_cmp-IsAntisymmetric _ _ (agreeing_put (share_of pot_of wants c) (flat_map (shares_in pot_of wants c.units) (keys c.regions))
-      (each_flat (λ e. share_of pot_of wants c e.0 ≡ Some e.1) (shares_in pot_of wants c.units) (keys c.regions) (each_region (λ r. AllByRecursion (λ e. share_of pot_of wants c e.0 ≡ Some e.1) (shares_in pot_of wants c.units r)) c region_agrees))
-      (λ n s is. ap is_some (sym (found_is n) ∙ is)))
-  all_put given (e ∷ coming) none so_far = cc
-
--- ---- the regions where a unit has a want
-
-still_in_after_insert : (m : FinMap nat_cmp ℕ) (k v n : ℕ) → is_some (get m n) ≡ true
-    → is_some (get (insert m k v) n) ≡ true
-still_in_after_insert m k v n h =
-    ap is_some (get-insert nat_cmp_total m k v n)
-    ∙ elim (is_eq (nat_cmp n k)) as (λ b. is_some (cond b (Some v) (get m n)) ≡ true) [ true ↦ refl | false ↦ h ]
-
-pub inserted_is_in : (m : FinMap nat_cmp ℕ) (n v : ℕ) → is_some (get (insert m n v) n) ≡ true
-inserted_is_in m n v = ap is_some (get-insert_same m n v)
-
-pub still_in_after_entries : (m : FinMap nat_cmp ℕ) (es : List (ℕ × ℕ)) (n : ℕ) → is_some (get m n) ≡ true
-    → is_some (get (with_entries m es) n) ≡ true
-still_in_after_entries m [] n h = h
-still_in_after_entries m (e ∷ es) n h =
-    still_in_after_entries (insert m e.0 e.1) es n (still_in_after_insert m e.0 e.1 n h)
-
-module _ (wants : FinMap nat_cmp ℕ) (c : CampaignValue) where
-  -- the region of an entry's unit, with the unit's number; nothing where the unit isn't there
-  abbrev asked_at : ℕ × ℕ → Entries
-  asked_at e = region_at e.0 (get c.units e.0)
-
-  asked_each : (m : FinMap nat_cmp ℕ) (es : Entries)
-      → AllByRecursion (λ e. (u : Unit) → get c.units e.0 ≡ Some u → is_some (get (with_entries m (flat_map asked_at es)) u.region) ≡ true) es
-  asked_each m [] = tt
-  asked_each m (e ∷ es) =
-      let rest = flat_map asked_at es in
-      let both : with_entries m (asked_at e ++ rest) ≡ with_entries (with_entries m (asked_at e)) rest = fold-append (λ so_far entry. insert so_far entry.0 entry.1) m (asked_at e) rest in (
-        (λ u is. ap (λ k. is_some (get k u.region)) both ∙ still_in_after_entries (with_entries m (asked_at e)) rest u.region (ap (λ o. is_some (get (with_entries m (region_at e.0 o)) u.region)) is ∙ inserted_is_in m u.region e.0)),
-        subst (λ k. AllByRecursion (λ f. (u : Unit) → get c.units f.0 ≡ Some u → is_some (get k u.region) ≡ true) es) (sym both) (asked_each (with_entries m (asked_at e)) es),
-      )
-
-  taker_asks : (n : ℕ) (u : Unit) → HasValue wants n → get c.units n ≡ Some u
-      → is_some (get (regions_with_wants wants c) u.region) ≡ true
-  taker_asks n u (want, wanted) is =
-      every-from_each (λ k x. (v : Unit) → get c.units k ≡ Some v → is_some (get (regions_with_wants wants c) v.region) ≡ true) wants (as_pairs _ (entries wants) (asked_each empty (entries wants))) n want wanted u is
-
-  pub none_asked : (r : ℕ) → is_some (get (regions_with_wants wants c) r) ≡ false → takers_in wants c.units r ≡ []
-  none_asked r free = by_takers (takers_in wants c.units r) (takers_each wants c.units r)
-    where
-      by_takers : (ns : List ℕ) → AllByRecursion (IsTaker wants c.units r) ns → ns ≡ []
-      by_takers [] all = refl
-      by_takers (n ∷ ns) all =
-          let ((u, at, here), want) = all.0 in
-          absurd (false≢true (sym free ∙ ap (λ k. is_some (get (regions_with_wants wants c) k)) (sym here) ∙ taker_asks n u want at))
-
 -- ---- the laws of `pot_shares`
 
 pub shares_each_pot : SharesEachPot
 shares_each_pot pot_of wants c r region =
     let takers = takers_in wants c.units r in
     let given = shares (pot_of r) (wants_in wants c.units r) in
-    let long : length given ≡ length takers = length-shares (pot_of r) (wants_in wants c.units r) ∙ length-map takers (want_of wants) in
+    let claims : Entries = entries (wants_at wants c.units r) in
+    let long : length given ≡ length takers = length-shares (pot_of r) (wants_in wants c.units r) ∙ length-map claims (λ e. e.1) ∙ sym (length-map claims (λ e. e.0)) in
     zip_all (share_of pot_of wants c) takers given long (given_apart pot_of wants c.units r) (λ n s is. given_is pot_of wants c r n s region is)
 
-each_has_share_within_want : (g : ℕ → Option ℕ) (want : ℕ → ℕ) (ns ss : List ℕ) → map g ns ≡ map Some ss
-    → ((i : ℕ) → get_or ss i 0 ≤ get_or (map want ns) i 0) → (n : ℕ) → IsListed n ns
-    → (share : ℕ) × (g n ≡ Some share) × (share ≤ want n)
-each_has_share_within_want g want [] ss same low n is = absurd is
-each_has_share_within_want g want (k ∷ ns) [] same low n is = cc
-each_has_share_within_want g want (k ∷ ns) (s ∷ ss) same low n (inl at) =
-    (s, ap g at ∙ (cc), subst (λ j. s ≤ want j) (sym at) (low 0))
-each_has_share_within_want g want (k ∷ ns) (s ∷ ss) same low n (inr rest) =
-    each_has_share_within_want g want ns ss (cc) (λ i. low (suc i)) n rest
+each_has_share_within_want : (g : ℕ → Option ℕ) (es : Entries) (ss : List ℕ) → map g (map (λ e. e.0) es) ≡ map Some ss
+    → ((i : ℕ) → get_or ss i 0 ≤ get_or (map (λ e. e.1) es) i 0)
+    → EachEntry (λ n want. (share : ℕ) × (g n ≡ Some share) × (share ≤ want)) es
+each_has_share_within_want g [] ss same low = tt
+each_has_share_within_want g (e ∷ es) [] same low = cc
+each_has_share_within_want g (e ∷ es) (s ∷ ss) same low =
+    ((s, (cc), low 0), each_has_share_within_want g es ss (cc) (λ i. low (suc i)))
 
 pub each_taker_gets : EachTakerGets
 each_taker_gets pot_of wants c n want u wanted is region =
-    let takers = takers_in wants c.units u.region in
+    let claims = wants_at wants c.units u.region in
     let given = shares (pot_of u.region) (wants_in wants c.units u.region) in
-    let (share, has, low) = each_has_share_within_want (share_of pot_of wants c) (want_of wants) takers given (shares_each_pot pot_of wants c u.region region) (share_at_most (pot_of u.region) (wants_in wants c.units u.region)) n (taker_listed wants c.units n want u wanted is) in
-    (share, has, subst (λ o. share ≤ unwrap_or o 0) wanted low)
+    every-from_each (λ k w. (share : ℕ) × (share_of pot_of wants c k ≡ Some share) × (share ≤ w)) claims
+    (each_has_share_within_want (share_of pot_of wants c) (entries claims) given (shares_each_pot pot_of wants c u.region region) (share_at_most (pot_of u.region) (wants_in wants c.units u.region)))
+    n want (taker_wants wants c.units n want u wanted is)
 
 pub only_takers_get : OnlyTakersGet
 only_takers_get pot_of wants c n s is =

@@ -47,7 +47,8 @@ use Rattle.atl_phase.proofs.ChangeLaws.{changed_held}
 use Rattle.atl_phase.proofs.MarkLaws.{marks_by}
 use Rattle.atl_phase.proofs.MeaningLaws.{room_less, well_unchanged, well_within}
 use Rattle.atl_market.specs.AtOnce.{is_in_region}
-use Rattle.atl_market.specs.ItemPots.{asks_for_item, share_for, wants_for}
+use Rattle.atl_market.specs.ItemPots.{share_for}
+use Rattle.atl_market.specs.Pots.{asks_for, wants_for}
 use Rattle.atl_market.specs.PotPhase.{after_sharing, count_in, given_by, item_in, items_by, wants_by}
 use Rattle.atl_market.specs.Bounds.{CanInTurn}
 use Rattle.atl_market.specs.Trade.{after_trade, limit_of, market_for, market_pot, trade_entry, trade_fault, trade_moves, trade_pot, trade_pots, trade_result_of, trade_want, with_trade_booked, with_trade_result}
@@ -219,7 +220,7 @@ stock_low w c r q i early around = by_amount (get q.stocks i) refl
 
 -- which units draw from the pot of a region and an item: those that are in the region and whose order names the item
 abbrev pub draws_item : FinMap nat_cmp Unit → FinMap nat_cmp ℕ → ℕ × ℕ → ℕ → Bool
-draws_item units items k n = is_in_region k.0 (get units n) && asks_for_item k.1 (get items n)
+draws_item units items k n = is_in_region k.0 (get units n) && asks_for k.1 (get items n)
 
 -- the pots of SELL or BUY, by region and item
 abbrev pub item_pots : Trade → WorldValue → FinMap nat_cmp Unit → FinMap nat_cmp ℕ → DrawnPots (ℕ × ℕ)
@@ -275,12 +276,12 @@ module _ (trade : Trade) (items : FinMap nat_cmp ℕ) (w : WorldValue) (c : Camp
     made_drains units there =
         region_drains (item_pots trade w units items) c e (after_trade trade items w c e) can.at.unit.region can.at.region can.at.around (λ r. restocked r m.item deal.stock) (ap (λ (d : CampaignValue). d.regions) made_is)
         (λ k same. here k same (eq_by_cmp nat_cmp k.1 m.item) refl)
-        (λ k apart. ap (λ b. b && asks_for_item k.1 (get items e.0)) (ap (is_in_region k.0) there ∙ other_number can.at.unit.region k.0 (λ is. apart (sym is))))
+        (λ k apart. ap (λ b. b && asks_for k.1 (get items e.0)) (ap (is_in_region k.0) there ∙ other_number can.at.unit.region k.0 (λ is. apart (sym is))))
       where
         draws_market_item : (k : ℕ × ℕ) → k.0 ≡ can.at.unit.region → draws_item units items k e.0 ≡ (m.item == k.1)
         draws_market_item k same =
-            ap (λ b. b && asks_for_item k.1 (get items e.0)) (ap (is_in_region k.0) there ∙ ap (λ r. can.at.unit.region == r) same ∙ same_number can.at.unit.region)
-            ∙ ap (asks_for_item k.1) market.named_item
+            ap (λ b. b && asks_for k.1 (get items e.0)) (ap (is_in_region k.0) there ∙ ap (λ r. can.at.unit.region == r) same ∙ same_number can.at.unit.region)
+            ∙ ap (asks_for k.1) market.named_item
 
         here : (k : ℕ × ℕ) → k.0 ≡ can.at.unit.region → (b : Bool) → eq_by_cmp nat_cmp k.1 m.item ≡ b
             → market_pot trade (limit_of w k.1 k.0) (amount_of (with_amount_of can.at.region.stocks m.item deal.stock) k.1) + cond (draws_item units items k e.0) e.1 0 ≡ market_pot trade (limit_of w k.1 k.0) (amount_of can.at.region.stocks k.1)
@@ -400,7 +401,7 @@ module _ (trade : Trade) (items : FinMap nat_cmp ℕ) (w : WorldValue) (world : 
             let market = market_is w world u (get items e.0) m at in
             let k : ℕ × ℕ = (u.region, m.item) in
             let drawing : draws_item c.units items k e.0 ≡ true =
-            ap (λ b. b && asks_for_item m.item (get items e.0)) (ap (is_in_region u.region) there ∙ same_number u.region) ∙ ap (asks_for_item m.item) market.named_item ∙ same_number m.item in
+            ap (λ b. b && asks_for m.item (get items e.0)) (ap (is_in_region u.region) there ∙ same_number u.region) ∙ ap (asks_for m.item) market.named_item ∙ same_number m.item in
             let few = first_draws pots d e es ready.enough k q around drawing in
             let limit : stock_limit w u.region m.item ≡ m.limit = ap (λ o. option_map_or (λ (x : Market). x.limit) o most_amount) market.there in
             has_pot (limit_of w m.item u.region) (amount_of q.stocks m.item) e.1 m (ap (λ o. option_map_or (λ (x : Market). x.limit) o 0) market.there)
@@ -470,7 +471,7 @@ module _ (trade : Trade) (w : WorldValue) (world : IsWorld w) (c : CampaignValue
       let says = for_item k.1 (get named n) parts.1 in
       (sym (ap (share_for (get named) (trade_pot trade w c) wants c n) says) ∙ sym (shares_at (get named) (trade_pot trade w c) wants c n) ∙ is, parts.0)) (q, around))
     where
-      for_item : (i : ℕ) (o : Option ℕ) → asks_for_item i o ≡ true → o ≡ Some i
+      for_item : (i : ℕ) (o : Option ℕ) → asks_for i o ≡ true → o ≡ Some i
       for_item i None never = cc
       for_item i (Some j) same = ap Some (eqb-true j i same)
 

@@ -4,11 +4,11 @@ use Rattle.std.specs.Prelude.{nat_lt}
 use Rattle.std.specs.declared.cmp.Ordering.{Ordering}
 use Rattle.std.specs.declared.cmp.Ordering.TheVariants.{Less, Equal, Greater}
 use Rattle.std.specs.Ordering.{nat_cmp, eq_by_cmp, is_eq, is_lt}
-use Rattle.std.specs.Cmp.{IsTotalOrder, Equal-is}
+use Rattle.std.specs.Cmp.{IsTotalOrder, Equal-is, nat_cmp_total}
 use Rattle.std.specs.Cmp.Lexicographic.{slice_cmp, nat_list_cmp_total}
 use Rattle.std.specs.List.{AllByRecursion, IsDistinct}
 use Rattle.std.specs.List.Sorted.{IsSortedByKey}
-use Rattle.std.specs.FinMap.{FinMap, IsAntisymmetric, empty, entries, entries-insert, entries_sorted, from_entries, get, get-empty, insert, is_sorted, put, values, slice_cmp-IsAntisymmetric, nat_cmp-IsAntisymmetric}
+use Rattle.std.specs.FinMap.{FinMap, IsAntisymmetric, empty, entries, entries-insert, entries_sorted, from_entries, get, get-empty, get-insert, insert, is_sorted, put, values, slice_cmp-IsAntisymmetric, nat_cmp-IsAntisymmetric}
 use Rattle.std.specs.FinMap.Entries.{below_all, by_order}
 use Rattle.std.proofs.lemmas.Bool.{and_parts, cases_eq, false_from_ne_true, false≢true, not-true, eq-eqb}
 use Rattle.atl_world.proofs.GeneralLaws.{equality_is_symmetric, is_true}
@@ -20,6 +20,7 @@ use Rattle.atl_campaign.proofs.GroupLaws.{filter_apart, filter_each}
 use Rattle.atl_records.proofs.EveryLaws.{each-from_every, get-insert_other, other_number, same_number}
 use Rattle.atl_records.proofs.AmountListLaws.{all_append}
 use Rattle.atl_campaign.proofs.MapOfRowsLaws.{each_follows}
+use Rattle.atl_campaign.proofs.RegionLaws.{get-insert_same}
 use Rattle.atl_phase.specs.Month.{MonthValue}
 use Rattle.atl_phase.specs.PhaseOrders.{Task, is_month_long, key_of, orders_by_unit, task_of, sorted_by}
 use Rattle.atl_phase.specs.declared.phase_order.Arrangement.TheVariants.{ByUnit}
@@ -31,9 +32,25 @@ use Rattle.atl_market.specs.Puts.{with_entries}
 use Rattle.atl_market.specs.Idle.{all_idle_orders, all_work, idle_order, own_unit, own_writers}
 use Rattle.atl_market.specs.Unordered.{has_own_order}
 use Rattle.atl_market.specs.Work.{idle_task, idle_work, is_idle, is_work, work_orders, written_work}
-use Rattle.atl_market.proofs.PotLaws.{inserted_is_in, still_in_after_entries}
 use Rattle.atl_market.proofs.WantLaws.{appended_entries}
 use mathlib.Core.Bool.{or-false}
+
+-- ---- numbers that stay in a map
+
+still_in_after_insert : (m : FinMap nat_cmp ℕ) (k v n : ℕ) → is_some (get m n) ≡ true
+    → is_some (get (insert m k v) n) ≡ true
+still_in_after_insert m k v n h =
+    ap is_some (get-insert nat_cmp_total m k v n)
+    ∙ elim (is_eq (nat_cmp n k)) as (λ b. is_some (cond b (Some v) (get m n)) ≡ true) [ true ↦ refl | false ↦ h ]
+
+inserted_is_in : (m : FinMap nat_cmp ℕ) (n v : ℕ) → is_some (get (insert m n v) n) ≡ true
+inserted_is_in m n v = ap is_some (get-insert_same m n v)
+
+still_in_after_entries : (m : FinMap nat_cmp ℕ) (es : List (ℕ × ℕ)) (n : ℕ) → is_some (get m n) ≡ true
+    → is_some (get (with_entries m es) n) ≡ true
+still_in_after_entries m [] n h = h
+still_in_after_entries m (e ∷ es) n h =
+    still_in_after_entries (insert m e.0 e.1) es n (still_in_after_insert m e.0 e.1 n h)
 
 -- ---- values that a map lists, each under its own key, differ in their keys
 

@@ -10,7 +10,7 @@ use Rattle.atl_records.specs.declared.records.Unit.{Unit}
 use Rattle.atl_records.specs.Holdings.{amount_of}
 use Rattle.atl_campaign.specs.Campaign.{CampaignValue}
 use Rattle.atl_phase.specs.PhaseOrders.{Task}
-use Rattle.atl_market.specs.ItemPots.{asks_for_item}
+use Rattle.atl_market.specs.Pots.{asks_for}
 use Rattle.atl_market.specs.PotPhase.{PotMeaning, after_sharing, given_by}
 
 -- whether a unit is there (Some) and is in the region with the given number
@@ -55,7 +55,7 @@ unchanged_region q share = q
 -- the sum of what those units in a region got that ask for an item; `item_of` has the item by unit
 abbrev pub given_of_item : (item_of : ℕ → Option ℕ) → FinMap nat_cmp ℕ → FinMap nat_cmp Unit → (region item : ℕ) → ℕ
 given_of_item item_of given units region item =
-    sum (map (λ e. e.1) (filter (λ e. is_in_region region (get units e.0) && asks_for_item item (item_of e.0)) (entries given)))
+    sum (map (λ e. e.1) (filter (λ e. is_in_region region (get units e.0) && asks_for item (item_of e.0)) (entries given)))
 
 -- The region `after` is `q` with only its stocks changed: `becomes` makes of each item's old stock, and of the amount
 -- of the item that was given, the new stock.

@@ -1,8 +1,7 @@
 pub mod Pots
 pub mod Puts
-pub mod RegionsWithWants
+pub mod WantGroups
 pub mod ItemPots
-pub mod ItemGroups
 pub mod PotPhase
 pub mod AtOnce
 pub mod Unordered

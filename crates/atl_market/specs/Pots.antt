@@ -1,11 +1,12 @@
 -- What each unit gets of the pot of its region, and the laws of it. See docs/RULES.md, "Pots".
-use Rattle.std.specs.Prelude.{◌≡◌, ◌≤◌, ℕ, List, map, filter, sum, min, is_some, unwrap_or, Option, Some}
+use Rattle.std.specs.Prelude.{◌≡◌, ◌≤◌, ◌==◌, ℕ, Bool, false, List, map, sum, min, unwrap_or, Option, Some, option_map}
 use Rattle.std.specs.List.{flat_map, zip}
+use Rattle.std.specs.Option.{option_map_or}
 use Rattle.std.specs.Ordering.{nat_cmp}
-use Rattle.std.specs.FinMap.{FinMap, get, keys, from_entries}
+use Rattle.std.specs.FinMap.{FinMap, entries, get, keys, from_entries, retain_keys}
 use Rattle.atl_world.specs.Limits.{most_amount}
 use Rattle.atl_records.specs.Every.{Every, HasValue}
-use Rattle.atl_campaign.specs.Campaign.{CampaignValue, numbers_in_region}
+use Rattle.atl_campaign.specs.Campaign.{CampaignValue}
 use Rattle.atl_records.specs.declared.records.Unit.{Unit}
 use Rattle.atl_shares.specs.Share.{shares}
 
@@ -13,25 +14,41 @@ use Rattle.atl_shares.specs.Share.{shares}
 abbrev pub AreWants : FinMap nat_cmp ℕ → Type 0
 AreWants wants = Every (λ number want. want ≤ most_amount) wants
 
--- what a unit wants, by its number; 0 where it has no want
-abbrev pub want_of : FinMap nat_cmp ℕ → ℕ → ℕ
-want_of wants number = unwrap_or (get wants number) 0
+-- whether `asked`, the number of the pot that a unit asks for, is this pot's; false where it asks for none
+abbrev pub asks_for : (pot : ℕ) → (asked : Option ℕ) → Bool
+asks_for pot asked = option_map_or (λ other. other == pot) asked false
 
--- those of the listed units, by their numbers, that have a want
-abbrev pub takers_among : FinMap nat_cmp ℕ → List ℕ → List ℕ
-takers_among wants numbers = filter (λ number. is_some (get wants number)) numbers
+-- the wants, by unit, of those units that ask for a pot; `asked_by` has the number of the pot that a unit asks for
+abbrev pub wants_for : (asked_by : ℕ → Option ℕ) → FinMap nat_cmp ℕ → (pot : ℕ) → FinMap nat_cmp ℕ
+wants_for asked_by wants pot = retain_keys wants (λ number. asks_for pot (asked_by number))
+
+-- the region that a unit, by its number, is in; None where the unit isn't there
+abbrev pub region_of_unit : FinMap nat_cmp Unit → ℕ → Option ℕ
+region_of_unit units number = option_map (λ u. u.region) (get units number)
+
+-- the wants, by unit, of the units in a region
+abbrev pub wants_at : FinMap nat_cmp ℕ → FinMap nat_cmp Unit → ℕ → FinMap nat_cmp ℕ
+wants_at wants units region = wants_for (region_of_unit units) wants region
 
 -- the units of a region that have a want, in unit order
 abbrev pub takers_in : FinMap nat_cmp ℕ → FinMap nat_cmp Unit → ℕ → List ℕ
-takers_in wants units region = takers_among wants (numbers_in_region region units)
+takers_in wants units region = keys (wants_at wants units region)
+
+-- the amounts that the map `wants` has, in unit order
+abbrev pub amounts_of : FinMap nat_cmp ℕ → List ℕ
+amounts_of wants = map (λ e. e.1) (entries wants)
 
 -- the wants of a region's units that have one, in unit order
 abbrev pub wants_in : FinMap nat_cmp ℕ → FinMap nat_cmp Unit → ℕ → List ℕ
-wants_in wants units region = map (want_of wants) (takers_in wants units region)
+wants_in wants units region = amounts_of (wants_at wants units region)
+
+-- all units that have a want in `wants`, each with its share of one pot, in unit order
+abbrev pub shares_of : (pot : ℕ) → FinMap nat_cmp ℕ → List (ℕ × ℕ)
+shares_of pot wants = zip (keys wants) (shares pot (amounts_of wants))
 
 -- a region's units that have a want, each with its share of the region's pot, in unit order
 abbrev pub shares_in : (ℕ → ℕ) → FinMap nat_cmp ℕ → FinMap nat_cmp Unit → ℕ → List (ℕ × ℕ)
-shares_in pot_of wants units region = zip (takers_in wants units region) (shares (pot_of region) (wants_in wants units region))
+shares_in pot_of wants units region = shares_of (pot_of region) (wants_at wants units region)
 
 -- what each unit gets of the pot of its region, by unit; `pot_of` has the pot of each region
 unfoldable pub pot_shares : (ℕ → ℕ) → FinMap nat_cmp ℕ → CampaignValue → FinMap nat_cmp ℕ

@@ -8,6 +8,7 @@ ghost use Rattle.atl_market.specs.Puts.{with_entries};
 
 use crate::item_pots::{ItemPots, item_shares};
 use crate::making::item_of;
+use crate::pots::AskedPots;
 use atl_campaign::Campaign;
 use atl_world::{Numbered, World};
 use std::alloc::{AllocError, Global};
@@ -31,29 +32,25 @@ fn takes_raw(world: &World, asked: Option<u16>) -> bool
     }
 }
 
-fn output_item(world: &World, asked: &Numbered<u16>, unit: u32) -> Option<u16>
-    ensures { result ≡ output_item world.now asked.now unit }
-{
-    let number = asked.get(unit).copied();
-    if takes_raw(world, number) {
-        None
-    } else {
-        number
+/// Each unit asks for the item that it makes without raw items.
+impl<'a> AskedPots for Outputs<'a> {
+    ghost asked_by = { λ pots. output_item pots.world.now pots.asked.now };
+
+    fn asked(&self, unit: u32) -> Option<u32> {
+        let item = *self.asked.get(unit)?;
+        if takes_raw(self.world, Some(item)) {
+            None
+        } else {
+            Some(u32::from(item))
+        }
     }
 }
 
-/// Each unit asks for the item that it makes without raw items; a region's pot of an item is its
-/// terrain's `output` of it.
+/// A region's pot of an item is its terrain's `output` of it.
 impl<'a> ItemPots for Outputs<'a> {
-    ghost item_of = { λ pots. output_item pots.world.now pots.asked.now };
-
     ghost pot_of = { λ pots. output_at pots.world.now };
 
     ghost ready = { λ _. ⊤ };
-
-    fn item(&self, unit: u32) -> Option<u16> {
-        output_item(self.world, self.asked, unit)
-    }
 
     fn pot(&self, item: u32, region: u32) -> u64 {
         match self.world.terrain_of(region) {

@@ -1,11 +1,11 @@
 //! Shares the pots of all regions at once, each among the units in its region. See docs/RULES.md,
 //! "Pots".
-ghost use Rattle.std.specs.Prelude.{◌≡◌, ◌≤◌, All, IfOk, OnOk, length, map};
+ghost use Rattle.std.specs.Prelude.{◌≡◌, ◌≤◌, All, IfOk, OnOk, length};
 ghost use Rattle.std.specs.List.{zip};
+ghost use Rattle.std.specs.FinMap.{entries, keys};
 ghost use Rattle.atl_world.specs.Limits.{most_amount};
-ghost use Rattle.atl_market.specs.RegionsWithWants.{regions_with_wants};
-ghost use Rattle.atl_shares.specs.Share.{shares};
-ghost use Rattle.atl_market.specs.Pots.{AreWants, EachTakerGets, GivesEachPot, OnlyTakersGet, OtherRegionsDoNotCount, SharesEachPot, pot_shares, shares_in, takers_among, want_of};
+ghost use Rattle.atl_market.specs.WantGroups.{all_region_shares, grouped, region_shares, with_want};
+ghost use Rattle.atl_market.specs.Pots.{AreWants, EachTakerGets, GivesEachPot, OnlyTakersGet, OtherRegionsDoNotCount, SharesEachPot, amounts_of, pot_shares, region_of_unit, shares_of};
 ghost use Rattle.atl_market.specs.Puts.{with_entries};
 
 use atl_campaign::Campaign;
@@ -29,121 +29,161 @@ pub trait Pots {
         ensures bound { result ≤ most_amount };
 }
 
-fn takers_of(alloc: Global, units: &[u32], wants: &Numbered<u32>) -> Result<Vec<u32>, AllocError>
-    ensures { IfOk result (λ takers. takers.items ≡ takers_among wants.now units.now) }
-{
-    let mut takers = Vec::new(alloc);
-    for number in units {
-        if wants.get(*number).is_some() {
-            takers.push(*number)?;
-        }
+/// Which pot each unit asks for a share of: that of its region, or that of an item.
+pub(crate) trait AskedPots {
+    ghost use Rattle.std.specs.Prelude.{ℕ, Option, ◌≡◌};
+
+    // The number of the pot that a unit asks for, by the unit's number; None if it asks for none.
+    ghost asked_by: { Self → ℕ → Option ℕ };
+
+    fn asked(&self, unit: u32) -> Option<u32>
+        ensures { result ≡ asked_by self.now unit };
+}
+
+/// Each unit asks for the pot of the region that it is in.
+#[derive(Drop)]
+struct UnitRegions<'a> {
+    campaign: &'a Campaign,
+}
+
+impl<'a> AskedPots for UnitRegions<'a> {
+    ghost asked_by = { λ regions. region_of_unit regions.campaign.now.value.units };
+
+    fn asked(&self, unit: u32) -> Option<u32> {
+        Some(self.campaign.unit(unit)?.region)
     }
-    Ok(takers)
 }
 
-fn want_of(wants: &Numbered<u32>, number: u32) -> u64
-    requires { AreWants wants.now }
-    ensures value { result ≡ want_of wants.now number }
-    ensures bound { result ≤ most_amount }
-{
-    u64::from(wants.get(number).copied().unwrap_or(0))
-}
+/// The wants of units: for each pot a map from each unit that asks for it to its want.
+pub(crate) type WantGroups = Numbered<Numbered<u32>>;
 
-fn wants_of(alloc: Global, takers: &[u32], wants: &Numbered<u32>) -> Result<Vec<u64>, AllocError>
-    requires { AreWants wants.now }
-    ensures value { IfOk result (λ wanted. wanted.items ≡ map (want_of wants.now) takers.now) }
-    ensures bound { IfOk result (λ wanted. All (λ want. want ≤ most_amount) wanted.items) }
+fn note_want<A: AskedPots>(
+    alloc: Global,
+    asked: &A,
+    groups: &mut WantGroups,
+    unit: u32,
+    want: u32,
+) -> Result<(), AllocError>
+    ensures { OnOk result (groups.new ≡ with_want (A.asked_by asked.now) groups.old (unit, want)) }
 {
-    let mut wanted = Vec::new(alloc);
-    for number in takers {
-        wanted.push(want_of(wants, *number))?;
+    match asked.asked(unit) {
+        Some(pot) => groups.insert_under(alloc, pot, unit, want),
+        None => Ok(()),
     }
-    Ok(wanted)
 }
 
-/// Puts for each unit of `takers` its share, which is at its place in `shares`, into the map
-/// `given`, by unit.
-fn put_shares(takers: &[u32], shares: &[u64], given: &mut Numbered<u32>) -> Result<(), AllocError>
-    requires length { length shares.now ≡ length takers.now }
+/// The wants, grouped by the pots that the units ask for.
+pub(crate) fn group_wants<A: AskedPots>(
+    alloc: Global,
+    asked: &A,
+    wants: &Numbered<u32>,
+) -> Result<WantGroups, AllocError>
+    ensures { IfOk result (λ groups. groups ≡ grouped (A.asked_by asked.now) wants.now) }
+{
+    let mut groups = Numbered::new(alloc);
+    for (unit, want) in wants.iter() {
+        note_want(alloc, asked, &mut groups, unit, *want)?;
+    }
+    Ok(groups)
+}
+
+fn amounts_of(alloc: Global, wants: &Numbered<u32>) -> Result<Vec<u64>, AllocError>
+    ensures { IfOk result (λ amounts. amounts.items ≡ amounts_of wants.now) }
+{
+    let mut amounts = Vec::new(alloc);
+    for (_, want) in wants.iter() {
+        amounts.push(u64::from(*want))?;
+    }
+    Ok(amounts)
+}
+
+/// Puts for each unit that has a want its share, which is at the want's place in `shares`, into the
+/// map `given`, by unit.
+fn put_shares(
+    wants: &Numbered<u32>,
+    shares: &[u64],
+    given: &mut Numbered<u32>,
+) -> Result<(), AllocError>
+    requires length { length shares.now ≡ length (entries wants.now) }
     requires bound { All (λ share. share ≤ most_amount) shares.now }
-    ensures { OnOk result (given.new ≡ with_entries given.old (zip takers.now shares.now)) }
+    ensures { OnOk result (given.new ≡ with_entries given.old (zip (keys wants.now) shares.now)) }
 {
-    for i in 0..takers.len() {
-        given.insert(takers[i], shares[i] as u32)?;
+    let mut place = 0;
+    for (unit, _) in wants.iter() {
+        given.insert(unit, shares[place] as u32)?;
+        place += 1;
     }
     Ok(())
 }
 
-/// Shares one pot of at most 999,999,999 among the units `takers` by their wants, and puts the
-/// shares into a map by unit.
-pub(crate) fn share_pot(
+/// Shares one pot of at most 999,999,999 among all units that have a want, by their wants, and puts
+/// the shares into the map `given`, by unit.
+#[tactic(auto, using(crate::proofs::PotLaws::amounts_are_low))]
+fn share_pot(
     alloc: Global,
     pot: u64,
-    takers: &[u32],
     wants: &Numbered<u32>,
     given: &mut Numbered<u32>,
 ) -> Result<(), AllocError>
     requires pot { pot ≤ most_amount }
     requires wants { AreWants wants.now }
-    ensures { OnOk result (given.new
-        ≡ with_entries given.old (zip takers.now
-        (shares pot (map (want_of wants.now) takers.now)))) }
+    ensures { OnOk result (given.new ≡ with_entries given.old (shares_of pot wants.now)) }
 {
-    let wanted = wants_of(alloc, takers, wants)?;
-    let shares = share(alloc, pot, &wanted)?;
-    put_shares(takers, &shares, given)
+    let amounts = amounts_of(alloc, wants)?;
+    let shares = share(alloc, pot, &amounts)?;
+    put_shares(wants, &shares, given)
 }
 
-/// A map from each region in which a unit has a want to the number of one of its units with a want.
-pub(crate) fn regions_with_wants(
-    alloc: Global,
-    campaign: &Campaign,
-    wants: &Numbered<u32>,
-) -> Result<Numbered<u32>, AllocError>
-    ensures { IfOk result (λ asked. asked ≡ regions_with_wants wants.now campaign.now.value) }
-{
-    let mut asked = Numbered::new(alloc);
-    for (number, _) in wants.iter() {
-        if let Some(unit) = campaign.unit(number) {
-            asked.insert(unit.region, number)?;
-        }
-    }
-    Ok(asked)
-}
-
-/// Shares one region's pot among its units, and puts the shares into a map by unit. The function
-/// goes over the units of the region only if one of them has a want.
+/// Shares one region's pot among its units that have a want; not if the region isn't there.
 fn share_region<P: Pots>(
     alloc: Global,
     campaign: &Campaign,
     pots: &P,
-    wants: &Numbered<u32>,
-    asked: &Numbered<u32>,
     region: u32,
+    wants: &Numbered<u32>,
     given: &mut Numbered<u32>,
 ) -> Result<(), AllocError>
     requires ready { P.ready pots.now }
     requires wants { AreWants wants.now }
-    requires asked { asked.now ≡ regions_with_wants wants.now campaign.now.value }
     ensures { OnOk result (given.new
-        ≡ with_entries given.old (shares_in (P.pot_of pots.now) wants.now campaign.now.value.units
-        region)) }
+        ≡ with_entries given.old (region_shares campaign.now.value (P.pot_of pots.now)
+        (region, wants.now))) }
 {
-    if asked.get(region).is_none() {
+    if campaign.region(region).is_none() {
         return Ok(());
     }
-    let takers = takers_of(alloc, campaign.in_region(region), wants)?;
-    if takers.is_empty() {
-        return Ok(());
+    share_pot(alloc, pots.pot(region), wants, given)
+}
+
+/// Shares the pots of all regions among the units that have a want in `wants`, each in its region,
+/// and puts the shares into the map `given`, by unit.
+#[tactic(auto, using(crate::proofs::WantGroupLaws::groups_are_wants))]
+pub(crate) fn share_regions<P: Pots>(
+    alloc: Global,
+    campaign: &Campaign,
+    pots: &P,
+    wants: &Numbered<u32>,
+    given: &mut Numbered<u32>,
+) -> Result<(), AllocError>
+    requires ready { P.ready pots.now }
+    requires wants { AreWants wants.now }
+    ensures { OnOk result (given.new
+        ≡ with_entries given.old (all_region_shares campaign.now.value (P.pot_of pots.now)
+        wants.now)) }
+{
+    let groups = group_wants(alloc, &UnitRegions { campaign }, wants)?;
+    for (region, group) in groups.iter() {
+        share_region(alloc, campaign, pots, region, group, given)?;
     }
-    share_pot(alloc, pots.pot(region), &takers, wants, given)
+    Ok(())
 }
 
 /// What units get of the pots of their regions, by unit, all at once. The units of a region that
 /// have a want share its pot, in unit order, by their wants; each want is at most 999,999,999. A
 /// unit that has no want, or is in no region of the campaign, gets nothing and is not listed. The
-/// function goes once over the regions, and over the units of each region where one has a want.
-/// AllocError without memory. See docs/RULES.md, "Shares".
+/// function goes over the wants alone, and not over regions and units without one. AllocError
+/// without memory. See docs/RULES.md, "Shares".
+#[tactic(auto, using(crate::proofs::WantGroupLaws::all_put))]
 pub fn pot_shares<P: Pots>(
     alloc: Global,
     campaign: &Campaign,
@@ -155,11 +195,8 @@ pub fn pot_shares<P: Pots>(
     ensures definition { IfOk result
         (λ given. given ≡ pot_shares (P.pot_of pots.now) wants.now campaign.now.value) }
 {
-    let asked = regions_with_wants(alloc, campaign, wants)?;
     let mut given = Numbered::new(alloc);
-    for (region, _) in campaign.regions() {
-        share_region(alloc, campaign, pots, wants, &asked, region, &mut given)?;
-    }
+    share_regions(alloc, campaign, pots, wants, &mut given)?;
     Ok(given)
 }
 

@@ -15,6 +15,7 @@ ghost use Rattle.atl_market.specs.AfterPots.{TradesAtOnce};
 
 use crate::item_pots::{ItemPots, item_shares};
 use crate::pot_phase::{PotPhase, named_count, named_item, share_out};
+use crate::pots::AskedPots;
 use crate::produce::world_is_well_formed;
 use atl_campaign::{BooksEntry, Campaign, EventFault, HOLDING_LIMIT, Holding, Thing, Unit};
 use atl_orders::Verb;
@@ -180,18 +181,20 @@ struct MarketPots<'a> {
     items: &'a Numbered<u16>,
 }
 
-/// Each unit asks for the item that its order names; a region's pot of an item is what its market
-/// has room for (SELL) or has in stock (BUY).
-impl<'a> ItemPots for MarketPots<'a> {
-    ghost item_of = { λ pots. finmap.get pots.items.now };
+/// Each unit asks for the item that its order names.
+impl<'a> AskedPots for MarketPots<'a> {
+    ghost asked_by = { λ pots. finmap.get pots.items.now };
 
+    fn asked(&self, unit: u32) -> Option<u32> {
+        Some(u32::from(*self.items.get(unit)?))
+    }
+}
+
+/// A region's pot of an item is what its market has room for (SELL) or has in stock (BUY).
+impl<'a> ItemPots for MarketPots<'a> {
     ghost pot_of = { λ pots. trade_pot pots.trade pots.world.now pots.campaign.now.value };
 
     ghost ready = { λ pots. IsEarly pots.world.now pots.campaign.now.value };
-
-    fn item(&self, unit: u32) -> Option<u16> {
-        self.items.get(unit).copied()
-    }
 
     fn pot(&self, item: u32, region: u32) -> u64 {
         let stock = self.campaign.stock(region, item);

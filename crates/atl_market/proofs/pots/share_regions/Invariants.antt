@@ -1,0 +1,16 @@
+use Rattle.std.proofs.Common.{◌≡◌}
+use Rattle.std.specs.List.{flat_map}
+use Rattle.atl_records.specs.Every.{EachEntry}
+use Rattle.atl_market.specs.Pots.{AreWants}
+use Rattle.atl_market.specs.Puts.{with_entries}
+use Rattle.atl_market.specs.WantGroups.{all_region_shares, region_shares}
+use Rattle.atl_market.proofs.pots.share_regions.Given as goal
+
+-- putting the shares of the regions still to come into the map so far gives the map before the loop with the shares of
+-- all regions put in
+abbrev pub invariant-loop-region : goal.invariant-loop-region
+invariant-loop-region g l = record {
+  what : with_entries l.given (flat_map (region_shares l.campaign.value (g.P.Pots.pot_of l.pots)) l.region-iterator)
+      ≡ with_entries l.fn.given (all_region_shares l.campaign.value (g.P.Pots.pot_of l.pots) l.wants);
+  wants : EachEntry (λ region group. AreWants group) l.region-iterator;
+}

@@ -1,0 +1,35 @@
+-- For proofs alone: the wants of units, grouped by the pots that they ask for, and the shares of each group.
+use Rattle.std.specs.Prelude.{ℕ, List, [], Option, is_some, if◌then◌else◌}
+use Rattle.std.specs.List.{flat_map, fold}
+use Rattle.std.specs.Option.{option_map_or}
+use Rattle.std.specs.Ordering.{nat_cmp}
+use Rattle.std.specs.FinMap.{FinMap, empty, entries, get, insert}
+use Rattle.atl_world.specs.Groups.{group_of}
+use Rattle.atl_campaign.specs.Campaign.{CampaignValue}
+use Rattle.atl_market.specs.Pots.{region_of_unit, shares_of}
+
+-- the wants of units: for each pot a map from each unit that asks for it to its want
+abbrev pub WantGroups : Type 0
+WantGroups = FinMap nat_cmp (FinMap nat_cmp ℕ)
+
+-- the groups with the want of a pair (unit, want) under the pot that the unit asks for; unchanged where it asks for none
+abbrev pub with_want : (asked_by : ℕ → Option ℕ) → WantGroups → ℕ × ℕ → WantGroups
+with_want asked_by groups e =
+    option_map_or (λ pot. insert groups pot (insert (group_of groups pot) e.0 e.1)) (asked_by e.0) groups
+
+-- all wants, grouped by the pots that the units ask for
+abbrev pub grouped : (asked_by : ℕ → Option ℕ) → FinMap nat_cmp ℕ → WantGroups
+grouped asked_by wants = fold (with_want asked_by) empty (entries wants)
+
+module _ (c : CampaignValue) where
+  -- the units of one region's group with their shares of its pot; none where the region isn't there
+  abbrev pub region_shares : (pot_of : ℕ → ℕ) → ℕ × FinMap nat_cmp ℕ → List (ℕ × ℕ)
+  region_shares pot_of group = if is_some (get c.regions group.0) then shares_of (pot_of group.0) group.1 else []
+
+  -- the units that have a want, region by region, each with its share of the region's pot
+  abbrev pub all_region_shares : (pot_of : ℕ → ℕ) → FinMap nat_cmp ℕ → List (ℕ × ℕ)
+  all_region_shares pot_of wants = flat_map (region_shares pot_of) (entries (grouped (region_of_unit c.units) wants))
+
+  -- the units of one item's group, region by region, each with its share of what the region has of the item
+  abbrev pub shares_of_item : (pot_of : ℕ → ℕ → ℕ) → ℕ × FinMap nat_cmp ℕ → List (ℕ × ℕ)
+  shares_of_item pot_of group = all_region_shares (pot_of group.0) group.1
