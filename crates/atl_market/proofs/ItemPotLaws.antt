@@ -80,12 +80,6 @@ module _ (item_of : ℕ → Option ℕ) (pot_of : (item region : ℕ) → ℕ) (
           let (want, wanted, low) = items_give n s is in
           ap (λ o. cond (is_some o) (Some s) None) (sym (get-entries wants n) ∙ wanted)
 
-  pub shares_are : (given : FinMap nat_cmp ℕ) → ((n : ℕ) → get given n ≡ gets n)
-      → given ≡ item_shares item_of pot_of wants c
-  shares_are given at =
-      same_map nat_cmp_total nat_cmp-IsAntisymmetric given (item_shares item_of pot_of wants c)
-      (λ n. at n ∙ sym (shares_at n))
-
   -- the shares that the code puts in, item by item and region by region
   abbrev all_shares : Entries
   all_shares = flat_map (shares_of_item c pot_of) (entries (grouped item_of wants))
@@ -122,6 +116,8 @@ module _ (item_of : ℕ → Option ℕ) (pot_of : (item region : ℕ) → ℕ) (
           found_among of_item n items_listed i (group_listed item_of wants i n want wanted)
           (region_shares_whole (pot_of i) (wants_for item_of wants i) c n s is)
 
-  -- the map into which all shares were put has under each unit its share by the definition
-  pub all_items_put : (n : ℕ) → get (with_entries empty all_shares) n ≡ gets n
-  all_items_put = agreeing_put gets all_shares all_agree none_missing
+  -- the map into which all shares were put is the one of the definition
+  pub all_items_put : with_entries empty all_shares ≡ item_shares item_of pot_of wants c
+  all_items_put =
+      same_map nat_cmp_total nat_cmp-IsAntisymmetric _ _
+      (λ n. agreeing_put gets all_shares all_agree none_missing n ∙ sym (shares_at n))

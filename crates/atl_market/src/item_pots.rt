@@ -1,9 +1,8 @@
 //! Pots of items: the units of a region that ask for the same item share what the region has of it.
 //! See docs/RULES.md, "Pots".
-ghost use Rattle.std.specs.Prelude.{ℕ, ◌≡◌, IfOk};
-ghost use Rattle.std.specs.FinMap as finmap;
+ghost use Rattle.std.specs.Prelude.{◌≡◌, IfOk};
 ghost use Rattle.atl_world.specs.Limits.{most_amount};
-ghost use Rattle.atl_market.specs.ItemPots.{item_share};
+ghost use Rattle.atl_market.specs.ItemPots.{item_shares};
 ghost use Rattle.atl_market.specs.Pots.{AreWants};
 
 use crate::pots::{AskedPots, Pots, group_wants, share_regions};
@@ -59,8 +58,8 @@ pub(crate) fn item_shares<P: AskedPots + ItemPots>(
     requires ready { P.ready pots.now }
     requires wants { AreWants wants.now }
     ensures definition { IfOk result
-        (λ given. (n : ℕ) → finmap.get given n
-        ≡ item_share (P.asked_by pots.now) (P.pot_of pots.now) wants.now campaign.now.value n) }
+        (λ given. given
+        ≡ item_shares (P.asked_by pots.now) (P.pot_of pots.now) wants.now campaign.now.value) }
 {
     let groups = group_wants(alloc, pots, wants)?;
     let mut given = Numbered::new(alloc);

@@ -1,9 +1,9 @@
 //! How much each unit makes in PRODUCE: its share of what the terrain of its region gives, or what
 //! its raw items allow. See docs/RULES.md, "Producing".
-ghost use Rattle.std.specs.Prelude.{⊤, ℕ, ◌≡◌, map, IfOk};
-ghost use Rattle.std.specs.FinMap as finmap;
+ghost use Rattle.std.specs.Prelude.{⊤, ◌≡◌, map, IfOk};
+ghost use Rattle.atl_market.specs.ItemPots.{item_shares};
 ghost use Rattle.atl_market.specs.Pots.{AreWants};
-ghost use Rattle.atl_market.specs.Produce.{made_amounts, amount_made, output_at, output_item, output_share, takes_raw};
+ghost use Rattle.atl_market.specs.Produce.{made_amounts, amount_made, output_at, output_item, takes_raw};
 ghost use Rattle.atl_market.specs.Puts.{with_entries};
 
 use crate::item_pots::{ItemPots, item_shares};
@@ -63,6 +63,7 @@ impl<'a> ItemPots for Outputs<'a> {
     }
 }
 
+#[tactic(auto, using(crate::proofs::ItemPotLaws::shares_at))]
 fn amount_made(
     world: &World,
     campaign: &Campaign,
@@ -72,8 +73,9 @@ fn amount_made(
     unit: u32,
     want: u32,
 ) -> u32
-    requires { (n : ℕ) → finmap.get shares.now n
-        ≡ output_share world.now asked.now campaign.now.value wants.now n }
+    requires { shares.now
+        ≡ item_shares (output_item world.now asked.now) (output_at world.now) wants.now
+        campaign.now.value }
     ensures { result ≡ amount_made world.now asked.now campaign.now.value wants.now (unit, want) }
 {
     if takes_raw(world, asked.get(unit).copied()) {

@@ -246,8 +246,7 @@ impl PotPhase for Trade {
             campaign,
             items,
         };
-        let given = item_shares(alloc, campaign, &pots, wants)?;
-        Ok(given)
+        item_shares(alloc, campaign, &pots, wants)
     }
 
     fn event_number(&self, _world: &World, _unit: &Unit, share: u32) -> u64 {
