@@ -29,7 +29,7 @@ pub trait Pots {
         ensures bound { result ≤ most_amount };
 }
 
-/// Which pot each unit asks for a share of: that of its region, or that of an item.
+/// Which pot each unit asks for: that of its region, or that of an item.
 pub(crate) trait AskedPots {
     ghost use Rattle.std.specs.Prelude.{ℕ, Option, ◌≡◌};
 
@@ -134,7 +134,7 @@ fn share_pot(
     put_shares(wants, &shares, given)
 }
 
-/// Shares one region's pot among its units that have a want; not if the region isn't there.
+/// Shares one region's pot among its units that have a want. Without the region it does nothing.
 fn share_region<P: Pots>(
     alloc: Global,
     campaign: &Campaign,
