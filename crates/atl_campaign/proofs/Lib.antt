@@ -26,7 +26,7 @@ pub mod UnitLaws
 pub mod MarkedRegionLaws
 pub mod GoodLaws
 pub mod RuleLaws
-pub mod AmountLaws
+mod AmountLaws
 pub mod MarketLaws
 pub mod StockLaws
 pub mod HoldingLaws

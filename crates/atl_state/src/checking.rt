@@ -11,17 +11,17 @@ ghost use Rattle.atl_campaign.specs.Good.{AreKnown, HasValidMail, AreReported};
 ghost use Rattle.atl_records.specs.Limits.{entries_in};
 ghost use Rattle.atl_rows.specs.declared.parts.Parts.{Parts};
 ghost use Rattle.atl_campaign.specs.RowRules.{is_one_campaign_row, are_of_format, is_of_unit, is_of_market, is_booked};
-ghost use Rattle.atl_campaign.specs.Taking.{without_texts};
+ghost use Rattle.atl_campaign.specs.Taking.{without_moved};
 
 use crate::row_rules::{
     are_of_format, are_of_markets, is_one_campaign_row, rows_in_range, rows_named,
 };
 use crate::rules::{
-    are_afloat, are_balanced, are_days, are_gone, are_guarded, are_known, are_mailings,
+    are_afloat, are_days, are_gone, are_guarded, are_known, are_mailings,
     are_numbered, are_owned, are_reported,
 };
 use atl_campaign::parts::{Parts, StoredBooks};
-use atl_campaign::{Campaign, as_u32, assemble};
+use atl_campaign::{Campaign, are_balanced, as_u32, assemble};
 use atl_records::{ENTRY_COUNT, FIRST_ENTRY_COUNT, FIRST_ITEM};
 use atl_world::{Format, World};
 use std::alloc::Global;
@@ -181,7 +181,7 @@ fn keeps_known(world: &World, parts: &Parts, campaign: &Campaign) -> bool
 fn keeps_books(format: Format, world: &World, parts: &Parts, campaign: &Campaign) -> bool
     ghost rows: { Parts }
     requires what { campaign.now.value ≡ campaign_of world.now rows }
-    requires rest { parts.now ≡ without_texts rows }
+    requires rest { parts.now ≡ without_moved rows }
     requires before { KeepsRulesBelow format world.now rows 11 }
     ensures { IsTrue result ↔ (KeepsRule format world.now rows rule.Books) }
 {
@@ -208,7 +208,7 @@ fn check_rules_4_to_7(
 ) -> Result<(), CheckFault>
     ghost rows: { Parts }
     requires what { campaign.now.value ≡ campaign_of world.now rows }
-    requires rest { parts.now ≡ without_texts rows }
+    requires rest { parts.now ≡ without_moved rows }
     requires before { KeepsRulesBelow format world.now rows 4 }
     ensures { Passes format world.now rows 8 result }
 {
@@ -237,7 +237,7 @@ fn check_rules_8_to_12(
 ) -> Result<(), CheckFault>
     ghost rows: { Parts }
     requires what { campaign.now.value ≡ campaign_of world.now rows }
-    requires rest { parts.now ≡ without_texts rows }
+    requires rest { parts.now ≡ without_moved rows }
     requires before { KeepsRulesBelow format world.now rows 8 }
     ensures { Passes format world.now rows 13 result }
 {

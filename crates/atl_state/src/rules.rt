@@ -1,7 +1,7 @@
-//! Whether a campaign keeps rules 4 to 12 of the tables, each rule by a function of its own. None
-//! of them changes anything.
+//! Whether a campaign keeps rules 4 to 10 and 12 of the tables, each rule by a function of its own.
+//! None of them changes anything. That the books balance, of rule 11, is `are_balanced` of
+//! atl_campaign.
 //! See docs/FORMATS.md, "Rules of the tables".
-mod balances;
 mod days;
 mod gone;
 mod guards;
@@ -12,7 +12,6 @@ mod owners;
 mod reports;
 mod water;
 
-pub(crate) use balances::are_balanced;
 pub(crate) use days::are_days;
 pub(crate) use gone::are_gone;
 pub(crate) use guards::are_guarded;

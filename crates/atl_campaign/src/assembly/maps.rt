@@ -1,6 +1,6 @@
 //! Builds the maps of factions, regions, structures, mail and reports from their rows. The texts of
 //! mail and reports are moved, not copied. Where memory runs out, the answer is AllocError.
-ghost use Rattle.std.specs.Prelude.{◌≡◌, IfOk, OnOk, [], true};
+ghost use Rattle.std.specs.Prelude.{◌≡◌, IfOk, OnOk, true};
 ghost use Rattle.std.specs.List.{list_all};
 ghost use Rattle.atl_world.specs.Names.{name_ok};
 ghost use Rattle.atl_campaign.specs.Assembling.{without_marks, bare_region, campaign_maps_of};
@@ -10,7 +10,7 @@ ghost use Rattle.atl_campaign.specs.RowRules.{faction_named};
 ghost use Rattle.atl_campaign.specs.Taking.{without_texts};
 
 use super::goods::put_stocks;
-use super::records::{bare_region, faction_of, structure_of};
+use super::records::{bare_region, faction_of, structure_of, take_rows};
 use crate::regions::Regions;
 use crate::row_values::as_u32;
 use atl_records::{Faction, Region, Structure};
@@ -175,14 +175,6 @@ fn unmarked_reports(
 {
     let reports = reports_of(alloc, rows)?;
     MarkedMap::from_values(alloc, reports)
-}
-
-/// Takes all rows of a list, and leaves it empty.
-fn take_rows<T: Drop>(alloc: Global, rows: &mut Sequence<T>) -> Sequence<T>
-    ensures taken { result ≡ rows.old }
-    ensures left { rows.new ≡ [] }
-{
-    mem::replace(rows, Sequence::new(alloc))
 }
 
 /// The factions, regions, structures, mail and reports that are read from rows, with nothing

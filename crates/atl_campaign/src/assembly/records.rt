@@ -1,6 +1,6 @@
 //! Builds one faction, region or structure, and one name or pass text, from a row. Where memory
 //! runs out, the answer is AllocError.
-ghost use Rattle.std.specs.Prelude.{◌≡◌, IfOk, true};
+ghost use Rattle.std.specs.Prelude.{◌≡◌, IfOk, [], true};
 ghost use Rattle.atl_world.specs.Names.{name_ok, pass_ok};
 ghost use Rattle.atl_campaign.specs.Assembling.{bare_region};
 ghost use Rattle.atl_campaign.specs.FromRows.{as_u32, faction_of, structure_of};
@@ -11,6 +11,7 @@ use atl_records::{Faction, Region, Structure};
 use atl_rows::parts::{StoredFaction, StoredRegion, StoredStructure};
 use atl_world::{Numbered, Sequence, Text};
 use std::alloc::{AllocError, Global};
+use std::mem;
 
 /// The name that the bytes of a row are. They have to keep the name rule.
 pub(super) fn name_of(alloc: Global, bytes: &Sequence<u8>) -> Result<Text, AllocError>
@@ -20,12 +21,29 @@ pub(super) fn name_of(alloc: Global, bytes: &Sequence<u8>) -> Result<Text, Alloc
     Text::from_utf8(alloc, bytes.as_slice())
 }
 
+/// The name that bytes are, without a copy. They have to keep the name rule.
+pub(super) fn moved_name(bytes: Sequence<u8>) -> Text
+    requires { name_ok bytes ≡ true }
+    ensures { result ≡ bytes }
+{
+    let letters = String::from_utf8(bytes.into_vec()).unwrap();
+    Text::from_string(letters)
+}
+
 /// The pass text that the bytes of a row are. They have to keep the rule of pass texts.
 pub(crate) fn pass_of(alloc: Global, bytes: &Sequence<u8>) -> Result<Text, AllocError>
     requires { pass_ok bytes.now ≡ true }
     ensures { IfOk result (λ pass. pass ≡ bytes.now) }
 {
     Text::from_utf8(alloc, bytes.as_slice())
+}
+
+/// Takes all rows of a list, and leaves it empty.
+pub(super) fn take_rows<T: Drop>(alloc: Global, rows: &mut Sequence<T>) -> Sequence<T>
+    ensures taken { result ≡ rows.old }
+    ensures left { rows.new ≡ [] }
+{
+    mem::replace(rows, Sequence::new(alloc))
 }
 
 /// The faction that a row of `faction` says. Its names and pass text have to keep their rules.

@@ -1,6 +1,6 @@
-//! Builds the units from their rows, and the lists of units. Where memory runs out, the answer is
-//! AllocError.
-ghost use Rattle.std.specs.Prelude.{◌≡◌, IfOk, true};
+//! Builds the units from their rows, and the lists of units. Names are moved, not copied. Where
+//! memory runs out, the answer is AllocError.
+ghost use Rattle.std.specs.Prelude.{◌≡◌, IfOk, OnOk, true};
 ghost use Rattle.std.specs.List.{list_all};
 ghost use Rattle.atl_world.specs.Names.{name_ok};
 ghost use Rattle.atl_campaign.specs.KeptLists.{AreUnitLists};
@@ -8,47 +8,49 @@ ghost use Rattle.atl_campaign.specs.Assembling.{bare_unit};
 ghost use Rattle.atl_campaign.specs.FromRows.{as_u32, by_number, unit_of};
 ghost use Rattle.atl_campaign.specs.Roster.{unmarked_units};
 ghost use Rattle.atl_campaign.specs.RowRules.{unit_in_range, has_in_range};
+ghost use Rattle.atl_campaign.specs.Taking.{without_units};
 
 use super::goods::put_things;
-use super::records::name_of;
+use super::records::{moved_name, take_rows};
 use crate::arena::Arena;
 use crate::lists::{UnitLists, list_keys_of};
 use crate::row_values::{as_u32, is_set};
 use crate::units::Units;
 use atl_records::{Holding, Unit};
 use atl_rows::parts::{Parts, StoredHas, StoredUnit};
-use atl_world::Numbered;
+use atl_world::{Numbered, Sequence};
 use std::alloc::{AllocError, Global};
+use std::mem;
 
 /// The unit that a row of `unit` says, without items and days of study. Its name has to keep the
 /// name rule, and its numbers have to be in their ranges.
-fn bare_unit(alloc: Global, row: &StoredUnit) -> Result<Unit, AllocError>
-    requires named { name_ok row.now.name ≡ true }
-    requires range { unit_in_range row.now ≡ true }
-    ensures { IfOk result (λ unit. unit ≡ bare_unit row.now) }
+fn bare_unit(alloc: Global, mut row: StoredUnit) -> Unit
+    requires named { name_ok row.name ≡ true }
+    requires range { unit_in_range row ≡ true }
+    ensures { result ≡ bare_unit row }
 {
-    let name = name_of(alloc, &row.name)?;
+    let name = moved_name(mem::replace(&mut row.name, Sequence::new(alloc)));
     let items = Numbered::new(alloc);
     let days = Numbered::new(alloc);
     let mut holding = Holding::new(name, as_u32(row.men), as_u32(row.money), items, days);
     holding.set_guard(is_set(row.guard));
-    Ok(Unit {
+    Unit {
         faction: as_u32(row.faction),
         region: as_u32(row.region),
         structure: as_u32(row.structure),
         holding,
-    })
+    }
 }
 
-fn bare_units(alloc: Global, rows: &[StoredUnit]) -> Result<Arena<Unit>, AllocError>
-    requires named { list_all (λ r. name_ok r.name) rows.now ≡ true }
-    requires range { list_all unit_in_range rows.now ≡ true }
-    ensures { IfOk result (λ units. units ≡ by_number (λ r. as_u32 r.number) bare_unit rows.now) }
+fn bare_units(alloc: Global, rows: Sequence<StoredUnit>) -> Result<Arena<Unit>, AllocError>
+    requires named { list_all (λ r. name_ok r.name) rows ≡ true }
+    requires range { list_all unit_in_range rows ≡ true }
+    ensures { IfOk result (λ units. units ≡ by_number (λ r. as_u32 r.number) bare_unit rows) }
 {
     let mut units = Arena::with_room(alloc, rows.len())?;
-    for row in rows {
-        let unit = bare_unit(alloc, row)?;
-        units.put(as_u32(row.number), unit)?;
+    for row in rows.into_vec() {
+        let number = as_u32(row.number);
+        units.put(number, bare_unit(alloc, row))?;
     }
     Ok(units)
 }
@@ -57,29 +59,34 @@ fn bare_units(alloc: Global, rows: &[StoredUnit]) -> Result<Arena<Unit>, AllocEr
 /// `has` say. Names have to keep the name rule, and numbers have to be in their ranges.
 pub(crate) fn units_of(
     alloc: Global,
-    rows: &[StoredUnit],
+    rows: Sequence<StoredUnit>,
     has: &[StoredHas],
 ) -> Result<Arena<Unit>, AllocError>
-    requires named { list_all (λ r. name_ok r.name) rows.now ≡ true }
-    requires range { list_all unit_in_range rows.now ≡ true }
+    requires named { list_all (λ r. name_ok r.name) rows ≡ true }
+    requires range { list_all unit_in_range rows ≡ true }
     requires amounts { list_all has_in_range has.now ≡ true }
     ensures { IfOk result (λ units. units
-        ≡ by_number (λ r. as_u32 r.number) (unit_of has.now) rows.now) }
+        ≡ by_number (λ r. as_u32 r.number) (unit_of has.now) rows) }
 {
     let mut units = bare_units(alloc, rows)?;
     put_things(&mut units, has)?;
     Ok(units)
 }
 
-pub(crate) fn roster_of(alloc: Global, parts: &Parts) -> Result<Units, AllocError>
-    requires named { list_all (λ r. name_ok r.name) parts.now.units ≡ true }
-    requires range { list_all unit_in_range parts.now.units ≡ true }
-    requires amounts { list_all has_in_range parts.now.has ≡ true }
-    ensures { IfOk result (λ units. units
-        ≡ unmarked_units (by_number (λ r. as_u32 r.number) (unit_of parts.now.has)
-        parts.now.units)) }
+/// The units that are read from rows, with nothing marked. Names have to keep the name rule, and
+/// numbers have to be in their ranges. The rows of `unit` are taken, and all others stay. AllocError
+/// without memory.
+pub(crate) fn roster_of(alloc: Global, parts: &mut Parts) -> Result<Units, AllocError>
+    requires named { list_all (λ r. name_ok r.name) parts.old.units ≡ true }
+    requires range { list_all unit_in_range parts.old.units ≡ true }
+    requires amounts { list_all has_in_range parts.old.has ≡ true }
+    ensures units { IfOk result (λ units. units
+        ≡ unmarked_units (by_number (λ r. as_u32 r.number) (unit_of parts.old.has)
+        parts.old.units)) }
+    ensures rest { OnOk result (parts.new ≡ without_units parts.old) }
 {
-    let units = units_of(alloc, parts.units.as_slice(), parts.has.as_slice())?;
+    let rows = take_rows(alloc, &mut parts.units);
+    let units = units_of(alloc, rows, parts.has.as_slice())?;
     Units::unmarked_from(alloc, units)
 }
 

@@ -4,7 +4,7 @@ ghost use Rattle.atl_world.specs.Worlds.{IsWorld};
 ghost use Rattle.atl_campaign.specs.FromRows.{campaign_of};
 ghost use Rattle.atl_campaign.specs.Marks.{no_marks};
 ghost use Rattle.atl_campaign.specs.RowRules.{are_named, first_tables_in_range};
-ghost use Rattle.atl_campaign.specs.Taking.{without_texts};
+ghost use Rattle.atl_campaign.specs.Taking.{without_moved};
 
 use super::Campaign;
 use crate::assembly::{CampaignMaps, books_of, campaign_maps_of, lists_of, pass_of, roster_of};
@@ -16,8 +16,8 @@ use std::alloc::{AllocError, Global};
 
 /// The campaign that is read from rows, with nothing marked. There has to be one campaign row.
 /// Names and pass texts have to keep their rules, and rows of `faction`, `region`, `unit` and `has`
-/// have to be in their ranges. The rows of mail and reports are taken, since their texts are moved;
-/// all other rows stay. AllocError without memory: nothing is said of the rows then.
+/// have to be in their ranges. The rows of units, mail and reports are taken, since names and texts
+/// are moved; all other rows stay. AllocError without memory: nothing is said of the rows then.
 #[tactic(auto, unfolding(crate::specs::FromRows::campaign_of))]
 pub fn assemble(alloc: Global, world: &World, parts: &mut Parts) -> Result<Campaign, AllocError>
     requires one { length parts.old.campaign ≡ 1 }
@@ -25,7 +25,7 @@ pub fn assemble(alloc: Global, world: &World, parts: &mut Parts) -> Result<Campa
     requires people { first_tables_in_range parts.old ≡ true }
     ensures what { IfOk result (λ c. c.value ≡ campaign_of world.now parts.old) }
     ensures marks { IfOk result (λ c. c.marks ≡ no_marks) }
-    ensures rest { OnOk result (parts.new ≡ without_texts parts.old) }
+    ensures rest { OnOk result (parts.new ≡ without_moved parts.old) }
     ensures world { IsWorld world.now }
 {
     let things = FIRST_ITEM + world.items().len();

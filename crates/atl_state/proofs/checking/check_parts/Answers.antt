@@ -4,7 +4,7 @@ use Rattle.atl_campaign.specs.FromRows.{campaign_of}
 use Rattle.atl_campaign.specs.Good.{IsGood}
 use Rattle.atl_campaign.specs.Rows.{AreRowsOf}
 use Rattle.atl_campaign.specs.Campaign.{CampaignValue}
-use Rattle.atl_campaign.specs.Taking.{without_texts}
+use Rattle.atl_campaign.specs.Taking.{without_moved}
 use Rattle.atl_rows.specs.declared.parts.Parts.{Parts}
 use Rattle.atl_state.specs.declared.checking.Rule.TheVariants.{Names}
 use Rattle.atl_state.proofs.CheckLaws.{one-said, people-said, checked-rows, checked-fits, checked-good}
@@ -23,14 +23,14 @@ pub check_rules_4_to_7-requires : goal.check_rules_4_to_7-requires
 check_rules_4_to_7-requires g c =
     let w = c.args.world.now in (
       c.in-Ok.ensures.what ∙ ap (campaign_of w) c.requires,
-      (c.in-Ok.ensures.rest ∙ ap without_texts c.requires, subst (λ (p : Parts). KeepsRulesBelow c.args.format w p 4) c.requires c.in_ok-check_rows.ensures),
+      (c.in-Ok.ensures.rest ∙ ap without_moved c.requires, subst (λ (p : Parts). KeepsRulesBelow c.args.format w p 4) c.requires c.in_ok-check_rows.ensures),
     )
 
 pub check_rules_8_to_12-requires : goal.check_rules_8_to_12-requires
 check_rules_8_to_12-requires g c =
     let w = c.args.world.now in (
       c.in-Ok.ensures.what ∙ ap (campaign_of w) c.requires,
-      (c.in-Ok.ensures.rest ∙ ap without_texts c.requires, c.in_ok-check_rules_4_to_7.ensures),
+      (c.in-Ok.ensures.rest ∙ ap without_moved c.requires, c.in_ok-check_rules_4_to_7.ensures),
     )
 
 pub returns : goal.returns

@@ -1,7 +1,7 @@
 use Rattle.std.proofs.Common.{rules}
 use Rattle.atl_records.specs.declared.books.Thing.TheVariants.{Item}
 use Rattle.atl_campaign.proofs.AmountLaws.{all_balance}
-use Rattle.atl_state.proofs.rules.balances.are_balanced.Goals as goal
+use Rattle.atl_campaign.proofs.balances.are_balanced.Goals as goal
 
 pub returns-then-are_people_balanced : goal.returns-then-are_people_balanced
 returns-then-are_people_balanced c = (

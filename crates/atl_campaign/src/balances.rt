@@ -1,4 +1,4 @@
-//! The part of rule 11 that the books balance: what is booked is what units and regions hold.
+//! Whether the books balance: what is booked of each thing is what units and regions hold of it.
 ghost use Rattle.std.specs.Prelude.{◌≡◌, ◌<◌, ℕ, length, pos, ◌↔◌, IsTrue};
 ghost use Rattle.atl_world.specs.Worlds.{IsWorld};
 ghost use Rattle.atl_records.specs.Books.{booked, thing_index, AreBooks};
@@ -8,7 +8,7 @@ ghost use Rattle.atl_campaign.specs.Good.{AreOfMarkets};
 ghost use Rattle.atl_campaign.specs.Totals.{total, Balances, IsCountable};
 ghost use Rattle.atl_records.specs.declared.books.Thing.TheVariants.{Money, People, Item};
 
-use atl_campaign::Campaign;
+use crate::Campaign;
 use atl_records::Thing;
 use atl_world::World;
 
@@ -47,10 +47,10 @@ fn are_people_balanced(campaign: &Campaign) -> bool
     is_balanced(campaign, Thing::Money) && is_balanced(campaign, Thing::People)
 }
 
-/// Whether the total of each thing over all units and regions equals the sum booked of it under all
-/// entries. All items held must be the world's, and all stocks of the world's markets. Takes no
-/// memory.
-pub(crate) fn are_balanced(world: &World, campaign: &Campaign) -> bool
+/// Whether the books balance: the total of each thing over all units and regions equals the sum
+/// booked of it under all entries. All items held must be the world's, and all stocks of the world's
+/// markets. Takes no memory. See docs/RULES.md, "Books".
+pub fn are_balanced(world: &World, campaign: &Campaign) -> bool
     requires few { IsCountable campaign.now.value }
     requires books { AreBooks (thing_count world.now) campaign.now.value.books }
     requires items { Every (λ n u. Every (λ i amount. i < length world.now.items) u.holding.items)

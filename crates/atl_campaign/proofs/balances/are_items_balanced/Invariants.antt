@@ -2,7 +2,7 @@ use Rattle.std.proofs.Common.{◌≡◌, ◌<◌, ℕ, pos}
 use Rattle.atl_records.specs.Books.{booked}
 use Rattle.atl_campaign.specs.Totals.{total}
 use Rattle.atl_records.specs.declared.books.Thing.TheVariants.{Item}
-use Rattle.atl_state.proofs.rules.balances.are_items_balanced.Given as goal
+use Rattle.atl_campaign.proofs.balances.are_items_balanced.Given as goal
 
 -- the total of each item below `item`, the loop's number, equals the sum booked of it
 abbrev pub invariant-loop-item : goal.invariant-loop-item
