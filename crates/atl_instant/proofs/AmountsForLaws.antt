@@ -34,6 +34,7 @@ module _ (f : ℕ → ℕ) where
       for_zero_or_more rest true is = rest
       for_zero_or_more rest false is = ((at_least_one (f n) is, refl), rest)
 
+  -- each amount that the map of `amounts_for` lists is at least 1, and the one that f gives its number
   pub each_said : (ns : List ℕ) → Every IsAmountFor (amounts_for f ns)
   unfolding amounts_for
   each_said ns n amount is =

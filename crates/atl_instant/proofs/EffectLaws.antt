@@ -61,6 +61,7 @@ module _ {holds : Condition} {fit : Type 0} (w : WorldValue) (c : CampaignValue)
     others = λ k v there apart. record { unit = v; there = stay k apart ∙ there; is_unaffected = record { better = no_worse v; men = λ other. refl } };
   }
 
+  -- an order that changes nothing keeps what `OrderKeeps` says
   pub keeps_all : OrderKeeps holds fit w c n f c
   keeps_all = keeps_others c (λ h fits. well_same w c h) (λ k apart. refl)
 
@@ -153,6 +154,7 @@ module _ (c : CampaignValue) (from to : ℕ) (u v : Unit) (h k : HoldingValue) (
       unbooked_well w c moved (early-having w between to v k receiver_still more more_flag (early-having w c from u h giver less less_flag early))
       (same_month_by refl) refl (total-moved w both)
 
+  -- after a move from giver to receiver each unit but the giver is left alone (`IsLeftAlone`), if the receiver is
   pub others-moved : (f : ℕ) → IsLeftAlone f v (record v { holding = k }) → (n : ℕ) (x : Unit) → get c.units n ≡ Some x
       → n ≢ from → IsStillThere (IsLeftAlone f) moved n x
   others-moved f is_unaffected n x there other = elim (cases_eq n to) [

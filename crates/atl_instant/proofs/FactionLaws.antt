@@ -103,6 +103,7 @@ module _ (c : CampaignValue) (n : ℕ) (x : Faction) (name : List ℕ) (is : get
       → IsSteady w (with_faction_name c n name)
   steady-faction_name w named old = subst (IsSteady w) (sym shown_is) (steady_shown w named old)
 
+  -- there are as many factions after a faction shows another name as before
   pub count-faction_name : len (with_faction_name c n name).factions ≡ len c.factions
   count-faction_name = ap (λ (d : CampaignValue). len d.factions) shown_is ∙ same_count
 
@@ -110,5 +111,6 @@ module _ (c : CampaignValue) (n : ℕ) (x : Faction) (name : List ℕ) (is : get
   was_there k (f, here) =
       every-insert (λ k f. HasValue c.factions k) c.factions n renamed (x, is) (λ k f here. (f, here)) k f here
 
+  -- each faction that is there after faction n shows another name was there before
   pub known-faction_name : (k : ℕ) → HasValue (with_faction_name c n name).factions k → HasValue c.factions k
   known-faction_name k h = was_there k (subst (λ (d : CampaignValue). HasValue d.factions k) shown_is h)

@@ -53,6 +53,7 @@ use Rattle.atl_instant.specs.declared.form.Forming.{Forming}
 below_limits : (u n : ℕ) → (nat_le most_units u || nat_lt last_unit n) ≡ false → (u < most_units) × (n ≤ last_unit)
 below_limits u n h = (grind (arith, nat_tests), grind (arith, nat_tests))
 
+-- where the unit limit isn't reached, there are fewer than 100,000 units, and the next number is at most 999,999,999
 pub unit_limits_not_reached : (c : CampaignValue) → is_unit_limit c ≡ false
     → (len c.units < most_units) × (c.next_unit ≤ last_unit)
 unit_limits_not_reached c h = below_limits (len c.units) c.next_unit h
@@ -188,11 +189,13 @@ module _ (w : WorldValue) (c : CampaignValue) (p : ℕ) (u : Unit) (is : get c.u
   pub begun_well : is_unit_limit c ≡ false → StepsWell IsEarly nothing_remaining w c begun
   begun_well limit = unbooked_well w c begun (early_begun limit) (same_month_by refl) refl same_total
 
+  -- after unit p formed a unit, each unit that was there is as it was
   pub begun_stays : Every (λ n v. get begun.units n ≡ Some v) c.units
   begun_stays = unit_stays
 
 -- ---- what is marked
 
+-- adding unit u under the next unit number, with the marks of `mark_unit_begun`, marks all that it changes
 pub marks-begun : (c : MarkedCampaign) (u : Unit)
     → MarksChanges c (record { value = with_unit_begun c.value u; marks = mark_unit_begun c })
 marks-begun c u =
@@ -208,6 +211,7 @@ marks-begun c u =
 -- ---- one order
 
 module _ (w : WorldValue) (c : CampaignValue) (early : IsEarly w c) where
+  -- in an early campaign no unit has the next unit number
   pub free_number : get c.units c.next_unit ≡ None
   free_number = early.steady.next.units c.next_unit (omega arith)
 
@@ -246,9 +250,11 @@ module _ (w : WorldValue) (c : CampaignValue) (early : IsEarly w c) where
     form_fine : IsEarlyAndKeepsUnits (form_by c f n).0
     form_fine = by_unit (get c.units n) refl
 
+  -- an order of FORM keeps an early campaign early, in its month and with balanced books (`StepsWell`)
   pub order_well : (m : MonthValue) (o : Forming) → StepsWell IsEarly nothing_remaining w c (form_by_copy (c, m) o).0
   order_well m o = (form_fine o.faction o.unit).0
 
+  -- an order of FORM leaves each unit that was there as it was
   pub order_stays : (m : MonthValue) (o : Forming)
       → Every (λ k v. get (form_by_copy (c, m) o).0.units k ≡ Some v) c.units
   order_stays m o = (form_fine o.faction o.unit).1
@@ -261,6 +267,7 @@ pub formed_by_copy : (p : CampaignValue × MonthValue) (ts : List Task)
 formed_by_copy p [] = refl
 formed_by_copy p (t ∷ ts) = formed_by_copy (form_order p t) ts
 
+-- the copies of all orders of FORM, carried out one after another as the code does, have the effect of the phase
 pub all_formed : (w : WorldValue) (c : CampaignValue) (m : MonthValue)
     → fold form_by_copy (c, m) (map forming_of (orders_of is_forming ByFaction m.aliases m.readings))
     ≡ form_meaning w c m

@@ -47,6 +47,7 @@ can_give gift n u v is =
     let two = none_fits little NotEnough ((full, NoRoom) ∷ []) one.1 in
     record { enough = not_less (held_of gift u.holding) n two.0; room = not_less holding_limit (held_of gift v.holding + n) (none_fits full NoRoom [] two.1).0 }
 
+-- a unit whose holding is within its limits (`IsHolding`) holds at most 999,999,999 of the gift
 pub held_within : (gift : Gift) (h : HoldingValue) → IsHolding h → held_of gift h ≤ holding_limit
 held_within Money h is = is.money
 held_within (Item i) h is = amount_within h i is
@@ -111,6 +112,7 @@ gift_keeps_sum (Item i) n h k l (things.Item j) =
         ∙ ap (λ x. amount_of h.items x + amount_of k.items x) (sym (compared_equal_is_equal i j is))
     by_test false is = refl
 
+-- the receiver of a gift is no worse off with n more of it
 pub gift_receiver_no_worse : (gift : Gift) (n : ℕ) (v : Unit)
     → IsNoWorse v (record v { holding = with_held_of gift v.holding (held_of gift v.holding + n) })
 gift_receiver_no_worse Money n v =
@@ -168,6 +170,8 @@ module _ {fit : Type 0} (w : WorldValue) (c : CampaignValue) (from to : ℕ) (gi
 
 -- ---- the phase
 
+-- each order of GIVE or PAY keeps an early campaign early and books nothing, and no unit but the giver is worse off
+-- (`StepKeeps`)
 pub give_keeps : StepKeeps IsEarly give_step
 give_keeps w a c t x own = by_operands t.order_value.operands
   where

@@ -79,6 +79,7 @@ module _ (w : WorldValue) (c : CampaignValue) (n : ℕ) (u : Unit) (is : get c.u
       let may = may_have w c n u is steady in
       record { limits = record { men = may.limits.men; money = may.limits.money; items = may.limits.items }; name = ok; items = may.items; skills = may.skills; days = may.days }
 
+  -- the total of each thing is the same when unit n has another name and guard flag
   pub total-labelled : (t : Thing) → total (with_holding_at c n labelled (Some u)) t ≡ total c t
   total-labelled t =
       equal_by_sums (total (with_holding_at c n labelled (Some u)) t) (total c t) (unit_amount t u.holding)
@@ -126,6 +127,7 @@ module _ (c : CampaignValue) (n : ℕ) (u : Unit) (is : get c.units n ≡ Some u
       (every-insert (λ m y. Agree guarding y) c.units n guarding (λ g k same. refl) (λ m y there g k same. sym (own m y there k (sym same))))
       (λ k x here. every-insert (λ m y. Agree x y) c.units n guarding (λ g h same. own k x here g same) (old k x here))
 
+  -- setting the guard flag of unit n (`with_guard`) makes the campaign `flagged`
   pub flagged_is : with_guard c n true ≡ flagged
   flagged_is = changed_held (λ h. record h { guard = true }) c (with_guard c n true) n refl u is
 
@@ -138,6 +140,7 @@ module _ (c : CampaignValue) (n : ℕ) (u : Unit) (is : get c.units n ≡ Some u
       subst (StepsWell IsSteady nothing_remaining w c) (sym flagged_is)
       (stays_well IsSteady w c flagged (steady-having w c n u guarding.holding is may (guards_kept none steady.guarded) steady) (same_month_by refl) refl (total-labelled w c n u is u.holding.name true))
 
+-- setting or clearing the guard flag of unit n, with its row marked, marks all that it changes
 pub flag_marks : (c d : MarkedCampaign) (n : ℕ) (flag : Bool) → d.value ≡ with_guard c.value n flag
     → d.marks ≡ mark_unit_row c n → MarksChanges c d
 flag_marks c d n flag what marks =
@@ -154,6 +157,8 @@ guard_kept w c n u is =
 
 -- ---- the phase
 
+-- each order of GUARD 1 keeps a steady campaign steady and books nothing, and no unit but the one that it is for is
+-- worse off (`StepKeeps`)
 pub guard_keeps : StepKeeps IsSteady guard_step
 guard_keeps w a c t x own = by_operands t.order_value.operands
   where

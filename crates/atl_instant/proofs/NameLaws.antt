@@ -107,6 +107,8 @@ module _ (fit : Type 0) (w : WorldValue) (c : CampaignValue) (n : ℕ) (u : Unit
   named kinds.Building name ok = structure_named u.structure false name ok
   named kinds.Ship name ok = structure_named u.structure true name ok
 
+-- each order of NAME or GUARD 0 keeps an early campaign early and books nothing, and no unit but the one that it is for
+-- is worse off (`StepKeeps`)
 pub name_keeps : StepKeeps IsEarly name_step
 name_keeps w a c t x own = by_operands t.order_value.operands
   where

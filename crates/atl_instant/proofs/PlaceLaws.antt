@@ -117,6 +117,8 @@ module _ (fit : Type 0) (w : WorldValue) (c : CampaignValue) (n : ℕ) (u : Unit
 
 -- ---- the phase
 
+-- each order of LEAVE, ENTER or PROMOTE keeps an early campaign early and books nothing, and no unit but the one that
+-- it is for is worse off (`StepKeeps`)
 pub place_keeps : StepKeeps IsEarly place_step
 place_keeps w a c t x own = by_operands t.order_value.operands
   where

@@ -1,6 +1,7 @@
--- Laws of QUIT: units leave, what they had is booked as gone, and nothing else changes; the campaign stays steady. A
--- unit is no worse off, unless its faction quits by an order for a unit that was its own as the phase began. A unit is
--- no worse off (`IsNoWorse`) with the same faction, place, name and guard flag, and no less men, money, goods and days.
+-- Laws of QUIT: units leave, what they had is booked as gone, and structures get other owners; the campaign stays
+-- steady. A unit is no worse off, unless its faction quits by an order for a unit that was its own as the phase began.
+-- A unit is no worse off (`IsNoWorse`) with the same faction, place, name and guard flag, and no less men, money, goods
+-- and days.
 use Rattle.std.proofs.Common.{◌≡◌, ◌≢◌, ◌==◌, ℕ, ◌+◌, ◌*◌, ◌≤◌, ◌<◌, not, Bool, true, false, cond, List, [], ◌∷◌, length, drop, get_or, Option, Some, None, refl, sym, ap, subst, ◌∙◌, inl, inr, arith}
 use Rattle.std.specs.Prelude.{ℤ, pos, neg_ℤ, ◌+ℤ◌, IfSome, fold, unwrap_or, if◌then◌else◌}
 use Rattle.std.proofs.lemmas.Int.{ints}
@@ -134,6 +135,7 @@ other_item_adds_nothing : (b : Bool) (x y : ℕ) → b ≡ false → cond b x 0 
 other_item_adds_nothing true x y e = cc
 other_item_adds_nothing false x y e = omega arith
 
+-- a list of items has no money
 pub no_money : (es : List (ℕ × ℕ)) → held_in_items es Money ≡ 0
 no_money [] = refl
 no_money (e ∷ es) =
@@ -141,6 +143,7 @@ no_money (e ∷ es) =
     (let apart : (0 == 2 + e.0) ≡ false = grind (arith, nat_tests) in apart)
     ∙ no_money es
 
+-- a list of items has no people
 pub no_people : (es : List (ℕ × ℕ)) → held_in_items es People ≡ 0
 no_people [] = refl
 no_people (e ∷ es) =
@@ -148,6 +151,8 @@ no_people (e ∷ es) =
     (let apart : (1 == 2 + e.0) ≡ false = grind (arith, nat_tests) in apart)
     ∙ no_people es
 
+-- in a list of items sorted by number, the sum of the amounts of item j is the one amount that the search finds; 0
+-- where it finds none
 pub list_amount_is_found : (j : ℕ) (es : List (ℕ × ℕ)) → is_sorted nat_cmp es ≡ true
     → held_in_items es (Item j) ≡ unwrap_or (find nat_cmp j es) 0
 list_amount_is_found j [] s = refl
@@ -272,12 +277,16 @@ books_all w c h known steady =
 
 -- ---- what the code books, and marks
 
-pub gone_marks : (c d : MarkedCampaign) (t : Thing) (amount : ℕ) → d.value ≡ with_loss c.value t amount
+-- if an amount is booked as gone, and this amount of the books is marked, then no mark is lost and all that changed is
+-- marked
+pub marks-loss : (c d : MarkedCampaign) (t : Thing) (amount : ℕ) → d.value ≡ with_loss c.value t amount
     → d.marks ≡ mark_amount c (loss_entry t) t → MarksChanges c d
-gone_marks c d t amount what marks =
+marks-loss c d t amount what marks =
     let all = marks-amount c (loss_entry t) t (neg_ℤ (pos amount)) in
     rw (what, marks) (record { stay = all.stay; covers = all.covers })
 
+-- books with room for the loss of an amount of a thing, and for the bound `next` besides, have room for this amount
+-- under the entry of its loss
 pub room_for_loss : (t : Thing) (amount : ℕ) (next : BookBound) (c : CampaignValue)
     → HaveRoom (both_move (moves_only amount (loss_entry t) t) next) c
     → HasRoom amount (amount_in c.books (loss_entry t) t)
@@ -289,26 +298,32 @@ room_for_loss t amount next c room =
     at_least true m t = omega arith
     at_least false m t = cc
 
+-- books with room for the loss of an amount of a thing, and for the bound `next` besides, have room for `next` once the
+-- amount is booked as gone
 pub room_after_loss : (t : Thing) (amount : ℕ) (next : BookBound) (c : CampaignValue)
     → HaveRoom (both_move (moves_only amount (loss_entry t) t) next) c → HaveRoom next (with_loss c t amount)
 room_after_loss t amount next c room =
     booked-room c.books (loss_entry t) t (neg_ℤ (pos amount)) amount (within-neg amount amount (omega arith)) next room
 
+-- books with room for the items from i on have room for the item at i and those after it, as one list
 pub room_for_item_and_later : (xs : List (ℕ × ℕ)) (i : ℕ) (c : CampaignValue) → i < length xs
     → HaveRoom (items_bound (drop i xs)) c
     → HaveRoom (items_bound (get_or xs i (0, 0) ∷ drop (i + 1) xs)) c
 room_for_item_and_later xs i c inside room = subst (λ l. HaveRoom (items_bound l) c) (drop_more xs i (0, 0) inside) room
 
+-- books with room for the loss of the items from i on have room for that of the item at i
 pub room_for_item : (xs : List (ℕ × ℕ)) (i : ℕ) (c : CampaignValue) → i < length xs
     → HaveRoom (items_bound (drop i xs)) c
     → HasRoom (get_or xs i (0, 0)).1 (amount_in c.books Lost (Item (get_or xs i (0, 0)).0))
 room_for_item xs i c inside room = let x : ℕ × ℕ = get_or xs i (0, 0) in room_for_loss (Item x.0) x.1 (items_bound (drop (i + 1) xs)) c (room_for_item_and_later xs i c inside room)
 
+-- if the items from i on are all of the world, so are the item at i and those after it, as one list
 pub known_ahead : (w : WorldValue) (xs : List (ℕ × ℕ)) (i : ℕ) → i < length xs
     → EachEntry (λ j a. j < length w.items) (drop i xs)
     → EachEntry (λ j a. j < length w.items) (get_or xs i (0, 0) ∷ drop (i + 1) xs)
 known_ahead w xs i inside known = subst (EachEntry (λ j a. j < length w.items)) (drop_more xs i (0, 0) inside) known
 
+-- in a steady campaign each item that unit n holds is of the world
 pub known_held : (w : WorldValue) (c : CampaignValue) (n : ℕ) (u : Unit) → get c.units n ≡ Some u → IsSteady w c
     → EachEntry (λ j a. j < length w.items) (entries u.holding.items)
 known_held w c n u is steady =
@@ -347,6 +362,7 @@ module _ (w : WorldValue) (c : CampaignValue) (n : ℕ) (u : Unit) (is : get c.u
   there : get booked_off.units n ≡ Some u
   there = ap (λ (s : CampaignValue). get s.units n) all_is_booked.same ∙ is
 
+  -- after unit n left, the units are those from before without unit n
   pub units_left : after_leave.units ≡ remove c.units n
   units_left =
       (only_reduced w booked_off n u there).units ∙ ap (λ (s : CampaignValue). remove s.units n) all_is_booked.same
@@ -425,6 +441,8 @@ leaving_keeps_others c n k apart = by_unit (get c.units n)
 
 -- ---- all units of a faction
 
+-- after the units of a list left one by one, a steady campaign is steady, in its month and with balanced books
+-- (`StepsWell`)
 pub all_left_well : (w : WorldValue) (c : CampaignValue) (ns : List ℕ) → IsSteady w c
     → StepsWell IsSteady quit_remaining w c (fold after_leaving c ns)
 all_left_well w c [] steady = well_same w c steady
@@ -432,6 +450,7 @@ all_left_well w c (n ∷ ns) steady =
     let one = left_well w c n steady in
     well_twice w c (after_leaving c n) (fold after_leaving (after_leaving c n) ns) one (all_left_well w (after_leaving c n) ns one.holds_still)
 
+-- after the units of a list left one by one, each unit that isn't in the list is as it was
 pub all_leaving_keep_others : (c : CampaignValue) (ns : List ℕ) (k : ℕ) → ((n : ℕ) → IsListed n ns → k ≢ n)
     → get (fold after_leaving c ns).units k ≡ get c.units k
 all_leaving_keep_others c [] k apart = refl
@@ -453,12 +472,16 @@ quit_cases P c number u same leave = by_fault (quit_fault number u) refl
     by_fault (Some fault) e = same
     by_fault None e = leave (not_apart number u.faction (none_fits (not (number == u.faction)) WrongNumber [] e).0)
 
+-- an order of QUIT, with a fault or without, keeps a steady campaign steady, in its month and with balanced books
+-- (`StepsWell`)
 pub quit_well : (w : WorldValue) (c : CampaignValue) (number : ℕ) (u : Unit) → IsSteady w c
     → StepsWell IsSteady quit_remaining w c (quit number c u).0
 quit_well w c number u steady =
     quit_cases (λ d. StepsWell IsSteady quit_remaining w c d) c number u (well_same w c steady)
     (λ own. all_left_well w c (numbers_of_faction u.faction c.units) steady)
 
+-- after an order of QUIT for unit u, unit k is as it was, if the order has not the number of u's faction, or k is of
+-- another faction
 pub quit_stays : (c : CampaignValue) (number : ℕ) (u : Unit) (k : ℕ) (x : Unit) → get c.units k ≡ Some x
     → (number ≡ u.faction → u.faction ≢ x.faction) → get (quit number c u).0.units k ≡ Some x
 quit_stays c number u k x here other =

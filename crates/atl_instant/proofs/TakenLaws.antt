@@ -43,7 +43,7 @@ place_takes w a t of_phase fit = by_verb t.order_value.verb t.order_value.operan
     by_verb verbs.Promote o of_phase fits = cc
     by_verb v o of_phase fits = cc
 
--- the phase gives an event to each order of LEAVE, ENTER or PROMOTE
+-- the phase gives one event to each order of LEAVE, ENTER or PROMOTE that counts, and none to any other order (`Gives`)
 pub place_gives : Gives (λ counts t. report_if (is_placing t.order_value.verb && counts && true) t) place_spec.meaning
 place_gives = gives_by_orders place_step is_placing all_orders place_takes
 
@@ -62,7 +62,7 @@ give_takes w a t of_phase fit = by_verb t.order_value.verb t.order_value.operand
     by_verb verbs.Pay o of_phase fits = cc
     by_verb v o of_phase fits = cc
 
--- the phase gives an event to each order of GIVE or PAY
+-- the phase gives one event to each order of GIVE or PAY that counts, and none to any other order (`Gives`)
 pub give_gives : Gives (λ counts t. report_if (is_giving t.order_value.verb && counts && true) t) give_spec.meaning
 give_gives = gives_by_orders give_step is_giving all_orders give_takes
 
@@ -79,7 +79,7 @@ transfer_takes w a t of_phase fit = by_verb t.order_value.verb t.order_value.ope
     by_verb verbs.Transfer o of_phase fits = cc
     by_verb v o of_phase fits = cc
 
--- the phase gives an event to each order of TRANSFER
+-- the phase gives one event to each order of TRANSFER that counts, and none to any other order (`Gives`)
 pub transfer_gives : Gives (λ counts t. report_if (is_transferring t.order_value.verb && counts && true) t) transfer_spec.meaning
 transfer_gives = gives_by_orders transfer_step is_transferring all_orders transfer_takes
 
@@ -95,7 +95,7 @@ quit_takes w a t of_phase fit = by_verb t.order_value.verb t.order_value.operand
     by_verb verbs.Quit o of_phase fits = cc
     by_verb v o of_phase fits = cc
 
--- the phase gives an event to each order of QUIT
+-- the phase gives one event to each order of QUIT that counts, and none to any other order (`Gives`)
 pub quit_gives : Gives (λ counts t. report_if (is_quitting t.order_value.verb && counts && true) t) quit_spec.meaning
 quit_gives = gives_by_orders quit_step is_quitting all_orders quit_takes
 
@@ -125,7 +125,7 @@ name_takes w a t of_phase fit = by_verb t.order_value.verb t.order_value.operand
     by_verb verbs.Guard o of_phase fits = cc
     by_verb v o of_phase fits = cc
 
--- the phase of NAME gives an event to each order of NAME or GUARD but GUARD 1
+-- the phase of NAME gives one event to each order of NAME or GUARD 0 that counts, and none to any other order (`Gives`)
 pub name_gives : Gives (λ counts t. report_if (is_naming t.order_value.verb && counts && names t.order_value.verb t.order_value.operands) t) name_spec.meaning
 name_gives = gives_by_orders name_step is_naming (λ t. names t.order_value.verb t.order_value.operands) name_takes
 
@@ -139,23 +139,24 @@ guard_takes w a t of_phase fit = by_operands t.order_value.operands
     by_operands (operands.Flag false) = refl
     by_operands o = refl
 
--- the phase of GUARD 1 gives an event to each order of GUARD 1
+-- the phase of GUARD 1 gives one event to each order of GUARD 1 that counts, and none to any other order (`Gives`)
 pub guard_gives : Gives (λ counts t. report_if (is_guarding t.order_value.verb && counts && sets_guard t.order_value.operands) t) guard_spec.meaning
 guard_gives = gives_by_orders guard_step is_guarding (λ t. sets_guard t.order_value.operands) guard_takes
 
--- an order with a verb of the phase of GUARD 1 has the shape of GUARD
+-- operands with the shape of a verb of the phase of GUARD 1 have the shape of GUARD, its only verb
 pub guard_shape : (v : Verb) (o : OperandsValue) → is_guarding v ≡ true → Fits v o → Fits verbs.Guard o
 guard_shape verbs.Guard o of_phase fits = fits
 guard_shape v o of_phase fits = cc
 
 -- ---- FORM
 
--- an order with a verb of the phase of FORM has the shape of FORM
+-- operands with the shape of a verb of the phase of FORM have the shape of FORM, its only verb
 pub form_shape : (v : Verb) (o : OperandsValue) → is_forming v ≡ true → Fits v o → Fits verbs.Form o
 form_shape verbs.Form o of_phase fits = fits
 form_shape v o of_phase fits = cc
 
--- the phase of FORM gives an event to each order of FORM, read with the aliases as the phase begins
+-- the phase of FORM gives one event to each order of FORM that counts, and none to any other order, all read with the
+-- aliases as the phase begins
 pub form_gives : (w : WorldValue) (c : CampaignValue) (m : MonthValue) (readings : FinMap nat_cmp Reading)
     → m.readings ≡ readings → AreFit w readings → (t : Task) (there : IsInMailing m.aliases readings t)
     → reports_at t.faction t.line (form_meaning w c m).1 ≡ reports_at t.faction t.line m ++ report_if (is_forming t.order_value.verb && order_counts (tasks_of m.aliases t.faction there.reading) t) t

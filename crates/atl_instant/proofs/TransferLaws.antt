@@ -60,6 +60,7 @@ can_send n u v is =
 
 -- ---- days
 
+-- if each skill that a map lists has at most `most` days, so has every skill; one that isn't listed has 0
 pub days_within : (all : FinMap nat_cmp ℕ) (most skill : ℕ) → Every (λ s days. (1 ≤ days) × (days ≤ most)) all
     → amount_of all skill ≤ most
 days_within all most skill each = by_option (get all skill) refl
@@ -122,7 +123,8 @@ known_skill w h s may some = by_option (get h.days s) refl some
 days_may : (w : WorldValue) (h : HoldingValue) (s : ℕ) → MayHave w h → amount_of h.days s ≤ most_days * h.men
 days_may w h s may = days_within h.days (most_days * h.men) s may.days
 
--- a unit may have (`MayHave`) what it holds after n of its men went, if it may have what it holds before
+-- a unit with at least n men may have (`MayHave`) what it holds after n of them went, if it may have what it holds
+-- before
 pub may_have_fewer : (w : WorldValue) (n : ℕ) (h : HoldingValue) → n ≤ h.men → MayHave w h
     → MayHave w (after_sending n h)
 may_have_fewer w n h fewer may = record {
@@ -179,6 +181,7 @@ transfer_keeps_sum n h k l (things.Item i) = refl
 
 -- ---- no worse off
 
+-- a unit is no worse off after it received n men of another unit with their days
 pub men_receiver_no_worse : (n : ℕ) (other : HoldingValue) (v : Unit)
     → IsNoWorse v (record v { holding = after_receiving n other v.holding })
 men_receiver_no_worse n other v = record {
@@ -221,6 +224,8 @@ module _ {fit : Type 0} (w : WorldValue) (c : CampaignValue) (from to n : ℕ) (
 
 -- ---- the phase
 
+-- each order of TRANSFER keeps an early campaign early and books nothing, and no unit but the sender is worse off
+-- (`StepKeeps`)
 pub transfer_keeps : StepKeeps IsEarly transfer_step
 transfer_keeps w a c t x own = by_operands t.order_value.operands
   where

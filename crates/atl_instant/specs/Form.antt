@@ -32,7 +32,8 @@ is_forming verb = false
 abbrev pub is_unit_limit : CampaignValue → Bool
 is_unit_limit c = nat_le most_units (len c.units) || nat_lt last_unit c.next_unit
 
--- the fault of an order of FORM from faction f for unit n: NotYours or UnitLimit; None where it has none
+-- The first fault of an order of FORM from faction f for unit n, None where it has none. It is NotYours where n isn't
+-- there or isn't of f, or UnitLimit where no further unit can be formed.
 abbrev pub form_fault : CampaignValue → (f n : ℕ) → Option EventFault
 form_fault c f n = first_fault ((not (is_of_faction f (get c.units n)), NotYours) ∷ (is_unit_limit c, UnitLimit) ∷ [])
 

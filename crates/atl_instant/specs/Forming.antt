@@ -1,4 +1,5 @@
--- For proofs alone: the orders of FORM as copies outside of the month, which the code makes before it carries them out.
+-- For proofs alone: copies of the orders of FORM. The code makes them before it carries out the first one, since the
+-- month, which has the orders, gets new aliases then.
 use Rattle.std.specs.Prelude.{◌++◌, [], ◌∷◌}
 use Rattle.atl_records.specs.declared.event.Event.{Event}
 use Rattle.atl_records.specs.declared.event.EventVerb.TheVariants.{Order}

@@ -41,8 +41,9 @@ abbrev pub with_held_of : Gift → HoldingValue → ℕ → HoldingValue
 with_held_of Money h n = record h { money = n }
 with_held_of (Item i) h n = record h { items = with_amount_of h.items i n }
 
--- The fault of giving n to a receiver: NotHere, NotEnough or NoRoom; None where it has none.
--- A unit always has room for what it gives to itself.
+-- The first fault as unit u gives n of the gift to a receiver, None where there is none. It is NotHere where the
+-- receiver isn't there (None) or is in another region, NotEnough where u has too little, or NoRoom. Where u gives to
+-- itself (`itself`), there is always room.
 abbrev pub give_fault : Gift → (n : ℕ) → (itself : Bool) → Unit → Option Unit → Option EventFault
 give_fault gift n itself u None = Some NotHere
 give_fault gift n itself u (Some v) =
@@ -52,8 +53,8 @@ give_fault gift n itself u (Some v) =
     ∷ (not itself && nat_lt holding_limit (held_of gift v.holding + n), NoRoom)
     ∷ [])
 
--- The campaign after n of the gift went from one unit to another.
--- Nothing changes if both are one unit, or one of them isn't there.
+-- The campaign after n of the gift went from unit `from` to unit `to`, given as they are before.
+-- Nothing changes if both are one unit, or one of them isn't there (None).
 abbrev pub after_gift : CampaignValue → (from to : ℕ) → Gift → (n : ℕ) → Option Unit → Option Unit → CampaignValue
 after_gift c from to gift n (Some u) (Some v) =
     let less = with_held_of gift u.holding (held_of gift u.holding - n) in
@@ -71,7 +72,8 @@ give_to c from to gift n u receiver =
 unfoldable pub give : (from to : ℕ) → Gift → (n : ℕ) → OrderEffect
 give from to gift n c u = give_to c from to gift n u (get c.units to)
 
--- the effect of an order of GIVE or PAY, by its operands; None for operands of any other form
+-- The effect of an order of faction f for unit `from`, by its operands. GIVE has an amount of an item, and PAY one of
+-- money; operands of any other form have no effect (None).
 abbrev pub give_effect : Aliases → (f from : ℕ) → OperandsValue → Option OrderEffect
 give_effect aliases f from (operands.UnitAndGoods to n item) = Some (give from (unit_of aliases f to) (Item item) n)
 give_effect aliases f from (operands.UnitAndNumber to n) = Some (give from (unit_of aliases f to) Money n)

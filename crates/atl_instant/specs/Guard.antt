@@ -33,7 +33,8 @@ guards_against faction (Some v) = guards v && not (v.faction == faction)
 abbrev pub is_guarded_against : CampaignValue → (region faction : ℕ) → Bool
 is_guarded_against c region faction = list_any (λ n. guards_against faction (get c.units n)) (numbers_in_region region c.units)
 
--- why a unit can't begin to guard its region: NoMen or Guarded; None where it can
+-- why a unit can't begin to guard its region: NoMen where it has none, or Guarded where another faction guards the
+-- region; None where it can
 abbrev pub guard_fault : CampaignValue → Unit → Option EventFault
 guard_fault c u = first_fault ((u.holding.men == 0, NoMen) ∷ (is_guarded_against c u.region u.faction, Guarded) ∷ [])
 
@@ -41,7 +42,8 @@ guard_fault c u = first_fault ((u.holding.men == 0, NoMen) ∷ (is_guarded_again
 unfoldable pub guard : (n : ℕ) → OrderEffect
 guard n c u = unless c (guard_fault c u) (with_guard c n true, Done 0)
 
--- the effect of an order of GUARD, by its operands: that of GUARD 1; None for GUARD 0, which this phase passes over
+-- the effect of an order of GUARD for unit n, by its operands: that of GUARD 1; None for GUARD 0, which this phase
+-- passes over
 abbrev pub guard_effect : (n : ℕ) → OperandsValue → Option OrderEffect
 guard_effect n (operands.Flag true) = Some (guard n)
 guard_effect n other = None

@@ -32,8 +32,8 @@ is_naming verb = false
 abbrev pub is_structure_of_kind : WorldValue → (ship : Bool) → Structure → Bool
 is_structure_of_kind w ship s = if ship then is_ship w s else not (is_ship w s)
 
--- why unit n can't name a ship (where `ship` is true) or a building: NotInside where it is inside no such structure, or
--- NotOwner; None where it can
+-- Why unit n can't name the ship (where `ship` is true) or the building that it is inside; None where it can. It is
+-- NotInside where what it is inside (None: nothing) is no such structure, or NotOwner where n doesn't own it.
 abbrev pub structure_fault : WorldValue → ℕ → (ship : Bool) → Option Structure → Option EventFault
 structure_fault w n ship None = Some NotInside
 structure_fault w n ship (Some s) = first_fault ((not (is_structure_of_kind w ship s), NotInside) ∷ (not (s.owner == n), NotOwner) ∷ [])
@@ -60,7 +60,7 @@ naming w n what name c u = name_result w c n u.faction u.structure what name
 abbrev pub leave_guard : (n : ℕ) → OrderEffect
 leave_guard n c u = (with_guard c n false, Done 0)
 
--- the effect of an order of NAME or GUARD 0, by its operands; None for GUARD 1, which this phase passes over
+-- the effect of an order of NAME or GUARD 0 for unit n, by its operands; None for GUARD 1, which this phase passes over
 abbrev pub name_effect : WorldValue → (n : ℕ) → OperandsValue → Option OrderEffect
 name_effect w n (operands.Name what name) = Some (naming w n what name)
 name_effect w n (operands.Flag false) = Some (leave_guard n)

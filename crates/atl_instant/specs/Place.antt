@@ -32,11 +32,13 @@ is_placing verbs.Enter = true
 is_placing verbs.Promote = true
 is_placing verb = false
 
--- why a unit can't leave the structure that it is inside: NotInside or AtSea; None where it can
+-- why a unit can't leave the structure that it is inside: NotInside where it is inside none, or AtSea where its region
+-- is water; None where it can
 abbrev pub leave_fault : WorldValue → Unit → Option EventFault
 leave_fault w u = first_fault ((u.structure == 0, NotInside) ∷ (not (is_land_at w u.region), AtSea) ∷ [])
 
--- the effect of LEAVE: unit n is inside no structure, unless the order has a fault
+-- the effect of LEAVE: unit n is inside no structure, and one that it owned gets its next owner (`with_place`), unless
+-- the order has a fault
 unfoldable pub leave : WorldValue → (n : ℕ) → OrderEffect
 leave w n c u = unless c (leave_fault w u) (with_place c n u.region 0, Done 0)
 
@@ -45,11 +47,12 @@ abbrev pub is_structure_in : ℕ → Option Structure → Bool
 is_structure_in region None = false
 is_structure_in region (Some s) = s.region == region
 
--- why a unit can't enter structure s: NotHere; None where it can
+-- why a unit can't enter structure s: NotHere where there is no structure s in its region; None where it can
 abbrev pub enter_fault : CampaignValue → (s : ℕ) → Unit → Option EventFault
 enter_fault c s u = first_fault ((not (is_structure_in u.region (get c.structures s)), NotHere) ∷ [])
 
--- the campaign with unit n, which was inside `from`, inside structure s; nothing changes if `from` is s
+-- The campaign with unit n of this region, which was inside `from`, inside structure s. The structures left and entered
+-- get new owners as `with_place` says. Nothing changes if `from` is s.
 abbrev pub with_unit_inside : CampaignValue → (n region from s : ℕ) → CampaignValue
 with_unit_inside c n region from s = if from == s then c else with_place c n region s
 
@@ -57,8 +60,8 @@ with_unit_inside c n region from s = if from == s then c else with_place c n reg
 unfoldable pub enter : (n s : ℕ) → OrderEffect
 enter n s c u = unless c (enter_fault c s u) (with_unit_inside c n u.region u.structure s, Done 0)
 
--- why unit n can't make unit `to` the owner of the structure that n is inside: NotInside, NotOwner or NotHere;
--- None where it can
+-- Why unit n can't make unit `to` the owner of the structure that n is inside; None where it can. It is NotInside where
+-- n is inside none, NotOwner where n doesn't own it, or NotHere where `to` isn't inside it.
 abbrev pub promote_fault : CampaignValue → (n to : ℕ) → Unit → Option EventFault
 promote_fault c n to u = first_fault (
     (u.structure == 0, NotInside)
@@ -70,7 +73,8 @@ promote_fault c n to u = first_fault (
 unfoldable pub promote : (n to : ℕ) → OrderEffect
 promote n to c u = unless c (promote_fault c n to u) (with_owner c u.structure to, Done 0)
 
--- the effect of an order of LEAVE, ENTER or PROMOTE, by the form of its operands; None for any other form
+-- The effect of an order of faction f for unit n, by the form of its operands. LEAVE has none, ENTER a number, and
+-- PROMOTE a unit; operands of any other form have no effect (None).
 abbrev pub place_effect : WorldValue → Aliases → (f n : ℕ) → OperandsValue → Option OrderEffect
 place_effect w a f n operands.Nothing = Some (leave w n)
 place_effect w a f n (operands.Number s) = Some (enter n s)

@@ -51,12 +51,14 @@ with_item_loss c (item, amount) = with_loss c (Item item) amount
 abbrev pub with_all_losses : CampaignValue → HoldingValue → CampaignValue
 with_all_losses c h = fold with_item_loss (with_loss (with_loss c People h.men) Money h.money) (entries h.items)
 
--- the campaign after unit n was removed, and all that it had was booked as gone; unchanged where it isn't there
+-- `after_leaving` once unit n is looked up: n is removed, all that it had is booked as gone, and a structure that it
+-- owned gets its next owner; unchanged where n isn't there (None)
 abbrev pub without_leaver : CampaignValue → (n : ℕ) → Option Unit → CampaignValue
 without_leaver c n None = c
 without_leaver c n (Some u) = without_unit (with_all_losses c u.holding) n
 
--- the campaign after the unit of number n left with all that it had; unchanged where it isn't there
+-- the campaign after the unit of number n left with all that it had, which is booked as gone, and a structure that it
+-- owned got its next owner; unchanged where it isn't there
 unfoldable pub after_leaving : CampaignValue → (n : ℕ) → CampaignValue
 after_leaving c n = without_leaver c n (get c.units n)
 

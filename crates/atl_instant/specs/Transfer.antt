@@ -65,8 +65,9 @@ pub record HaveDaysOf (n : ℕ) (other h : HoldingValue) (skill : ℕ) : Type 0 
 abbrev pub DaysGoWithMen : Type 0
 DaysGoWithMen = (n : ℕ) (other h : HoldingValue) (skill : ℕ) → HaveDaysOf n other h skill
 
--- The fault of sending n men to a receiver: NotHere, NotYours, NotEnough or NoRoom; None where it has none.
--- A unit always has room for men that it sends to itself.
+-- The first fault as unit u sends n men to a receiver, None where there is none. It is NotHere where the receiver isn't
+-- there (None) or is in another region, NotYours where it is another faction's, NotEnough where u has too few men, or
+-- NoRoom. Where u sends them to itself (`itself`), there is always room.
 abbrev pub transfer_fault : (n : ℕ) → (itself : Bool) → Unit → Option Unit → Option EventFault
 transfer_fault n itself u None = Some NotHere
 transfer_fault n itself u (Some v) =
@@ -77,8 +78,8 @@ transfer_fault n itself u (Some v) =
     ∷ (not itself && nat_lt men_limit (v.holding.men + n), NoRoom)
     ∷ [])
 
--- The campaign after n men went from one unit to another.
--- Nothing changes if both are one unit, or one of them isn't there.
+-- The campaign after n men went from unit `from` to unit `to`, given as they are before.
+-- Nothing changes if both are one unit, or one of them isn't there (None).
 abbrev pub after_transfer : CampaignValue → (from to n : ℕ) → Option Unit → Option Unit → CampaignValue
 after_transfer c from to n (Some u) (Some v) =
     if to == from then c
@@ -96,7 +97,7 @@ transfer_to c from to n u receiver =
 unfoldable pub transfer : (from to n : ℕ) → OrderEffect
 transfer from to n c u = transfer_to c from to n u (get c.units to)
 
--- the effect of an order of TRANSFER, by its operands; None for operands of any other form
+-- the effect of an order of TRANSFER of faction f for unit `from`, by its operands; None for operands of any other form
 abbrev pub transfer_effect : Aliases → (f from : ℕ) → OperandsValue → Option OrderEffect
 transfer_effect aliases f from (operands.UnitAndNumber to n) = Some (transfer from (unit_of aliases f to) n)
 transfer_effect aliases f from other = None

@@ -160,6 +160,8 @@ fn form(
     }
 }
 
+/// Carries out an order of FORM (`form`), and adds its event to the month. The next unit number
+/// must be free.
 fn form_one(
     alloc: Global,
     campaign: &mut Campaign,

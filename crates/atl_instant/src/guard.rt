@@ -88,7 +88,8 @@ fn carry_out(
     }
 }
 
-/// The order must have a flag, and the map of guards must be that of the campaign.
+/// Carries out an order of GUARD (`carry_out`), and adds its event, if it has one, to the events of
+/// earlier orders. The order must have a flag, and the map of guards must be that of the campaign.
 fn guard_one(
     campaign: &mut Campaign,
     holders: &mut RegionGuards,

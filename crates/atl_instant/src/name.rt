@@ -62,6 +62,9 @@ fn structure_fault(
     }
 }
 
+/// Gives a name to the structure `inside`, which the unit is inside (0: none): a ship where `ship`
+/// is true, and a building otherwise. Returns Done, or a fault (`structure_fault`) and changes
+/// nothing.
 fn name_structure(
     world: &World,
     campaign: &mut Campaign,

@@ -38,6 +38,8 @@ fn loss_entry(thing: Thing) -> BooksEntry
     }
 }
 
+/// Books an amount of a thing as gone: men as left, money and items as lost. The books must have
+/// the thing and room for the amount.
 fn book_loss(campaign: &mut Campaign, thing: Thing, amount: u32)
     requires there { thing_index thing < campaign.old.value.books.things }
     requires room { HasRoom amount (amount_in campaign.old.value.books (loss_entry thing) thing) }
@@ -47,6 +49,8 @@ fn book_loss(campaign: &mut Campaign, thing: Thing, amount: u32)
     book_taken(campaign, loss_entry(thing), thing, amount);
 }
 
+/// Books the amount of each item of a list as lost. The world must have the items, and the books
+/// must have room for all amounts together.
 fn book_items(world: &World, campaign: &mut Campaign, items: &[(u16, u32)])
     requires things { campaign.old.value.books.things ≡ thing_count world.now }
     requires known { EachEntry (λ i amount. i < length world.now.items) items.now }
@@ -77,8 +81,9 @@ fn book_off(world: &World, campaign: &mut Campaign, men: u32, money: u32, items:
     book_items(world, campaign, items);
 }
 
-/// Removes a unit, and books all that it has as gone; nothing changes where it isn't there. The
-/// campaign must be steady, and its books must have room for what all units have.
+/// Removes a unit, and books all that it has as gone; a structure that it owned gets its next
+/// owner. Nothing changes where it isn't there. The campaign must be steady, and its books must
+/// have room for what all units have.
 #[tactic(auto, unfolding(crate::specs::Quit::after_leaving))]
 fn leave(
     alloc: Global,
@@ -102,6 +107,9 @@ fn leave(
     Ok(())
 }
 
+/// Removes the units of a list, in its order, and books all that they have as gone; a unit that
+/// isn't there is passed over. The campaign must be steady, and its books have room for what all
+/// units have.
 fn leave_all(
     alloc: Global,
     world: &World,

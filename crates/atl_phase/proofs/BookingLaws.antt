@@ -45,6 +45,7 @@ by_sign : (z : ℤ) → z ≤ℤ pos amount_limit → pos 0 ≤ℤ (z +ℤ pos a
 by_sign (pos n) most less = record { sfits = omega (arith, ints, most) }
 by_sign (negsuc n) most less = record { sfits = omega (arith, ints, less) }
 
+-- an amount x with room for n (`HasRoom`) stays within 64 signed bits when z, at most n in size, is added to it
 pub booking_fits : (x z : ℤ) (n : ℕ) → IsWithin n z → HasRoom n x → FitsSigned w64 (x +ℤ z)
 booking_fits x z n small room =
     by_sign (x +ℤ z) (omega (arith, ints, room.above, small.most)) (omega (arith, ints, room.below, small.least))

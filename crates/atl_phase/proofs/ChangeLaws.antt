@@ -19,6 +19,7 @@ use Rattle.atl_campaign.proofs.RegionLaws.{get-insert_same}
 use Rattle.atl_phase.specs.Holdings.{ChangesHolding}
 use Rattle.atl_phase.proofs.MarkLaws.{marks_by}
 
+-- to change unit n by f and then by g is to change it once, by f and then g
 pub changed_twice : (f g : Unit → Unit) (c : CampaignValue) (n : ℕ)
     → unit_changed g (unit_changed f c n) n ≡ unit_changed (λ u. g (f u)) c n
 changed_twice f g c n = by_unit (get c.units n) refl
@@ -46,6 +47,7 @@ changed_held f c d n what u is =
     ∙ ap (λ o. record c { units = with_changed_option (λ (v : Unit). record v { holding = f v.holding }) c.units n o })
     is
 
+-- a change of unit n leaves each other unit as it is
 pub change_keeps_others : (f : Unit → Unit) (c : CampaignValue) (n k : ℕ) → k ≢ n
     → get (unit_changed f c n).units k ≡ get c.units k
 change_keeps_others f c n k apart = by_unit (get c.units n)
@@ -64,6 +66,7 @@ nobody_changes c n f none = record {
   goods = refl;
 }
 
+-- a change of unit n's holding by f is one by g too (`ChangesHolding`), if f and g make the same of what it holds
 pub changes_as : (c d : MarkedCampaign) (n : ℕ) (f g : HoldingValue → HoldingValue) (u : Unit)
     → get c.value.units n ≡ Some u → f u.holding ≡ g u.holding → ChangesHolding c d n f → ChangesHolding c d n g
 changes_as c d n f g u is same old = record {
@@ -74,6 +77,7 @@ changes_as c d n f g u is same old = record {
   goods = old.goods;
 }
 
+-- a change of unit n's holding by f and one by g after it are together one by f and then g (`ChangesHolding`)
 pub then_changes : (a b d : MarkedCampaign) (n : ℕ) (f g : HoldingValue → HoldingValue) → ChangesHolding a b n f
     → ChangesHolding b d n g → ChangesHolding a d n (λ h. g (f h))
 then_changes a b d n f g one two = record {
@@ -99,14 +103,17 @@ row_changes f same c d n what marks =
       goods = ap (λ (m : Marks). m.goods) marks;
     }
 
+-- setting the men of unit n, with its row marked, changes the men that it holds and nothing else (`ChangesHolding`)
 pub men_changes : (c d : MarkedCampaign) (n men : ℕ) → d.value ≡ with_men c.value n men → d.marks ≡ mark_unit_row c n
     → ChangesHolding c d n (λ h. record h { men = men })
 men_changes c d n men = row_changes (λ h. record h { men = men }) (λ h. refl) c d n
 
+-- setting the money of unit n, with its row marked, changes the money that it holds and nothing else (`ChangesHolding`)
 pub money_changes : (c d : MarkedCampaign) (n money : ℕ) → d.value ≡ with_money c.value n money
     → d.marks ≡ mark_unit_row c n → ChangesHolding c d n (λ h. record h { money = money })
 money_changes c d n money = row_changes (λ h. record h { money = money }) (λ h. refl) c d n
 
+-- setting unit n's amount of one item, with this item marked, changes that amount and nothing else (`ChangesHolding`)
 pub item_changes : (c d : MarkedCampaign) (n item amount : ℕ) → d.value ≡ with_item c.value n item amount
     → d.marks ≡ mark_item c n item amount
     → ChangesHolding c d n (λ h. record h { items = with_amount_of h.items item amount })
@@ -116,6 +123,7 @@ item_changes c d n item amount what marks = record {
   goods = ap (λ (m : Marks). m.goods) marks;
 }
 
+-- setting unit n's days of one skill, with this skill marked, changes these days and nothing else (`ChangesHolding`)
 pub skill_changes : (c d : MarkedCampaign) (n skill days : ℕ) → d.value ≡ with_skill c.value n skill days
     → d.marks ≡ mark_skill c n skill → ChangesHolding c d n (λ h. record h { days = with_amount_of h.days skill days })
 skill_changes c d n skill days what marks = record {

@@ -80,7 +80,7 @@ pub reports_of_orders : (aliases : Aliases) (faction line : ℕ) (ts : List Task
     → filter (is_from faction line) (map report_for ts) ≡ map report_for (filter (is_at aliases faction line) ts)
 reports_of_orders aliases faction line ts = filter-map (is_from faction line) report_for ts
 
--- the reports of an order, if the test holds, and else of none
+-- the reports of a list that has order t if the test holds, and else no order, are those of `report_if`
 pub one_reported : (t : Task) (b : Bool) → map report_for (cond b (t ∷ []) []) ≡ report_if b t
 one_reported t true = refl
 one_reported t false = refl
@@ -125,8 +125,8 @@ module _ {X : Type 0} where
 
 -- ---- a phase that carries its orders out one by one
 
--- a step passes over an order that has a verb of the phase and says what it is (`IsOrderOf`) just if the order fails a
--- test
+-- of the orders that have a verb of the phase (`is_of`) and can be read with the world, a step takes just those that
+-- pass the test `takes`, and passes over the others
 abbrev pub TakesThose : OrderMeaning → (Verb → Bool) → (Task → Bool) → Type 0
 TakesThose step is_of takes =
     (w : WorldValue) (a : Aliases) (t : Task) → is_of t.order_value.verb ≡ true → IsOrderOf w t.order_value → is_some
@@ -188,7 +188,8 @@ module _ (step : OrderMeaning) (is_of : Verb → Bool) (takes : Task → Bool) (
       both [] verbs says = tt
       both (t ∷ ts) verbs says = (takes_those w m.aliases t verbs.0 says.0, both ts verbs.1 says.1)
 
-  -- a phase that carries its orders out one by one gives an event to each order that it doesn't pass over, and just one
+  -- a phase that carries its orders out one by one gives one event to each order that counts and that it doesn't pass
+  -- over, and none to any other order
   pub gives_by_orders : Gives (λ counts t. report_if (is_of t.order_value.verb && counts && takes t) t) (meaning_by_orders step is_of)
   unfolding meaning_by_orders
   gives_by_orders = record {

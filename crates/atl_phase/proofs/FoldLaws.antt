@@ -11,15 +11,18 @@ pub fold_after_step : {S A : Type 0} (f : S → A → S) (xs : List A) (i : ℕ)
 fold_after_step f xs i none before inside step all =
     ap (λ s. fold f s (drop (i + 1) xs)) step ∙ sym (ap (fold f before) (drop_more xs i none inside)) ∙ all
 
+-- past the last element, at index i, what the fold has made so far (`later`) is what the whole fold makes
 pub fold_ended : {S A : Type 0} (f : S → A → S) (xs : List A) (i : ℕ) (later : S) {whole : S} → length xs ≤ i
     → fold f later (drop i xs) ≡ whole → later ≡ whole
 fold_ended f xs i later ended all = sym (ap (fold f later) (drop_all i xs ended)) ∙ all
 
+-- to fold over a list by the value of g for each element is to fold over the list that g was mapped over
 pub fold_mapped : {S A B : Type 0} (f : S → B → S) (g : A → B) (s : S) (xs : List A)
     → fold (λ r x. f r (g x)) s xs ≡ fold f s (map g xs)
 fold_mapped f g s [] = refl
 fold_mapped f g s (x ∷ xs) = fold_mapped f g (f s (g x)) xs
 
+-- if ys is xs with g mapped over it, and P holds of each element of ys, P holds of g of the element of xs at index i
 pub each_mapped : {A B : Type 0} (P : B → Type 0) (g : A → B) (xs : List A) (ys : List B) → map g xs ≡ ys → All P ys
     → (i : ℕ) (d : A) → i < length xs → P (g (get_or xs i d))
 each_mapped P g xs ys is all i d inside =

@@ -89,12 +89,15 @@ module _ (slot : Slot) (aliases : Aliases) (faction : ℕ) (text : List ℕ) whe
   neither true line n = omega arith
   neither false line n = omega arith
 
+  -- an order at i whose verb has no slot is passed over: the greatest line of the orders from i + 1 on is that of those
+  -- from i on
   pub passed : (es : List Entry) (i : ℕ) (e : Entry) (unit : ℕ) → i < length es → e ≡ get_or es i e
       → (row_of e.order.verb).slot ≡ None → rest_from (i + 1) es unit ≡ rest_from i es unit
   passed es i e unit h is b =
       sym
       (opened es i e None unit h is b ∙ neither (unit_of aliases faction e.target == unit) e.line (rest_from (i + 1) es unit))
 
+-- as long as no line is noted, the greater of the noted line and a line n is n
 pub none_noted : (lines : LastLineMap) (slot unit n : ℕ) → lines ≡ empty → max (line_in lines slot unit) n ≡ n
 none_noted lines slot unit n h =
     ap (λ g. max (unwrap_or (get g unit) 0) n) (ap (λ m. group_of m slot) h ∙ ap (λ o. unwrap_or o empty) (get-empty nat_cmp slot))

@@ -42,6 +42,7 @@ module _ {X : Type 0} {R : X → X → Ordering} (o : IsTotalOrder R) where
       left_less (R (at k) (at (k + 1))) (ap is_lt (sym (o.antisymm (at (k + 1)) (at k))) ∙ up k x (omega arith) h)
       (apart_from_distinct (eq_by_cmp R) (x ∷ xs) k (k + 1) x apart (omega arith) h))
 
+  -- a list without two equal elements is strictly sorted once it is sorted
   pub sorted_strictly : (xs ys : List X) → IsPermutation xs ys → IsDistinct (eq_by_cmp R) xs
       → IsSortedBy (λ x y. is_lt (R x y)) ys → IsStrictlySortedBy R ys
   sorted_strictly xs ys p apart =
@@ -64,6 +65,7 @@ module _ {K X : Type 0} {R : K → K → Ordering} (o : IsTotalOrder R) where
     put_first e [] h = refl
     put_first e (x ∷ xs) h = rw h.0
 
+    -- the map made of a list of entries lists just this list, if the list is strictly sorted by key
     pub entries_of : (xs : List A) → IsStrictlySortedBy (λ x y. R (entry x).0 (entry y).0) xs
         → entries (from_entries {R = R} (map entry xs)) ≡ map entry xs
     unfolding IsStrictlySortedBy
@@ -81,10 +83,12 @@ module _ {K X : Type 0} {R : K → K → Ordering} (o : IsTotalOrder R) where
   rising [] h = tt
   rising (e ∷ es) h = let parts = and_parts _ _ h in (all_less e.0 es parts.0, rising es parts.1)
 
+  -- a map lists its entries by rising key, and no key twice
   pub entries_rise : (m : FinMap R X) → IsStrictlySortedBy by_key (entries m)
   entries_rise m = rising (entries m) (is_true _ (entries_sorted m))
 
   module _ (exact : IsAntisymmetric R) where
+    -- the search of a map's entries for a key is the general look-up of a list by a test of equality
     pub find_is : (q : K) (es : List (K × X)) → find R q es ≡ lookup (eq_by_cmp R q) es
     find_is q [] = refl
     find_is q (e ∷ es) = ap (cond (eq_by_cmp R q e.0) (Some e.1)) (find_is q es)
@@ -113,6 +117,8 @@ module _ {K X : Type 0} {R : K → K → Ordering} (o : IsTotalOrder R) where
         find_is q (passing p es) ∙ lookup-filter-values (eq_by_cmp_equiv o) p q es (keys_apart es apart)
         ∙ ap (option_filter p) (sym (find_is q es))
 
+    -- the map of those entries whose values pass a test lists what passes of the entries that the map of all lists,
+    -- if no two have the same key
     pub entries-passing : (p : X → Bool) (es : List (K × X)) → IsDistinct same_entry_key es
         → entries (from_entries {R = R} (passing p es)) ≡ passing p (entries (from_entries {R = R} es))
     entries-passing p es apart =

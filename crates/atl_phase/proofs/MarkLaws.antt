@@ -14,9 +14,11 @@ use Rattle.atl_campaign.proofs.HoldingLaws.{marks-unit_row}
 use Rattle.atl_campaign.proofs.LeavingLaws.{marks-after_handover}
 use Rattle.atl_campaign.proofs.OwnerLaws.{place-what}
 
+-- if all that changed from a to m is marked (`MarksChanges`), so it is from a to b, which has the value and marks of m
 pub marks_by : (a b m : MarkedCampaign) → b.value ≡ m.value → b.marks ≡ m.marks → MarksChanges a m → MarksChanges a b
 marks_by a b m what marks h = rw (what, marks) (record { stay = h.stay; covers = h.covers })
 
+-- if all that changed from a to b is marked, so it is from a to d, which is b with one more booking, marked too
 pub booked_marks : (a b d : MarkedCampaign) (e : BooksEntry) (t : Thing) (z : ℤ) → MarksChanges a b
     → d.value ≡ with_booking b.value e t z → d.marks ≡ mark_amount b e t → MarksChanges a d
 booked_marks a b d e t z before what marks =
@@ -36,6 +38,7 @@ marks_place_at c n r s (Some u) = by_test (u.structure == s)
         let next = handed_marked (put_marked c n r s) u.structure n (heir c.value u.structure n) in
         marks-trans c next (handed_marked next s 0 n) (marks-trans c (put_marked c n r s) next one_put (marks-after_handover (put_marked c n r s) u.structure n (heir c.value u.structure n))) (marks-after_handover next s 0 n)
 
+-- putting unit n in region r and structure s, with the marks of `place_marked`, marks all that it changes
 pub marks-place : (c d : MarkedCampaign) (n r s : ℕ) → d.value ≡ with_place c.value n r s
     → d.marks ≡ (place_marked c n r s).marks → MarksChanges c d
 unfolding place_marked
@@ -43,6 +46,7 @@ marks-place c d n r s what marks =
     marks_by c d (place_marked c n r s) (what ∙ sym (place-what c n r s)) marks
     (marks_place_at c n r s (get c.value.units n))
 
+-- if P and Q imply R, and each of them holds where the result is Ok, R holds where the result is Ok
 pub on_ok_both : {A E : Type 0} {P Q R : Type 0} (r : Result A E) → (P → Q → R) → OnOk r P → OnOk r Q → OnOk r R
 on_ok_both (Ok a) f p q = f p q
 on_ok_both (Err e) f p q = tt

@@ -20,6 +20,7 @@ use Rattle.atl_phase.specs.Month.{MonthValue}
 use Rattle.atl_phase.specs.Meaning.{BookBound, Condition, Frame, IsNear, IsSameMonth, LeavesWell, Meaning, both_keep, both_move}
 use Rattle.atl_phase.specs.Bounds.{HasRoom, HaveRoom, moved_times}
 
+-- an amount that moves by at most j, and then by at most k, moves by at most j + k in all
 pub near_twice : (j k : ℕ) (a b c : ℤ) → IsNear j a b → IsNear k b c → IsNear (j + k) a c
 near_twice j k a b c g h =
     record { above = omega (arith, ints, g.above, h.above); below = omega (arith, ints, g.below, h.below) }
@@ -30,6 +31,7 @@ near_more j k a b l h = record { above = omega (arith, ints, h.above); below = o
 pub near_same : (k : ℕ) (a : ℤ) → IsNear k a a
 near_same k a = record { above = omega (arith, ints); below = omega (arith, ints) }
 
+-- an amount with room for j + k still has room for k after it moves by at most j
 pub near_room : (j k : ℕ) (a b : ℤ) → IsNear j a b → HasRoom (j + k) a → HasRoom k b
 near_room j k a b near room =
     record { above = omega (arith, ints, near.above, room.above); below = omega (arith, ints, near.below, room.below) }
@@ -42,6 +44,7 @@ amount_room_for_less j k a l room =
 abbrev pub IsBoundWithin : BookBound → BookBound → Type 0
 IsBoundWithin less more = (e : BooksEntry) (t : Thing) → less e t ≤ more e t
 
+-- books with room for a bound have room for each lesser bound
 pub room_less : (j k : BookBound) (c : CampaignValue) → IsBoundWithin j k → HaveRoom k c → HaveRoom j c
 room_less j k c l room e t = amount_room_for_less (j e t) (k e t) (amount_in c.books e t) (l e t) (room e t)
 
@@ -68,6 +71,8 @@ room_for_second j k w c d well room e t =
 abbrev pub counted_month : CampaignValue → ℕ × FinMap nat_cmp (List ℕ)
 counted_month c = (c.month, c.reports)
 
+-- campaigns with the same month last closed, the same reports and as many factions are of the same month
+-- (`IsSameMonth`), if no faction is added
 pub same_month_among : {c d : CampaignValue} → counted_month d ≡ counted_month c → len d.factions ≡ len c.factions
     → ((n : ℕ) → HasValue d.factions n → HasValue c.factions n) → IsSameMonth c d
 same_month_among {c} {d} same count factions = record {
@@ -81,6 +86,7 @@ same_month_among {c} {d} same count factions = record {
 abbrev pub kept_in_month : CampaignValue → (ℕ × FinMap nat_cmp (List ℕ)) × FinMap nat_cmp Faction
 kept_in_month c = (counted_month c, c.factions)
 
+-- campaigns with the same month last closed, reports and factions are of the same month (`IsSameMonth`)
 pub same_month_by : {c d : CampaignValue} → kept_in_month d ≡ kept_in_month c → IsSameMonth c d
 same_month_by {c} {d} same =
     let factions : d.factions ≡ c.factions = ap (λ (p : (ℕ × FinMap nat_cmp (List ℕ)) × FinMap nat_cmp Faction). p.1) same in
@@ -112,11 +118,13 @@ pub both_keep_well : (first : Meaning) (early late : Frame) (w : WorldValue) (m 
     → (b, n) ≡ first w a m → early w m a b → late w n b c → both_keep first early late w m a c
 both_keep_well first early late w m n a b c is one two = rw (sym is) (one, two)
 
+-- a phase that leaves well within the bound j (`LeavesWell`) does so within each bound that is as great or greater
 pub well_within : {leaves : Condition} (j k : BookBound) (w : WorldValue) (a b : CampaignValue) → IsBoundWithin j k
     → LeavesWell leaves j w a b → LeavesWell leaves k w a b
 well_within j k w a b l h =
     record { leaves_it = h.leaves_it; same_month = h.same_month; balances = h.balances; near = λ e t. near_more (j e t) (k e t) (amount_in a.books e t) (amount_in b.books e t) (l e t) (h.near e t) }
 
+-- a campaign of which `leaves` is true is left well (`LeavesWell`), within any bound, by a phase that changes nothing
 pub well_unchanged : {leaves : Condition} (book_bound : BookBound) (w : WorldValue) (c : CampaignValue) → leaves w c
     → LeavesWell leaves book_bound w c c
 well_unchanged book_bound w c h =
@@ -137,11 +145,13 @@ module _ {A : Type 0} {leaves : Condition} (book_bound : BookBound) (w : WorldVa
       well_within (both_move book_bound (moved_times (length xs) book_bound)) (moved_times (length (x ∷ xs)) book_bound) w c (fold step (step c x) xs) (more x xs)
       (both_leave_well book_bound (moved_times (length xs) book_bound) w c (step c x) (fold step (step c x) xs) one (fold_leaves_well (step c x) xs one.leaves_it))
 
+  -- books with room for a step for each element of a list, which isn't empty, have room for one step
   pub room_for_one : {B : Type 0} (c : CampaignValue) (y : B) (ys : List B)
       → HaveRoom (moved_times (length (y ∷ ys)) book_bound) c → HaveRoom book_bound c
   room_for_one c y ys room =
       room_less book_bound (moved_times (length (y ∷ ys)) book_bound) c (λ e t. omega (arith, more y ys e t)) room
 
+  -- books with room for a step for each element of a list have, after the first step, room for the steps of the others
   pub room_after_one : {B : Type 0} (c : CampaignValue) (x : A) (y : B) (ys : List B) → leaves w c
       → HaveRoom (moved_times (length (y ∷ ys)) book_bound) c → HaveRoom (moved_times (length ys) book_bound) (step c x)
   room_after_one c x y ys h room =

@@ -25,9 +25,11 @@ use Rattle.atl_phase.proofs.MapOfListLaws.{find_is, from_entries-permutation, so
 abbrev pub under_faction : Mailing → ℕ × Reading
 under_faction m = (m.faction, reading_of m)
 
+-- the map of readings by faction is the map made of the pairs of `under_faction`
 pub by_faction_is : (ms : List Mailing) → by_faction (map reading_of ms) ≡ from_entries (map under_faction ms)
 by_faction_is ms = ap from_entries (map-map (λ (r : Reading). (r.faction, r)) reading_of ms)
 
+-- mailings of different factions, listed in another order, give the same map of readings (`HaveNoOrder`)
 pub mailings_have_no_order : HaveNoOrder
 mailings_have_no_order ms ns apart p =
     let differ = IsDistinct-of_map (λ (m : Mailing). m.faction) (eq_by_cmp nat_cmp) ms apart in
@@ -35,12 +37,14 @@ mailings_have_no_order ms ns apart p =
     ∙ from_entries-permutation nat_cmp_total nat_cmp-IsAntisymmetric (map under_faction ms) (map under_faction ns) (IsPermutation-map under_faction ms ns p) (IsDistinct-map under_faction (λ e f. eq_by_cmp nat_cmp e.0 f.0) ms differ)
     ∙ sym (by_faction_is ns)
 
+-- mailings of different factions are strictly sorted by faction (`AreByFaction`) once they are sorted by it
 pub sorted_by_faction : (ms ns : List Mailing) → HaveOwnFactions ms → IsPermutation ms ns
     → IsSortedByKey (λ m. m.faction) nat_cmp ns → AreByFaction ns
 sorted_by_faction ms ns apart p =
     sorted_strictly (on_total (λ (m : Mailing). m.faction) nat_cmp_total) ms ns p
     (IsDistinct-of_map (λ (m : Mailing). m.faction) (eq_by_cmp nat_cmp) ms apart)
 
+-- if the mailing at index i is of faction f, the map of readings has what was read of it under f
 pub found_at : (ms : List Mailing) (f i : ℕ) (d : Mailing) → AreByFaction ms → i < length ms
     → nat_cmp (get_or ms i d).faction f ≡ Equal
     → get (by_faction (map reading_of ms)) f ≡ Some (reading_of (get_or ms i d))
@@ -66,6 +70,8 @@ no_reading_found ms f i h =
     (eq_by_cmp_equiv nat_cmp_total).symm f (get_or ms k no_mailing).faction
     ∙ ⊎_elim (λ b. ap is_eq (h.0 k no_mailing (omega arith) b)) (λ b. ap is_eq (h.1 k no_mailing b l)) (cases_lt k i))
 
+-- mailings sorted by faction can be searched for faction f: first come those of lesser factions, then that of f, then
+-- those of greater ones
 pub mailings_are_searchable : (ms : List Mailing) (f : ℕ) → AreByFaction ms
     → IsNonDecreasingBy (λ m. ordering_index (nat_cmp m.faction f)) ms
 mailings_are_searchable ms f rise = searchable_from_sorted nat_cmp_total (λ m. m.faction) ms f (λ k d low h.

@@ -39,16 +39,19 @@ use Rattle.atl_phase.proofs.PhaseOrderLaws.{orders_are_in_mailings, orders_have_
 
 -- ---- amounts
 
+-- an amount that stays, with a remaining bound that stays, keeps within the bound (`UsesBound`)
 pub bound_unused : (r : ℕ) (a : ℤ) → UsesBound r r a a
 bound_unused r a = record { above = omega (arith, ints); below = omega (arith, ints) }
 
 pub bound_unused_by : (r s : ℕ) (a b : ℤ) → s ≡ r → b ≡ a → UsesBound r s a b
 bound_unused_by r s a b e f = record { above = omega (arith, ints, e, f); below = omega (arith, ints, e, f) }
 
+-- if an amount moves twice, each time within what its remaining bound falls, it moves within the fall of both together
 pub bound_used_twice : (r s t : ℕ) (a b c : ℤ) → UsesBound r s a b → UsesBound s t b c → UsesBound r t a c
 bound_used_twice r s t a b c one two =
     record { above = omega (arith, ints, one.above, two.above); below = omega (arith, ints, one.below, two.below) }
 
+-- an amount that moves by at most x moves within what its remaining bound falls, if that falls by x
 pub bound_used_near : (x remaining left : ℕ) (a b : ℤ) → left + x ≡ remaining → IsNear x a b
     → UsesBound remaining left a b
 bound_used_near x remaining left a b e near =
@@ -63,6 +66,7 @@ room_after_use r s a b h room =
 
 -- ---- steps
 
+-- a step that changes nothing steps well (`StepsWell`), if `holds` is true of the campaign
 pub well_same : {holds : Condition} {remaining : RemainingBound} (w : WorldValue) (c : CampaignValue) → holds w c
     → StepsWell holds remaining w c c
 well_same {holds} {remaining} w c h =
@@ -79,6 +83,7 @@ well_twice {holds} {remaining} w a b c one two = record {
   uses_bound = λ e t. bound_used_twice (remaining a e t) (remaining b e t) (remaining c e t) (amount_in a.books e t) (amount_in b.books e t) (amount_in c.books e t) (one.uses_bound e t) (two.uses_bound e t);
 }
 
+-- books with room for what remains before a step (`StepsWell`) have room after it for what remains then
 pub room_left : {holds : Condition} {remaining : RemainingBound} (w : WorldValue) (a b : CampaignValue)
     → StepsWell holds remaining w a b → HaveRoom (remaining a) a → HaveRoom (remaining b) b
 room_left {holds} {remaining} w a b well room e t =
@@ -99,6 +104,7 @@ leaves_well {holds} {remaining} {book_bound} w a b l h = record {
 
 -- ---- what stays
 
+-- to be no worse off is reflexive and transitive, and keeps the faction (`IsUnaffectedRelation`)
 pub no_worse_is_relation : IsUnaffectedRelation IsNoWorse
 no_worse_is_relation = record { same = no_worse; transitive = no_worse_twice; faction = λ u v h. h.faction }
 
@@ -120,6 +126,8 @@ carried_cases P effect c faction n other own = by_unit (get c.units n) refl
     by_unit None there = other
     by_unit (Some u) there = by_faction u there (u.faction == faction) refl
 
+-- P holds of the campaign after an order, if it holds of the one before, and of the one that the order's effect makes
+-- for a unit of its writer's faction
 pub ordered_cases : (P : CampaignValue → Type 0) (step : Option OrderEffect) (c : CampaignValue) (t : Task) → P c
     → ((x : Unit) → IsUnitOf c t x → IfSome step (λ effect. P (effect c x).0))
     → P (order_result step c t.faction t.unit).0
@@ -138,6 +146,8 @@ pub result_of_effect : (effect : OrderEffect) (c d : CampaignValue) (faction n :
 result_of_effect effect c d faction n o is = ap with_some is
 
 module _ (step : OrderMeaning) {holds : Condition} {remaining : RemainingBound} {book_bound : BookBound} {affects : Affects} {unaffected : Unaffected} (orderly : IsOrderly step holds remaining book_bound affects unaffected) (w : WorldValue) where
+  -- each order that can be read with the world steps well (`StepsWell`), with a fault or without, if its phase is
+  -- `IsOrderly` and `holds` is true before
   pub order_well : (a : Aliases) (c : CampaignValue) (t : Task) → holds w c → IsOrderOf w t.order_value
       → StepsWell holds remaining w c (order_result (step w a t) c t.faction t.unit).0
   order_well a c t h fit =
@@ -192,19 +202,21 @@ module _ (w : WorldValue) where
         subst (IsOrderOf w) h.says
         (entry_fit h.reading t.index h.entry (fit t.faction h.reading h.of_faction) h.at_index)
 
+    -- where the mailings can be read with the world, so can each order of a phase
     pub orders_fit : (is_of : Verb → Bool)
         → All (λ t. IsOrderOf w t.order_value) (orders_of is_of ByUnit aliases readings)
     orders_fit is_of k d l = in_mailing_in_bounds _ (orders_are_in_mailings is_of ByUnit aliases readings k d l)
 
     module _ (is_of : Verb → Bool) (a : Arrangement) (P : Task → Type 0) (so : (t : Task) → is_of t.order_value.verb ≡ true → IsOrderOf w t.order_value → P t) where
-      -- what is so of orders that have a verb of the phase and say what they are (`IsOrderOf`) is so of each of its
-      -- orders
+      -- what is so (P) of all orders that have a verb of the phase and can be read with the world is so of each order
+      -- of the phase
       pub each_order : All P (orders_of is_of a aliases readings)
       each_order k d l =
           so _ (All-from_recursion (λ t. is_of t.order_value.verb ≡ true) (orders_of is_of a aliases readings) (orders_have_verbs is_of a aliases readings) k d l)
           (in_mailing_in_bounds _ (orders_are_in_mailings is_of a aliases readings k d l))
 
-      -- and of each in the code's list of them
+      -- what is so (P) of all orders that have a verb of the phase and can be read with the world is so of the order at
+      -- i in the code's list of the phase's orders
       pub listed_order : (os : List PhaseOrder) → map task_of os ≡ orders_of is_of a aliases readings
           → (i : ℕ) (o : PhaseOrder) → o ≡ get_or os i o → i < length os → P (task_of o)
       listed_order os are i o is inside =
@@ -217,6 +229,7 @@ event_keeps_readings : (m : MonthValue) (t : Task) (o : Option Outcome) → (wit
 event_keeps_readings m t None = refl
 event_keeps_readings m t (Some outcome) = refl
 
+-- an order leaves the mailings of the month as they are
 pub order_readings : (step : OrderMeaning) (w : WorldValue) (p : CampaignValue × MonthValue) (t : Task)
     → (one_order step w p t).1.readings ≡ p.1.readings
 order_readings step w p t = event_keeps_readings p.1 t (order_result (step w p.1.aliases t) p.0 t.faction t.unit).1

@@ -56,12 +56,15 @@ module _ (is_of : Verb → Bool) (aliases : Aliases) (ms : List Mailing) (at : �
     pub tasks : map (task_at ms) list ++ rest_from i ≡ map (task_at ms) old ++ rest_from 0
 
   module _ (old list : List OrderIndex) (i : ℕ) (h : i < length read.entries) (before : Added old i list) where
+    -- if the order at i doesn't count for the phase, the list already has all that count before i + 1 (`Added`)
     pub passed : counts i ≡ false → Added old (i + 1) list
     passed skipped = record {
       there = before.there;
       tasks = ap (λ ts. map (task_at ms) list ++ ts) (sym (opened i h ∙ ap (λ b. cond b (task_at ms (place_of i) ∷ rest_from (i + 1)) (rest_from (i + 1))) skipped)) ∙ before.tasks;
     }
 
+    -- if the order at i counts for the phase, the list with its index at the end has all that count before i + 1
+    -- (`Added`)
     pub pushed : at < length ms → counts i ≡ true → Added old (i + 1) (list ++ place_of i ∷ [])
     pushed within counted = record {
       there = λ all. All-push (IsThere ms) list (place_of i) (before.there all) (record { mailing = within; entry = h });
@@ -85,12 +88,15 @@ module _ (is_of : Verb → Bool) (aliases : Aliases) (ms : List Mailing) (at : �
       index = i;
     }
 
+    -- the code finds by the noted lines of the mailing (b) whether the order at i counts for the phase
     pub counts_by : (lines : LastLineMap) (b : Bool) → AreLastLines (tasks_at aliases ms at) lines
         → b ≡ (is_of e.order.verb && counts_by_lines lines unit e.line (row_of e.order.verb).slot) → counts i ≡ b
     counts_by lines b last is =
         let t = task_at ms (place_of i) in
         sym (is ∙ (λ k. is_of (entry k).order.verb && counts_by_lines lines (found_is k).unit (found_is k).line (row_of (entry k).order.verb).slot) ∙ ap (λ z. is_of t.order_value.verb && z) (by_lines (tasks_at aliases ms at) lines t last (row_of t.order_value.verb).slot))
 
+    -- The order at i counts for the phase, and the code makes the index `found` of it. Then the list with `found` at
+    -- the end has all that count before i + 1 (`Added`).
     pub added : (old list new : List OrderIndex) → i < length read.entries → Added old i list → at < length ms
         → counts i ≡ true → new ≡ list ++ found ∷ [] → Added old (i + 1) new
     added old list new h before within counted is =

@@ -61,6 +61,7 @@ module _ (a : Arrangement) (aliases : Aliases) where
         apart_within faction (index + 1) es,
       )
 
+  -- no two of the orders of all mailings that count for a phase have the same key
   pub all_apart : (is_of : Verb → Bool) (readings : FinMap nat_cmp Reading)
       → IsDistinct (same_key a) (tasks_of_phase is_of aliases (entries readings))
   all_apart is_of readings =

@@ -25,6 +25,8 @@ module _ (c d : CampaignValue) (n : ℕ) (away : (k : ℕ) → k ≢ n → get d
     | inr apart ↦ others k v apart (sym (away k apart) ∙ there)
   ]
 
+  -- A structure that is rightly owned in c, by another unit than n or by nobody, is so in d. If nobody owns it, unit n
+  -- must not be inside it in d.
   pub owner_stays : (q : ℕ) (y : Structure) → IsOwned c q y → y.owner ≢ n
       → (y.owner ≡ 0 → (v : Unit) → get d.units n ≡ Some v → v.structure ≢ q) → IsOwned d q y
   owner_stays q y old other outside = record {

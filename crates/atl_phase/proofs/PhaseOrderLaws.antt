@@ -88,10 +88,12 @@ module _ (is_of : Verb → Bool) (aliases : Aliases) (readings : FinMap nat_cmp 
       let es = entries (under_keys (key_of a) (tasks_of_phase is_of aliases (entries readings))) in
       All-map P (λ (e : List ℕ × Task). e.1) es (All-from_recursion (λ e. P e.1) es (each_follows (λ e. (e.0 ≡ key_of a e.1) × IsPhaseOrder e.1) (λ e. P e.1) (λ e h. so e.1 h.1) es (orders_count a)))
 
+-- each order of a phase is an entry of the mailing of its faction (`OrdersAreInMailings`)
 pub orders_are_in_mailings : OrdersAreInMailings
 orders_are_in_mailings is_of a aliases readings =
     of_each is_of aliases readings (IsInMailing aliases readings) (λ t h. h.there) a
 
+-- each order of a phase has a verb of the phase
 pub orders_have_verbs : (is_of : Verb → Bool) (a : Arrangement) (aliases : Aliases) (readings : FinMap nat_cmp Reading)
     → AllByRecursion (λ t. is_of t.order_value.verb ≡ true) (orders_of is_of a aliases readings)
 orders_have_verbs is_of a aliases readings =

@@ -8,6 +8,7 @@ use Rattle.atl_phase.specs.PhaseSpecs.{EachPhase, MovesItsOwn, PhaseSpec, keeps_
 use Rattle.atl_phase.specs.Unmailed.{starved_in}
 use Rattle.atl_phase.proofs.UnmailedLaws.{ClosesUnmailed, LeavesUnmailed, both_leave, then_closes}
 
+-- if Q holds of each phase of which P holds, and P holds of each phase of a list, so does Q
 pub each_also : {P Q : PhaseSpec → Type 0} → ((phase : PhaseSpec) → P phase → Q phase) → (phases : List PhaseSpec)
     → EachPhase P phases → EachPhase Q phases
 each_also also [] each = tt
@@ -23,6 +24,8 @@ moves_add_up : (b : Bool) (rest moved most : ℕ) → moved ≤ (if b then most_
 moves_add_up true rest moved most one others = omega (arith, one, others)
 moves_add_up false rest moved most one others = omega (arith, one, others)
 
+-- phases in turn, each of which moves its own entries alone (`MovesItsOwn`), move an amount together by at most
+-- `most_moved` for each of them that may move it
 pub moved_within : (phases : List PhaseSpec) → EachPhase MovesItsOwn phases → (e : BooksEntry) (t : Thing)
     → book_bound_of phases e t ≤ moving_phase_count_of phases e t * most_moved
 moved_within [] each e t = omega arith
@@ -59,6 +62,7 @@ closed_together [] none = absurd none
 closed_together (phase ∷ []) closes = closes
 closed_together (phase ∷ next ∷ rest) each = then_closes each.0 (closed_together (next ∷ rest) each.1)
 
+-- phases in turn leave units of factions without a mailing their items, and their men less the starved, if each does
 pub leave_together : (phases : List PhaseSpec) → EachPhase PhaseLeavesUnmailed phases
     → LeavesUnmailed (meaning_of phases) (keeps_of phases)
 leave_together [] each = record {

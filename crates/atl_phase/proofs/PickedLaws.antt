@@ -50,7 +50,7 @@ narrow true false false h = refl
 narrow false true o h = absurd (true≢false h)
 narrow false false o h = refl
 
--- a test made twice passes what it passes once
+-- a test made twice passes what it passes once: so the verbs of a phase are among those of its own indices (`within`)
 pub twice : (b : Bool) → b ≡ (b && b)
 twice true = refl
 twice false = refl

@@ -29,6 +29,7 @@ use Rattle.atl_phase.proofs.RefitLaws.{IsRefit, IsRelabelled, early-refitted, re
 use Rattle.atl_phase.proofs.StructureLaws.{changed_else, get-after_handover, handed_is, handed_on, len-after_handover, placed_cases}
 use Rattle.atl_phase.proofs.UnbookedLaws.{unbooked_well}
 
+-- to map g over an option, and then f over the result, is to map f of g over it once
 pub mapped_twice : {A : Type 0} (f g : A → A) (o : Option A)
     → option_map f (option_map g o) ≡ option_map (λ y. f (g y)) o
 mapped_twice f g None = refl
@@ -95,6 +96,7 @@ module _ (w : WorldValue) (c : CampaignValue) (n : ℕ) (u : Unit) (s : ℕ) (is
       handed_is after_leaving s 0 n ∙ ap (λ (d : CampaignValue). record d { structures = after_entering.structures }) (handed_is begun old_place n next_owner)
       ∙ ap (λ m. record c { units = m; structures = after_entering.structures }) (changed-known (λ (x : Unit). record x { region = u.region; structure = s }) c.units n u is)
 
+  -- putting unit n inside structure s of its region (`with_place`) makes the campaign `placed_campaign`
   pub place_is : with_place c n u.region s ≡ placed_campaign
   place_is = placed_is ∙ placed_campaign_is
 
@@ -176,9 +178,11 @@ module _ (w : WorldValue) (c : CampaignValue) (n : ℕ) (u : Unit) (s : ℕ) (is
     pub placed_steady : IsSteady w placed_campaign
     placed_steady = steady-refitted w c n u s is after_entering.structures owner_after refit steady
 
+    -- an early campaign is early after unit n went, under the conditions of `placed_steady`
     pub placed_early : IsEarly w c → IsEarly w placed_campaign
     placed_early early = early-refitted w c n u s is after_entering.structures owner_after refit early
 
+    -- the total of each thing is the same after unit n went
     pub placed_total : (t : Thing) → total placed_campaign t ≡ total c t
     placed_total = total-refitted w c n u s is after_entering.structures owner_after
 
@@ -196,6 +200,7 @@ module _ (w : WorldValue) (c : CampaignValue) (n : ℕ) (u : Unit) (s : ℕ) (is
 
 -- ---- other units stay
 
+-- putting unit n in region r and structure s leaves each other unit as it is
 pub place_stays : (c : CampaignValue) (n r s k : ℕ) → k ≢ n → get (with_place c n r s).units k ≡ get c.units k
 place_stays c n r s k apart =
     placed_cases (λ d. get d.units k ≡ get c.units k) c n r s refl (changed_else (λ (x : Unit). record x { region = r; structure = s }) c.units n k apart (get c.units n))

@@ -31,6 +31,7 @@ pub record IsRelabelled (before after : Structure) : Type 0 where
   pub done : after.done ≡ before.done
   pub name : IsTrue (name_ok before.name) → IsTrue (name_ok after.name)
 
+-- where f mapped over an option makes Some x, the option has a value that f makes x of
 pub mapped_from : {A B : Type 0} (f : A → B) (o : Option A) (x : B) → option_map f o ≡ Some x
     → (v : A) × (o ≡ Some v) × (f v ≡ x)
 mapped_from f None x is = none_some x is
@@ -42,6 +43,8 @@ module _ (c : CampaignValue) (units : FinMap nat_cmp Unit) (structures : FinMap 
   abbrev pub replaced : CampaignValue
   replaced = record c { units = units; structures = structures }
 
+  -- campaign c keeps its limits with other units and structures, if there are as many of them, and each is within its
+  -- limits
   pub in_range_replaced : (w : WorldValue) → len units ≡ len c.units → len structures ≡ len c.structures
       → Every (λ k x. (1 ≤ k) × IsHolding x.holding) units
       → Every (λ k x. (1 ≤ x.done) × (x.done ≤ size_of w x.kind)) structures → AreInRange w c → AreInRange w replaced
@@ -60,11 +63,14 @@ module _ (c : CampaignValue) (units : FinMap nat_cmp Unit) (structures : FinMap 
     books = old.books;
   }
 
+  -- campaign c keeps the rules of names with other units and structures, if their names follow the name rule
   pub named_replaced : Every (λ k x. IsTrue (name_ok x.holding.name)) units
       → Every (λ k x. IsTrue (name_ok x.name)) structures → AreNamed c → AreNamed replaced
   named_replaced new_units new_structures old =
       record { pass = old.pass; factions = old.factions; joined = old.joined; units = new_units; structures = new_structures }
 
+  -- campaign c keeps the rules of numbers (`AreNumbered`) with other units and structures, if none of them has a new
+  -- number, and there are as many structures
   pub numbered_replaced : len structures ≡ len c.structures → ((k : ℕ) → get c.units k ≡ None → get units k ≡ None)
       → ((k : ℕ) → get c.structures k ≡ None → get structures k ≡ None)
       → AreNumbered c → AreNumbered replaced
@@ -164,12 +170,14 @@ module _ (w : WorldValue) (c : CampaignValue) (n : ℕ) (u : Unit) (s : ℕ) (is
       abbrev Agree : Unit → Unit → Type 0
       Agree x y = test x ≡ true → test y ≡ true → x.region ≡ y.region → x.faction ≡ y.faction
 
+      -- the units of each region that pass the test are of one faction after the refit, if they were before
       pub of_one_faction_refitted : AreOfOneFaction test c → AreOfOneFaction test refitted
       of_one_faction_refitted old =
           every-insert (λ k x. Every (λ m y. Agree x y) units) c.units n moved_unit
           (every-insert (λ m y. Agree moved_unit y) c.units n moved_unit (λ g k same. refl) (λ m y there g k same. old n u is m y there (only g) k same))
           (λ k x here. every-insert (λ m y. Agree x y) c.units n moved_unit (λ g k2 same. old k x here n u is g (only k2) same) (old k x here))
 
+    -- a refit of a steady campaign is steady
     pub steady-refitted : IsSteady w c → IsSteady w refitted
     steady-refitted old = record {
       numbers = numbers_kept old.numbers;
@@ -185,6 +193,7 @@ module _ (w : WorldValue) (c : CampaignValue) (n : ℕ) (u : Unit) (s : ℕ) (is
       guarded = of_one_faction_refitted guards (λ g. g) old.guarded;
     }
 
+    -- a refit of an early campaign is early
     pub early-refitted : IsEarly w c → IsEarly w refitted
     early-refitted old =
         record { steady = steady-refitted old.steady; flags = of_one_faction_refitted (λ x. x.holding.guard) (λ g. g) old.flags }
@@ -192,6 +201,7 @@ module _ (w : WorldValue) (c : CampaignValue) (n : ℕ) (u : Unit) (s : ℕ) (is
   cancelled : (a b h r : ℕ) → a + h ≡ b + h → a + r ≡ b + r
   cancelled a b h r e = omega arith
 
+  -- a refit has the same total of each thing as the campaign before
   pub total-refitted : (t : Thing) → total refitted t ≡ total c t
   unfolding total
   total-refitted t =
@@ -220,6 +230,7 @@ module _ (w : WorldValue) (c : CampaignValue) (n : ℕ) (u : Unit) (is : get c.u
     afloat = old.steady.water.units n u is;
   }
 
+  -- an early campaign stays early when its structures change, each in owner and name at most, and with its right owner
   pub early-relabelled : IsEarly w c → IsEarly w (record c { structures = structures })
   early-relabelled old =
       subst (λ (m : FinMap nat_cmp Unit). IsEarly w (record c { units = m; structures = structures })) units_stay

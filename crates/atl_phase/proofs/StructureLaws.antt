@@ -32,10 +32,12 @@ module _ {V : Type 0} (f : V → V) (m : FinMap nat_cmp V) (k : ℕ) where
   changed_here None is = is
   changed_here (Some v) is = get-insert_same m k (f v)
 
+  -- a change under number k leaves what the map has under another number q
   pub changed_else : (q : ℕ) → q ≢ k → (o : Option V) → get (with_changed_option f m k o) q ≡ get m q
   changed_else q apart None = refl
   changed_else q apart (Some v) = get-insert_other m k q (f v) apart
 
+  -- a look-up after a change under number k finds what `at_number` makes of the value before
   pub get-changed : (q : ℕ) → get (with_changed_value f m k) q ≡ option_map (at_number q) (get m q)
   get-changed q = elim (cases_eq q k) [
     | inl same ↦
@@ -49,6 +51,7 @@ module _ {V : Type 0} (f : V → V) (m : FinMap nat_cmp V) (k : ℕ) where
   len_by None is = refl
   len_by (Some v) is = same_len m k v (f v) is
 
+  -- the map has as many values after a change as before
   pub len-changed : len (with_changed_value f m k) ≡ len m
   len-changed = len_by (get m k) refl
 
@@ -101,10 +104,12 @@ module _ (c : CampaignValue) (k from to : ℕ) where
   handed_cases P same handed =
       elim (is_owned_by (get c.structures k) from) as (λ b. P (after b)) [ true ↦ handed | false ↦ same ]
 
+  -- there are as many structures after a handover as before
   pub len-after_handover : len (after_handover c k from to).structures ≡ len c.structures
   len-after_handover =
       handed_cases (λ d. len d.structures ≡ len c.structures) refl (len-changed (owned_by to) c.structures k)
 
+  -- a handover changes nothing but the structures
   pub handed_is : after_handover c k from to ≡ record c { structures = (after_handover c k from to).structures }
   handed_is = handed_cases (λ d. d ≡ record c { structures = d.structures }) refl refl
 

@@ -32,10 +32,13 @@ stays_well holds w c d still same books totals = record {
   uses_bound = λ e t. bound_unused_by 0 0 (amount_in c.books e t) (amount_in d.books e t) refl (ap (λ b. amount_in b e t) books);
 }
 
+-- a step that leaves month, books and totals as they are, and after which the campaign is early, keeps the books in
+-- balance within a remaining bound of 0 (`StepsWell`)
 pub unbooked_well : (w : WorldValue) (c d : CampaignValue) → IsEarly w d → IsSameMonth c d → d.books ≡ c.books
     → ((t : Thing) → total d t ≡ total c t) → StepsWell IsEarly nothing_remaining w c d
 unbooked_well = stays_well IsEarly
 
+-- campaigns with the same units and the same regions have the same total of each thing
 pub same_total_of : (c d : CampaignValue) → d.units ≡ c.units → d.regions ≡ c.regions → (t : Thing)
     → total d t ≡ total c t
 unfolding total
@@ -62,6 +65,8 @@ pub other_is_no_worse : (c d : CampaignValue) (t : Task) (x : Unit)
 other_is_no_worse c d t x stay own k v there apart =
     record { unit = v; there = stay k (other_unit c t x k v own there apart) ∙ there; is_unaffected = no_worse v }
 
+-- A unit for which its own faction didn't write an order is there after it and no worse off. For this the effect of the
+-- order, if it has one, changes no other unit than the one that it is for.
 pub unchanged_is_no_worse : (step : Option OrderEffect) (c : CampaignValue) (t : Task) (x : Unit) → IsUnitOf c t x
     → (k : ℕ) (v : Unit) → get c.units k ≡ Some v → (IsOwnOrder t k v.faction → ⊥)
     → ((j : ℕ) → j ≢ t.unit → IfSome step (λ effect. get (effect c x).0.units j ≡ get c.units j))

@@ -39,8 +39,9 @@ use Rattle.atl_phase.proofs.PhaseOrderLaws.{orders_are_in_mailings}
 
 -- ---- phases one after the other
 
--- After the phase each unit of a faction without a mailing is there, with its faction and name, no less of any item,
--- and its men less exactly those who starve. The phase keeps the mailings and takes back no Starved event.
+-- After the phase, if it keeps what `keeps` says, each unit of a faction without a mailing is there. It has its faction
+-- and name, no less of any item, and its men less exactly those who starve. The phase keeps the mailings and takes back
+-- no Starved event.
 pub record LeavesUnmailed (meaning : Meaning) (keeps : Frame) : Type 0 where
   pub readings : (w : WorldValue) (c : CampaignValue) (m : MonthValue) → (meaning w c m).1.readings ≡ m.readings
   pub starved_reported : (w : WorldValue) (c : CampaignValue) (m : MonthValue) (n : ℕ)
@@ -89,6 +90,7 @@ still_none one w c m f g same none =
     ap (λ (r : FinMap nat_cmp Reading). get r g) (one.readings w c m) ∙ ap (get m.readings) same ∙ none
 
 module _ {first second : Meaning} {early late : Frame} where
+  -- two phases in turn leave units of factions without a mailing as `LeavesUnmailed` says, if each does
   pub both_leave : LeavesUnmailed first early → LeavesUnmailed second late
       → LeavesUnmailed (then_also first second) (both_keep first early late)
   both_leave one two = record {
@@ -142,10 +144,12 @@ men_twice a b c one two n u there =
     let y = two n x.unit x.there in
     record { unit = y.unit; there = y.there; is_unaffected = record { faction = y.is_unaffected.faction ∙ x.is_unaffected.faction; men = y.is_unaffected.men ∙ x.is_unaffected.men } }
 
+-- in a campaign with the same units all have their men (`HaveTheirMen`)
 pub men_same : (c d : CampaignValue) → d.units ≡ c.units → HaveTheirMen c d
 men_same c d same n u there =
     record { unit = u; there = ap (λ (m : FinMap nat_cmp Unit). get m n) same ∙ there; is_unaffected = record { faction = refl; men = refl } }
 
+-- a change of unit k that keeps its faction and its men leaves all units their men (`HaveTheirMen`)
 pub men_changed : (f : Unit → Unit) → ((u : Unit) → HasItsMen u (f u)) → (c d : CampaignValue) (k : ℕ)
     → d.units ≡ with_changed_value f c.units k → HaveTheirMen c d
 men_changed f stay c d k same n u there =
@@ -155,6 +159,7 @@ men_changed f stay c d k same n u there =
     by_number true = stay u
     by_number false = record { faction = refl; men = refl }
 
+-- x in place of unit k, with its faction and as many men, leaves all units their men (`HaveTheirMen`)
 pub men_put : (c d : CampaignValue) (k : ℕ) (v x : Unit) → get c.units k ≡ Some v → HasItsMen v x
     → d.units ≡ insert c.units k x → HaveTheirMen c d
 men_put c d k v x here stay same n u there = elim (cases_eq n k) [
@@ -165,6 +170,7 @@ men_put c d k v x here stay same n u there = elim (cases_eq n k) [
       record { unit = u; there = ap (λ (m : FinMap nat_cmp Unit). get m n) same ∙ get-insert_other c.units k n x apart ∙ there; is_unaffected = record { faction = refl; men = refl } }
 ]
 
+-- steps in turn leave all units their men (`HaveTheirMen`), if each step does
 pub men_in_turn : {X : Type 0} (step : CampaignValue → X → CampaignValue)
     → ((c : CampaignValue) (x : X) → HaveTheirMen c (step c x)) → (c : CampaignValue) (xs : List X)
     → HaveTheirMen c (fold step c xs)
@@ -172,6 +178,7 @@ men_in_turn step each c [] = men_stay c
 men_in_turn step each c (x ∷ xs) =
     men_twice c (step c x) (fold step (step c x) xs) (each c x) (men_in_turn step each (step c x) xs)
 
+-- an order, with a fault or without, leaves all units their men (`HaveTheirMen`), if what it does without a fault does
 pub men_unless : (c d : CampaignValue) (o : Outcome) (fault : Option EventFault) → HaveTheirMen c d
     → HaveTheirMen c (unless c fault (d, o)).0
 men_unless c d o (Some fault) h = men_stay c
@@ -180,11 +187,13 @@ men_unless c d o None h = h
 flag_men : (flag : Bool) (u : Unit) → HasItsMen u (record u { holding = record u.holding { guard = flag } })
 flag_men flag u = record { faction = refl; men = refl }
 
+-- setting or clearing a guard flag leaves all units their men (`HaveTheirMen`)
 pub guard_men : (c : CampaignValue) (n : ℕ) (flag : Bool) → HaveTheirMen c (with_guard c n flag)
 guard_men c n flag =
     men_changed (λ u. record u { holding = record u.holding { guard = flag } }) (flag_men flag) c (with_guard c n flag)
     n refl
 
+-- putting a unit in another region or structure leaves all units their men (`HaveTheirMen`)
 pub place_men : (c : CampaignValue) (n r s : ℕ) → HaveTheirMen c (with_place c n r s)
 place_men c n r s =
     let there : Unit → Unit = λ u. record u { region = r; structure = s } in
@@ -196,6 +205,7 @@ pub record HasItsItems (before after : Unit) : Type 0 where
   pub name : after.holding.name ≡ before.holding.name
   pub items : (i : ℕ) → amount_of before.holding.items i ≤ amount_of after.holding.items i
 
+-- a unit that is no worse off has its name, and no less of any item
 pub items_of_no_worse : (u v : Unit) → IsNoWorse u v → HasItsItems u v
 items_of_no_worse u v h = record { name = h.name; items = h.items }
 
@@ -231,12 +241,14 @@ module _ {meaning : Meaning} {keeps : Frame} (readings : (w : WorldValue) (c : C
 
 -- ---- a phase whose orders are carried out one by one
 
+-- no order of a phase is of a faction without a mailing
 pub none_ordered : (is_of : Verb → Bool) (arrangement : Arrangement) (m : MonthValue) (f : ℕ) → get m.readings f ≡ None
     → All (λ t. t.faction ≢ f) (orders_of is_of arrangement m.aliases m.readings)
 none_ordered is_of arrangement m f none k d l same =
     let h = orders_are_in_mailings is_of arrangement m.aliases m.readings k d l in
     none_some h.reading (sym none ∙ ap (get m.readings) (sym same) ∙ h.of_faction)
 
+-- the event of an order reports no man as starved
 pub order_event_starves_none : (events : List Event) (t : Task) (outcome : Outcome) (n : ℕ)
     → starved_in (events ++ event_for t outcome ∷ []) n ≡ starved_in events n
 order_event_starves_none events t outcome n =
@@ -252,6 +264,7 @@ order_event_starves_none events t outcome n =
 abbrev pub OthersHaveMen : (faction : ℕ) → CampaignValue → CampaignValue → Type 0
 OthersHaveMen f c d = Every (λ n u. f ≢ u.faction → IsStillThere HasItsMen d n u) c.units
 
+-- where all units have their men, so have those of other factions than f
 pub others_men : (f : ℕ) (c d : CampaignValue) → HaveTheirMen c d → OthersHaveMen f c d
 others_men f c d men n u there other = men n u there
 
@@ -297,16 +310,20 @@ module _ (step : OrderMeaning) where
   orders_starve_none w p (t ∷ ts) n = orders_starve_none w (one_order step w p t) ts n ∙ order_starves_none w p t n
 
   module _ (is_of : Verb → Bool) where
+    -- a phase that carries its orders out one by one keeps the mailings
     pub carried_readings : (w : WorldValue) (c : CampaignValue) (m : MonthValue)
         → (meaning_by_orders step is_of w c m).1.readings ≡ m.readings
     unfolding meaning_by_orders
     carried_readings w c m = orders_readings w (c, m) (orders_of is_of ByUnit m.aliases m.readings)
 
+    -- a phase that carries its orders out one by one reports no man as starved
     pub carried_starve_none : (w : WorldValue) (c : CampaignValue) (m : MonthValue) (n : ℕ)
         → starved_in (meaning_by_orders step is_of w c m).1.events n ≡ starved_in m.events n
     unfolding meaning_by_orders
     carried_starve_none w c m n = orders_starve_none w (c, m) (orders_of is_of ByUnit m.aliases m.readings) n
 
+    -- Units of factions without a mailing keep their men in a phase that carries its orders out one by one. For this
+    -- each order must leave the units of all factions but its writer's their men.
     pub carried_men : LeavesOthersMen step → (w : WorldValue) (c : CampaignValue) (m : MonthValue)
         → UnmailedAre HasItsMen m c (meaning_by_orders step is_of w c m).0
     unfolding meaning_by_orders
@@ -324,6 +341,7 @@ module _ (step : OrderMeaning) where
         whole_leaves {meaning = meaning_by_orders step is_of} {keeps = keeps} carried_readings carried_starve_none
         (λ w c m h. carried_men unaffected w c m) (λ w c m h. items w c (meaning_by_orders step is_of w c m).0 m h)
 
+-- an order that is a unit's own (`IsOwnOrder`) is of the faction of that unit
 pub own_faction : (t : Task) (n f : ℕ) → IsOwnOrder t n f → t.faction ≡ f
 own_faction t n f h = h.faction
 

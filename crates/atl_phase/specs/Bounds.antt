@@ -24,7 +24,7 @@ use Rattle.atl_phase.specs.Unbooked.{moves_nothing}
 abbrev pub moved_times : ℕ → BookBound → BookBound
 moved_times steps book_bound e t = steps * book_bound e t
 
--- the greatest size of an amount of the books, above or below 0: 9*10^18 + 99999999999999
+-- the greatest size of an amount of the books, above or below 0: 9*10^18 + 99999999999999, which still fits an i64
 abbrev pub amount_limit : ℕ
 amount_limit = 9000000000000000000 + most_moved
 
@@ -37,11 +37,12 @@ pub record HasRoom (most : ℕ) (amount : ℤ) : Type 0 where
 abbrev pub HaveRoom : BookBound → CampaignValue → Type 0
 HaveRoom book_bound c = (e : BooksEntry) (t : Thing) → HasRoom (book_bound e t) (amount_in c.books e t)
 
--- by how much each amount of the books may still be moved, as a function of the campaign so far
+-- by how much the steps still to come may move each amount of the books, as a function of the campaign so far
 abbrev pub RemainingBound : Type 0
 RemainingBound = CampaignValue → BookBound
 
--- an amount moves, up or down, by at most what its remaining bound falls: from `remaining` to `left`
+-- an amount of the books moves from `before` to `after`, up or down, by at most what its remaining bound falls in the
+-- same step: from `remaining` to `left`
 pub record UsesBound (remaining left : ℕ) (before after : ℤ) : Type 0 where
   pub above : (after +ℤ pos left) ≤ℤ (before +ℤ pos remaining)
   pub below : (before +ℤ pos left) ≤ℤ (after +ℤ pos remaining)
@@ -99,7 +100,7 @@ pub record IsOrderly (step : OrderMeaning) (holds : Condition) (remaining : Rema
 abbrev pub nothing_remaining : RemainingBound
 nothing_remaining c = moves_nothing
 
--- the bound on the books for a list of items with their amounts, each booked as lost
+-- the bound on the books for a list of items, by number, with their amounts: each amount is booked as lost
 abbrev pub items_bound : List (ℕ × ℕ) → BookBound
 items_bound [] e t = 0
 items_bound (x ∷ xs) e t = moves_only x.1 Lost (Item x.0) e t + items_bound xs e t

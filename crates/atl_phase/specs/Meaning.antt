@@ -48,7 +48,7 @@ both_keep first early late w m before after =
 
 -- ---- the books
 
--- by how much each amount of the books may move at most, up or down; an amount with bound 0 stays
+-- by how much each amount of the books, given by entry and thing, may move at most, up or down; with bound 0 it stays
 abbrev pub BookBound : Type 0
 BookBound = BooksEntry → Thing → ℕ
 

@@ -37,11 +37,11 @@ pub record MonthValue : Type 0 where
 
 -- ---- the encoding of a month for the logic
 
--- the encoding, which the kit requires of each type, of what an order says, with its names as texts
+-- a part of `month_code`: the encoding of what an order says, with its names as texts
 abbrev pub order_value_code : Coded OrderValue
 order_value_code = (order.the_row (sequence.the_row u8)).coded
 
--- the encoding, which the kit requires of each type, of an entry of a mailing: its line, its target and its order
+-- a part of `month_code`: the encoding of an entry of a mailing by its line, the unit that it names, and its order
 abbrev pub entry_code : Coded EntryValue
 entry_code =
     code_by (ℕ × (UnitRef × OrderValue)) (coded× coded_ℕ (coded× target.the_row.coded order_value_code))
@@ -49,7 +49,7 @@ entry_code =
     (λ p. record { line = p.0; target = p.1.0; order_value = p.1.1 })
     (λ _. refl)
 
--- the encoding, which the kit requires of each type, of what was read of a mailing: its faction, entries, faulty lines
+-- a part of `month_code`: the encoding of what was read of a mailing by its faction, its entries and its faulty lines
 abbrev pub reading_code : Coded Reading
 reading_code =
     code_by (ℕ × (List EntryValue × List FaultyLine))
@@ -58,7 +58,8 @@ reading_code =
     (λ p. record { faction = p.0; entries = p.1.0; faults = p.1.1 })
     (λ _. refl)
 
--- the encoding, which the kit requires of each type, of a month's value: its readings, aliases, words and events
+-- the encoding of a month's value by its readings, aliases, words and events; `Model` requires one of each type that
+-- contracts see (`coded` in src/month.rt)
 abbrev pub month_code : Coded MonthValue
 month_code =
     code_by (FinMap nat_cmp Reading × (Aliases × (List ℕ × List Event)))

@@ -37,7 +37,7 @@ is_of_faction faction (Some u) = u.faction == faction
 abbrev pub is_own : CampaignValue → Task → Bool
 is_own c t = is_of_faction t.faction (get c.units t.unit)
 
--- a unit, if it is there and of a given faction; None otherwise
+-- the given unit, if there is one and it is of a given faction; None otherwise
 abbrev pub of_faction : ℕ → Option Unit → Option Unit
 of_faction faction None = None
 of_faction faction (Some u) = if u.faction == faction then Some u else None
@@ -67,13 +67,15 @@ abbrev pub with_event_of : MonthValue → Task → Option Outcome → MonthValue
 with_event_of m t None = m
 with_event_of m t (Some outcome) = record m { events = m.events ++ event_for t outcome ∷ [] }
 
--- the campaign and the month after one order of a phase
+-- the campaign after one order of a phase, and the month with the order's event; both stay as they are where `step`
+-- passes the order over (None)
 abbrev pub one_order : OrderMeaning → WorldValue → CampaignValue × MonthValue → Task → CampaignValue × MonthValue
 one_order step w (c, m) t =
     let after = order_result (step w m.aliases t) c t.faction t.unit in
     (after.0, with_event_of m t after.1)
 
--- the effect of a phase that carries out its orders one by one, by unit, line and faction
+-- The effect of a phase that carries out its orders one by one, by unit, line and faction. It has the verbs that pass
+-- `is_of`, and does for each order what `step` says.
 unfoldable pub meaning_by_orders : OrderMeaning → (Verb → Bool) → Meaning
 meaning_by_orders step is_of w c m = fold (one_order step w) (c, m) (orders_by_unit is_of m)
 

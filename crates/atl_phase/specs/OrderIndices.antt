@@ -41,7 +41,8 @@ with_line lines slot unit line = insert lines slot (insert (group_of lines slot)
 abbrev pub AreLastLines : List Task → LastLineMap → Type 0
 AreLastLines ts lines = (slot : Slot) (unit : ℕ) → line_in lines (slot_number slot) unit ≡ last_line slot unit ts
 
--- whether an order counts by the noted lines: it has no slot, or its line is the one noted for its slot and unit
+-- whether an order, given by unit, line and slot, counts by the noted lines: its verb has no slot (None), or its line
+-- is the one noted for slot and unit
 abbrev pub counts_by_lines : LastLineMap → (unit line : ℕ) → Option Slot → Bool
 counts_by_lines lines unit line None = true
 counts_by_lines lines unit line (Some slot) = line == line_in lines (slot_number slot) unit
@@ -105,7 +106,8 @@ pub record AreIndicesOf (mailings : List Mailing) (ts : List Task) (places : Lis
   pub there : All (IsThere mailings) places
   pub tasks : map (task_at mailings) places ≡ ts
 
--- the new indices name the orders that the old ones name, and after them the orders ts
+-- the new indices name the orders that the old ones name, and after them the orders ts; all of these are there, if
+-- those that the old ones name are
 pub record AddsIndicesOf (mailings : List Mailing) (ts : List Task) (old new : List OrderIndex) : Type 0 where
   pub there : All (IsThere mailings) old → All (IsThere mailings) new
   pub tasks : map (task_at mailings) new ≡ map (task_at mailings) old ++ ts
@@ -119,7 +121,8 @@ AddsMailing is_of aliases mailings index = AddsIndicesOf mailings (tasks_for is_
 abbrev pub AreIndicesByMailing : (Verb → Bool) → Aliases → List Mailing → List OrderIndex → Type 0
 AreIndicesByMailing is_of aliases mailings = AreIndicesOf mailings (all_tasks is_of aliases mailings)
 
--- the indices name the orders of all mailings that count and have one of a phase's verbs, sorted as the arrangement says
+-- the indices name the orders of all mailings that count and have one of a phase's verbs, sorted as the arrangement
+-- says
 abbrev pub AreOrderIndices : (Verb → Bool) → Arrangement → Aliases → List Mailing → List OrderIndex → Type 0
 AreOrderIndices is_of arrangement aliases mailings =
     AreIndicesOf mailings (orders_of is_of arrangement aliases (by_faction (map reading_of mailings)))

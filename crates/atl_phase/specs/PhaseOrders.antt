@@ -67,7 +67,8 @@ tasks_of aliases faction r = tasks_from aliases faction 0 r.entries
 
 -- ---- the orders that count
 
--- the number of a slot; no two slots have one number
+-- the number of a slot, a group of verbs of which one order for a unit counts in a mailing; no two slots have one
+-- number
 abbrev pub slot_number : Slot → ℕ
 slot_number MonthLong = 0
 slot_number Selling = 1
@@ -96,13 +97,13 @@ abbrev pub counts_in_slot : List Task → Task → Option Slot → Bool
 counts_in_slot ts t None = true
 counts_in_slot ts t (Some slot) = t.line == last_line slot t.unit ts
 
--- whether an order counts among the orders of a list, which are all of its mailing
+-- whether an order counts, given the list of all orders of its mailing
 abbrev pub order_counts : List Task → Task → Bool
 order_counts ts t = counts_in_slot ts t (row_of t.order_value.verb).slot
 
 -- ---- the orders of a phase
 
--- the orders of a mailing that count and have the verbs of a phase
+-- those orders that count and have a verb of the phase, given all orders of a mailing
 abbrev pub tasks_for : (Verb → Bool) → List Task → List Task
 tasks_for is_of ts = filter (λ t. is_of t.order_value.verb && order_counts ts t) ts
 
@@ -120,7 +121,7 @@ key_of ByFaction t = t.faction ∷ t.line ∷ t.unit ∷ t.index ∷ []
 abbrev pub under_keys : (key : Task → List ℕ) → List Task → FinMap (slice_cmp nat_cmp) Task
 under_keys key ts = from_entries (map (λ t. (key t, t)) ts)
 
--- some orders, no two of which have the same key, sorted by key
+-- some orders, no two of which have the same key, sorted by key, since a map lists its values by rising key
 abbrev pub sorted_by : (key : Task → List ℕ) → List Task → List Task
 sorted_by key ts = values (under_keys key ts)
 

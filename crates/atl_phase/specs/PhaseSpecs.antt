@@ -108,7 +108,7 @@ keeps_of [] = λ w m before after. ⊤
 keeps_of (phase ∷ []) = phase.keeps
 keeps_of (phase ∷ next ∷ rest) = both_keep phase.meaning phase.keeps (keeps_of (next ∷ rest))
 
--- how many phases of a list may move the amount of a given entry and thing
+-- how many phases of a list may move the amount of a given entry and thing, each by less than 10^14 (`MovesItsOwn`)
 abbrev pub moving_phase_count_of : List PhaseSpec → BooksEntry → Thing → ℕ
 moving_phase_count_of [] e t = 0
 moving_phase_count_of (phase ∷ rest) e t = (if may_move phase.moved e t then 1 else 0) + moving_phase_count_of rest e t

@@ -31,7 +31,7 @@ pub record IsLessBy (fewer : ℕ) (before after : Unit) : Type 0 where
   -- the unit has no less of any item than before
   pub items : (i : ℕ) → amount_of before.holding.items i ≤ amount_of after.holding.items i
 
--- what is left of a unit, given with its number, of which so many men starved
+-- what is left in the campaign `after` of unit u, given with its number, once `starved` of its men starved
 pub record IsLeft (starved : ℕ) (after : CampaignValue) (number : ℕ) (u : Unit) : Type 0 where
   -- no more men starved than the unit had
   pub most : starved ≤ u.holding.men

@@ -10,6 +10,7 @@ use atl_orders::{Mailing, Slot, UnitRef};
 use atl_world::Numbered;
 use std::alloc::{AllocError, Global};
 
+/// The number of a slot; no two slots have one number.
 fn number_of(slot: Slot) -> u32
     ensures { result ≡ slot_number slot }
 {
@@ -22,6 +23,7 @@ fn number_of(slot: Slot) -> u32
     }
 }
 
+/// Whether the second slot is there, and is the same as the first.
 pub(crate) fn is_same_slot(slot: Slot, other: Option<Slot>) -> bool
     ensures { result ≡ is_same_slot slot other }
 {
@@ -66,6 +68,8 @@ fn note(
     lines.insert_under(alloc, number_of(slot), unit, last)
 }
 
+/// Notes the line of each order of a mailing whose verb has a slot, in one pass, so that the
+/// greatest line for each slot and unit is left. An order counts in its slot only on this line.
 pub(crate) fn last_lines(
     alloc: Global,
     aliases: &Numbered<Numbered<u32>>,

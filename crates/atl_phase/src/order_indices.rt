@@ -159,6 +159,7 @@ pub(crate) fn order_indices<P: PhaseVerbs>(
     Ok(list)
 }
 
+/// Sorts the indices in place by the numbers that their orders are sorted by in the arrangement.
 fn sort(list: &mut Vec<OrderIndex>, arrangement: Arrangement)
     ensures moved { IsPermutation list.old.items list.new.items }
     ensures sorted { IsSortedByKey (key_by arrangement) (slice_cmp nat_cmp) list.new.items }

@@ -14,8 +14,10 @@ use std::alloc::{AllocError, Global};
 
 /// The verbs of the orders that a phase carries out.
 pub trait PhaseVerbs {
+    // Whether a verb is one of those of the phase.
     ghost is_of: { Verb → Bool };
 
+    /// Whether the phase has a verb (`is_of`).
     fn has(&self, verb: Verb) -> bool
         ensures { result ≡ is_of verb };
 }
@@ -45,6 +47,7 @@ impl PhaseVerbs for EveryVerb {
     }
 }
 
+/// The order that an index names, as a phase gets it; mailing and order must be there.
 fn order_at<'m>(mailings: &'m [Mailing], placed: &OrderIndex) -> PhaseOrder<'m>
     requires { IsThere mailings.now placed.now }
     ensures { task_of result ≡ task_at mailings.now placed.now }

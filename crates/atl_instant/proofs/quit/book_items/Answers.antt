@@ -4,7 +4,7 @@ use Rattle.atl_campaign.proofs.CoverLaws.{marks-trans}
 use Rattle.atl_phase.proofs.FoldLaws.{fold_after_step}
 use Rattle.atl_phase.specs.Bounds.{items_bound}
 use Rattle.atl_instant.specs.Quit.{with_item_loss}
-use Rattle.atl_instant.proofs.QuitLaws.{gone_marks, known_ahead, room_for_item, room_after_loss, room_for_item_and_later}
+use Rattle.atl_instant.proofs.QuitLaws.{marks-loss, known_ahead, room_for_item, room_after_loss, room_for_item_and_later}
 use Rattle.atl_instant.proofs.quit.book_items.Goals as goal
 
 pub book_loss-requires-clause-room : goal.book_loss-requires-clause-room
@@ -30,5 +30,5 @@ loop-item-preserved c =
           rw is (room_after_loss (Item x.0) x.1 (items_bound (drop (i + 1) list)) before
           (room_for_item_and_later list i before c.loop-item-test.true old.room));
       marks = marks-trans c.args.campaign.now c.loop-item.campaign c.book_loss.new.campaign old.marks
-          (gone_marks c.loop-item.campaign c.book_loss.new.campaign (Item x.0) x.1 c.book_loss.ensures.what c.book_loss.ensures.marks);
+          (marks-loss c.loop-item.campaign c.book_loss.new.campaign (Item x.0) x.1 c.book_loss.ensures.what c.book_loss.ensures.marks);
     }

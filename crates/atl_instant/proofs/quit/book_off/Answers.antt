@@ -4,7 +4,7 @@ use Rattle.atl_campaign.proofs.CoverLaws.{marks-trans}
 use Rattle.atl_phase.specs.Meaning.{both_move, moves_only}
 use Rattle.atl_phase.specs.Bounds.{items_bound}
 use Rattle.atl_instant.specs.Quit.{with_loss}
-use Rattle.atl_instant.proofs.QuitLaws.{room_for_loss, gone_marks, room_after_loss}
+use Rattle.atl_instant.proofs.QuitLaws.{room_for_loss, marks-loss, room_after_loss}
 use Rattle.atl_instant.proofs.quit.book_off.Goals as goal
 
 pub book_loss-requires-clause-room : goal.book_loss-requires-clause-room
@@ -31,7 +31,7 @@ returns-clause-marks c =
     let one = c.book_loss.new.campaign in
     let two = c.book_loss-2.new.campaign in
     marks-trans c.args.campaign.now one c.book_items.new.campaign
-    (gone_marks c.args.campaign.now one People c.args.men c.book_loss.ensures.what c.book_loss.ensures.marks)
+    (marks-loss c.args.campaign.now one People c.args.men c.book_loss.ensures.what c.book_loss.ensures.marks)
     (marks-trans one two c.book_items.new.campaign
-    (gone_marks one two Money c.args.money c.book_loss-2.ensures.what c.book_loss-2.ensures.marks)
+    (marks-loss one two Money c.args.money c.book_loss-2.ensures.what c.book_loss-2.ensures.marks)
     c.book_items.ensures.marks)
