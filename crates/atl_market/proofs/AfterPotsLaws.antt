@@ -54,6 +54,7 @@ module _ (w : WorldValue) where
     twice = λ q s t. ap (λ m. record q { money = m }) (less_both q.money s t);
   }
 
+-- TAX pays all units at once: each payment changes only its own unit and region, and both are there
 pub taxes_at_once : TaxesAtOnce
 taxes_at_once w c os =
     all_at_once tax_pots w (λ n. with_more_money) with_less_money c os (tax_pays w)
@@ -79,6 +80,7 @@ module _ (w : WorldValue) where
     twice = λ q s t. ap (λ p. record q { peasants = p }) (less_both q.peasants s t);
   }
 
+-- the recruits of all units join at once: each payment changes only its own unit and region, and both are there
 pub recruits_at_once : RecruitsAtOnce
 recruits_at_once w c os =
     all_at_once recruit_pots w (λ n. with_recruits w) with_less_peasants c os (recruit_pays w)
@@ -97,6 +99,7 @@ module _ (w : WorldValue) where
     twice = λ q s t. refl;
   }
 
+-- WORK pays all units at once: each payment changes only its own unit, which is there
 pub works_at_once : WorksAtOnce
 works_at_once w c os =
     all_at_once work_pots w (λ n u places. with_more_money u (wages_for w u.region places)) unchanged_region c os (work_pays w)
@@ -155,6 +158,7 @@ module _ (asked : FinMap nat_cmp ℕ) (w : WorldValue) where
     twice = λ q s t. refl;
   }
 
+-- all units produce at once: each production changes only its own unit, which is there
 pub produces_at_once : ProducesAtOnce
 produces_at_once w c os =
     let items = items_by produce_pots w c os in

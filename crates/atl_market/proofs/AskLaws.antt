@@ -11,11 +11,13 @@ use Rattle.atl_market.specs.Trade.{is_trade}
 use Rattle.atl_market.specs.declared.trade.Trade.{Trade}
 use Rattle.atl_market.specs.declared.trade.Trade.TheVariants.{Buy, Sell}
 
+-- an order of RECRUIT whose operands have the shape of its verb (`Fits`) asks for a count
 pub recruit_asks : (v : Verb) (o : OperandsValue) → is_recruit v ≡ true → Fits v o → asks_count o ≡ true
 recruit_asks verbs.Recruit (operands.Number n) of_phase fits = refl
 recruit_asks verbs.Recruit o of_phase fits = cc
 recruit_asks v o of_phase fits = cc
 
+-- an order of SELL or BUY whose operands have the shape of its verb (`Fits`) asks for a count
 pub trade_asks : (trade : Trade) (v : Verb) (o : OperandsValue) → is_trade trade v ≡ true → Fits v o
     → asks_count o ≡ true
 trade_asks Sell verbs.Sell (operands.Goods n i) of_phase fits = refl

@@ -26,8 +26,9 @@ abbrev pub HasRegion : Bool → CampaignValue → Unit → Type 0
 HasRegion true d u = HasValue d.regions u.region
 HasRegion false d u = ⊤
 
--- One payment changes its unit by `gets` and its unit's region by `gives`, and no other unit or region. Giving 0 is no
--- change, and giving two amounts in turn is giving their sum.
+-- One payment (`step`) of a pair (unit, share) changes its unit by `gets` and its unit's region by `gives`, and no
+-- other unit or region. If `needs` is true, this supposes that the region is there. Giving 0 is no change, and giving
+-- two amounts in turn is giving their sum.
 pub record Pays (needs : Bool) (step : CampaignValue → ℕ × ℕ → CampaignValue) (gets : ℕ → UnitChange) (gives : RegionChange) : Type 0 where
   pub mine : (d : CampaignValue) (e : ℕ × ℕ) (u : Unit) → get d.units e.0 ≡ Some u → HasRegion needs d u
       → get (step d e).units e.0 ≡ Some (gets e.0 u e.1)
@@ -130,6 +131,7 @@ module _ {needs : Bool} {step : CampaignValue → ℕ × ℕ → CampaignValue} 
               ∙ sym (ap (λ b. Some (gives q (cond b e.1 0 + drawn (draws_region c.units r) es))) other)
         ]
 
+-- what units draw from a pot (`drawn`) is the sum of the shares of those units that draw from it
 pub drawn_is_sum : (draws : Drawers) (es : List (ℕ × ℕ))
     → drawn draws es ≡ sum (map (λ e. e.1) (filter (λ e. draws e.0) es))
 drawn_is_sum draws [] = refl

@@ -87,6 +87,7 @@ pub record CanBegin (w : WorldValue) (c : CampaignValue) (u : Unit) (k : Kind) :
   pub material : 1 ≤ amount_of u.holding.items k.material
   pub room : len c.structures < most_structures
 
+-- where `BUILD kind` has no fault, the unit has all that it needs to begin a structure of the kind
 pub can_begin : (w : WorldValue) (c : CampaignValue) (u : Unit) (k : Kind) → begin_fault w c u k ≡ None
     → CanBegin w c u k
 can_begin w c u k is =
@@ -113,6 +114,7 @@ pub record CanGoOn (u : Unit) (s : Structure) (k : Kind) : Type 0 where
   pub skill : k.level ≤ level_in u.holding k.skill
   pub material : 1 ≤ amount_of u.holding.items k.material
 
+-- where `BUILD` inside a structure has no fault, the unit has all that it needs to continue the structure
 pub can_go_on : (u : Unit) (s : Structure) (k : Kind) → inside_fault u s k ≡ None → CanGoOn u s k
 can_go_on u s k is =
     let material = (amount_of u.holding.items k.material == 0, NoMaterial) ∷ [] in
@@ -143,9 +145,11 @@ product_is_positive : (a b : ℕ) → 1 ≤ a → 1 ≤ b → 1 ≤ a * b
 product_is_positive a b l m = let h : a * 1 ≤ a * b = mul-le-mul_left a m in omega (arith, l, h)
 
 module _ (k : Kind) (h : HoldingValue) (done : ℕ) where
+  -- a unit adds at most as much as it holds of the material
   pub size_held : size_added k h done ≤ amount_of h.items k.material
   size_held = least_within_second (h.men * level_in h k.skill) (amount_of h.items k.material) (k.size - done)
 
+  -- a unit adds at most what is missing to the kind's size
   pub size_missing : size_added k h done ≤ k.size - done
   size_missing = least_within_third (h.men * level_in h k.skill) (amount_of h.items k.material) (k.size - done)
 
@@ -395,6 +399,7 @@ build_orderly = record {
     stays w c n x is j apart (operands.Kind None) = go_on_stays w c n x is j apart
     stays w c n x is j apart other = tt
 
+-- a change that leaves a campaign as BUILD needs it (`CanBuild`) leaves it steady
 pub leaves_steady : (w : WorldValue) (c d : CampaignValue) → LeavesWell CanBuild build_moves w c d
     → LeavesWell IsSteady build_moves w c d
 leaves_steady w c d h =
@@ -439,6 +444,8 @@ begin_done w c d f n kind u k size says is none first asked_is size_is =
     let chain : faction_effect (begin w n kind k) c f n ≡ whole = ap (effect_on (begin w n kind k) c) is ∙ ap (λ o. unless c o whole) none in
     rw (first, asked_is, size_is) (sym chain)
 
+-- where `BUILD` inside a structure has no fault, the campaign and outcome that the code makes are those of its
+-- definition (`go_on`)
 pub go_on_done : (w : WorldValue) (c d : CampaignValue) (f n : ℕ) (u : Unit) (s : Structure) (k : Kind) (size says : ℕ)
     → of_faction f (get c.units n) ≡ Some u → get c.structures u.structure ≡ Some s → slice_get w.kinds s.kind ≡ Some k
     → inside_fault u s k ≡ None → d ≡ after_building_on c n k.material size u.structure (s.done + size) → says ≡ size

@@ -165,6 +165,7 @@ same_next c n item amount =
 
 -- ---- there is room for what a unit may use
 
+-- the books have room for a use of what a unit holds, if they have it for what all units hold (`build_remaining`)
 pub used_room : (c : CampaignValue) (n item amount : ℕ) (u : Unit) → get c.units n ≡ Some u
     → amount ≤ amount_of u.holding.items item → HaveRoom (build_remaining c) c
     → HasRoom amount (amount_in c.books Used (Item item))

@@ -32,6 +32,7 @@ above_head_is_in_tail k n ns above is = elim is [ inl same ↦ absurd (omega (ar
 other_than_head_is_in_tail : (k n : ℕ) (ns : List ℕ) → k ≢ n → IsListed k (n ∷ ns) → IsListed k ns
 other_than_head_is_in_tail k n ns apart is = elim is [ inl same ↦ absurd (apart same) | inr rest ↦ rest ]
 
+-- what holds of each number and share of a list (`EachEntry`) holds of each as a pair (`AllByRecursion`)
 pub all_pairs : (P : ℕ × ℕ → Type 0) (es : List (ℕ × ℕ)) → EachEntry (λ n share. P (n, share)) es → AllByRecursion P es
 all_pairs P [] h = tt
 all_pairs P (e ∷ es) h = (h.0, all_pairs P es h.1)
@@ -111,14 +112,15 @@ module _ (draws : Drawers) where
           | false ↦ λ _. none_of (drawn es) (sum (map amount (n ∷ ns))) (with_first n ns rest es up rise.1 all.1)
         ] refl
 
+    -- units on a list draw from the pot at most the sum of the amounts of all units on the list
     pub drawn_among : (ns : List ℕ) → DrawAtMostTheirAmounts ns
     drawn_among [] es up rise all = let none = nothing_drawn es all in omega (arith, none)
     drawn_among (n ∷ ns) es up rise all = with_first n ns (drawn_among ns) es up rise all
 
 -- ---- one unit draws after the other
 
--- Pots by a key: the region of each (`pot_region`), which units draw from it (`draws`), and what is left of it in a
--- region (`left`).
+-- Pots by a key, such as a region, or a region and an item: the region of each (`pot_region`), which units draw from it
+-- (`draws`), and what is left of it in a region (`left`).
 pub record DrawnPots (K : Type 0) : Type 0 where
   pub pot_region : K → ℕ
   pub draws : K → Drawers
@@ -137,6 +139,7 @@ module _ {K : Type 0} (pots : DrawnPots K) where
       → (q : Region) × (get d.regions (pots.pot_region k) ≡ Some q) × (pots.left k x + cond (pots.draws k e.0) e.1 0 ≡ pots.left k q)
 
   module _ (d : CampaignValue) (e : ℕ × ℕ) (es : List (ℕ × ℕ)) (enough : HaveEnough d (e ∷ es)) where
+    -- the first share is at most what is left of a pot that its unit draws from
     pub first_draws : (k : K) (q : Region) → get d.regions (pots.pot_region k) ≡ Some q → pots.draws k e.0 ≡ true
         → e.1 ≤ pots.left k q
     first_draws k q around mine =
@@ -146,6 +149,7 @@ module _ {K : Type 0} (pots : DrawnPots K) where
         at_least : (all : ℕ) → e.1 + drawn (pots.draws k) es ≤ all → e.1 ≤ all
         at_least all h = omega (arith, h)
 
+    -- after the first share is drawn (`Drains`), what is left of each pot is enough for the later shares
     pub others_draw : (after : CampaignValue) → Drains d e after → HaveEnough after es
     others_draw after drains k x is =
         let (q, around, less) = drains k x is in
@@ -173,6 +177,7 @@ module _ {K : Type 0} (pots : DrawnPots K) where
         put : get (insert d.regions r (f q)) (pots.pot_region k) ≡ Some x
         put = sym (ap (λ m. get m (pots.pot_region k)) (changed ∙ changed-known f d.regions r q around)) ∙ found
 
+    -- where a share is 0 and no region changes, the pots lose just the share (`Drains`)
     pub nothing_drains : after.regions ≡ d.regions → e.1 ≡ 0 → Drains d e after
     nothing_drains same none k x found =
         (x, sym (ap (λ m. get m (pots.pot_region k)) same) ∙ found, ap (λ s. pots.left k x + cond (pots.draws k e.0) s 0) none ∙ neither (pots.draws k e.0) (pots.left k x))
@@ -193,6 +198,7 @@ module _ (units : FinMap nat_cmp Unit) (left : Region → ℕ) where
   region_pots = record { pot_region = λ r. r; draws = draws_region units; left = λ r q. left q }
 
   module _ (d : CampaignValue) (e : ℕ × ℕ) (u : Unit) (q : Region) (there : get units e.0 ≡ Some u) (around : get d.regions u.region ≡ Some q) where
+    -- a change of the unit's region that takes the unit's share off its pot is a draw of the share (`Drains`)
     pub one_drains : (after : CampaignValue) (f : Region → Region)
         → after.regions ≡ (region_changed f d u.region).regions → left (f q) + e.1 ≡ left q
         → Drains region_pots d e after
@@ -201,6 +207,7 @@ module _ (units : FinMap nat_cmp Unit) (left : Region → ℕ) where
         (λ k same. subst (λ b. left (f q) + cond b e.1 0 ≡ left q) (sym (ap (is_in_region k) there ∙ ap (λ r. u.region == r) same ∙ same_number u.region)) less)
         (λ k apart. ap (is_in_region k) there ∙ other_number u.region k (λ is. apart (sym is)))
 
+    -- the first share is at most what is left of the pot of its unit's region
     pub one_draws : (es : List (ℕ × ℕ)) → HaveEnough region_pots d (e ∷ es) → e.1 ≤ left q
     one_draws es enough =
         first_draws region_pots d e es enough u.region q around
@@ -231,6 +238,7 @@ module _ (pot_of : ℕ → ℕ) (wants : FinMap nat_cmp ℕ) (c : CampaignValue)
   least : (drawing pot all : ℕ) → drawing ≤ min pot all → drawing ≤ pot
   least drawing pot all h = omega (arith, h)
 
+  -- the pot of region `r` is enough for all shares that are drawn from it
   pub shares_are_enough : DrawShares → HasValue c.regions r → drawn draws (entries given) ≤ pot_of r
   shares_are_enough shared there =
       let drawing = drawn draws (entries given) in
@@ -252,6 +260,7 @@ module _ (c : CampaignValue) where
   abbrev pub AreUntouched : CampaignValue → List (ℕ × ℕ) → Type 0
   AreUntouched d es = AllByRecursion (λ e. get d.units e.0 ≡ get c.units e.0) es
 
+  -- after a change of unit `n` alone, the units of shares with numbers above `n` are still as they are in `c`
   pub still : (d after : CampaignValue) (n : ℕ) (es : List (ℕ × ℕ))
       → ((k : ℕ) → k ≢ n → get after.units k ≡ get d.units k) → AllByRecursion (λ f. n < f.0) es → AreUntouched d es
       → AreUntouched after es
@@ -259,14 +268,16 @@ module _ (c : CampaignValue) where
   still d after n (f ∷ es) same above all =
       (same f.0 (λ e. absurd (omega (arith, e, above.0))) ∙ all.0, still d after n es same above.1 all.1)
 
+  -- when the phase begins, in `c` itself, the units of all shares are as they are in `c`
   pub untouched : (es : List (ℕ × ℕ)) → AreUntouched c es
   untouched [] = tt
   untouched (e ∷ es) = (refl, untouched es)
 
 -- ---- shares of pots, one after the other
 
--- The shares still to come can be paid in campaign `d`. The campaign is early, and the units of the shares are as they
--- were when the phase began (in `c`). Each share is one that its unit can have (`Fits`), and each pot has enough.
+-- The shares still to come, by rising unit numbers, can be paid in campaign `d`. It is early, and the units of the
+-- shares are as they were when the phase began (in `c`). Each share is one that its unit can have (`Fits`), and each
+-- pot has enough.
 pub record SharesArePayable {K : Type 0} (pots : DrawnPots K) (Fits : ℕ × ℕ → Type 0) (w : WorldValue) (c d : CampaignValue) (es : List (ℕ × ℕ)) : Type 0 where
   pub early : IsEarly w d
   pub rise : Rise es
@@ -274,6 +285,7 @@ pub record SharesArePayable {K : Type 0} (pots : DrawnPots K) (Fits : ℕ × ℕ
   pub fits : AllByRecursion Fits es
   pub enough : HaveEnough pots d es
 
+-- after the first share is paid, the later ones can be paid, if only its unit changed and the pots lost just its share
 pub ready_after : {K : Type 0} (pots : DrawnPots K) {Fits : ℕ × ℕ → Type 0} (w : WorldValue) (c d : CampaignValue) (e : ℕ × ℕ) (es : List (ℕ × ℕ)) (after : CampaignValue)
     → SharesArePayable pots Fits w c d (e ∷ es) → IsEarly w after
     → ((k : ℕ) → k ≢ e.0 → get after.units k ≡ get d.units k)

@@ -24,8 +24,8 @@ use Rattle.atl_phase.specs.Meaning.{LeavesWell, moves_only}
 use Rattle.atl_phase.proofs.BookingLaws.{booked-near}
 use Rattle.atl_phase.proofs.MeaningLaws.{same_month_by}
 
--- Unit and region together have as many people and items after an exchange as before it. Their money together changes
--- by what is booked.
+-- Unit `u` and region `q` together have as many people and items after an exchange as before it. Their money together
+-- changes by what is booked (`z`). After the exchange the unit holds `more`, and the region is what `f` makes of it.
 pub record KeepsTogether (u : Unit) (q : Region) (f : Region → Region) (more : HoldingValue) (z : ℤ) : Type 0 where
   pub money : pos (more.money + (f q).money) ≡ pos (u.holding.money + q.money) +ℤ z
   pub people : more.men + (f q).peasants ≡ u.holding.men + q.peasants

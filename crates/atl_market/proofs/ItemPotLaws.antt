@@ -26,6 +26,7 @@ module _ (item_of : ℕ → Option ℕ) (pot_of : (item region : ℕ) → ℕ) (
   abbrev gets : ℕ → Option ℕ
   gets n = item_share item_of pot_of wants c n
 
+  -- a unit with a share of an item has a want, and the share is at most its want
   pub items_give : (n s : ℕ) → gets n ≡ Some s → (want : ℕ) × (get wants n ≡ Some want) × (s ≤ want)
   items_give n s is = by_item (item_of n) is
     where

@@ -130,6 +130,7 @@ pub put_to : (a k : ℕ) → pos (a + k) ≡ pos a +ℤ pos k
 put_to a k = omega (arith, ints)
 
 module _ (w : WorldValue) (c : CampaignValue) (n i k : ℕ) where
+  -- where the unit is there, using `k` of item `i` sets the unit's amount of it, and books `k` as used
   pub used_is : (u : Unit) → get c.units n ≡ Some u
       → with_used c n i k
       ≡ with_booking (item_held c n u i (amount_of u.holding.items i - k)) entries.Used (Item i) (neg_ℤ (pos k))
@@ -138,6 +139,7 @@ module _ (w : WorldValue) (c : CampaignValue) (n i k : ℕ) where
       ∙ ap (λ d. with_booking d entries.Used (Item i) (neg_ℤ (pos k)))
       (item_is c n u i (amount_of u.holding.items i - k) is)
 
+  -- where the unit is there, making `k` of item `i` sets the unit's amount of it, and books `k` as made
   pub made_is : (u : Unit) → get c.units n ≡ Some u
       → with_made c n i k
       ≡ with_booking (item_held c n u i (amount_of u.holding.items i + k)) entries.Made (Item i) (pos k)
@@ -158,12 +160,14 @@ module _ (w : WorldValue) (c : CampaignValue) (n i k : ℕ) where
       subst (λ d. LeavesWell IsSteady (moves_only limit entries.Used (Item i)) w c d) (sym (used_is u there))
       (set_well w c n u i (a - k) there entries.Used (neg_ℤ (pos k)) (taken_off a k enough) limit known (omega (arith, within)) (within-neg k limit most) steady)
 
+  -- a use that can be made (`CanUse`) keeps the campaign steady and its books balanced
   pub used_well : CanUse w c n i k
       → LeavesWell IsSteady (moves_only holding_limit entries.Used (Item i)) w c (with_used c n i k)
   used_well can =
       let within = held_within can.unit can.there can.steady in
       used_up_to holding_limit (omega (arith, within, can.enough)) can.unit can.there can.known can.enough can.steady
 
+  -- making that can be done (`CanMake`) keeps the campaign steady and its books balanced
   pub made_well : CanMake w c n i k
       → LeavesWell IsSteady (moves_only holding_limit entries.Made (Item i)) w c (with_made c n i k)
   made_well can =
@@ -172,6 +176,7 @@ module _ (w : WorldValue) (c : CampaignValue) (n i k : ℕ) where
       subst (λ d. LeavesWell IsSteady (moves_only holding_limit entries.Made (Item i)) w c d) (sym (made_is u can.there))
       (set_well w c n u i (a + k) can.there entries.Made (pos k) (put_to a k) holding_limit can.known can.fits (within-pos k holding_limit (omega (arith, can.fits))) can.steady)
 
+  -- after using `k` of item `i` unit `n` holds so much less of it, and is otherwise as it was
   pub used_unit : (u : Unit) → get c.units n ≡ Some u
       → get (with_used c n i k).units n
       ≡ Some (record u { holding = record u.holding { items = with_amount_of u.holding.items i (amount_of u.holding.items i - k) } })
@@ -180,6 +185,7 @@ module _ (w : WorldValue) (c : CampaignValue) (n i k : ℕ) where
       ∙ get-insert_same c.units n
       (record u { holding = record u.holding { items = with_amount_of u.holding.items i (amount_of u.holding.items i - k) } })
 
+  -- after making `k` of item `i` unit `n` holds so much more of it, and is otherwise as it was
   pub made_unit : (u : Unit) → get c.units n ≡ Some u
       → get (with_made c n i k).units n
       ≡ Some (record u { holding = record u.holding { items = with_amount_of u.holding.items i (amount_of u.holding.items i + k) } })
@@ -203,6 +209,7 @@ module _ (w : WorldValue) (c : CampaignValue) (n i k : ℕ) where
       by_unit c n (λ (d : CampaignValue). get d.units m ≡ get c.units m) _ refl
       (λ u is. item_others (amount_of u.holding.items i + k) m apart)
 
+-- a holding from which `k` of item `r` are taken has no more of any item than before
 pub no_more : (h : HoldingValue) (r i k : ℕ)
     → amount_of (with_amount_of h.items r (amount_of h.items r - k)) i ≤ amount_of h.items i
 no_more h r i k =

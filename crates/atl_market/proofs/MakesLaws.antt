@@ -48,6 +48,7 @@ module _ (f : ℕ × ℕ → ℕ) where
 -- ---- what is made
 
 module _ (asked : FinMap nat_cmp ℕ) (w : WorldValue) (c : CampaignValue) (wants : FinMap nat_cmp ℕ) where
+  -- what each unit makes, put into the empty map unit by unit, is the map of the definition
   pub makes_are : with_entries empty (map (λ e. (e.0, amount_made w asked c wants e)) (entries wants))
       ≡ made_amounts asked w c wants
   makes_are =
@@ -69,6 +70,7 @@ module _ (asked : FinMap nat_cmp ℕ) (w : WorldValue) (c : CampaignValue) (want
       by_item false = by_share (output_share w asked c wants n) refl
       by_item true = omega arith
 
+-- PRODUCE gives only to units with a want, and to none more than it wants
 pub produce_gives_to_wants : (w : WorldValue) (c : CampaignValue) → GivesToWants produce_pots w c
 produce_gives_to_wants w c asked wants n share is =
     let all = entries wants in

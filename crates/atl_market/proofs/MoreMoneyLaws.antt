@@ -24,6 +24,7 @@ module _ (c : CampaignValue) (n : ℕ) (u : Unit) (money : ℕ) where
   richer = record c { units = insert c.units n paid_unit }
 
   module _ (is : get c.units n ≡ Some u) where
+    -- setting the money of unit `n`, which is `u`, to `money` more than it had makes the campaign `richer`
     pub richer_is : with_money c n (u.holding.money + money) ≡ richer
     richer_is =
         ap (λ m. record c { units = m })

@@ -73,6 +73,7 @@ found_tail e es n s apart is = elim (cases_eq n e.0) [
   | inr other ↦ found_other e es n other ∙ is
 ]
 
+-- what holds of all that is found under a number holds of each entry, if no two entries have the same number
 pub each_found : (P : ℕ × ℕ → Type 0) (es : Entries) → IsApart es → ((n s : ℕ) → find nat_cmp n es ≡ Some s → P (n, s))
     → AllByRecursion P es
 each_found P [] apart h = tt
@@ -140,6 +141,7 @@ module _ (g : ℕ → Option ℕ) where
 
 -- ---- entries with different numbers
 
+-- entries with different numbers, put into the empty map, are found in it as they are in the list
 pub found_put : (es : Entries) → IsApart es → (n : ℕ) → get (with_entries empty es) n ≡ find nat_cmp n es
 found_put es apart =
     agreeing_put (λ n. find nat_cmp n es) es (each_found (λ e. find nat_cmp e.0 es ≡ Some e.1) es apart (λ n s is. is))
@@ -150,10 +152,12 @@ lower_number_not_found k [] above = refl
 lower_number_not_found k (e ∷ es) above =
     found_other e es k (λ same. absurd (omega (arith, same, above.0))) ∙ lower_number_not_found k es above.1
 
+-- entries with rising numbers have different numbers
 pub rise_apart : (es : Entries) → Rise es → IsApart es
 rise_apart [] rise = tt
 rise_apart (e ∷ es) rise = (lower_number_not_found e.0 es rise.0, rise_apart es rise.1)
 
+-- putting entries with rising numbers into the empty map in turn gives the map of them
 pub risen_put : (es : Entries) → Rise es → with_entries empty es ≡ from_entries es
 risen_put es rise =
     same_map nat_cmp_total nat_cmp-IsAntisymmetric _ _
@@ -193,6 +197,7 @@ put_in_turn {V} es = same_map nat_cmp_total nat_cmp-IsAntisymmetric _ _ (λ n.
 
 -- ---- entries that regions give, where a number gets one share at most
 
+-- a number that has an entry in the list made of some `x` has one in the lists of all `xs` together
 pub found_among : (f : ℕ → Entries) (n : ℕ) (xs : List ℕ) (x : ℕ) → list_any (eq_by_cmp nat_cmp x) xs ≡ true
     → is_some (find nat_cmp n (f x)) ≡ true → is_some (find nat_cmp n (flat_map f xs)) ≡ true
 found_among f n [] x among some = absurd (false≢true among)
@@ -208,6 +213,7 @@ found_among f n (y ∷ xs) x among some =
         (false≢true (sym (ap is_some is) ∙ ap (λ z. is_some (find nat_cmp n (f z))) (sym (eqb-true x y (unsigned_ties x y ∙ at))) ∙ some))
     by_first rest None is false at h = ap is_some (found_later n (f y) (flat_map f xs) is) ∙ rest h
 
+-- what holds of each entry of the lists made of all `xs` holds of each entry of these lists together
 pub each_flat : {A : Type 0} (P : ℕ × ℕ → Type 0) (f : A → Entries) (xs : List A)
     → AllByRecursion (λ x. AllByRecursion P (f x)) xs → AllByRecursion P (flat_map f xs)
 each_flat P f [] h = tt
@@ -217,6 +223,7 @@ module _ (f : ℕ → Entries) where
   abbrev from_all : List ℕ → Entries
   from_all rs = flat_map f rs
 
+  -- what is found in the lists of all `rs` together is found in the list of one of them
   pub somewhere : (n s : ℕ) (rs : List ℕ) → find nat_cmp n (from_all rs) ≡ Some s
       → (r : ℕ) × (list_any (eq_by_cmp nat_cmp r) rs ≡ true) × (find nat_cmp n (f r) ≡ Some s)
   somewhere n s [] h = none_some s h
@@ -248,6 +255,7 @@ zip_found P (k ∷ ns) (t ∷ ss) n s h is =
       | Greater ↦ λ _. zip_found P ns ss n s h.1
     ] refl is
 
+-- the numbers are strictly rising
 abbrev pub IsRisen : List ℕ → Type 0
 IsRisen ns = InOrder (λ (n k : ℕ). n < k) ns
 
@@ -295,6 +303,7 @@ found_listed (e ∷ es) n v is = elim (cases_eq n e.0) [
   | inr apart ↦ inr (found_listed es n v (sym (found_other e es n apart) ∙ is))
 ]
 
+-- each of the amounts of wants is at most 999,999,999
 pub amounts_are_low : (wants : FinMap nat_cmp ℕ) → AreWants wants → All (λ want. want ≤ most_amount) (amounts_of wants)
 amounts_are_low wants low =
     All-from_recursion (λ want. want ≤ most_amount) (amounts_of wants)
@@ -308,6 +317,7 @@ amounts_are_low wants low =
 -- ---- the wants for one pot
 
 module _ (asked_by : ℕ → Option ℕ) (wants : FinMap nat_cmp ℕ) where
+  -- the wants for a pot have a unit's want, if the unit asks for the pot, and else nothing
   pub want_at : (pot n : ℕ)
       → get (wants_for asked_by wants pot) n ≡ cond (asks_for pot (asked_by n)) (get wants n) None
   want_at pot n =
@@ -356,14 +366,17 @@ module _ (wants : FinMap nat_cmp ℕ) (units : FinMap nat_cmp Unit) where
   takers_each : (r : ℕ) → AllByRecursion (IsTaker r) (takers_in wants units r)
   takers_each r = each_key (IsTaker r) (wants_at wants units r) (is_taker r)
 
+  -- the units of region `r` that have a want are listed by rising numbers
   pub takers_risen : (r : ℕ) → IsRisen (takers_in wants units r)
   takers_risen r = keys_risen (entries (wants_at wants units r)) (entries_rise (wants_at wants units r))
 
+  -- a unit that has a want has it among the wants of its region
   pub taker_wants : (n want : ℕ) (u : Unit) → get wants n ≡ Some want → get units n ≡ Some u
       → get (wants_at wants units u.region) n ≡ Some want
   taker_wants n want u wanted is =
       wanted_of (region_of_unit units) wants u.region n want (ap (option_map (λ (v : Unit). v.region)) is) wanted
 
+  -- a unit that has a want is listed among the takers of its region
   pub taker_listed : (n want : ℕ) (u : Unit) → get wants n ≡ Some want → get units n ≡ Some u
       → IsListed n (takers_in wants units u.region)
   taker_listed n want u wanted is =
@@ -377,11 +390,13 @@ module _ (pot_of : ℕ → ℕ) (wants : FinMap nat_cmp ℕ) (units : FinMap nat
   abbrev given_in : ℕ → Entries
   given_in r = shares_in pot_of wants units r
 
+  -- a unit with a share in region `r` is in the region and has a want
   pub given_takes : (r n s : ℕ) → find nat_cmp n (given_in r) ≡ Some s → IsTaker wants units r n
   given_takes r n s is =
       zip_found (IsTaker wants units r) (takers_in wants units r) (shares (pot_of r) (wants_in wants units r)) n s
       (takers_each wants units r) is
 
+  -- no unit has two shares in region `r`
   pub given_apart : (r : ℕ) → IsApart (given_in r)
   given_apart r =
       zip_apart (takers_in wants units r) (shares (pot_of r) (wants_in wants units r)) (takers_risen wants units r)
@@ -403,12 +418,14 @@ module _ (pot_of : ℕ → ℕ) (wants : FinMap nat_cmp ℕ) (c : CampaignValue)
   unfolding pot_shares
   found_is n = get-from_entries nat_cmp_total (flat_map (shares_in pot_of wants c.units) (keys c.regions)) n
 
+  -- a unit's share in a region of the campaign is its share among those of all regions (`share_of`)
   pub given_is : (r n s : ℕ) → HasValue c.regions r → find nat_cmp n (shares_in pot_of wants c.units r) ≡ Some s
       → share_of pot_of wants c n ≡ Some s
   given_is r n s (q, is) found =
       found_is n
       ∙ there (shares_in pot_of wants c.units) n r s (λ k t also. gives_one pot_of wants c.units n k r t s also found) found (keys c.regions) (sym (contains_key-keys c.regions r) ∙ ap is_some is)
 
+  -- each share listed for a region of the campaign is its unit's share among those of all regions (`share_of`)
   pub region_agrees : (r : ℕ) → HasValue c.regions r
       → AllByRecursion (λ e. share_of pot_of wants c e.0 ≡ Some e.1) (shares_in pot_of wants c.units r)
   region_agrees r region =
@@ -417,6 +434,7 @@ module _ (pot_of : ℕ → ℕ) (wants : FinMap nat_cmp ℕ) (c : CampaignValue)
 
 -- ---- the laws of `pot_shares`
 
+-- the units of a region that have a want get the shares of its pot by their wants, in unit order
 pub shares_each_pot : SharesEachPot
 shares_each_pot pot_of wants c r region =
     let takers = takers_in wants c.units r in
@@ -433,6 +451,7 @@ each_has_share_within_want g (e ∷ es) [] same low = cc
 each_has_share_within_want g (e ∷ es) (s ∷ ss) same low =
     ((s, (cc), low 0), each_has_share_within_want g es ss (cc) (λ i. low (suc i)))
 
+-- each unit with a want that is in a region of the campaign gets a share, of at most its want
 pub each_taker_gets : EachTakerGets
 each_taker_gets pot_of wants c n want u wanted is region =
     let claims = wants_at wants c.units u.region in
@@ -441,6 +460,7 @@ each_taker_gets pot_of wants c n want u wanted is region =
     (each_has_share_within_want (share_of pot_of wants c) (entries claims) given (shares_each_pot pot_of wants c u.region region) (share_at_most (pot_of u.region) (wants_in wants c.units u.region)))
     n want (taker_wants wants c.units n want u wanted is)
 
+-- a unit with a share wants at least that much, and is in a region of the campaign
 pub only_takers_get : OnlyTakersGet
 only_takers_get pot_of wants c n s is =
     let (r, region, given) = somewhere (shares_in pot_of wants c.units) n s (keys c.regions) (sym (found_is pot_of wants c n) ∙ is) in
@@ -450,6 +470,7 @@ only_takers_get pot_of wants c n s is =
     let same : t ≡ s = cc in
     (want, u, wanted, subst (λ k. k ≤ want) same low, at, is_at)
 
+-- a unit with a share of a pot has a want, and the share is at most its want
 pub pots_give : (pot_of : ℕ → ℕ) (c : CampaignValue) (wants : FinMap nat_cmp ℕ) (n share : ℕ)
     → get (pot_shares pot_of wants c) n ≡ Some share → (want : ℕ) × (get wants n ≡ Some want) × (share ≤ want)
 pots_give pot_of c wants n share is = let (want, u, wanted, low, at, region) = only_takers_get pot_of wants c n share is in (want, wanted, low)
@@ -466,11 +487,13 @@ mapped_with_default g ns ss h = mapped ns ∙ ap (map (λ o. unwrap_or o 0)) h �
     back [] = refl
     back (s ∷ ss) = ap (λ l. s ∷ l) (back ss)
 
+-- the units of a region together get its whole pot, or all that they want where that is less
 pub gives_each_pot : GivesEachPot
 gives_each_pot pot_of wants c r region =
     ap sum (mapped_with_default (share_of pot_of wants c) (takers_in wants c.units r) (shares (pot_of r) (wants_in wants c.units r)) (shares_each_pot pot_of wants c r region))
     ∙ all_is_given (pot_of r) (wants_in wants c.units r)
 
+-- the shares in a region follow from its pot, its units with a want and their wants alone
 pub other_regions_do_not_count : OtherRegionsDoNotCount
 other_regions_do_not_count pot_of other_pots wants other_wants c other r here there pots takers wanted =
     shares_each_pot pot_of wants c r here

@@ -98,6 +98,7 @@ both_less r i booked.Made (things.Item j) = omega (arith, used_none r j, made_le
 both_less r i booked.Used (things.Item j) = omega (arith, used_less r booked.Used (things.Item j), made_none i j)
 both_less r i e t = omega (arith, used_less r e t, made_less i e t)
 
+-- for its own amount (`e`, `t`) the bound `moves_only holding_limit e t` asks for room for 999,999,999
 pub only_room : (e : BooksEntry) (t : Thing) (z : ℤ) → HasRoom (moves_only holding_limit e t e t) z
     → HasRoom holding_limit z
 only_room e t z room = subst (λ b. HasRoom (if b then holding_limit else 0) z) (same_number (amount_number e t)) room
@@ -179,6 +180,7 @@ module _ (asked : FinMap nat_cmp ℕ) (w : WorldValue) (c : CampaignValue) (e : 
         by_raw None is = can_at_once
         by_raw (Some r) is = can_after r is
 
+    -- a unit that can make its share (`CanProduce`) can make that many of the item `x` that its order names
     pub can_make_item : CanMakeOf w c e.0 e.1 i x
     can_make_item = record {
       use_raw = can_use;
@@ -213,6 +215,7 @@ module _ (asked : FinMap nat_cmp ℕ) (w : WorldValue) (c : CampaignValue) (e : 
   abbrev IsStill : ℕ → CampaignValue → Type 0
   IsStill k d = get d.units k ≡ get c.units k
 
+  -- the production of a unit leaves all other units as they are
   pub produced_others : (k : ℕ) → k ≢ e.0 → get (after_production asked w c e).units k ≡ get c.units k
   unfolding after_production
   produced_others k apart =
@@ -221,6 +224,7 @@ module _ (asked : FinMap nat_cmp ℕ) (w : WorldValue) (c : CampaignValue) (e : 
       made_others w (with_raw_used c e.0 amount x.raw) e.0 i e.1 k apart
       ∙ by_option (IsStill k) (λ r. with_used c e.0 r amount) x.raw c refl (λ r raw. used_others w c e.0 r amount k apart))
 
+-- PRODUCE leaves units for which their own faction wrote no order of it no worse off
 pub produce_keeps_others : (w : WorldValue) (c : CampaignValue) (os : List Task)
     → OthersAreNoWorse os c (after_sharing produce_pots w c os)
 produce_keeps_others w c os =
@@ -344,6 +348,7 @@ module _ (w : WorldValue) (c : CampaignValue) (world : IsWorld w) (steady : IsSt
   little : IsBoundWithin (moved_times (length shares) (produce_moves holding_limit)) (produce_moves most_moved)
   little e t = steps_within_produce (length shares) holding_limit most_moved (omega (arith, few)) e t
 
+  -- all shares of PRODUCE can be made in turn, if the books have room for the phase
   pub can_share_out : HaveRoom (produce_moves most_moved) c
       → CanInTurn (CanProduce named w) (after_production named w) c shares
   can_share_out room =

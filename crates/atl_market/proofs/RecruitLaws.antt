@@ -125,6 +125,7 @@ module _ (w : WorldValue) (c : CampaignValue) (e : ℕ × ℕ) where
       → after_recruiting w c e ≡ with_recruits_booked c e.0 can.at.unit can.at.region e.1 price
   made_is can = recruited_is can.at.unit can.at.region can.at.there can.at.around
 
+  -- recruits that can join (`CanRecruit`) keep the campaign early and its books balanced, within the bound of one unit
   pub recruited_well : CanRecruit w c e → LeavesWell IsEarly (recruit_moves holding_limit) w c (after_recruiting w c e)
   recruited_well can =
       subst (λ d. LeavesWell IsEarly (recruit_moves holding_limit) w c d) (sym (made_is can))
@@ -135,6 +136,7 @@ module _ (w : WorldValue) (c : CampaignValue) (e : ℕ × ℕ) where
   recruited_drains can units there =
       one_drains units peasants_of c e can.at.unit can.at.region there can.at.around (after_recruiting w c e) (with_fewer_peasants can.at.region e.1) (ap (λ (d : CampaignValue). d.regions) (made_is can)) (sub-add_cancel can.enough)
 
+  -- the recruiting of a unit leaves all other units as they are
   pub recruited_others : (k : ℕ) → k ≢ e.0 → get (after_recruiting w c e).units k ≡ get c.units k
   unfolding after_recruiting
   recruited_others k apart =
@@ -143,6 +145,7 @@ module _ (w : WorldValue) (c : CampaignValue) (e : ℕ × ℕ) where
       ap (λ o. get (with_holding_at c e.0 (with_paid_recruits u.holding e.1 price) o).units k) is
       ∙ get-insert_other c.units e.0 k (record u { holding = with_paid_recruits u.holding e.1 price }) apart))
 
+-- RECRUIT leaves units for which their own faction wrote no order of it no worse off
 pub recruit_keeps_others : (w : WorldValue) (c : CampaignValue) (os : List Task)
     → OthersAreNoWorse os c (after_sharing recruit_pots w c os)
 recruit_keeps_others w c os =
@@ -226,6 +229,7 @@ module _ (w : WorldValue) (c : CampaignValue) where
     little : (e : BooksEntry) (t : Thing) → moved_times (length shares) step_moves e t ≤ recruit_moves most_moved e t
     little e t = few_holdings (length shares) few Recruiting Money e t
 
+    -- all recruits can join in turn, if the books have room for the phase (`room`)
     pub can_share_out : CanInTurn (CanRecruit w) (after_recruiting w) c shares
     can_share_out = all_can c shares (record {
       early = early;

@@ -58,6 +58,7 @@ module _ (w : WorldValue) (c : CampaignValue) (n : ℕ) (u : Unit) (q : Region) 
   abbrev after : CampaignValue
   after = after_share_taken c n u q share
 
+  -- setting the money of unit and region, as `after_tax` does, makes the campaign `after_share_taken`
   pub tax_is : with_region_money (with_money c n (u.holding.money + share)) u.region (q.money - share) ≡ after
   tax_is = ap (λ d. with_region_money d u.region (q.money - share)) (richer_is c n u share is)
 
@@ -99,12 +100,14 @@ module _ (w : WorldValue) (c : CampaignValue) (n : ℕ) (u : Unit) (q : Region) 
 -- ---- one step
 
 module _ (w : WorldValue) (c : CampaignValue) (e : ℕ × ℕ) where
+  -- where unit and region are there, its tax moves the share from the region to the unit, and changes nothing else
   pub taxed_is : (u : Unit) (q : Region) → get c.units e.0 ≡ Some u → get c.regions u.region ≡ Some q
       → after_tax c e ≡ after_share_taken c e.0 u q e.1
   unfolding after_tax
   taxed_is u q is around =
       unit_there c e.0 _ u is ∙ region_there c u.region _ q around ∙ tax_is w c e.0 u q e.1 is around
 
+  -- a share of tax that can be taken (`CanTax`) keeps the campaign early and its books balanced, and books nothing
   pub taxed_well : CanTax w c e → LeavesWell IsEarly moves_nothing w c (after_tax c e)
   taxed_well can =
       subst (λ d. LeavesWell IsEarly moves_nothing w c d) (sym (taxed_is can.at.unit can.at.region can.at.there can.at.around))
@@ -135,6 +138,7 @@ each_no_worse w c (e ∷ es) =
     are_no_worse_twice c (after_tax c e) (fold after_tax (after_tax c e) es) (taxed_no_worse w c e)
     (each_no_worse w (after_tax c e) es)
 
+-- TAX leaves all units no worse off
 pub tax_keeps_units : (w : WorldValue) (c : CampaignValue) (os : List Task)
     → AreNoWorse c (after_sharing tax_pots w c os)
 unfolding after_sharing
@@ -187,6 +191,7 @@ module _ (w : WorldValue) (c : CampaignValue) where
         subst (λ pot. drawn (draws_region c.units r) shares ≤ pot) (ap (λ o. option_map_or money_of o 0) around)
         (pot_is_enough _ _ c r (q, around))
 
+    -- all shares of TAX can be paid in turn
     pub can_share_out : CanInTurn (CanTax w) after_tax c shares
     can_share_out = all_can c shares (record {
       early = early;

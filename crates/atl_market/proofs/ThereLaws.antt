@@ -18,17 +18,21 @@ by_option {A} P f o otherwise without with = by_case o refl
     by_case (Some x) is = with x is
 
 module _ (c : CampaignValue) (n : ℕ) where
+  -- a change for unit `n` is made, if the unit is there
   pub unit_there : (change : Unit → CampaignValue) (u : Unit) → get c.units n ≡ Some u → at_unit c n change ≡ change u
   unit_there change u is = ap (λ o. option_map_or change o c) is
 
+  -- `P` holds after a change for unit `n`, if it holds of `c`, and, where the unit is there, of what it makes
   pub by_unit : (P : CampaignValue → Type 0) (change : Unit → CampaignValue) → P c
       → ((u : Unit) → get c.units n ≡ Some u → P (change u)) → P (at_unit c n change)
   by_unit P change without with = by_option P change (get c.units n) c without with
 
+  -- a change for region `n` is made, if the region is there
   pub region_there : (change : Region → CampaignValue) (q : Region) → get c.regions n ≡ Some q
       → at_region c n change ≡ change q
   region_there change q is = ap (λ o. option_map_or change o c) is
 
+  -- `P` holds after a change for region `n`, if it holds of `c`, and, where the region is there, of what it makes
   pub by_region : (P : CampaignValue → Type 0) (change : Region → CampaignValue) → P c
       → ((q : Region) → get c.regions n ≡ Some q → P (change q)) → P (at_region c n change)
   by_region P change without with = by_option P change (get c.regions n) c without with

@@ -103,6 +103,7 @@ module _ (w : WorldValue) (c : CampaignValue) (n : ℕ) (u : Unit) (q : Region) 
   abbrev left : CampaignValue
   left = region_changed (λ r. restocked r i d.stock) paid u.region
 
+  -- where unit and region are there, booking the result `d` of a trade makes the campaign `after`
   pub deal_is : with_trade_booked c n u i entry d ≡ after
   deal_is = ap (λ o. with_booking (with_stock (with_holding_at c n more o) u.region i d.stock) entry Money d.booked) is
 
@@ -150,6 +151,7 @@ pub record IsMarketFor (w : WorldValue) (u : Unit) (item : Option ℕ) (m : Mark
   pub there : market_of w u.region m.item ≡ Some m
   pub bounds : IsMarket (length w.items) m.item m
 
+-- the market that is found for an item that an order names is the region's, and keeps the rules of markets
 pub market_is : (w : WorldValue) → IsWorld w → (u : Unit) (item : Option ℕ) (m : Market) → market_for w u item ≡ Some m
     → IsMarketFor w u item m
 market_is w world u None m is = none_some m is
@@ -206,6 +208,7 @@ module _ (w : WorldValue) (u : Unit) (m : Market) (stock share : ℕ) (there : m
 
 -- ---- one step
 
+-- the stock of a region that is there is what the region has of the item
 pub stock_is : (c : CampaignValue) (r : ℕ) (q : Region) (i : ℕ) → get c.regions r ≡ Some q
     → stock_of c r i ≡ amount_of q.stocks i
 stock_is c r q i around = ap (λ o. option_map_or (λ (x : Region). amount_of x.stocks i) o 0) around
@@ -241,6 +244,7 @@ traded_at trade c e u o =
     o c
 
 module _ (trade : Trade) (items : FinMap nat_cmp ℕ) (w : WorldValue) (c : CampaignValue) (e : ℕ × ℕ) where
+  -- where the unit is there, its trade is the one with the market of its region for its order's item (`traded_at`)
   pub traded_is : (u : Unit) → get c.units e.0 ≡ Some u → (o : Option Market) → market_for w u (get items e.0) ≡ o
       → after_trade trade items w c e ≡ traded_at trade c e u o
   unfolding after_trade
@@ -321,6 +325,7 @@ module _ (trade : Trade) (items : FinMap nat_cmp ℕ) (w : WorldValue) (c : Camp
           nothing_drains (item_pots trade w units items) c e (after_trade trade items w c e) (ap (λ (d : CampaignValue). d.regions) (traded_is can.at.unit can.at.there None at)) (subst (CanAfford trade can.at.unit.holding e.1) at can.deal)
       by_market (Some m) at = made_drains can m at units there
 
+  -- the trade of a unit leaves all other units as they are
   pub traded_others : (k : ℕ) → k ≢ e.0 → get (after_trade trade items w c e).units k ≡ get c.units k
   unfolding after_trade
   traded_others k apart =
@@ -331,11 +336,13 @@ module _ (trade : Trade) (items : FinMap nat_cmp ℕ) (w : WorldValue) (c : Camp
 
 -- ---- who gets something
 
+-- SELL and BUY give only to units with a want, and to none more than it wants
 pub trades_give : (trade : Trade) (w : WorldValue) (c : CampaignValue) → GivesToWants (trade_pots trade) w c
 trades_give trade w c items wants n share is =
     items_give (get items) (trade_pot trade w c) wants c n share
     (sym (shares_at (get items) (trade_pot trade w c) wants c n) ∙ is)
 
+-- SELL and BUY leave units for which their own faction wrote no order of the phase no worse off
 pub trade_keeps_others : (trade : Trade) (w : WorldValue) (c : CampaignValue) (os : List Task)
     → OthersAreNoWorse os c (after_sharing (trade_pots trade) w c os)
 trade_keeps_others trade w c os =
@@ -353,6 +360,7 @@ module _ (h : HoldingValue) (m : Market) (says share : ℕ) (holds : IsHolding h
   room_for : (a k limit : ℕ) → a ≤ limit → k ≤ limit - a → a + k ≤ limit
   room_for a k limit fits few = omega (arith, fits, few)
 
+  -- a unit can afford any share that is at most its want
   pub wanted_fits : (trade : Trade) → share ≤ trade_want trade h says (Some m) → CanAfford trade h share (Some m)
   wanted_fits Sell low =
       let (few, payable) = few_of says (amount_of h.items m.item) ((holding_limit - h.money) / m.pays) low in
@@ -482,6 +490,7 @@ module _ (trade : Trade) (w : WorldValue) (world : IsWorld w) (c : CampaignValue
   little : (e : BooksEntry) (t : Thing) → moved_times (length shares) moves e t ≤ trade_moves trade most_moved e t
   little e t = few_holdings (length shares) few (trade_entry trade) Money e t
 
+  -- all shares of SELL or BUY can be traded in turn, if the books have room for the phase (`room`)
   pub can_share_out : CanInTurn (CanTrade trade named w) (after_trade trade named w) c shares
   can_share_out = all_can trade named w world c c shares (record {
     early = early;
@@ -501,6 +510,7 @@ module _ (trade : Trade) (w : WorldValue) (world : IsWorld w) (c : CampaignValue
 
 -- ---- what the code sets, books and marks
 
+-- the result of a trade that can be made (`CanTrade`) can be booked (`CanBookTrade`)
 pub can_book_result : (trade : Trade) (items : FinMap nat_cmp ℕ) (w : WorldValue) (c : CampaignValue) (n share : ℕ)
     → CanTrade trade items w c (n, share)
     → (u : Unit) (m : Market) (stock : ℕ) (entry : BooksEntry) (d : TradeResult) → get c.units n ≡ Some u
@@ -524,6 +534,7 @@ can_book_result trade items w c n share can u m stock entry d there at stock_at 
       room = subst (λ f. HasRoom holding_limit (amount_in c.books f Money)) (sym entry_at) (only_room (trade_entry trade) Money (amount_in c.books (trade_entry trade) Money) (can.room (trade_entry trade) Money));
     }
 
+-- in an early campaign no stock is above 999,999,999
 pub stock_most : (w : WorldValue) (c : CampaignValue) (r i : ℕ) → IsWorld w → IsEarly w c → stock_of c r i ≤ most_amount
 stock_most w c r i world early = by_region (get c.regions r) refl
   where
@@ -556,6 +567,7 @@ module _ (c d e : MarkedCampaign) (n region item stock : ℕ) (f : HoldingValue 
   pub traded_books : e.value.books ≡ c.value.books
   traded_books = ap (λ (s : CampaignValue). s.books) put ∙ ap (λ (s : CampaignValue). s.books) set.value
 
+  -- from `c` to `e` no mark is lost and all that changed is marked, if the stock is marked when it is set
   pub traded_marks : MarksStock d region item stock e.marks → MarksChanges c e
   traded_marks how = marks-trans c d e set.marks (marks_by d e _ put refl (marks-stock d region item stock e.marks how))
 

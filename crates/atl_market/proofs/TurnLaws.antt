@@ -24,16 +24,19 @@ few_holdings k few a b e t = by_test (amount_number e t == amount_number a b)
     by_test true = omega (arith, few)
     by_test false = omega (arith, few)
 
+-- the bound of one step and that of the others together are within the bound of all steps
 pub one_more : {B : Type 0} (book_bound : BookBound) (x : B) (xs : List B)
     → IsBoundWithin (both_move book_bound (moved_times (length xs) book_bound)) (moved_times (length (x ∷ xs)) book_bound)
 one_more book_bound x xs e t = let one : length (x ∷ xs) * book_bound e t ≡ length xs * book_bound e t + book_bound e t = suc-mul (length xs) (book_bound e t) in omega arith
 
+-- books with room for all steps have room for the first
 pub first_room : {B : Type 0} (book_bound : BookBound) (c : CampaignValue) (x : B) (xs : List B)
     → HaveRoom (moved_times (length (x ∷ xs)) book_bound) c → HaveRoom book_bound c
 first_room book_bound c x xs room =
     room_less book_bound (moved_times (length (x ∷ xs)) book_bound) c
     (λ e t. omega (arith, one_more book_bound x xs e t)) room
 
+-- after the first step the books have room for the others, if they had room for all
 pub later_room : {B : Type 0} {leaves : Condition} (book_bound : BookBound) (w : WorldValue) (c d : CampaignValue) (x : B) (xs : List B)
     → LeavesWell leaves book_bound w c d → HaveRoom (moved_times (length (x ∷ xs)) book_bound) c
     → HaveRoom (moved_times (length xs) book_bound) d

@@ -76,11 +76,13 @@ module _ (p : PotMeaning) (orders : CampaignValue → MonthValue → List Task) 
   shared_leave {keeps} men items =
       whole_leaves {meaning = shared} {keeps = keeps} (λ w c m. refl) (λ w c m n. pots_report_none_starved p w c m.events (orders c m) n) (λ w c m h. men w c m) (λ w c m h. items w c (shared w c m).0 m h)
 
+  -- a phase with pots leaves units of factions without a mailing their men, if each payment leaves all units their men
   pub paid_men : ((w : WorldValue) (items : FinMap nat_cmp ℕ) (d : CampaignValue) (e : ℕ × ℕ) → HaveTheirMen d (p.paid items w d e))
       → (w : WorldValue) (c : CampaignValue) (m : MonthValue) → UnmailedAre HasItsMen m c (shared w c m).0
   unfolding after_sharing
   paid_men paid w c m n u there none = let items = items_by p w c (orders c m) in men_in_turn (p.paid items w) (paid w items) c (entries (given_by p w c (orders c m))) n u there
 
+-- where no unit is worse off, units of factions without a mailing have no less of any item
 pub none_worse : (w : WorldValue) (c d : CampaignValue) (m : MonthValue) → AreNoWorse c d
     → UnmailedAre HasItsItems m c d
 none_worse w c d m h n u there none = let (v, after, better) = h n u there in record { unit = v; there = after; is_unaffected = items_of_no_worse u v better }
@@ -95,6 +97,7 @@ tax_men w c e =
     men_changed (λ v. record v { holding = record v.holding { money = u.holding.money + e.1 } }) (λ v. record { faction = refl; men = refl })
     c (with_region_money (with_money c e.0 (u.holding.money + e.1)) u.region (q.money - e.1)) e.0 refl))
 
+-- TAX leaves units of factions without a mailing their men and items
 pub tax_leaves : PhaseLeavesUnmailed tax_spec
 tax_leaves =
     shared_leave tax_pots (orders_with_verbs is_tax)
@@ -110,6 +113,7 @@ work_men w c e =
     men_changed (λ v. record v { holding = record v.holding { money = u.holding.money + wages } }) (λ v. record { faction = refl; men = refl })
     c (with_booking (with_money c e.0 (u.holding.money + wages)) Wages Money (pos wages)) e.0 refl)
 
+-- WORK leaves units of factions without a mailing their men and items
 pub work_leaves : PhaseLeavesUnmailed work_spec
 work_leaves = shared_leave work_pots work_orders (paid_men work_pots work_orders (λ w items. work_men w)) none_worse
 
@@ -126,16 +130,20 @@ none_listed n f (t ∷ ts) h =
     neither false b d e g = g
 
 module _ (is_of : Verb → Bool) (m : MonthValue) where
+  -- a unit whose faction sent no mailing has no order of its own faction
   pub unordered : (n : ℕ) (u : Unit) → get m.readings u.faction ≡ None
       → has_own_order (orders_by_unit is_of m) n u ≡ false
   unordered n u none =
       let ts = orders_by_unit is_of m in
       none_listed n u.faction ts (recursion_from_All (λ t. t.faction ≢ u.faction) ts (none_ordered is_of ByUnit m u.faction none))
 
+  -- where units without an order of their own faction are no worse off, units of factions without a mailing have no
+  -- less of any item
   pub others_items : (c d : CampaignValue) → OthersAreNoWorse (orders_by_unit is_of m) c d
       → UnmailedAre HasItsItems m c d
   others_items c d h n u there none = let (v, after, better) = h n u there (unordered n u none) in record { unit = v; there = after; is_unaffected = items_of_no_worse u v better }
 
+-- RECRUIT leaves units of factions without a mailing their men and items
 pub recruit_leaves : PhaseLeavesUnmailed recruit_spec
 recruit_leaves =
     shared_leave recruit_pots (orders_with_verbs is_recruit)
@@ -161,8 +169,10 @@ module _ (trade : Trade) where
       })
       (λ w c d m. others_items (is_trade trade) m c d)
 
+-- SELL leaves units of factions without a mailing their men and items
 pub sell_leaves : PhaseLeavesUnmailed sell_spec
 sell_leaves = trade_leaves Sell
 
+-- BUY leaves units of factions without a mailing their men and items
 pub buy_leaves : PhaseLeavesUnmailed buy_spec
 buy_leaves = trade_leaves Buy

@@ -61,6 +61,7 @@ module _ (p : PotMeaning) (w : WorldValue) (c : CampaignValue) (n : ℕ) (u : Un
 -- ---- units without an order stay as they are
 
 module _ (step : CampaignValue → ℕ × ℕ → CampaignValue) (others : (c : CampaignValue) (e : ℕ × ℕ) (k : ℕ) → k ≢ e.0 → get (step c e).units k ≡ get c.units k) where
+  -- steps that each change their own unit alone leave a unit that none of them is for as it is
   pub passed_over : (c : CampaignValue) (es : List (ℕ × ℕ)) (n : ℕ) → AllByRecursion (λ e. n ≢ e.0) es
       → get (fold step c es).units n ≡ get c.units n
   passed_over c [] n apart = refl
@@ -78,6 +79,8 @@ without_order_stays p w others c gives os n u there none =
     let apart = each-from_every (λ k share. n ≢ k) given (λ k share is same. not_given p w c n u there gives os none share (ap (get given) same ∙ is)) in
     passed_over (p.paid (items_by p w c os) w) (others (items_by p w c os)) c (entries given) n (all_pairs (λ e. n ≢ e.0) (entries given) apart)
 
+-- A phase with pots leaves units without an order of their own faction no worse off. This supposes that payments go
+-- only to units with a want, and that each changes its own unit alone.
 pub others_no_worse : (p : PotMeaning) (w : WorldValue)
     → ((items : FinMap nat_cmp ℕ) (c : CampaignValue) (e : ℕ × ℕ) (k : ℕ) → k ≢ e.0 → get (p.paid items w c e).units k ≡ get c.units k)
     → (c : CampaignValue) → GivesToWants p w c → (os : List Task) → OthersAreNoWorse os c (after_sharing p w c os)

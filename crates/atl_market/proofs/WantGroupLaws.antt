@@ -72,6 +72,7 @@ module _ (asked_by : ℕ → Option ℕ) where
     abbrev groups_made : WantGroups
     groups_made = grouped asked_by wants
 
+    -- the group of a pot has the wants of the units that ask for the pot
     pub group_is : (pot : ℕ) → group_of groups_made pot ≡ wants_for asked_by wants pot
     group_is pot =
         let asks = λ (k : ℕ). asks_for pot (asked_by k) in
@@ -99,6 +100,7 @@ module _ (asked_by : ℕ → Option ℕ) where
             let nothing : empty ≡ wants_for asked_by wants pot = sym (ap (λ o. unwrap_or o empty) at) ∙ group_is pot in
             none_some want (sym (get-empty nat_cmp n) ∙ ap (λ (m : FinMap nat_cmp ℕ). get m n) nothing ∙ is)
 
+    -- if each want is at most 999,999,999, so is each in a group (`AreWants`)
     pub groups_are_wants : AreWants wants → EachEntry (λ pot group. AreWants group) (entries groups_made)
     groups_are_wants low = each-from_every (λ pot group. AreWants group) groups_made (λ pot group is n want there.
         let mine = ap (λ (m : FinMap nat_cmp ℕ). get m n) (sym (group_found pot group is)) ∙ there in
@@ -131,6 +133,7 @@ module _ (pot_of : ℕ → ℕ) (wants : FinMap nat_cmp ℕ) (c : CampaignValue)
   all_are : all_region_shares c pot_of wants ≡ flat_map shares_there regions_listed
   all_are = from_groups (region_of_unit c.units) wants (λ r group. region_shares c pot_of (r, group))
 
+  -- each share in the list of all regions is the one that `pot_shares` has for the unit (`share_of`)
   pub region_shares_agree : AgreeWith (share_of pot_of wants c) (all_region_shares c pot_of wants)
   region_shares_agree =
       subst (AgreeWith (share_of pot_of wants c)) (sym all_are)

@@ -41,17 +41,20 @@ pub appended_entries : {V : Type 0} (m : FinMap nat_cmp V) (es fs : List (ℕ ×
     → with_entries m (es ++ fs) ≡ with_entries (with_entries m es) fs
 appended_entries m es fs = fold-append (λ so_far entry. insert so_far entry.0 entry.1) m es fs
 
+-- putting in a list with an optional entry ahead is putting in the entry, if there is one, and then the list
 pub optional_entry_first : {V : Type 0} (m : FinMap nat_cmp V) (o : Option (ℕ × V)) (es : List (ℕ × V))
     → with_entries m (cons_option o es) ≡ with_entries (with_entry_if_some m o) es
 optional_entry_first m None es = refl
 optional_entry_first m (Some e) es = refl
 
+-- what holds of each entry of a map, and of each of some entries, holds after these are put into the map
 pub every-with_each : (P : ℕ → ℕ → Type 0) (m : FinMap nat_cmp ℕ) (es : List (ℕ × ℕ))
     → AllByRecursion (λ e. P e.0 e.1) es → Every P m → Every P (with_entries m es)
 every-with_each P m [] each old = old
 every-with_each P m (e ∷ es) each old =
     every-with_each P (insert m e.0 e.1) es each.1 (every-insert P m e.0 e.1 each.0 old)
 
+-- wants stay at most 999,999,999 if one more of at most that is put in
 pub one_want : (m : FinMap nat_cmp ℕ) (n want : ℕ) → want ≤ most_amount → AreWants m → AreWants (insert m n want)
 one_want m n want low old = every-insert (λ number want. want ≤ most_amount) m n want low old
 
@@ -80,6 +83,7 @@ module _ (p : PotMeaning) (w : WorldValue) (c : CampaignValue) where
     pub own : (u.faction == t.faction) ≡ true
     pub no_fault : p.fault w u t ≡ None
 
+  -- the unit that is found for an order (`unit_for`) carries it out
   pub carries_out : (t : Task) (u : Unit) → unit_for p w c t ≡ Ok u → CarriesOut t u
   unfolding unit_for
   carries_out t u is = by_unit (get c.units t.unit) refl is
@@ -159,6 +163,7 @@ module _ (p : PotMeaning) (w : WorldValue) (c : CampaignValue) where
         let (u, t, there, own, same, fine, named) = wants_are_wanted ts n want wanted in
         (u, t, there, own, subst (λ k. share ≤ k) same low, fine, named)
 
+    -- each unit that gets something is there, and gets at most what it wants by some order that is for it
     pub given_is_wanted : (ts : List Task)
         → Every (λ n share. (u : Unit) × (t : Task) × (get c.units n ≡ Some u) × (t.unit ≡ n) × (share ≤ p.want w u t)) (given_by p w c ts)
     given_is_wanted ts n share is = let (u, t, there, own, low, fine, named) = given_is_named ts n share is in (u, t, there, own, low)
@@ -170,6 +175,7 @@ module _ (p : PotMeaning) (w : WorldValue) (c : CampaignValue) where
         by_share None is h = absurd (false≢true h)
         by_share (Some share) is h = let (u, o, there, own, low) = given_is_wanted os n share is in ap is_some there
 
+    -- no more units get something than the campaign has
     pub few_given : (os : List Task) → length (entries (given_by p w c os)) ≤ len c.units
     few_given os =
         let m = given_by p w c os in

@@ -103,11 +103,13 @@ module _ (w : WorldValue) (c : CampaignValue) (n : ℕ) (u : Unit) (money : ℕ)
 -- ---- one step
 
 module _ (w : WorldValue) (c : CampaignValue) (e : ℕ × ℕ) where
+  -- where the unit is there, the payment of its work places pays it their wages (`wages_paid`)
   pub worked_is : (u : Unit) (is : get c.units e.0 ≡ Some u)
       → after_work w c e ≡ wages_paid w c e.0 u (wages_for w u.region e.1) is
   unfolding after_work
   worked_is u is = unit_there c e.0 _ u is ∙ wages_are w c e.0 u (wages_for w u.region e.1) is
 
+  -- wages that can be paid (`CanWork`) keep the campaign steady and its books balanced, within the bound of one unit
   pub worked_well : CanWork w c e → LeavesWell IsSteady (work_moves holding_limit) w c (after_work w c e)
   worked_well can =
       subst (λ d. LeavesWell IsSteady (work_moves holding_limit) w c d) (sym (worked_is can.unit can.there))
@@ -130,6 +132,7 @@ each_no_worse w c (e ∷ es) =
     are_no_worse_twice c (after_work w c e) (fold (after_work w) (after_work w c e) es) (worked_no_worse w c e)
     (each_no_worse w (after_work w c e) es)
 
+-- WORK leaves all units no worse off
 pub work_keeps_units : (w : WorldValue) (c : CampaignValue) (os : List Task)
     → AreNoWorse c (after_sharing work_pots w c os)
 unfolding after_sharing
@@ -188,6 +191,7 @@ module _ (w : WorldValue) where
     little : (e : BooksEntry) (t : Thing) → moved_times (length shares) step_moves e t ≤ work_moves most_moved e t
     little e t = few_holdings (length shares) few Wages Money e t
 
+    -- the wages of all units can be paid in turn, if the books have room for the phase
     pub can_share_out : HaveRoom (work_moves most_moved) c → CanInTurn (CanWork w) (after_work w) c shares
     can_share_out room =
         work_in_turn c shares (entries_rise (given_by work_pots w c os)) steady

@@ -101,6 +101,7 @@ module _ {K X : Type 0} (R : K → K → Ordering) (exact : IsAntisymmetric R) (
 abbrev work_key : Task → List ℕ
 work_key = key_of ByUnit
 
+-- whether two orders have the same key
 abbrev pub have_same_key : Task → Task → Bool
 have_same_key a b = eq_by_cmp (slice_cmp nat_cmp) (work_key a) (work_key b)
 
@@ -114,6 +115,7 @@ other_orders_differ_in_key a b differ =
     false_from_ne_true (have_same_key a b)
     (λ h. let e = keys_tie a b h in differ (ap (λ k. get_or k 0 0) e) (ap (λ k. get_or k 2 0) e))
 
+-- no two of a month's month-long orders have the same key
 pub month_long_keys_differ : (m : MonthValue) → IsDistinct have_same_key (orders_by_unit is_month_long m)
 month_long_keys_differ m =
     values_apart (slice_cmp nat_cmp) (slice_cmp-IsAntisymmetric nat_cmp-IsAntisymmetric) (key_of ByUnit)
@@ -193,6 +195,7 @@ module _ (c : CampaignValue) where
         let own : is_of_faction o.faction (get c.units o.unit) ≡ true = ap (is_of_faction o.faction) there ∙ eq-eqb idle.unit.faction o.faction (sym idle.own ∙ sym faction) in
         false≢true (sym (ap (λ n. is_some (get writers n)) unit ∙ idle.unordered) ∙ listed own))
 
+    -- if no two of the orders `os` have the same key, no two orders of WORK that come of them (`all_work`) have
     pub work_apart : IsDistinct have_same_key os → IsDistinct have_same_key (all_work c os)
     work_apart apart =
         let chosen = filter (λ (o : Task). is_work o.order_value.verb) os in
@@ -272,6 +275,7 @@ module _ (c : CampaignValue) (ts : List Task) where
       by_test true = refl
       by_test false = refl
 
+  -- the code's list of all orders of WORK (`all_work`), not sorted yet, is that of the definition
   pub all_are : all_work c ts ≡ written_work ts ++ idle_work c ts
   all_are =
       ap (λ os. written_work ts ++ os)

@@ -13,6 +13,7 @@ use Rattle.atl_market.specs.Puts.{with_entries}
 use Rattle.atl_market.specs.Idle.{own_unit, own_writers, with_writer}
 use Rattle.atl_market.proofs.WantLaws.{appended_entries}
 
+-- a set that has fewer numbers than there is room for stays within the room when one number is added
 pub fits_one_more : (s : set.FinSet nat_cmp) (n room : ℕ) → set.len s < room → set.len (set.insert s n) ≤ room
 fits_one_more s n room h = let is = set.len-insert nat_cmp_total s n in by_test (set.contains s n) is
   where
@@ -48,6 +49,7 @@ module _ (c : CampaignValue) (ts : List Task) (t : Task) where
             ∙ is_some-cond (eq_by_cmp nat_cmp unit t.unit) t.faction (get (own_writers c ts) unit))
         by_test false other = each unit ∙ sym (ap (λ m. is_some (get m unit)) (writers_more false other))
 
+  -- after the unit of one order more (`with_writer`) the set has at most one number more
   pub few_more : (s : set.FinSet nat_cmp) (n : ℕ) → set.len s ≤ n → set.len (with_writer c t.unit t.faction s) ≤ n + 1
   few_more s n few = by_test (is_of_faction t.faction (get c.units t.unit))
     where

@@ -32,7 +32,8 @@ with_trade Buy h share m = record h {
   items = with_amount_of h.items m.item (amount_of h.items m.item + share);
 }
 
--- a unit after it traded `share` pieces with its market; the unit as it was where it has no market
+-- a unit after it traded `share` pieces with the market of its region for its order's item; the unit as it was where
+-- there is no such market (None)
 abbrev pub trader_of : Trade → Unit → (share : ℕ) → Option Market → Unit
 trader_of trade u share market = option_map_or (λ m. record u { holding = with_trade trade u.holding share m }) market u
 
@@ -41,9 +42,9 @@ abbrev pub stock_after : Trade → (stock traded : ℕ) → ℕ
 stock_after Sell stock traded = stock + traded
 stock_after Buy stock traded = stock - traded
 
--- The law that in a world (`IsWorld`) all units trade at once by SELL or BUY. By SELL each gives its share of the item
--- and gets the money for it, and a region's stock of an item grows by all that its units sold of it. By BUY it is the
--- reverse.
+-- The law that in a world (`IsWorld`) all units trade at once by SELL or BUY, whatever the orders `os`. By SELL each
+-- gives its share of the item and gets the money for it, and a region's stock of an item grows by all that its units
+-- sold of it. By BUY it is the reverse.
 abbrev pub TradesAtOnce : Type 0
 TradesAtOnce =
     (trade : Trade) (w : WorldValue) (c : CampaignValue) (os : List Task) → IsWorld w →
@@ -59,8 +60,8 @@ with_more_money u money = record u { holding = record u.holding { money = u.hold
 abbrev pub with_less_money : RegionChange
 with_less_money q taken = record q { money = q.money - taken }
 
--- The law that all units take their share of TAX at once. Each unit has its share added to its money, and each region
--- loses what its units took.
+-- The law that all units take their share of TAX at once, whatever the orders `os`. Each unit has its share added to
+-- its money, and each region loses what its units took.
 abbrev pub TaxesAtOnce : Type 0
 TaxesAtOnce =
     (w : WorldValue) (c : CampaignValue) (os : List Task)
@@ -74,14 +75,14 @@ with_recruits w u recruits = record u { holding = with_paid_recruits u.holding r
 abbrev pub with_less_peasants : RegionChange
 with_less_peasants q joined = record q { peasants = q.peasants - joined }
 
--- The law that all recruits of RECRUIT join at once. Each unit gains its recruits and pays their price, and each region
--- loses as many peasants.
+-- The law that all recruits of RECRUIT join at once, whatever the orders `os`. Each unit gains its recruits and pays
+-- their price, and each region loses as many peasants.
 abbrev pub RecruitsAtOnce : Type 0
 RecruitsAtOnce =
     (w : WorldValue) (c : CampaignValue) (os : List Task)
     → PaysAtOnce recruit_pots w (λ n. with_recruits w) with_less_peasants c os
 
--- a holding with `amount` less of an item; as it was where no item is given
+-- a holding with `amount` less of a raw item, by its number; as it was where no item is given
 abbrev pub with_raw_taken : HoldingValue → Option ℕ → (amount : ℕ) → HoldingValue
 with_raw_taken h item amount =
     option_map_or (λ i. record h { items = with_amount_of h.items i (amount_of h.items i - amount) }) item h
@@ -100,16 +101,16 @@ maker_of u made item x =
 abbrev pub unit_after_production : WorldValue → Unit → (made : ℕ) → Option ℕ → Unit
 unit_after_production w u made asked = option_map_or (λ e. maker_of u made e.0 e.1) (numbered_item w asked) u
 
--- The law that all units make items by PRODUCE at once. Each gains the pieces that it made and loses the raw items that
--- they take, and no region changes.
+-- The law that all units make items by PRODUCE at once, whatever the orders `os`. Each gains the pieces that it made
+-- and loses the raw items that they take, and no region changes.
 abbrev pub ProducesAtOnce : Type 0
 ProducesAtOnce =
     (w : WorldValue) (c : CampaignValue) (os : List Task) →
     let item_of = get (items_by produce_pots w c os) in
     PaysAtOnce produce_pots w (λ n u made. unit_after_production w u made (item_of n)) unchanged_region c os
 
--- The law that all units are paid for WORK at once. Each has the wages of its places added to its money, and no region
--- changes.
+-- The law that all units are paid for WORK at once, whatever the orders `os`. Each has the wages of its work places
+-- added to its money, and no region changes.
 abbrev pub WorksAtOnce : Type 0
 WorksAtOnce =
     (w : WorldValue) (c : CampaignValue) (os : List Task)

@@ -33,8 +33,8 @@ RegionChange = Region → (given : ℕ) → Region
 abbrev pub paid_unit : UnitChange → Unit → Option ℕ → Unit
 paid_unit gets u share = option_map_or (gets u) share u
 
--- A phase pays all units at once: `gets` makes of each unit and its share the unit after the phase. `gives` makes of
--- each region and all that its units got the region after the phase.
+-- A phase pays all units at once: `gets n` makes of unit `n` and its share the unit after the phase. `gives` makes of
+-- each region and the sum of what its units got the region after the phase.
 pub record PaysAtOnce (p : PotMeaning) (w : WorldValue) (gets : ℕ → UnitChange) (gives : RegionChange)
     (c : CampaignValue) (os : List Task) : Type 0 where
   -- each unit is what `gets` makes of it and its share; a unit without a share is as it was
@@ -52,7 +52,8 @@ unchanged_region q share = q
 
 -- ---- pots by region and item: each changes what the region has of the item
 
--- the sum of what those units in a region got that ask for an item; `item_of` has the item by unit
+-- The sum of what those units in a region got that ask for an item. `item_of` gives, by a unit's number, the number of
+-- the item that it asks for; `given` has the amounts by unit.
 abbrev pub given_of_item : (item_of : ℕ → Option ℕ) → FinMap nat_cmp ℕ → FinMap nat_cmp Unit → (region item : ℕ) → ℕ
 given_of_item item_of given units region item =
     sum (map (λ e. e.1) (filter (λ e. is_in_region region (get units e.0) && asks_for item (item_of e.0)) (entries given)))
@@ -68,8 +69,9 @@ pub record HasNewStocks (q : Region) (becomes : (stock given : ℕ) → ℕ) (gi
   -- `becomes` makes of each item's old stock, and of the amount of the item that was given, the new stock
   pub amounts : (item : ℕ) → amount_of stocks item ≡ becomes (amount_of q.stocks item) (given item)
 
--- A phase with pots of items pays all units at once: `gets` makes of each unit and its share the unit after the phase.
--- `becomes` makes of each stock of a region, and of all that units there got of the item, the stock after the phase.
+-- A phase with pots of items pays all units at once. `item_of n` is the number of the item that unit `n` asks for, if
+-- any. `gets n` makes of unit `n` and its share the unit after the phase. `becomes` makes of each stock of a region,
+-- and of the sum of its units' shares of the item, the stock after the phase.
 pub record PaysItemsAtOnce (p : PotMeaning) (w : WorldValue) (item_of : ℕ → Option ℕ) (gets : ℕ → UnitChange)
     (becomes : (stock given : ℕ) → ℕ) (c : CampaignValue) (os : List Task) : Type 0 where
   -- each unit is what `gets` makes of it and its share; a unit without a share is as it was

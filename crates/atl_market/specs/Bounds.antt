@@ -15,8 +15,8 @@ use Rattle.atl_campaign.specs.Good.{IsSteady}
 use Rattle.atl_campaign.specs.Campaign.{CampaignValue}
 use Rattle.atl_phase.specs.Bounds.{RemainingBound}
 
--- the condition that all steps of a list can be carried out in turn: each (by `can`) in the campaign that those ahead
--- of it leave
+-- The condition that `step` can be carried out for each element of a list in turn, the first element first: `can` holds
+-- of each in the campaign that the steps ahead of it leave. Payments of shares are such steps.
 abbrev pub CanInTurn : {X : Type 0} → (CampaignValue → X → Type 0) → (CampaignValue → X → CampaignValue)
     → CampaignValue → List X → Type 0
 CanInTurn can step c [] = ⊤
@@ -34,6 +34,7 @@ abbrev pub still_bookable : BooksEntry → Thing → HoldingValue → ℕ
 still_bookable e (Item i) h = if entry_index e == entry_index Used then amount_of h.items i else 0
 still_bookable e t h = 0
 
--- the bound on what BUILD may still book: Used of an item by all that the units hold of it, nothing else
+-- The bound on what BUILD may still book: Used of an item by all that the units hold of it, nothing else. It falls with
+-- each order by at least what the order books, as material that is used is no longer held.
 abbrev pub build_remaining : RemainingBound
 build_remaining c e t = sum_over (λ u. still_bookable e t u.holding) c.units

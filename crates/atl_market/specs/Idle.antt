@@ -20,7 +20,8 @@ own_unit c t = if is_of_faction t.faction (get c.units t.unit) then (t.unit, t.f
 abbrev pub own_writers : CampaignValue → List Task → FinMap nat_cmp ℕ
 own_writers c ts = with_entries empty (flat_map (own_unit c) ts)
 
--- a set of units to which this unit is added, if it is of this faction
+-- The set `units` with the unit of an order added, if the unit is of the `faction` that wrote the order. The code
+-- collects the units with an order of their own faction so.
 abbrev pub with_writer : CampaignValue → (unit faction : ℕ) → set.FinSet nat_cmp → set.FinSet nat_cmp
 with_writer c unit faction units = if is_of_faction faction (get c.units unit) then set.insert units unit else units
 

@@ -36,7 +36,7 @@ pub record CanMake (w : WorldValue) (c : CampaignValue) (n i amount : ℕ) : Typ
   -- the books have room for `amount` more of the item made
   pub room : HasRoom amount (amount_in c.books Made (things.Item i))
 
--- unit `n` can use the raw items for `made` of item `i`, and can make the `made` pieces after that
+-- unit `n` can use the raw items for `made` pieces of the item `x`, which has the number `i`, and then make the pieces
 pub record CanMakeOf (w : WorldValue) (c : CampaignValue) (n made i : ℕ) (x : Item) : Type 0 where
   -- the unit can use as much of the raw item, if one goes into the item, as the `made` pieces take
   pub use_raw : (r : ℕ) → x.raw ≡ Some r → CanUse w c n r (made * x.raw_count)
@@ -45,7 +45,7 @@ pub record CanMakeOf (w : WorldValue) (c : CampaignValue) (n made i : ℕ) (x : 
   -- after the raw item is used, the unit can make the `made` pieces
   pub make : CanMake w (with_raw_used c n (made * x.raw_count) x.raw) n i made
 
--- a unit has room for `made` of item `i`, and holds the raw items for them
+-- a unit has room for `made` pieces of the item `x`, which has the number `i`, and holds the raw items for them
 pub record HasRoomAndRaw (w : WorldValue) (u : Unit) (made i : ℕ) (x : Item) : Type 0 where
   pub known : i < length w.items
   pub fits : amount_of u.holding.items i + made ≤ holding_limit
@@ -54,8 +54,9 @@ pub record HasRoomAndRaw (w : WorldValue) (u : Unit) (made i : ℕ) (x : Item) :
   -- the unit holds as much of the raw item, if there is one, as the `made` pieces take
   pub raw : (r : ℕ) → x.raw ≡ Some r → made * x.raw_count ≤ amount_of u.holding.items r
 
--- The unit of a pair (unit, share) can make its share of its item. It is there, and has room and raw items for the
--- share. The books have room for 999,999,999 of each item made, and as much used.
+-- The unit of a pair (unit, share) can make its share of the item that its order names, which `asked` has by unit. The
+-- unit is there, and has room and raw items for the share. The books have room for 999,999,999 of each item made, and
+-- as much used.
 pub record CanProduce (asked : FinMap nat_cmp ℕ) (w : WorldValue) (c : CampaignValue) (e : ℕ × ℕ) : Type 0 where
   pub unit : Unit
   pub there : get c.units e.0 ≡ Some unit

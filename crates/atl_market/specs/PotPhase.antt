@@ -46,7 +46,7 @@ count_in other = 0
 
 -- what is particular to one phase with pots: its faults, wants and shares, and what a share changes
 pub record PotMeaning : Type 0 where
-  -- the fault that the phase finds in an order of the unit's own faction, if there is one
+  -- the fault that the phase finds in an order that the unit's own faction wrote for it, if there is one
   pub fault : WorldValue → Unit → Task → Option EventFault
   -- how much a unit wants by an order: of the pot of its region, or of its item's pot there
   pub want : WorldValue → Unit → Task → ℕ
@@ -54,7 +54,8 @@ pub record PotMeaning : Type 0 where
   pub grants : (items : FinMap nat_cmp ℕ) → WorldValue → CampaignValue → (wants : FinMap nat_cmp ℕ) → FinMap nat_cmp ℕ
   -- the number in the event of a unit's order, by the unit's share of the pot
   pub event_number : WorldValue → Unit → ℕ → ℕ
-  -- the campaign after a unit, by its number, got its share of the pot of its region, or of that of its item there
+  -- The campaign after the unit of a pair (unit, share) got its share of the pot of its region, or of that of its item
+  -- there. `items` has the item that each unit's order names, by unit.
   pub paid : (items : FinMap nat_cmp ℕ) → WorldValue → CampaignValue → ℕ × ℕ → CampaignValue
 
 -- A map by unit, such as of wants, from a list of pairs (unit, number); of several pairs for one unit the last counts.
@@ -62,7 +63,7 @@ pub record PotMeaning : Type 0 where
 abbrev pub by_unit : List (ℕ × ℕ) → FinMap nat_cmp ℕ
 by_unit es = from_entries (reverse es)
 
--- a unit without a fault, or the fault
+-- the unit where there is no fault, else the fault
 abbrev pub unless_fault : Option EventFault → Unit → Result Unit EventFault
 unless_fault None u = Ok u
 unless_fault (Some fault) u = Err fault
@@ -103,7 +104,7 @@ module _ (p : PotMeaning) (w : WorldValue) (c : CampaignValue) where
   abbrev pub given_by : List Task → FinMap nat_cmp ℕ
   given_by ts = p.grants (items_by ts) w c (wants_by ts)
 
-  -- the campaign after each unit got its share
+  -- the campaign after each unit got its share, one unit after the other by their numbers
   unfoldable pub after_sharing : List Task → CampaignValue
   after_sharing ts = fold (p.paid (items_by ts) w) c (entries (given_by ts))
 

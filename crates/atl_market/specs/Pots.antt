@@ -56,6 +56,7 @@ pot_shares pot_of wants c = from_entries (flat_map (shares_in pot_of wants c.uni
 
 -- ---- laws
 
+-- `pot_of` gives the pot of a region by its number; `wants` has how much each unit wants of it, by unit
 module _ (pot_of : ℕ → ℕ) (wants : FinMap nat_cmp ℕ) (c : CampaignValue) where
   -- what a unit gets of the pot of its region, if it has a share
   abbrev pub share_of : ℕ → Option ℕ
@@ -101,8 +102,8 @@ GivesEachPot =
     → sum (map (amount_given pot_of wants c) (takers_in wants c.units region))
     ≡ min (pot_of region) (sum (wants_in wants c.units region))
 
--- The law that the shares in a region follow from its pot, its units with a want and their wants alone. Two campaigns
--- in which these are equal give equal shares there.
+-- The law that the shares in a region follow from its pot, its units with a want and their wants alone. Where these are
+-- equal in two campaigns (`c`, `other`), the shares there are equal, whatever differs in other regions.
 abbrev pub OtherRegionsDoNotCount : Type 0
 OtherRegionsDoNotCount =
     (pot_of other_pots : ℕ → ℕ) (wants other_wants : FinMap nat_cmp ℕ) (c other : CampaignValue) (region : ℕ)

@@ -41,7 +41,8 @@ numbered_item w asked = option_and_then (λ i. option_map (λ x. (i, x)) (slice_
 
 -- ---- how much a unit can make
 
--- how many pieces of an item a unit's raw items allow, at `count` each, up to `most`; `most` where no raw item goes in
+-- how many pieces of an item a unit's raw items allow, at `count` for each piece, but at most `most`; `most` where no
+-- raw item goes in
 abbrev pub up_to_raw : HoldingValue → (count : ℕ) → (raw : Option ℕ) → (most : ℕ) → ℕ
 up_to_raw h count raw most = option_map_or (λ r. min (amount_of h.items r / count) most) raw most
 
@@ -61,11 +62,12 @@ most_makeable w h asked = option_map_or (λ e. most_makeable_of h e.0 e.1) (numb
 abbrev pub takes_raw : WorldValue → Option ℕ → Bool
 takes_raw w asked = option_map_or (λ x. is_some x.raw) (item_of w asked) true
 
--- the item that a unit makes out of what its region gives: the one that its order names, if no raw item goes into it
+-- The item that unit `n` makes out of what its region gives: the one that its order names, if no raw item goes into it.
+-- `asked` has by unit the number of the item that its order names, here and below.
 abbrev pub output_item : WorldValue → FinMap nat_cmp ℕ → ℕ → Option ℕ
 output_item w asked n = if takes_raw w (get asked n) then None else get asked n
 
--- how much of an item a region's terrain gives
+-- how much of an item a region's terrain gives, which is the region's pot of the item; 0 where there is no terrain
 abbrev pub output_at : WorldValue → (item region : ℕ) → ℕ
 output_at w i region = option_map_or (λ t. unwrap_or (slice_get t.output i) 0) (terrain_of w region) 0
 
@@ -92,11 +94,12 @@ made_amounts asked w c wants = from_entries (map (λ e. (e.0, amount_made w aske
 abbrev pub with_raw_used : CampaignValue → ℕ → (amount : ℕ) → (raw : Option ℕ) → CampaignValue
 with_raw_used c n amount raw = option_map_or (λ r. with_used c n r amount) raw c
 
--- a campaign after unit `n` made `made` pieces of an item, and used the raw items for them
+-- a campaign after unit `n` used the raw items for `made` pieces of item `x`, which has the number `i`, and made them
 abbrev pub with_item_made : CampaignValue → ℕ → (made item : ℕ) → Item → CampaignValue
 with_item_made c n made i x = with_made (with_raw_used c n (made * x.raw_count) x.raw) n i made
 
--- a campaign after a unit, by its number, made `made` pieces of the item that its order names
+-- a campaign after a unit, by its number, made `made` pieces of the item that its order names; unchanged where that is
+-- no item of the world
 unfoldable pub after_production : FinMap nat_cmp ℕ → WorldValue → CampaignValue → ℕ × ℕ → CampaignValue
 after_production asked w c (n, made) =
     option_map_or (λ e. with_item_made c n made e.0 e.1) (numbered_item w (get asked n)) c
@@ -107,7 +110,7 @@ after_production asked w c (n, made) =
 abbrev pub is_unskilled : HoldingValue → Item → Bool
 is_unskilled h x = if is_some x.skill then nat_lt (level_in_any h x.skill) x.level else true
 
--- whether an item needs raw items, `count` each, and a unit holds too few of them for a single piece
+-- whether an item needs raw items, `count` for each piece, and a unit holds too few of them for a single piece
 abbrev pub is_raw_missing : HoldingValue → (count : ℕ) → (raw : Option ℕ) → Bool
 is_raw_missing h count raw = option_map_or (λ r. amount_of h.items r / count == 0) raw false
 

@@ -43,7 +43,8 @@ recruits_at w c region = option_map_or (λ q. q.peasants / w.rules.recruit_fract
 abbrev pub with_paid_recruits : HoldingValue → (recruits cost : ℕ) → HoldingValue
 with_paid_recruits h recruits cost = record h { men = h.men + recruits; money = h.money - cost }
 
--- a campaign after `recruits` peasants of its region joined a unit, by its number; their price is paid and booked
+-- A campaign after `recruits` peasants of its region joined a unit, by its number. The unit pays their price, which is
+-- booked as taken out of the campaign (below 0).
 unfoldable pub after_recruiting : WorldValue → CampaignValue → ℕ × ℕ → CampaignValue
 after_recruiting w c (n, recruits) =
     let cost = recruits * w.rules.recruit_price in

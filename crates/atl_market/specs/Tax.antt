@@ -27,7 +27,7 @@ is_tax verb = false
 abbrev pub tax_fault : Unit → Option EventFault
 tax_fault u = first_fault ((u.holding.men == 0, NoMen) ∷ (not u.holding.guard, NotGuarding) ∷ [])
 
--- how much money a unit wants: what its men take, at most its room for money
+-- how much money a unit wants: `tax_per_man` for each man, at most its room for money
 abbrev pub tax_want : WorldValue → Unit → ℕ
 tax_want w u = min (u.holding.men * w.rules.tax_per_man) (holding_limit - u.holding.money)
 
@@ -35,7 +35,7 @@ tax_want w u = min (u.holding.men * w.rules.tax_per_man) (holding_limit - u.hold
 abbrev pub money_at : CampaignValue → ℕ → ℕ
 money_at c region = option_map_or (λ q. q.money) (get c.regions region) 0
 
--- a campaign after a unit, by its number, took its share of its region's money
+-- a campaign after a unit, by its number, took its share of its region's money; unchanged where one of them isn't there
 unfoldable pub after_tax : CampaignValue → ℕ × ℕ → CampaignValue
 after_tax c (n, share) =
     at_unit c n (λ u.

@@ -74,7 +74,7 @@ abbrev pub market_pot : Trade → (limit stock : ℕ) → ℕ
 market_pot Sell limit stock = limit - stock
 market_pot Buy limit stock = stock
 
--- the limit of the stock of a region's market for an item; 0 where there is no market
+-- the most that a region's market for an item may have in stock; 0 where there is no market
 abbrev pub limit_of : WorldValue → (item region : ℕ) → ℕ
 limit_of w item region = option_map_or (λ m. m.limit) (market_of w region item) 0
 
@@ -105,18 +105,18 @@ abbrev pub trade_entry : Trade → BooksEntry
 trade_entry Sell = Sold
 trade_entry Buy = Bought
 
--- a holding with the money and the amount of an item that a trade leaves
+-- a holding with the money and the amount of an item that a trade leaves, as its result `d` says
 abbrev pub with_trade_result : HoldingValue → (item : ℕ) → TradeResult → HoldingValue
 with_trade_result h item d = record h { money = d.money; items = with_amount_of h.items item d.amount }
 
--- a campaign with unit `n`, the stock of its region and the books as the result of a trade leaves them
+-- a campaign with unit `n`, which is `u`, the stock of its region and the books as the result `d` of a trade says
 abbrev pub with_trade_booked : CampaignValue → ℕ → Unit → (item : ℕ) → BooksEntry → TradeResult → CampaignValue
 with_trade_booked c n u item entry d =
     let paid = with_holding c n (with_trade_result u.holding item d) in
     with_booking (with_stock paid u.region item d.stock) entry Money d.booked
 
--- A campaign after a unit, by its number, traded `share` pieces of its order's item; unchanged where its region has no
--- market for it.
+-- A campaign after a unit, by its number, traded `share` pieces of its order's item, which `items` has by unit. It is
+-- unchanged where the unit's region has no market for the item.
 unfoldable pub after_trade : Trade → FinMap nat_cmp ℕ → WorldValue → CampaignValue → ℕ × ℕ → CampaignValue
 after_trade trade items w c (n, share) =
     at_unit c n (λ u.

@@ -39,8 +39,8 @@ pub record IsPriced (m : Market) : Type 0 where
   pub pays : 1 ≤ m.pays
   pub limit : m.limit ≤ most_amount
 
--- The unit of a pair (unit, share) can trade its share of its order's item: it can afford it, and the market's pot and
--- the books allow it.
+-- The unit of a pair (unit, share) can trade its share of its order's item, which `items` has by unit. It can afford
+-- the share, and the market's pot and the books allow it.
 pub record CanTrade (trade : Trade) (items : FinMap nat_cmp ℕ) (w : WorldValue) (c : CampaignValue) (e : ℕ × ℕ) : Type 0 where
   pub at : IsSomewhere c e.0
   -- the unit can trade its share with the market of its order's item; without a market the share is 0
@@ -54,7 +54,8 @@ pub record CanTrade (trade : Trade) (items : FinMap nat_cmp ℕ) (w : WorldValue
   -- the books have room for 999,999,999 money of the trade, sold or bought
   pub room : HaveRoom (trade_moves trade holding_limit) c
 
--- the result of a trade is within the limits of unit `n`, which is there, and the books have room for it
+-- The result `d` of a trade can be booked under `entry` (Sold or Bought): it is within the limits of unit `n`, which is
+-- there, and the books have room for its money.
 pub record CanBookTrade (c : CampaignValue) (n : ℕ) (entry : BooksEntry) (d : TradeResult) : Type 0 where
   pub unit : Unit
   pub there : get c.units n ≡ Some unit

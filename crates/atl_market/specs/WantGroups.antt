@@ -12,7 +12,8 @@ use Rattle.atl_market.specs.Pots.{region_of_unit, shares_of}
 abbrev pub WantGroups : Type 0
 WantGroups = FinMap nat_cmp (FinMap nat_cmp ℕ)
 
--- the groups with the want of a pair (unit, want) under the pot that the unit asks for; unchanged where it asks for none
+-- The groups with the want of a pair (unit, want) put under the pot that the unit asks for; unchanged where it asks for
+-- none. `asked_by` gives, by a unit's number, the number of the pot that it asks for.
 abbrev pub with_want : (asked_by : ℕ → Option ℕ) → WantGroups → ℕ × ℕ → WantGroups
 with_want asked_by groups e =
     option_map_or (λ pot. insert groups pot (insert (group_of groups pot) e.0 e.1)) (asked_by e.0) groups
@@ -22,7 +23,7 @@ abbrev pub grouped : (asked_by : ℕ → Option ℕ) → FinMap nat_cmp ℕ → 
 grouped asked_by wants = fold (with_want asked_by) empty (entries wants)
 
 module _ (c : CampaignValue) where
-  -- the units of one region's group with their shares of its pot; none where the region isn't there
+  -- the units of a group (region, wants by unit) with their shares of the region's pot; none without the region
   abbrev pub region_shares : (pot_of : ℕ → ℕ) → ℕ × FinMap nat_cmp ℕ → List (ℕ × ℕ)
   region_shares pot_of group = if is_some (get c.regions group.0) then shares_of (pot_of group.0) group.1 else []
 
@@ -30,6 +31,6 @@ module _ (c : CampaignValue) where
   abbrev pub all_region_shares : (pot_of : ℕ → ℕ) → FinMap nat_cmp ℕ → List (ℕ × ℕ)
   all_region_shares pot_of wants = flat_map (region_shares pot_of) (entries (grouped (region_of_unit c.units) wants))
 
-  -- the units of one item's group, region by region, each with its share of what the region has of the item
+  -- the units of a group (item, wants by unit), region by region, each with its share of what the region has of it
   abbrev pub shares_of_item : (pot_of : ℕ → ℕ → ℕ) → ℕ × FinMap nat_cmp ℕ → List (ℕ × ℕ)
   shares_of_item pot_of group = all_region_shares (pot_of group.0) group.1

@@ -34,7 +34,7 @@ use Rattle.atl_phase.specs.PhaseSpecs.{PhaseSpec, books_money}
 abbrev pub idle_task : (unit faction : ℕ) → Task
 idle_task unit faction = record { faction = faction; unit = unit; line = 0; index = 0; order_value = order_of verbs.Work Nothing }
 
--- whether a unit has men and its own faction wrote none of the orders `ts` for it
+-- whether a unit, with its number, has men and its own faction wrote none of the orders `ts` for it
 abbrev pub is_idle : List Task → ℕ × Unit → Bool
 is_idle ts (n, u) = nat_lt 0 u.holding.men && not (has_own_order ts n u)
 
@@ -68,7 +68,7 @@ wage_at w region = option_map_or (λ t. t.wage) (terrain_of w region) 0
 abbrev pub places_at : WorldValue → ℕ → ℕ
 places_at w region = option_map_or (λ t. t.places) (terrain_of w region) 0
 
--- how many work places a unit wants: one for each man, as far as it has room for the wages; 0 where no terrain is given
+-- how many work places a unit wants: one for each man, as far as it has room for the wages; 0 without a terrain (None)
 abbrev pub work_want : Unit → Option Terrain → ℕ
 work_want u terrain =
     option_map_or (λ t. min u.holding.men ((holding_limit - u.holding.money) / t.wage)) terrain 0
@@ -84,7 +84,7 @@ after_work w c (n, places) =
     let wages = wages_for w u.region places in
     with_booking (with_money c n (u.holding.money + wages)) Wages Money (pos wages))
 
--- the fault of WORK, if there is one: NoMen
+-- the fault of WORK, if there is one: NoMen, which only an order that was written can have
 abbrev pub work_fault : Unit → Option EventFault
 work_fault u = first_fault ((u.holding.men == 0, NoMen) ∷ [])
 

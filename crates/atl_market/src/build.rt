@@ -32,6 +32,7 @@ use std::alloc::{AllocError, Global};
 #[derive(Drop, Clone, Copy)]
 pub struct BuildPhase;
 
+/// The kind of the world under a number; None where the world has no such kind.
 fn kind_of(world: &World, number: u16) -> Option<&Kind>
     ensures { option_copied result ≡ slice_get world.now.kinds number }
 {
@@ -115,8 +116,9 @@ fn name_of(alloc: Global, kind: &Kind, number: u32) -> Result<Text, AllocError>
     Ok(Text::from_string(letters))
 }
 
-/// Begins a structure: the unit uses `size` of the kind's material, leaves its old structure and
-/// enters the new one. AllocError without memory; the campaign may then be changed in part.
+/// Begins a structure of the kind `kind`, which has the number `number`, in the unit's `region`.
+/// The unit uses `size` of the kind's material, leaves its old structure and enters the new one.
+/// AllocError without memory; the campaign may then be changed in part.
 fn start_structure(
     alloc: Global,
     world: &World,
@@ -148,6 +150,9 @@ fn start_structure(
     Ok(())
 }
 
+/// Carries out `BUILD kind` for the order's unit: it begins a structure of the kind `kind`, which
+/// has the number `number`. With a fault nothing changes, and the outcome is the fault. AllocError
+/// without memory; the campaign may then be changed in part.
 #[tactic(auto, unfolding(crate::specs::Build::begin))]
 fn begin(
     alloc: Global,
@@ -180,6 +185,8 @@ fn begin(
     Ok(Outcome::Done(u64::from(size)))
 }
 
+/// Carries out BUILD without a kind: the order's unit continues the structure that it is inside.
+/// With a fault nothing changes, and the outcome is the fault. AllocError without memory.
 #[tactic(auto, unfolding(crate::specs::Build::go_on))]
 fn go_on(
     world: &World,
@@ -268,6 +275,7 @@ impl Phase for BuildPhase {
         mut campaign: Campaign,
         mut month: Month,
     ) -> PhaseResult {
+        // The contract of `kinds` gives the rules of kinds, which `CanBuild` needs.
         let _kinds = world.kinds();
         carry_out_orders(alloc, self, world, &mut campaign, &mut month)?;
         Ok((campaign, month))

@@ -12,6 +12,7 @@ use atl_phase::book_taken;
 use atl_world::World;
 use std::alloc::AllocError;
 
+/// How much of an item unit `number` holds; 0 where it isn't there.
 fn held_of(campaign: &Campaign, number: u32, item: u16) -> u32
     ensures { (u : Unit) → map.get campaign.now.value.units number ≡ Some u
         → result ≡ amount_of u.holding.items item }
@@ -22,7 +23,7 @@ fn held_of(campaign: &Campaign, number: u32, item: u16) -> u32
     }
 }
 
-/// Takes `amount` of an item from a unit that holds as much, and books it as used.
+/// Takes `amount` of an item from unit `number`, which holds as much, and books it as used.
 pub(crate) fn use_item(
     world: &World,
     campaign: &mut Campaign,
@@ -41,7 +42,7 @@ pub(crate) fn use_item(
     Ok(())
 }
 
-/// Gives `amount` of an item to a unit that has room for it, and books it as made.
+/// Gives `amount` of an item to unit `number`, which has room for it, and books it as made.
 pub(crate) fn make_item(
     world: &World,
     campaign: &mut Campaign,

@@ -12,6 +12,7 @@ use atl_campaign::{Campaign, EventFault, HOLDING_LIMIT, Holding, level_in_any};
 use atl_world::{Item, World};
 use std::alloc::AllocError;
 
+/// The world's item under the number that an order names (`asked`), if there is one.
 pub(crate) fn item_of(world: &World, asked: Option<u16>) -> Option<&Item>
     ensures value { option_copied result ≡ item_of world.now asked }
     ensures bounds { IfSome result (λ item. 1 ≤ item.now.raw_count) }
@@ -35,8 +36,8 @@ fn is_raw_missing(holding: &Holding, count: u32, raw: Option<u16>) -> bool
     }
 }
 
-/// How many pieces of an item a unit's raw items allow, at `count` each, but at most `most`; `most`
-/// where no raw item goes in.
+/// How many pieces of an item a unit's raw items allow, at `count` for each piece, but at most
+/// `most`; `most` where no raw item goes in.
 fn up_to_raw(holding: &Holding, count: u32, raw: Option<u16>, most: u32) -> u32
     requires { 1 ≤ count }
     ensures value { result ≡ up_to_raw holding.now count raw most }
@@ -48,6 +49,8 @@ fn up_to_raw(holding: &Holding, count: u32, raw: Option<u16>, most: u32) -> u32
     }
 }
 
+/// The first fault of PRODUCE, if there is one: NoMen, NoSkill, NoMaterial; without an item of the
+/// world NoMen, else NoSkill.
 pub(crate) fn produce_fault(
     world: &World,
     holding: &Holding,
@@ -89,6 +92,8 @@ pub(crate) fn most_makeable(world: &World, holding: &Holding, asked: Option<u16>
     }
 }
 
+/// Takes from unit `number` the raw items for `made` pieces of an item, if raw items go into it,
+/// and books them as used.
 fn use_raw(
     world: &World,
     campaign: &mut Campaign,
@@ -110,8 +115,8 @@ fn use_raw(
     }
 }
 
-/// Makes `made` pieces of the item `found`, which has the number `item`: takes the raw items from a
-/// unit, and gives it the pieces.
+/// Makes `made` pieces of the item `found`, which has the number `item`: takes the raw items from
+/// unit `number`, and gives it the pieces. Both are booked.
 pub(crate) fn make(
     world: &World,
     campaign: &mut Campaign,

@@ -72,8 +72,9 @@ pub(crate) trait PotPhase {
     fn event_number(&self, world: &World, unit: &Unit, share: u32) -> u64
         ensures { result ≡ PotMeaning.event_number (meaning self.now) world.now unit.now share };
 
-    /// Gives a unit its share of the pot of its region, or of the pot of its item there. AllocError
-    /// without memory; the campaign may then be changed in part.
+    /// Gives a unit, by its number, its share of the pot of its region, or of the pot of its item
+    /// there, which `items` has by unit. AllocError without memory; the campaign may then be
+    /// changed in part.
     fn pay(
         &self,
         world: &World,
@@ -131,6 +132,8 @@ fn unit_for<'c, P: PotPhase>(
     }
 }
 
+/// Puts into `wants` what the order's unit wants, and into `items` the item that the order names,
+/// both under the unit's number. An order with a fault puts nothing in.
 #[tactic(auto, using(crate::proofs::WantLaws::one_want))]
 fn note_order<P: PotPhase>(
     phase: &P,
@@ -205,6 +208,7 @@ fn event_of<P: PotPhase>(
     order.event(outcome)
 }
 
+/// One event for each order, in the order of `orders`; `given` has by unit how much each gets.
 fn events_of<P: PotPhase>(
     alloc: Global,
     phase: &P,
@@ -224,7 +228,8 @@ fn events_of<P: PotPhase>(
     Ok(events)
 }
 
-/// Gives each unit its share of its pot, in the order of the units' numbers.
+/// Gives each unit its share of its pot, in the order of the units' numbers. `items` has the item
+/// that its order names, and `given` its share, both by unit.
 fn pay_all<P: PotPhase>(
     phase: &P,
     world: &World,
@@ -248,8 +253,9 @@ fn pay_all<P: PotPhase>(
 
 /// Shares the pots of all regions among the units by their orders, all at once, and returns an
 /// event for each order. Who takes part, what each wants and what there is to share is read from
-/// the campaign as it is handed in. AllocError without memory; the campaign may then be changed in
-/// part. See docs/RULES.md, "Pots".
+/// the campaign as it is handed in. The shares are then paid one by one, which must be possible
+/// (`can`). AllocError without memory; the campaign may then be changed in part. See docs/RULES.md,
+/// "Pots".
 #[tactic(auto, unfolding(crate::specs::PotPhase::after_sharing, crate::specs::PotPhase::events_by))]
 pub(crate) fn share_out<P: PotPhase>(
     alloc: Global,

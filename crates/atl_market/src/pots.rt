@@ -17,6 +17,7 @@ use std::alloc::{AllocError, Global};
 pub trait Pots {
     ghost use Rattle.std.specs.Prelude.{ℕ};
 
+    // How much there is to share in a region, by the region's number.
     ghost pot_of: { Self → ℕ → ℕ };
 
     // What must hold for `pot` to be called.
@@ -36,6 +37,8 @@ pub(crate) trait AskedPots {
     // The number of the pot that a unit asks for, by the unit's number; None if it asks for none.
     ghost asked_by: { Self → ℕ → Option ℕ };
 
+    /// The number of the pot that a unit asks for: that of a region or of an item; None if it asks
+    /// for none.
     fn asked(&self, unit: u32) -> Option<u32>
         ensures { result ≡ asked_by self.now unit };
 }
@@ -57,6 +60,8 @@ impl<'a> AskedPots for UnitRegions<'a> {
 /// The wants of units: for each pot a map from each unit that asks for it to its want.
 pub(crate) type WantGroups = Numbered<Numbered<u32>>;
 
+/// Puts a unit's want into the group of the pot that the unit asks for. Where it asks for none
+/// nothing changes.
 fn note_want<A: AskedPots>(
     alloc: Global,
     asked: &A,
@@ -134,7 +139,8 @@ fn share_pot(
     put_shares(wants, &shares, given)
 }
 
-/// Shares one region's pot among its units that have a want. Without the region it does nothing.
+/// Shares one region's pot among its units that have a want in `wants`, and puts the shares into
+/// the map `given`, by unit. Without the region it does nothing.
 fn share_region<P: Pots>(
     alloc: Global,
     campaign: &Campaign,

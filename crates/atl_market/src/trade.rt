@@ -51,6 +51,7 @@ pub(crate) struct TradeResult {
 }
 
 impl Trade {
+    /// The entry of the books for the money of a trade: Sold or Bought.
     fn entry(self) -> BooksEntry
         ensures { result ≡ trade_entry self }
     {
@@ -135,9 +136,9 @@ fn trade_result_of(
     }
 }
 
-/// Sets a unit's money and its amount of an item, and its region's stock of the item, to what a
-/// trade leaves of them, and books the money. AllocError without memory; the campaign may then be
-/// changed in part.
+/// Sets the money of unit `number`, its amount of an item and its region's stock of the item to
+/// what a trade leaves of them (`deal`). Books the money under `entry`. AllocError without memory;
+/// the campaign may then be changed in part.
 fn book_trade(
     campaign: &mut Campaign,
     number: u32,

@@ -34,7 +34,8 @@ use std::alloc::{AllocError, Global};
 #[derive(Drop, Clone, Copy)]
 pub struct WorkPhase;
 
-/// Adds a unit to the set if it is of this faction.
+/// Adds the unit of an order to the set `writers`, which has room for it, if the unit is of the
+/// `faction` that wrote the order.
 fn add_writer(campaign: &Campaign, unit: u32, faction: u32, writers: &mut Marks)
     requires { set.len writers.old.numbers < writers.old.room }
     ensures { writers.new ≡ record writers.old
