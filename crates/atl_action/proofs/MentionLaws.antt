@@ -32,12 +32,14 @@ first_mention_is_kept seen n ns new =
     grind
     (rules, new, both_filters (is_new seen) (λ k. not (k == n)) (is_new (insert seen n n)) (new_after_insert seen n) (first_mentions ns))
 
+-- a number that was seen makes no difference at the head of a list: the new numbers are those of the rest of the list
 pub later_mention_is_dropped : (seen : FinMap nat_cmp ℕ) (n : ℕ) (ns : List ℕ) → is_some (get seen n) ≡ true
     → filter (is_new seen) (first_mentions (n ∷ ns)) ≡ filter (is_new seen) (first_mentions ns)
 later_mention_is_dropped seen n ns there =
     grind
     (rules, there, both_filters (is_new seen) (λ k. not (k == n)) (is_new seen) (new_before seen n there) (first_mentions ns))
 
+-- as long as no number was seen, each number of a list is new
 pub all_new : (ns : List ℕ) → filter (is_new empty) ns ≡ ns
 all_new [] = refl
 all_new (n ∷ ns) = grind (rules, get-empty {X = ℕ} nat_cmp n, all_new ns)

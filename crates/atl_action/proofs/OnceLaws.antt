@@ -45,6 +45,7 @@ module _ (c : CampaignValue) where
   once_all learning (t ∷ ts) p old =
       once_all learning ts (teach_order c learning p t) (once_taught p.1.aliases learning p.0 t old)
 
+-- after all orders of TEACH of a month, of no unit more men were taught than it has
 pub nobody_twice : NobodyIsTaughtTwice
 unfolding after_lessons
 nobody_twice c learning m =

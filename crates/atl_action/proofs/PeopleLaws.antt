@@ -34,6 +34,7 @@ pub record AreSamePeople (before after : FinMap nat_cmp Unit) : Type 0 where
 pub people_same : (m : FinMap nat_cmp Unit) → AreSamePeople m m
 people_same m = record { count = refl; of_factions = λ k. refl; hold = λ t. refl }
 
+-- the units are the same people after two changes in turn, if they are so after each
 pub people_twice : (a b c : FinMap nat_cmp Unit) → AreSamePeople a b → AreSamePeople b c → AreSamePeople a c
 people_twice a b c one two =
     record { count = two.count ∙ one.count; of_factions = λ k. two.of_factions k ∙ one.of_factions k; hold = λ t. two.hold t ∙ one.hold t }
@@ -57,6 +58,8 @@ module _ (f : Unit → Unit) (same : (u : Unit) → IsSameUnit u (f u)) (m : Fin
         equal_addends_cancel (sum_over stock (insert m k (f u))) (sum_over stock m) (stock u) (stock (f u)) (sum_over-insert_known stock m k u (f u) is) (held_same u (f u) (same u) t);
   }
 
+  -- if f changes at most region, structure and guard flag of a unit, the units with unit `k` changed by f are the same
+  -- people
   pub people_changed : AreSamePeople m (with_changed_value f m k)
   people_changed = changed_by (get m k) refl
 
@@ -82,6 +85,7 @@ module _ (structure to : ℕ) where
       changed_twice (λ x. record x { region = to; structure = structure })
       (λ x. record x { holding = record x.holding { guard = false } }) c n
 
+  -- a unit keeps all but region, structure and guard flag, whether it is put elsewhere or not (`IsSameUnit`)
   pub gone_same : (b : Bool) (x : Unit) → IsSameUnit x (gone_if b x)
   gone_same true x = record { faction = refl; name = refl; men = refl; money = refl; items = refl; days = refl }
   gone_same false x = record { faction = refl; name = refl; men = refl; money = refl; items = refl; days = refl }
@@ -91,9 +95,12 @@ module _ (structure to : ℕ) where
   guards_stay true x g = false_true g
   guards_stay false x g = refl
 
+  -- the units are the same people once unit n is put elsewhere
   pub elsewhere_people : (m : FinMap nat_cmp Unit) (n : ℕ) → AreSamePeople m (elsewhere m n)
   elsewhere_people m n = people_changed gone (gone_same true) m n
 
+  -- if unit n is put elsewhere, but into the structure that it is inside, the same units are inside each structure as
+  -- before
   pub elsewhere_inside : (m : FinMap nat_cmp Unit) (n q : ℕ) (v : Unit) → get m n ≡ Some v → v.structure ≡ structure
       → numbers_inside q (elsewhere m n) ≡ numbers_inside q m
   elsewhere_inside m n q v is here =
@@ -102,6 +109,7 @@ module _ (structure to : ℕ) where
 
 -- ---- the totals
 
+-- where the units are the same people and the regions are as they were, the total of each thing is the same
 pub total_people : (c d : CampaignValue) → AreSamePeople c.units d.units → d.regions ≡ c.regions → (t : Thing)
     → total d t ≡ total c t
 unfolding total

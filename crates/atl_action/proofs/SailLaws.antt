@@ -289,12 +289,14 @@ module _ (w : WorldValue) (c : CampaignValue) (ship to : ℕ) (steady : IsSteady
 
   -- ---- what stays of each unit
 
+  -- after a ship sailed, each unit is still there, and at most went along with the structure that it is inside
   pub sailed_at_most_moved : (k : ℕ) (v : Unit) → get c.units k ≡ Some v
       → IsStillThere IsAtMostMoved (after_sailing c ship to) k v
   sailed_at_most_moved k v there =
       subst (λ d. IsStillThere IsAtMostMoved d k v) (sym sailed_is)
       (record { unit = f k v; there = units_at k ∙ ap (option_map (f k)) there; is_unaffected = carried k v })
 
+  -- after a ship sailed, each unit is inside the structure that it was inside before
   pub sailed_inside : (k : ℕ) → structure_of_unit (after_sailing c ship to) k ≡ structure_of_unit c k
   sailed_inside k = ap (λ d. structure_of_unit d k) sailed_is ∙ ap structure_in (units_at k) ∙ by_unit (get c.units k)
     where

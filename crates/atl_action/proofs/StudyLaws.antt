@@ -103,6 +103,7 @@ module _ (w : WorldValue) (c : CampaignValue) (n : ℕ) (u : Unit) (s cost days 
       total_falls_by_cost : (a b m : ℕ) → a + m ≡ b + (m - cost) → cost ≤ m → a + cost ≡ b
       total_falls_by_cost a b m e l = omega (arith, e, l)
 
+  -- books with room for the money of all units under study have room for what unit `n` pays
   pub cost_room : HaveRoom (study_remaining c) c → HasRoom cost (amount_in c.books Study Money)
   cost_room room =
       let all : HasRoom (sum_over (λ (x : Unit). x.holding.money) c.units) (amount_in c.books Study Money) = room Study Money in
@@ -125,9 +126,11 @@ module _ (w : WorldValue) (c : CampaignValue) (n : ℕ) (u : Unit) (s cost days 
 
 -- ---- an order
 
+-- after a month of study a unit has at most 450 days of the skill for each man
 pub days_most : (men old taught : ℕ) (helped : Bool) → days_after men old taught helped ≤ most_days * men
 days_most men old taught helped = omega arith
 
+-- a unit whose STUDY has no fault has the money for the cost
 pub payable_fee : (h : HoldingValue) (cost : ℕ) → study_fault h cost ≡ None → cost ≤ h.money
 payable_fee h cost e =
     let poor = (nat_lt h.money cost, NoFee) ∷ [] in
@@ -159,6 +162,7 @@ study_well w taught c n s u is steady known =
     study_cases (λ d. StepsWell IsSteady study_remaining w c d) w taught c n s u (well_same w c steady)
     (λ days payable most. studied_well w c n u s (fee_of w s * u.holding.men) days is steady payable known most)
 
+-- STUDY for unit `n` leaves each other unit unchanged
 pub study_stays : (w : WorldValue) (taught : ℕ) (c : CampaignValue) (n s : ℕ) (u : Unit) (k : ℕ) → k ≢ n
     → get (study w taught n s c u).0.units k ≡ get c.units k
 study_stays w taught c n s u k apart =

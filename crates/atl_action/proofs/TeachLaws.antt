@@ -41,6 +41,7 @@ mentions_distinct (n ∷ ns) =
 -- ---- men of the first unit are taught, and then men of the others
 
 module _ (c : CampaignValue) (taught after : TaughtMen) (n given : ℕ) (here : after n ≡ taught n + given) (away : (k : ℕ) → k ≢ n → after k ≡ taught k) where
+  -- once `given` more men of unit n were taught, units other than n have as many untaught men together as before
   pub same_sum : (ns : List ℕ) → AreOthers n ns → sum_by (untaught_men c after) ns ≡ sum_by (untaught_men c taught) ns
   same_sum [] all = refl
   same_sum (k ∷ ns) all =

@@ -44,6 +44,7 @@ lessons_add_no_starved c learning p (t ∷ ts) =
     let rest = lessons_add_no_starved c learning (teach_order c learning p t) ts in
     record { readings = rest.readings ∙ one.readings; aliases = rest.aliases ∙ one.aliases; starved = λ n. rest.starved n ∙ one.starved n }
 
+-- the orders of TEACH keep the readings and aliases of a month, and none of their events reports starved men
 pub all_lessons_add_no_starved : (c : CampaignValue) (learning : Learning) (m : MonthValue)
     → AddsNoStarved m (after_lessons c learning m).1
 unfolding after_lessons
@@ -78,6 +79,8 @@ all_study taught =
 
 -- ---- both
 
+-- TEACH and STUDY leave units of factions without a mailing their items, and their men less the starved
+-- (`LeavesUnmailed`)
 pub learn_leaves : LeavesUnmailed learn_meaning learn_keeps
 learn_leaves = record {
   readings = λ w c m. let lessons = after_lessons c (learners w c m) m in (all_study lessons.0).readings w c lessons.1 ∙ (all_lessons_add_no_starved c (learners w c m) m).readings;

@@ -45,6 +45,7 @@ use Rattle.atl_action.specs.Walk.{by_direction, is_land_there, walk, walk_fault,
 use Rattle.atl_action.proofs.PeopleLaws.{AreSamePeople, elsewhere, elsewhere_is, elsewhere_people, gone, gone_if, gone_same, guards_stay, total_people}
 use Rattle.atl_action.proofs.TravelLaws.{AreTravelled, IsPut, IsSameStructure, steady-travelled, travelled}
 
+-- a region that is land is in the world
 pub land_is_there : (w : WorldValue) (r : ℕ) → is_land_at w r ≡ true → HasValue w.regions r
 land_is_there w r land = by_plan (get w.regions r) refl land
   where
@@ -247,6 +248,7 @@ module _ (w : WorldValue) (c : CampaignValue) (n : ℕ) (u : Unit) (to : ℕ) (i
 
 -- ---- an order
 
+-- if a list gives no fault (`first_fault`), none of its tests is true
 pub none_fit : (faults : List (Bool × EventFault)) → first_fault faults ≡ None
     → AllByRecursion (λ fault. fault.0 ≡ false) faults
 none_fit [] is = tt

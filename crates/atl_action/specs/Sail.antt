@@ -125,8 +125,8 @@ AreAtMostMoved before after = Every (λ n u. IsStillThere IsAtMostMoved after n 
 abbrev pub affects_nobody : Affects
 affects_nobody t n f = ⊥
 
--- Order t makes the ship sail that unit n, of faction f, is inside, as things are when the phase begins. The order is
--- for a unit inside the same ship, of the faction that wrote it, and has no fault.
+-- Order t makes the ship sail that unit n, of whatever faction f, is inside, as things are when the phase begins. The
+-- order is for a unit inside the same ship, of the faction that wrote it, and has no fault.
 pub record SailsWith (w : WorldValue) (begun : CampaignValue) (t : Task) (n f : ℕ) : Type 0 where
   -- the order is for a unit inside the same structure as unit n
   pub together : structure_of_unit begun t.unit ≡ structure_of_unit begun n

@@ -39,7 +39,8 @@ abbrev pub is_helpful : WorldValue → (skill : ℕ) → Option Structure → Bo
 is_helpful w s structure =
     option_map_or (λ b. b.done == size_of w b.kind && option_map_or (helps s) (slice_get w.kinds b.kind) false) structure false
 
--- the days of a skill that a unit has after a month of study: `old` and those gained, at most 450 for each man
+-- the days of a skill that a unit has after a month of study: its `old` days, 30 for each man, 30 for each of the
+-- `taught` men and, if `helped`, 10 for each man; at most 450 for each man
 abbrev pub days_after : (men old taught : ℕ) → (helped : Bool) → ℕ
 days_after men old taught helped =
     min (old + month_days * men + taught_days * taught + (if helped then helped_days * men else 0)) (most_days * men)
@@ -59,7 +60,8 @@ abbrev pub after_study : CampaignValue → (n : ℕ) → Unit → (skill cost da
 after_study c n u s cost days =
     with_booking (with_holding_at c n (with_study u.holding s cost days) (Some u)) Study Money (neg_ℤ (pos cost))
 
--- the effect of STUDY: a unit with `taught` men taught pays the fee and gains days; with a fault nothing changes
+-- the effect of STUDY: a unit with `taught` men taught pays the fee and gains days, and the outcome is Done with the
+-- days gained; with a fault nothing changes
 unfoldable pub study : WorldValue → (taught n skill : ℕ) → OrderEffect
 study w taught n s c u =
     let cost = fee_of w s * u.holding.men in

@@ -46,7 +46,8 @@ level_at c n s = option_map_or (λ u. level_in u.holding s) (get c.units n) 0
 abbrev pub is_pupil : CampaignValue → Learning → (region n : ℕ) → Bool
 is_pupil c learning region n = is_some (get learning n) && region_of c n == region
 
--- the units that an order of TEACH lists and that are learning in the teacher's region, in the order of the list
+-- the units that an order of TEACH lists and that are learning in the teacher's region, in the order of the list, each
+-- as often as it is listed
 abbrev pub pupils_of : CampaignValue → Aliases → Learning → Task → List ℕ
 pupils_of c aliases learning t =
     filter (is_pupil c learning (region_of c t.unit))
@@ -79,8 +80,8 @@ taught_in_lesson c taught places (k ∷ ns) n =
     let untaught = untaught_men c taught k in
     if n == k then min places untaught else taught_in_lesson c taught (places - untaught) ns n
 
--- How many men of each unit were taught so far once a lesson for `places` men is over; and the lesson's outcome, Done
--- with how many men it taught.
+-- How many men of each unit were taught so far once a lesson for `places` men to the units `ns`, each listed once, is
+-- over; and the lesson's outcome, Done with how many men it taught.
 abbrev pub lesson : CampaignValue → TaughtMen → (places : ℕ) → List ℕ → TaughtMen × Outcome
 lesson c taught places ns =
     ((λ n. taught n + taught_in_lesson c taught places ns n), Done (min (sum_by (untaught_men c taught) ns) places))

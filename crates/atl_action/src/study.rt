@@ -91,6 +91,8 @@ fn pay_and_set_days(
     campaign.set_days(unit, u32::from(skill), days)
 }
 
+/// Takes the cost of study from a unit's money, books it as study, and sets the unit's days of the
+/// skill. AllocError without memory; the campaign may then be changed in part.
 fn put_study(
     world: &World,
     campaign: &mut Campaign,
@@ -113,6 +115,9 @@ fn put_study(
     Ok(())
 }
 
+/// Carries out an order of STUDY for a unit of which `taught` men were taught: it pays the fee and
+/// gains days; with a fault nothing changes. AllocError without memory; the campaign may then be
+/// changed in part.
 #[tactic(auto, unfolding(crate::specs::Study::study))]
 fn study(
     world: &World,

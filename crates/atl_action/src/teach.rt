@@ -86,6 +86,8 @@ fn pupils_of(
     Ok(list)
 }
 
+/// Those of `pupils` whose level in the skill that they learn is lower than the teacher's, in their
+/// order.
 fn pupils_below(
     alloc: Global,
     campaign: &Campaign,

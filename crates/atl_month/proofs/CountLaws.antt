@@ -43,6 +43,7 @@ module _ {V : Type 0} where
           let rest = step (remove a e.0) (remove b e.0) (omega (arith, count, len_without b e.0 e.1 here)) (has_all_without a b e.0 all) in
           omega (arith, rest, len_without a e.0 x there, some_values a e.0 x there)
 
+  -- if maps `a` and `b` have the same size, and `a` has each number of `b`, then `b` has each number of `a`
   pub has_all_back : (a b : FinMap nat_cmp V) → len b ≡ len a → HasAllNumbers a b → HasAllNumbers b a
   has_all_back a b count all n (v, here) = by_value (get b n) refl
     where

@@ -95,9 +95,11 @@ module _ {leaves : Condition} (w : WorldValue) (c d : CampaignValue) (well : Lea
       near_more (phases_bound e t) (month_moves e t) (amount_in c.books e t) (amount_in d.books e t) (month_within e t)
       (well.near e t)
 
+  -- each faction that was there before the phases of a month is there after them
   pub factions_stay : (n : ℕ) → HasValue c.factions n → HasValue d.factions n
   factions_stay = has_all_back c.factions d.factions well.same_month.count well.same_month.factions
 
+-- the books of a sound campaign have room for all phases of a month together
 pub phases_room : (w : WorldValue) (c : CampaignValue) → IsSound w c → HaveRoom phases_bound c
 phases_room w c sound = room_when_sound w c phases_bound (λ e t. omega (arith, phases_little e t)) sound
 
@@ -110,6 +112,7 @@ phases_result phases w c d m n begin events meaning begins events_are =
     ap (λ (es : List Event). (d, es)) events_are
     ∙ ap (λ (p : CampaignValue × MonthValue). (p.0, p.1.events)) (meaning ∙ ap (phases w c) begins)
 
+-- the campaign and the events that the phases make of a new month are those of the definition (`month_of`)
 pub month_is : (w : WorldValue) (c d : CampaignValue) (m n : MonthValue) (readings : FinMap nat_cmp Reading) (words : List ℕ) (events : List Event)
     → (d, n) ≡ month_meaning w c m → m ≡ new_month readings words → events ≡ n.events
     → (d, events) ≡ month_of w c readings words
@@ -117,6 +120,7 @@ unfolding month_of
 month_is w c d m n readings words events meaning begins events_are =
     phases_result month_meaning w c d m n (new_month readings words) events meaning begins events_are
 
+-- the mailings of a month, given in another order, make the same campaign and the same events
 pub mail_order_does_not_count : MailOrderDoesNotCount
 mail_order_does_not_count w c words mailings others own same =
     ap (λ readings. month_of w c readings words) (mailings_have_no_order mailings others own same)

@@ -26,6 +26,7 @@ later_move = each_also (λ phase (is : KeepsPhaseLaws phase). is.moves) later_ph
 pub each_little : PhasesMoveLittle
 each_little = (early_move, later_move, last_move)
 
+-- the phases of a month together move each amount by at most 10^14 - 1 for each phase that may move it (`month_moves`)
 pub month_within : IsBoundWithin phases_bound month_moves
 month_within e t =
     omega (arith, moved_within early_phases early_move e t, moved_within later_phases later_move e t, moved_within last_phases last_move e t)
@@ -33,6 +34,7 @@ month_within e t =
 is_two_at_most : (n : ℕ) → nat_le n 2 ≡ true → n ≤ 2
 is_two_at_most n is = grind (arith, nat_tests, is)
 
+-- at most two phases of a month may move an amount of the books
 pub two_at_most : TwoMoveAtMost
 two_at_most e Money =
     is_two_at_most (moving_phase_count e Money) (each_entry (λ k. nat_le (moving_phase_count k Money) 2) refl e)

@@ -87,6 +87,7 @@ passes-refl w n c steady = record {
   back = λ m v is. (v, is, kept-refl v);
 }
 
+-- passing on twice in turn is passing on both amounts, within the sum of both bounds on the books
 pub passes-trans : {o p : Thing → ℕ} {i j : BookBound} (w : WorldValue) (n : ℕ) (a b c : CampaignValue)
     → PassesOn w n o i a b → PassesOn w n p j b c
     → PassesOn w n (λ s. o s + p s) (both_move i j) a c
@@ -115,6 +116,7 @@ owed_all : (b : Bool) (lost x all : ℕ) (books : ℤ) → pos all ≡ books +�
 owed_all b lost x all books h = grind (arith, ints, h)
 
 module _ (w : WorldValue) (c : CampaignValue) (n : ℕ) (t : Thing) (inside : thing_index t < thing_count w) (steady : IsSteady w c) where
+  -- booking an amount as lost, which no unit gets, is passing it on (`PassesOn`)
   pub all_lost : (amount : ℕ)
       → PassesOn w n (λ s. amount_as_thing s t amount) (moves_only amount Lost t) c (with_lost c t amount)
   all_lost amount = record {
@@ -218,6 +220,7 @@ module _ (w : WorldValue) (c : CampaignValue) (n k : ℕ) (apart : n ≢ k) (ste
       let taken = min amount (option_map_or (λ v. holding_limit - v.holding.money) o 0) in
       with_lost (option_map_or (λ v. with_money c k (v.holding.money + taken)) o c) Money (amount - taken)
 
+  -- money that goes to unit `k`, up to its room, with the rest booked as lost, is passed on from unit `n` (`PassesOn`)
   pub pass_money : (amount : ℕ) → Passed Money amount (after_passing_money c k amount)
   unfolding after_passing_money
   pass_money amount = by_unit (get c.units k) refl
@@ -249,6 +252,8 @@ module _ (w : WorldValue) (c : CampaignValue) (n k : ℕ) (apart : n ≢ k) (ste
       let taken = min amount (option_map_or (λ v. holding_limit - amount_of v.holding.items i) o 0) in
       with_lost (option_map_or (λ v. with_item c k i (amount_of v.holding.items i + taken)) o c) (Item i) (amount - taken)
 
+  -- an item that goes to unit `k`, up to its room, with the rest booked as lost, is passed on from unit `n`
+  -- (`PassesOn`)
   pub pass_item : (i amount : ℕ) → i < length w.items → Passed (Item i) amount (after_passing_item k c (i, amount))
   unfolding after_passing_item
   pass_item i amount known = by_unit (get c.units k) refl

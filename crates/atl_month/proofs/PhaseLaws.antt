@@ -84,17 +84,21 @@ produce_alone entries.Made (Item i) = omega arith
 produce_alone entries.Used (Item i) = omega arith
 produce_alone e t = omega arith
 
+-- WORK moves the amounts of its own entries of the books alone, each by less than 10^14
 pub work_alone : MovesItsOwn work_spec
 work_alone = money_alone entries.Wages
 
+-- upkeep moves the amounts of its own entries of the books alone, each by less than 10^14
 pub upkeep_alone : MovesItsOwn upkeep_spec
 upkeep_alone = money_and_people entries.Upkeep entries.Starved
 
+-- the season moves the amounts of its own entries of the books alone, each by less than 10^14
 pub season_alone : MovesItsOwn season_spec
 season_alone e Money = grind (arith, money_and_people entries.Income entries.Births e Money)
 season_alone e People = grind (arith, money_and_people entries.Income entries.Births e People)
 season_alone e (Item i) = grind (arith, money_and_people entries.Income entries.Births e (Item i))
 
+-- the sweep moves the amounts of its own entries of the books alone, each by less than 10^14
 pub sweep_alone : MovesItsOwn sweep_spec
 sweep_alone e Money = grind arith
 sweep_alone e People = grind arith
@@ -116,6 +120,7 @@ infixr 5 ◌▹◌
 ◌▹◌ : {A B : Type 0} → A → B → A × B
 one ▹ others = (one, others)
 
+-- each phase from FORM to RECRUIT keeps both laws (`KeepsPhaseLaws`)
 pub early_are : EachPhase KeepsPhaseLaws early_phases
 early_are =
     keeps_phase_laws form_spec (moves_nothing_alone no_moved_entries) form_leaves
@@ -129,6 +134,7 @@ early_are =
     ▹ keeps_phase_laws recruit_spec (money_alone entries.Recruiting) recruit_leaves
     ▹ tt
 
+-- each phase from GUARD 1 to PRODUCE keeps both laws (`KeepsPhaseLaws`)
 pub later_are : EachPhase KeepsPhaseLaws later_phases
 later_are =
     keeps_phase_laws guard_spec (moves_nothing_alone no_moved_entries) guard_leaves
@@ -140,8 +146,11 @@ later_are =
     ▹ keeps_phase_laws produce_spec produce_alone produce_leaves
     ▹ tt
 
+-- WORK, upkeep, season and sweep each move the amounts of their own entries alone, each by less than 10^14
 pub last_move : EachPhase MovesItsOwn last_phases
 last_move = work_alone ▹ upkeep_alone ▹ season_alone ▹ sweep_alone ▹ tt
 
+-- WORK, upkeep, season and sweep leave units of factions without a mailing their items, and their men less the starved;
+-- after the sweep a unit all of whose men starved is removed
 pub last_leave : CloseTogether last_phases
 last_leave = work_leaves ▹ upkeep_leaves ▹ season_leaves ▹ sweep_leaves

@@ -69,6 +69,7 @@ none_above k (x ∷ xs) e t at above =
     let less = less_by_comparison k x.0 both.0 in
     omega (arith, other_item x.0 e t (λ same. omega (arith, at, same, less)), none_above k xs e t at both.1)
 
+-- the new goods of markets of different items together book at most 999,999,999 of each item (`stocks_by`)
 pub stocks_little : (xs : List (ℕ × Market)) → is_sorted nat_cmp xs ≡ true → (e : BooksEntry) (t : Thing)
     → stocking_bound xs e t ≤ stocks_by most_amount e t
 stocks_little [] rising e t = omega arith
@@ -95,6 +96,7 @@ module _ (w : WorldValue) (c : CampaignValue) (n i : ℕ) (m : Market) (r : Regi
   limit_is : stock_limit w n i ≡ m.limit
   limit_is = ap (λ o. option_map_or (λ (k : Market). k.limit) o most_amount) market
 
+  -- the stock of a market is within the limit of the market
   pub stock_small : stock ≤ m.limit
   stock_small = by_option (get r.stocks i) refl
     where
@@ -102,6 +104,7 @@ module _ (w : WorldValue) (c : CampaignValue) (n i : ℕ) (m : Market) (r : Regi
       by_option None is = omega arith
       by_option (Some amount) is = omega (arith, ((steady.numbers.regions n r here).stocks i amount is).1, limit_is)
 
+  -- the stock of a market with its new goods is within the limit of the market
   pub stock_fits : stock + more ≤ m.limit
   stock_fits = omega (arith, stock_small)
 
@@ -154,6 +157,8 @@ abbrev pub IsMarketOf : WorldValue → (n i : ℕ) → Market → Type 0
 IsMarketOf w n i m = (market_of w n i ≡ Some m) × IsMarket (length w.items) i m
 
 module _ (w : WorldValue) (n : ℕ) (there : HasValue w.regions n) where
+  -- New goods of a market, given as `x.1` with its item `x.0`, keep a steady campaign steady and its books balanced,
+  -- and book at most 999,999,999 of the item.
   pub one_leaves_well : (c : CampaignValue) (x : ℕ × Market) → IsMarketOf w n x.0 x.1 → IsSteady w c
       → LeavesWell IsSteady (moves_only most_amount Stocked (Item x.0)) w c (after_market_restock n c x)
   one_leaves_well c x of steady = let (r, here) = (steady.known.regions n).1 there in market_leaves_well w c n x.0 x.1 r here of.0 of.1 steady
@@ -170,14 +175,17 @@ pub none_there : entries (empty {X = Market} {R = nat_cmp}) ≡ []
 none_there = entries-empty
 
 module _ (w : WorldValue) (world : IsWorld w) (n : ℕ) where
+  -- the markets of a region that the world has are those of its plan
   pub markets_there : (p : RegionPlan) → get w.regions n ≡ Some p → markets_of w n ≡ p.markets
   markets_there p is = ap (λ o. option_map_or (λ (q : RegionPlan). q.markets) o empty) is
 
+  -- where the world has no such region, restocking changes nothing
   pub none_of : (c : CampaignValue) → get w.regions n ≡ None → after_restock n c (entries (markets_of w n)) ≡ c
   none_of c is =
       ap (λ o. after_restock n c (entries (option_map_or (λ (q : RegionPlan). q.markets) o empty))) is
       ∙ ap (after_restock n c) none_there
 
+  -- each entry of a region's markets in the world is an item and the market for it
   pub markets_are : (p : RegionPlan) → get w.regions n ≡ Some p → EachEntry (IsMarketOf w n) (entries p.markets)
   markets_are p is =
       each-from_every (IsMarketOf w n) p.markets
@@ -202,6 +210,7 @@ market_restock_keeps_units : (n : ℕ) (c : CampaignValue) (x : ℕ × Market) �
 unfolding after_market_restock
 market_restock_keeps_units n c x = refl
 
+-- new goods of markets change no unit
 pub restocked_keeps : (n : ℕ) (c : CampaignValue) (xs : List (ℕ × Market)) → (after_restock n c xs).units ≡ c.units
 restocked_keeps n c [] = refl
 restocked_keeps n c (x ∷ xs) = restocked_keeps n (after_market_restock n c x) xs ∙ market_restock_keeps_units n c x
@@ -211,16 +220,19 @@ restocked_keeps n c (x ∷ xs) = restocked_keeps n (after_market_restock n c x) 
 pub restock_small : (m : Market) (stock : ℕ) → m.limit ≤ most_amount → restock m stock ≤ most_amount
 restock_small m stock l = omega (arith, l)
 
+-- if the books may move Stocked of an item by 999,999,999, this amount of the books has room for that
 pub room_alone : (c : CampaignValue) (i : ℕ) → HaveRoom (moves_only most_amount Stocked (Item i)) c
     → HasRoom most_amount (amount_in c.books Stocked (Item i))
 room_alone c i room =
     subst (λ b. HasRoom (if b then most_amount else 0) (amount_in c.books Stocked (Item i))) (same_number (amount_number Stocked (Item i))) (room Stocked (Item i))
 
+-- books with room for the new goods of some markets have room for those of the first one
 pub room_for_market : (x : ℕ × Market) (xs : List (ℕ × Market)) (c : CampaignValue)
     → HaveRoom (stocking_bound (x ∷ xs)) c → HaveRoom (moves_only most_amount Stocked (Item x.0)) c
 room_for_market x xs c room =
     room_less (moves_only most_amount Stocked (Item x.0)) (stocking_bound (x ∷ xs)) c (λ e t. omega arith) room
 
+-- if books have room for the new goods of some markets, they have room for those of the others after the first one
 pub room_for_later_markets : (w : WorldValue) (n : ℕ) → HasValue w.regions n
     → (x : ℕ × Market) (xs : List (ℕ × Market)) (c : CampaignValue) → IsMarketOf w n x.0 x.1 → IsSteady w c
     → HaveRoom (stocking_bound (x ∷ xs)) c → HaveRoom (stocking_bound xs) (after_market_restock n c x)
@@ -228,6 +240,7 @@ room_for_later_markets w n there x xs c of steady room =
     room_for_second (moves_only most_amount Stocked (Item x.0)) (stocking_bound xs) w c (after_market_restock n c x)
     (one_leaves_well w n there c x of steady) room
 
+-- setting a market's stock and booking the new goods, both with their marks, marks all that changes (`MarksChanges`)
 pub market_marks : (stock more n i : ℕ) (c d e : MarkedCampaign) → d.value ≡ with_stock c.value n i (stock + more)
     → MarksStock c n i (stock + more) d.marks
     → e.value ≡ with_booking d.value Stocked (Item i) (pos more) → e.marks ≡ mark_amount d Stocked (Item i)

@@ -42,10 +42,12 @@ use Rattle.std.proofs.lemmas.Slice.Zip.{length-zip}
 
 -- ---- births and income
 
+-- peasants and births together are at most 999,999,999, if `limit` and the peasants are
 pub births_fit : (growth limit word peasants : ℕ) → limit ≤ most_amount → peasants ≤ most_amount
     → peasants + births growth limit word peasants ≤ most_amount
 births_fit growth limit word peasants l p = omega (arith, l, p)
 
+-- money and income together are at most 999,999,999, if `limit` and the money are
 pub income_fits : (per_peasant limit peasants money : ℕ) → limit ≤ most_amount → money ≤ most_amount
     → money + income per_peasant limit peasants money ≤ most_amount
 income_fits per_peasant limit peasants money l m = omega (arith, l, m)
@@ -140,6 +142,8 @@ births_first c room =
 
 -- ---- marks
 
+-- setting the peasants and the money of a region and booking both, with their marks, marks all that changes
+-- (`MarksChanges`)
 pub growth_marks : (c d e f g : MarkedCampaign) (n peasants money born earned : ℕ)
     → d.value ≡ with_peasants c.value n peasants → d.marks ≡ mark_peasants c n peasants
     → e.value ≡ with_region_money d.value n money → e.marks ≡ mark_region_money d n money
@@ -165,6 +169,8 @@ limits_fit w n t world is = terrain_in w (get w.regions n) t world is
 
 -- ---- the season of a region, and of all
 
+-- the births and the income of a region keep a steady campaign steady and its books balanced, and move each of the two
+-- amounts by at most 999,999,999
 pub region_grows_well : (w : WorldValue) → IsWorld w → (c : CampaignValue) (n word : ℕ) (t : Terrain) (r : Region)
     → terrain_of w n ≡ Some t → get c.regions n ≡ Some r → IsSteady w c
     → LeavesWell IsSteady (grows_by most_amount) w c (with_growth c n r.peasants r.money (births w.rules.growth t.peasant_limit word r.peasants) (income w.rules.income t.money_limit (r.peasants + births w.rules.growth t.peasant_limit word r.peasants) r.money))
@@ -176,6 +182,8 @@ region_grows_well w world c n word t r here is steady =
     (births_fit w.rules.growth t.peasant_limit word r.peasants peasant_limit within.peasants)
     (income_fits w.rules.income t.money_limit (r.peasants + born) r.money money_limit within.money) steady
 
+-- the season of one region, with births, income and new goods, keeps a steady campaign steady and its books balanced,
+-- and moves each amount by at most 999,999,999
 pub season_at_leaves_well : (w : WorldValue) → IsWorld w → (c : CampaignValue) (x : ℕ × ℕ) → IsSteady w c
     → LeavesWell IsSteady (season_moves most_amount) w c (season_at w c x)
 unfolding season_at
@@ -237,18 +245,22 @@ seasons_keep_units : (w : WorldValue) (c : CampaignValue) (xs : List (ℕ × ℕ
 seasons_keep_units w c [] = refl
 seasons_keep_units w c (x ∷ xs) = seasons_keep_units w (season_at w c x) xs ∙ season_at_keeps w c x
 
+-- the season of all regions changes no unit
 pub season_keeps_units : (w : WorldValue) (c : CampaignValue) (words : List ℕ) → (season w c words).units ≡ c.units
 season_keeps_units w c words =
     seasons_keep_units w c (zip (map (λ (e : ℕ × RegionPlan). e.0) (entries w.regions)) words)
 
 -- ---- the season region by region
 
+-- once the first of some regions had its season, the seasons of the other regions, with the other words, make campaign
+-- `all`, as the seasons of all of them do
 pub season_goes_on : (w : WorldValue) (c d all : CampaignValue) (regions rest : List (ℕ × RegionPlan)) (words tail : List ℕ) (n word : ℕ) (plan : RegionPlan)
     → regions ≡ (n, plan) ∷ rest → words ≡ word ∷ tail → d ≡ season_at w c (n, word)
     → fold (season_at w) c (zip (map (λ e. e.0) regions) words) ≡ all
     → fold (season_at w) d (zip (map (λ e. e.0) rest) tail) ≡ all
 season_goes_on w c d all regions rest words tail n word plan listed given is whole = rw is (rw (listed, given) at whole)
 
+-- if books have room for the seasons of some regions, they have room for those of the others after the first one
 pub room_for_later_seasons : (w : WorldValue) → IsWorld w
     → (c d : CampaignValue) (regions rest : List (ℕ × RegionPlan)) (n word : ℕ) (plan : RegionPlan)
     → regions ≡ (n, plan) ∷ rest → d ≡ season_at w c (n, word) → IsSteady w c
@@ -257,6 +269,7 @@ pub room_for_later_seasons : (w : WorldValue) → IsWorld w
 room_for_later_seasons w world c d regions rest n word plan listed is steady room =
     rw is (room_after_one (season_moves most_amount) w (season_at w) (season_at_leaves_well w world) c (n, word) (n, plan) rest steady (subst (λ (l : List (ℕ × RegionPlan)). HaveRoom (moved_times (length l) (season_moves most_amount)) c) listed room))
 
+-- books with room for the seasons of some regions have room for that of the first one
 pub room_for_first_season : (w : WorldValue) → IsWorld w
     → (c : CampaignValue) (regions rest : List (ℕ × RegionPlan)) (n : ℕ) (plan : RegionPlan)
     → regions ≡ (n, plan) ∷ rest → HaveRoom (moved_times (length regions) (season_moves most_amount)) c

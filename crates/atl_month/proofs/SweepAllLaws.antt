@@ -58,6 +58,8 @@ module _ (c : CampaignValue) (n : ℕ) where
       by_unit (Some u) is = by_men u is (u.holding.men == 0) refl
 
 module _ (w : WorldValue) (c : CampaignValue) (n : ℕ) (steady : IsSteady w c) where
+  -- sweeping unit `n` keeps a steady campaign steady and its books balanced, and books as lost at most 999,999,999 of
+  -- money and of each item
   pub swept_at_leaves_well : LeavesWell IsSteady (loses_by most_amount) w c (after_sweeping_unit c n)
   swept_at_leaves_well =
       by_sweeping c n (LeavesWell IsSteady (loses_by most_amount) w c) (λ some. well_unchanged (loses_by most_amount) w c steady)
@@ -67,6 +69,7 @@ module _ (w : WorldValue) (c : CampaignValue) (n : ℕ) (steady : IsSteady w c) 
   abbrev UnitsWithMenAreKept : CampaignValue → Type 0
   UnitsWithMenAreKept d = Every (λ m x. 1 ≤ x.holding.men → (v : Unit) × (get d.units m ≡ Some v) × IsKept x v) c.units
 
+  -- after sweeping unit `n` each unit with men is there, and nothing is taken from it
   pub swept_at_keeps : UnitsWithMenAreKept (after_sweeping_unit c n)
   swept_at_keeps =
       by_sweeping c n UnitsWithMenAreKept (λ stays m x there some. (x, there, kept-refl x))
@@ -80,6 +83,7 @@ module _ (w : WorldValue) (c : CampaignValue) (n : ℕ) (steady : IsSteady w c) 
   WereThere d =
       Every (λ m v. (v.holding.men ≡ 0 → m ≢ n) × ((x : Unit) × (get c.units m ≡ Some x) × IsKept x v)) d.units
 
+  -- each unit that is left after sweeping unit `n` was there before, and nothing was taken from it
   pub units_left_were_there : WereThere (after_sweeping_unit c n)
   units_left_were_there =
       by_sweeping c n WereThere (λ some m v there. (λ none own. some v (ap (get c.units) (sym own) ∙ there) none, (v, there, kept-refl v)))
@@ -95,6 +99,7 @@ listed_later m n ns apart (inl same) = absurd (apart same)
 listed_later m n ns apart (inr rest) = rest
 
 module _ (w : WorldValue) where
+  -- once the listed units were swept, among them all units without men, each unit has men
   pub all_have_men : (ns : List ℕ) (c : CampaignValue) → IsSteady w c → AreMenlessListed ns c
       → HaveMen (fold after_sweeping_unit c ns)
   all_have_men [] c steady listed = λ m v there. let some : v.holding.men ≢ 0 = listed m v there in omega arith
@@ -103,6 +108,7 @@ module _ (w : WorldValue) where
       let (apart, (x, was, kept)) = units_left_were_there w c n steady m v there in
       listed_later m n ns (apart none) (listed m x was (sym kept.men ∙ none)))
 
+  -- after several units were swept, each unit that had men is there, and nothing is taken from it
   pub all_keep : (ns : List ℕ) (c : CampaignValue) → IsSteady w c
       → Every (λ m x. 1 ≤ x.holding.men → (v : Unit) × (get (fold after_sweeping_unit c ns).units m ≡ Some v) × IsKept x v) c.units
   all_keep [] c steady m x there some = (x, there, kept-refl x)
@@ -140,9 +146,11 @@ module _ (c : CampaignValue) (n : ℕ) where
       by_units [] is = by_faction is (get c.factions n) refl
       by_units (k ∷ ns) is = stays (λ f there none. let one : k ∷ ns ≡ [] = sym is ∙ none in cc)
 
+  -- sweeping a faction changes no unit
   pub gone_at_units : (after_sweeping_faction c n).units ≡ c.units
   gone_at_units = by_gone (λ d. d.units ≡ c.units) (λ some. refl) (λ f is none. refl)
 
+  -- sweeping a faction keeps a steady campaign steady and its books balanced, and books nothing
   pub gone_at_leaves_well : (w : WorldValue) → IsSteady w c
       → LeavesWell IsSteady moves_nothing w c (after_sweeping_faction c n)
   gone_at_leaves_well w steady = by_gone (LeavesWell IsSteady moves_nothing w c) (λ some. well_unchanged moves_nothing w c steady) (λ f is none. record {
@@ -158,6 +166,7 @@ module _ (c : CampaignValue) (n : ℕ) where
       Every (λ m f. numbers_of_faction m c.units ≡ [] → f.gone ≡ false → (m ≢ n) × (get c.factions m ≡ Some f))
       d.factions
 
+  -- after faction `n` was swept, each faction that has no unit and isn't gone is another one, and is as it was before
   pub gone_at_remains : OthersRemain (after_sweeping_faction c n)
   gone_at_remains =
       by_gone OthersRemain
@@ -188,10 +197,12 @@ units_stay (n ∷ ns) c = units_stay ns (after_sweeping_faction c n) ∙ gone_at
 
 -- ---- the phase
 
+-- the sweeps of at most 100,000 units together lose less than 10^14 of money and of each item
 pub loses_little : (k : ℕ) → k ≤ most_units → (e : BooksEntry) (t : Thing)
     → moved_times k (loses_by most_amount) e t ≤ loses_by most_moved e t
 loses_little k few e t = grind arith
 
+-- a steady campaign has at most 100,000 units without men
 pub few_menless : (w : WorldValue) (c : CampaignValue) → IsSteady w c → length (menless_units c) ≤ most_units
 few_menless w c steady =
     let menless = λ (e : ℕ × Unit). e.1.holding.men == 0 in

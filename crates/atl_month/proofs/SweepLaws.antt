@@ -69,6 +69,7 @@ little_lost h none money items e (Item j) = let most = items j in grind (arith, 
 
 -- ---- the unit that receives
 
+-- a list whose first number isn't 0 (`first_or_zero`) isn't empty, and has this number
 pub first_listed : (ns : List ℕ) → first_or_zero ns ≢ 0 → IsListed (first_or_zero ns) ns
 first_listed [] some = absurd (some refl)
 first_listed (n ∷ ns) some = inl refl
@@ -123,6 +124,7 @@ module _ (w : WorldValue) (c : CampaignValue) (n : ℕ) (u : Unit) (is : get c.u
       total_without_n : (a h b o : ℕ) (z : ℤ) → a + h ≡ b → o ≡ h → pos b ≡ z +ℤ pos (0 + o) → pos a ≡ z
       total_without_n a h b o z e f g = omega (arith, ints, e, f, g)
 
+  -- passing on all that unit `n` holds books at most 999,999,999 of money and of each item as lost
   pub moves_little : (e : BooksEntry) (s : Thing) → moving_all u.holding e s ≤ loses_by most_amount e s
   moves_little e s =
       within (moves_only u.holding.men Left People e s) (moving_all u.holding e s) (loss_under e s u.holding) (loses_by most_amount e s) (moves_what_leaves u.holding e s)
@@ -152,12 +154,14 @@ module _ (w : WorldValue) (c : CampaignValue) (n : ℕ) (u : Unit) (is : get c.u
             (passing.near e s));
       }
 
+  -- after sweeping unit `n` each other unit is there, and nothing is taken from it (`IsKept`)
   pub others_keep : Every (λ m x. m ≢ n → (v : Unit) × (get swept.units m ≡ Some v) × IsKept x v) c.units
   others_keep m x there apart =
       let only = only_reduced w passed n u there_still in
       let (v, here, kept) = passing.forth m x there in
       (v, ap (λ (units : FinMap nat_cmp Unit). get units m) only.units ∙ get-remove_other passed.units n m apart ∙ here, kept)
 
+  -- each unit that is left after sweeping unit `n` is another one, was there, and nothing was taken from it (`IsKept`)
   pub others_were : Every (λ m v. (m ≢ n) × ((x : Unit) × (get c.units m ≡ Some x) × IsKept x v)) swept.units
   others_were m v there =
       let only = only_reduced w passed n u there_still in
@@ -195,14 +199,19 @@ module _ (w : WorldValue) (c : CampaignValue) (steady : IsSteady w c) where
       → PassesOn w (suc to) (λ s. amount_as_thing s (Item i) amount) (moves_only amount Lost (Item i)) c (after_passing_item to c (i, amount))
   item_passes to i amount known = pass_item w c (suc to) to (successor_differs to) steady i amount known
 
+  -- if books have room for some items to be booked as lost, they have room for the others after the first one was
+  -- passed on
   pub rest_room : (to : ℕ) (x : ℕ × ℕ) (xs : List (ℕ × ℕ)) → x.0 < length w.items → HaveRoom (items_bound (x ∷ xs)) c
       → HaveRoom (items_bound xs) (after_passing_item to c x)
   rest_room to x xs known room =
       near_leaves_room (moves_only x.1 Lost (Item x.0)) (items_bound xs) c (after_passing_item to c x) (item_passes to x.0 x.1 known).near room
 
+  -- a steady campaign stays steady when money is passed on
   pub money_steady : (to amount : ℕ) → IsSteady w (after_passing_money c to amount)
   money_steady to amount = (pass_money w c (suc to) to (successor_differs to) steady amount).steady
 
+  -- if books have room for what sweeping a unit without men may lose, they have room for its items after its money was
+  -- passed on
   pub items_room : (n to : ℕ) (u : Unit) → get c.units n ≡ Some u → u.holding.men ≡ 0
       → HaveRoom (loses_by most_amount) c
       → HaveRoom (items_bound (entries u.holding.items)) (after_passing_money c to u.holding.money)

@@ -119,12 +119,15 @@ upkeep_leaves = record {
 
 -- ---- season and sweep
 
+-- the season leaves units of factions without a mailing their items and their men (`LeavesUnmailed`)
 pub season_leaves : LeavesUnmailed season_meaning season_keeps
 season_leaves =
     whole_leaves {meaning = season_meaning} {keeps = season_keeps} (λ w c m. refl) (λ w c m n. refl)
     (λ w c m same n u there none. men_same c (season_meaning w c m).0 same n u there)
     (λ w c m same n u there none. record { unit = u; there = ap (λ (units : FinMap nat_cmp Unit). get units n) same ∙ there; is_unaffected = record { name = refl; items = λ i. omega arith } })
 
+-- the sweep leaves units of factions without a mailing that have men their items and their men, and removes those
+-- without men (`ClosesUnmailed`)
 pub sweep_leaves : ClosesUnmailed sweep_meaning sweep_keeps
 sweep_leaves = record {
   starved_reported = λ w c m n. omega arith;

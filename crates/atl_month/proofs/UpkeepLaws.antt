@@ -221,16 +221,20 @@ module _ (w : WorldValue) (c : CampaignValue) (s : UpkeepResult) (u : Unit) (is 
 
 -- ---- the upkeep of all
 
+-- if the unit is there, its upkeep (`upkeep_at`) is that of the unit found (`upkeep_in`)
 pub upkeep_at_is : (c : CampaignValue) (s : UpkeepResult) (u : Unit) → get c.units s.unit ≡ Some u
     → upkeep_at c s ≡ upkeep_in c s (Some u)
 unfolding upkeep_at
 upkeep_at_is c s u is = ap (upkeep_in c s) is
 
+-- the upkeep of a unit that can pay keeps the campaign steady and its books balanced, and moves Upkeep of money and
+-- Starved of people by at most 999,999,999 each
 pub upkeep_at_leaves_well : (w : WorldValue) (c : CampaignValue) (s : UpkeepResult) → CanPayUpkeep w c s
     → LeavesWell IsSteady (takes_up_to most_amount) w c (upkeep_at c s)
 upkeep_at_leaves_well w c s can =
     rw (upkeep_at_is c s can.unit can.there) (unit_leaves_well w c s can.unit can.there can.spare can.steady)
 
+-- the upkeep of a unit leaves each other unit as it was
 pub other_unit : (c : CampaignValue) (s : UpkeepResult) (n : ℕ) → n ≢ s.unit
     → get (upkeep_at c s).units n ≡ get c.units n
 unfolding upkeep_at
@@ -240,6 +244,7 @@ other_unit c s n apart = by_unit (get c.units s.unit)
     by_unit None = refl
     by_unit (Some u) = get-insert_other c.units s.unit n (record u { holding = after_upkeep s u.holding }) apart
 
+-- after the upkeep of a unit, listed units with greater numbers are there as they were
 pub each_still : (c : CampaignValue) (s : UpkeepResult) (es : List (ℕ × Unit)) → AllByRecursion (λ e. s.unit < e.0) es
     → EachEntry (λ n u. get c.units n ≡ Some u) es → EachEntry (λ n u. get (upkeep_at c s).units n ≡ Some u) es
 each_still c s [] above there = tt
@@ -308,6 +313,7 @@ module _ (w : WorldValue) (c : CampaignValue) (steady : IsSteady w c) (room : Ha
   little : IsBoundWithin (moved_times (length list) (takes_up_to most_amount)) (takes_up_to most_moved)
   little e t = grind (arith, few)
 
+  -- in a steady campaign whose books have room, each unit can pay its upkeep when its turn comes
   pub all_can_pay : CanInTurn (CanPayUpkeep w) upkeep_at c list
   all_can_pay =
       upkeep_result_in_turn w (upkeep_inputs_of c) (entries c.units) c (entries_rise c.units)
@@ -326,12 +332,14 @@ module _ (w : WorldValue) (c : CampaignValue) (steady : IsSteady w c) (room : Ha
 men_stay : (h : HoldingValue) (left : ℕ) → left ≡ h.men → with_men_left left h ≡ h
 men_stay h left is = grind (arith, nat_tests, is)
 
+-- if no man of a unit starves, upkeep takes the money that it pays from its holding, and leaves all else as it was
 pub paid_alone : (s : UpkeepResult) (h : HoldingValue) → s.starved ≡ 0
     → after_upkeep s h ≡ record h { money = h.money - s.paid }
 paid_alone s h fed =
     ap (λ (k : HoldingValue). record k { money = h.money - s.paid })
     (men_stay h (h.men - s.starved) (omega (arith, fed)))
 
+-- if a unit pays nothing and nobody starves, its upkeep leaves the campaign as it was
 pub pays_nothing : (c : CampaignValue) (s : UpkeepResult) (u : Unit) → get c.units s.unit ≡ Some u → s.starved ≡ 0
     → s.paid ≡ 0
     → c ≡ with_holding_at c s.unit (after_upkeep s u.holding) (Some u)
@@ -392,6 +400,7 @@ starving_sets_holding s h some fewer listed =
 abbrev pub unit_after_upkeep : UpkeepResult → Unit → Unit
 unit_after_upkeep s u = record u { holding = after_upkeep s u.holding }
 
+-- after its upkeep a unit that was there has what its upkeep leaves it, and keeps all else
 pub own_unit : (c : CampaignValue) (s : UpkeepResult) (u : Unit) → get c.units s.unit ≡ Some u
     → get (upkeep_at c s).units s.unit ≡ Some (unit_after_upkeep s u)
 own_unit c s u is =

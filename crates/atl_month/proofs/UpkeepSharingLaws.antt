@@ -104,6 +104,7 @@ each_if_short P m p a none some others s g = by_short (a.short == 0) refl
 counted : (short left : ℕ) (b : Bool) → (short == 0) ≡ b → counted_left short left ≡ cond b 0 left
 counted short left b is = ap (λ t. cond t 0 left) is
 
+-- where nothing is left, nothing is counted as left, whether units are short or not
 pub nothing_left : (short : ℕ) → counted_left short 0 ≡ 0
 nothing_left short = by_test (short == 0) refl
   where
@@ -120,9 +121,11 @@ gives_all short left = by_test (short == 0) refl
 
 -- ---- the units are counted
 
+-- before any unit is counted, each account is that of no units (`opened`), since the map is empty
 pub no_accounts : (m s g : ℕ) → account_at empty s g ≡ opened m [] [] s g
 no_accounts m s g = rw (get-empty nat_cmp s, get-empty nat_cmp g) refl
 
+-- before any unit is counted, no account is short of anything: the bound is that of 0 units
 pub none_short : (m s g : ℕ) → (account_at empty s g).short ≤ most_per_head * men_limit * 0
 none_short m s g = rw (no_accounts m s g) (omega arith)
 
@@ -328,6 +331,7 @@ few_starve (suc k) men short most =
     let fewer : starved_of (suc k) short < men + 1 = (div-lt_iff_lt-mul some).1 rounded in
     omega arith
 
+-- upkeep takes no more from any unit than its money and its men
 pub can_spare : EachCanSpare
 can_spare m peers p =
     let given = given_among m peers in

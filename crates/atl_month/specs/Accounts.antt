@@ -14,7 +14,7 @@ use Rattle.atl_world.specs.Groups.{group_of}
 abbrev pub FactionAccounts : Type 0
 FactionAccounts = FinMap nat_cmp (FinMap nat_cmp Account)
 
--- an account without units: all amounts 0
+-- the account of no units: nothing is left, short, given or covered
 abbrev pub no_account : Account
 no_account = record { left = 0; short = 0; given = 0; covered = 0 }
 
@@ -44,7 +44,8 @@ short_among maintenance region faction inputs = sum_by (short_of maintenance) (p
 abbrev pub to_give : Account → ℕ
 to_give a = min a.left a.short
 
--- what upkeep takes from a unit, by the account of its faction in its region as it is when the unit's turn comes
+-- what upkeep takes from a unit, at this maintenance for each man, by the account of its faction in its region as it is
+-- when the unit's turn comes
 abbrev pub upkeep_result_by : ℕ → Account → UpkeepInput → UpkeepResult
 upkeep_result_by maintenance a input = record {
   unit = input.unit;
@@ -53,14 +54,16 @@ upkeep_result_by maintenance a input = record {
   starved = starved_of maintenance (short_of maintenance input - min (to_give a - a.covered) (short_of maintenance input));
 }
 
--- an account to which is added what one more unit gave to others in its turn, and what it got from others
+-- an account to which is added what one more unit gave to others in its turn, and what it got from others, at this
+-- maintenance for each man
 abbrev pub account_after : ℕ → Account → UpkeepInput → Account
 account_after maintenance a input = record a {
   given = a.given + min (to_give a - a.given) (left_of maintenance input);
   covered = a.covered + min (to_give a - a.covered) (short_of maintenance input);
 }
 
--- the amounts given and covered so far by an account are both at most its amount to give (`to_give`)
+-- the amounts given and covered so far by an account are both at most its amount to give (`to_give`), so that the code
+-- can subtract them from it
 pub record IsOpen (a : Account) : Type 0 where
   pub given : a.given ≤ to_give a
   pub covered : a.covered ≤ to_give a
@@ -69,15 +72,16 @@ pub record IsOpen (a : Account) : Type 0 where
 abbrev pub counted_left : (short left : ℕ) → ℕ
 counted_left short left = if short == 0 then 0 else left
 
--- the account of a faction in a region, with nothing given or covered yet, where what the units `all` are short of is
--- counted, and what those `counted` have left
+-- The account of a faction in a region, with nothing given or covered yet, where what the units `all` are short of is
+-- counted, and what those `counted` have left. The code counts first all that is short, with `counted` empty, and then
+-- unit by unit what is left.
 abbrev pub opened : ℕ → (all counted : List UpkeepInput) → (region faction : ℕ) → Account
 opened maintenance all counted region faction =
     let short = short_among maintenance region faction all in
     record { left = counted_left short (left_among maintenance region faction counted); short = short; given = 0; covered = 0 }
 
--- The account of a faction in a region, where `all` are the units of upkeep, and those `before` had their turn. What is
--- left counts only where units are short.
+-- The account of a faction in a region, where `all` are the units of upkeep. The units `before` had their turn, and
+-- `given` and `covered` are what they gave and got. What is left counts only where units are short.
 abbrev pub account_of : ℕ → (all before : List UpkeepInput) → (region faction : ℕ) → Account
 account_of maintenance all before region faction =
     let given = given_among maintenance (peers_of region faction all) in

@@ -35,14 +35,15 @@ use Rattle.atl_month.specs.Season.{season_spec}
 use Rattle.atl_month.specs.Sweep.{sweep_spec}
 use Rattle.atl_month.specs.Upkeep.{upkeep_spec}
 
--- What a month carries as its first phase begins: the mailings as they were read, the words of the dice, no alias and
--- no event.
+-- What a month carries as its first phase begins: the mailings as they were read, each under its faction's number, the
+-- words of the dice, no alias and no event.
 abbrev pub new_month : FinMap nat_cmp Reading → List ℕ → MonthValue
 new_month readings words = record { readings = readings; aliases = empty; words = words; events = [] }
 
 -- ---- the phases
 
--- the phases from FORM to RECRUIT, in order, in which no unit begins to guard
+-- the phases from FORM to RECRUIT, in order; none of them sets a guard flag, so in each region all units with a flag
+-- stay of one faction (`IsEarly`)
 abbrev pub early_phases : List PhaseSpec
 early_phases =
     form_spec ∷ name_spec ∷ place_spec ∷ give_spec ∷ transfer_spec ∷ sell_spec ∷ buy_spec ∷ tax_spec ∷ recruit_spec ∷ []
@@ -59,7 +60,8 @@ last_phases = work_spec ∷ upkeep_spec ∷ season_spec ∷ sweep_spec ∷ []
 abbrev pub orders_meaning : Meaning
 orders_meaning = then_also (meaning_of early_phases) (meaning_of later_phases)
 
--- what the phases from FORM to PRODUCE leave alone, each over the campaigns before and after that phase
+-- what the phases from FORM to PRODUCE leave alone: for each phase what its `keeps` says of the campaigns before and
+-- after it
 abbrev pub orders_keep : Frame
 orders_keep = both_keep (meaning_of early_phases) (keeps_of early_phases) (keeps_of later_phases)
 
@@ -67,7 +69,7 @@ orders_keep = both_keep (meaning_of early_phases) (keeps_of early_phases) (keeps
 abbrev pub month_meaning : Meaning
 month_meaning = then_also orders_meaning (meaning_of last_phases)
 
--- what the phases of a month leave alone, each over the campaigns before and after that phase
+-- what the phases of a month leave alone: for each phase what its `keeps` says of the campaigns before and after it
 abbrev pub month_keeps : Frame
 month_keeps = both_keep orders_meaning orders_keep (keeps_of last_phases)
 
@@ -109,7 +111,8 @@ BooksAreNear book_bound before after =
 
 -- ---- the mailings
 
--- the law that the mailings of a month, given in another order, make the same campaign and the same events
+-- the law that the mailings of a month, at most one of each faction, make the same campaign and the same events if they
+-- are given in another order
 abbrev pub MailOrderDoesNotCount : Type 0
 MailOrderDoesNotCount =
     (w : WorldValue) (c : CampaignValue) (words : List ℕ) (mailings others : List Mailing) →

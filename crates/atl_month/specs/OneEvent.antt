@@ -13,13 +13,14 @@ use Rattle.atl_phase.specs.PhaseOrders.{Task}
 use Rattle.atl_phase.specs.Reports.{Counts, HasOneEvent}
 use Rattle.atl_month.specs.Month.{month_meaning, new_month}
 
--- the aliases by which the phase of a verb reads which unit an order is for: those that FORM made, and none for FORM
--- itself
+-- the aliases by which the phase of a verb reads which unit an order is for: those that FORM made (`made`), and none
+-- for FORM itself, since there are none yet as its phase begins
 abbrev pub aliases_for : Verb → Aliases → Aliases
 aliases_for verbs.Form made = empty
 aliases_for verb made = made
 
--- A law: each order that counts (`Counts`) in the mailing of its faction has exactly one event in the month.
+-- A law: each order that counts (`Counts`) in the mailing of its faction has exactly one event in the month. This
+-- supposes that the mailings can be read with the world (`AreFit`).
 abbrev pub EachOrderHasOneEvent : Type 0
 EachOrderHasOneEvent =
     (w : WorldValue) (c : CampaignValue) (readings : FinMap nat_cmp Reading) (words : List ℕ) → AreFit w readings →

@@ -30,6 +30,6 @@ with_receiver_of m n u =
 abbrev pub AreReceivers : CampaignValue → ReceiverMap → Type 0
 AreReceivers c m = (region faction : ℕ) → receiver_in m region faction ≡ receiver c region faction
 
--- the first number; the second where the first is 0
+-- the first number; the second where the first is 0, which stands for no unit
 abbrev pub or_if_zero : ℕ → ℕ → ℕ
 or_if_zero a b = if a == 0 then b else a

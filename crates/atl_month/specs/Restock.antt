@@ -22,14 +22,15 @@ markets_of w region = option_map_or (λ p. p.markets) (get w.regions region) emp
 abbrev pub restock : Market → (stock : ℕ) → ℕ
 restock m stock = min m.restock (m.limit - stock)
 
--- a campaign after a market of a region, by its item, got new goods, which are booked as stocked
+-- a campaign after a market of a region, given with its item, got its `restock`, which is booked as stocked
 unfoldable pub after_market_restock : (region : ℕ) → CampaignValue → ℕ × Market → CampaignValue
 after_market_restock region c (item, m) =
     let stock = stock_of c region item in
     let more = restock m stock in
     with_booking (with_stock c region item (stock + more)) Stocked (Item item) (pos more)
 
--- a campaign after each of some markets of a region got new goods, in the order of their items
+-- a campaign after the listed markets of a region, each by its item, got new goods: one after another, in the order of
+-- the list; the season gives all markets of the region, sorted by item
 abbrev pub after_restock : (region : ℕ) → CampaignValue → List (ℕ × Market) → CampaignValue
 after_restock region c markets = fold (after_market_restock region) c markets
 

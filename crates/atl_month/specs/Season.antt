@@ -31,8 +31,8 @@ with_growth c n peasants money born earned =
     let grown = with_region_money (with_peasants c n (peasants + born)) n (money + earned) in
     with_booking (with_booking grown Births People (pos born)) Income Money (pos earned)
 
--- A campaign after the season of region `n`: births, then income, also of those just born, then new goods of its
--- markets.
+-- A campaign after the season of region `n`, which has terrain `t` and is `r` before: births, then income, also of
+-- those just born, then new goods of its markets.
 abbrev pub season_of : WorldValue → CampaignValue → (n word : ℕ) → Terrain → Region → CampaignValue
 season_of w c n word t r =
     let born = births w.rules.growth t.peasant_limit word r.peasants in
@@ -46,7 +46,7 @@ season_at w c (n, word) =
     option_map_or (λ t. at_region c n (season_of w c n word t)) (terrain_of w n) c
 
 -- A campaign after the season of all regions of the world, in the order of their numbers, each with its word of the
--- dice.
+-- dice; a region for which the list has no word has no season.
 abbrev pub season : WorldValue → CampaignValue → List ℕ → CampaignValue
 season w c words = fold (season_at w) c (zip (map (λ e. e.0) (entries w.regions)) words)
 

@@ -38,12 +38,13 @@ receiver c region faction = first_or_zero (numbers_where (receives region factio
 abbrev pub with_lost : CampaignValue → Thing → ℕ → CampaignValue
 with_lost c t amount = with_booking c Lost t (neg_ℤ (pos amount))
 
--- how much more of a thing a unit has room for, given with its number; `have` tells how much of it a holding has
+-- how much more of a thing a unit has room for, given with its number, and 0 where it isn't there; `have` tells how
+-- much of the thing a holding has
 abbrev pub room_at : CampaignValue → (number : ℕ) → (have : HoldingValue → ℕ) → ℕ
 room_at c number have = option_map_or (λ u. holding_limit - have u.holding) (get c.units number) 0
 
 -- A campaign after money went to unit `to`, up to its room; the rest is booked as lost, all of it where the unit isn't
--- there.
+-- there. The unit that leaves the money still has it, and is removed later (`after_sweeping_unit`).
 unfoldable pub after_passing_money : CampaignValue → (to amount : ℕ) → CampaignValue
 after_passing_money c to amount =
     let taken = min amount (room_at c to (λ h. h.money)) in
@@ -51,7 +52,7 @@ after_passing_money c to amount =
     with_lost given Money (amount - taken)
 
 -- A campaign after an amount of an item went to unit `to`, up to its room; the rest is booked as lost, all of it where
--- the unit isn't there.
+-- the unit isn't there. The unit that leaves the item still has it, and is removed later (`after_sweeping_unit`).
 unfoldable pub after_passing_item : ℕ → CampaignValue → ℕ × ℕ → CampaignValue
 after_passing_item to c (item, amount) =
     let taken = min amount (room_at c to (λ h. amount_of h.items item)) in
@@ -60,8 +61,8 @@ after_passing_item to c (item, amount) =
 
 -- ---- units without men
 
--- a campaign after the money and then each item that unit `u` holds went to unit `to`, up to its room; the rest is
--- booked as lost
+-- A campaign after the money and then each item that unit `u` holds went to unit `to`, up to its room; the rest is
+-- booked as lost. Unit `u` still has all of it, and is removed next (`after_sweeping_unit`).
 abbrev pub after_passing_all : CampaignValue → ℕ → Unit → CampaignValue
 after_passing_all c to u = fold (after_passing_item to) (after_passing_money c to u.holding.money) (entries u.holding.items)
 
@@ -115,7 +116,7 @@ pub record IsKept (before after : Unit) : Type 0 where
   pub men : after.holding.men ≡ before.holding.men
   pub days : after.holding.days ≡ before.holding.days
 
--- what is left of a unit, given with its number, after the sweep
+-- what the sweep makes of unit `u`, which had this number before it
 pub record IsSweptUnit (after : CampaignValue) (number : ℕ) (u : Unit) : Type 0 where
   -- a unit with men is still there, no worse off, with its men and their days as they were
   pub kept : 1 ≤ u.holding.men → (v : Unit) × (get after.units number ≡ Some v) × IsKept u v

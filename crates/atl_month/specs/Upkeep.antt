@@ -25,7 +25,8 @@ use Rattle.atl_instant.specs.Transfer.{going_of}
 
 -- ---- the upkeep of one unit
 
--- a holding with `left` of its men, and of each skill its days times `left` divided by the men before, rounded down
+-- a holding with `left` of its men, and of each skill its days times `left` divided by the men before, rounded down;
+-- unchanged where all men are left
 abbrev pub with_men_left : ℕ → HoldingValue → HoldingValue
 with_men_left left h =
     if left == h.men then h
@@ -36,7 +37,7 @@ with_men_left left h =
 abbrev pub after_upkeep : UpkeepResult → HoldingValue → HoldingValue
 after_upkeep s h = record (with_men_left (h.men - s.starved) h) { money = h.money - s.paid }
 
--- a campaign after the upkeep of one unit, which is booked
+-- a campaign after the upkeep of one unit, which is booked; unchanged where the unit isn't there
 unfoldable pub upkeep_at : CampaignValue → UpkeepResult → CampaignValue
 upkeep_at c s = at_unit c s.unit (λ u.
     let held = with_holding_at c s.unit (after_upkeep s u.holding) (Some u) in
@@ -57,7 +58,7 @@ upkeep_inputs_of c = map upkeep_input_of (entries c.units)
 abbrev pub upkeep_results : WorldValue → CampaignValue → List UpkeepResult
 upkeep_results w c = upkeep_results_of w.rules.maintenance (upkeep_inputs_of c)
 
--- a campaign after the upkeep of some units, in turn
+-- a campaign after the upkeep of some units, one after another in the order of the list
 abbrev pub upkeep : CampaignValue → List UpkeepResult → CampaignValue
 upkeep c list = fold upkeep_at c list
 
@@ -69,7 +70,8 @@ starves s = not (s.starved == 0)
 abbrev pub starved_event : UpkeepResult → Event
 starved_event s = record { faction = s.faction; unit = s.unit; line = 0; verb = verb.Upkeep; outcome = outcome.Starved s.starved }
 
--- the meaning of upkeep as a phase: the campaign after it, and the month with the Starved events
+-- the meaning of upkeep as a phase: the campaign after it, and the month with an event Starved for each unit whose men
+-- starve, in the order of the units' numbers
 abbrev pub upkeep_meaning : WorldValue → CampaignValue → MonthValue → CampaignValue × MonthValue
 upkeep_meaning w c m =
     (upkeep c (upkeep_results w c), record m { events = m.events ++ map starved_event (filter starves (upkeep_results w c)) })

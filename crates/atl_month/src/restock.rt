@@ -23,6 +23,7 @@ fn restock(market: &Market, stock: u32) -> u32
     market.restock.min(market.limit.saturating_sub(stock))
 }
 
+/// Gives the market of a region for one item its new goods, and books them as stocked.
 #[tactic(auto, unfolding(crate::specs::Restock::after_market_restock))]
 fn restock_market(
     world: &World,
@@ -50,8 +51,9 @@ fn restock_market(
     Ok(())
 }
 
-/// Gives all markets of a region their new goods. AllocError without memory; the campaign may then
-/// be changed in part.
+/// Gives all markets of a region their new goods, one after another in the order of their items;
+/// nothing where the world has no such region. AllocError without memory; the campaign may then be
+/// changed in part.
 pub(crate) fn restock_region(
     world: &World,
     campaign: &mut Campaign,

@@ -37,6 +37,8 @@ fn income(per_peasant: u32, limit: u32, peasants: u32, money: u32) -> u32
     earned.min(u64::from(limit.saturating_sub(money))) as u32
 }
 
+/// Adds those born to the peasants of a region and what is earned to its money, and books both.
+/// `peasants` and `money` are what the region had before.
 fn add_births_and_income(
     campaign: &mut Campaign,
     number: u32,

@@ -136,6 +136,8 @@ fn charge_upkeep(
     Ok(())
 }
 
+/// Takes the upkeep of the listed units and books it, one after another; each can pay when its turn
+/// comes. AllocError without memory; the campaign may then be changed in part.
 fn charge_all(
     alloc: Global,
     campaign: &mut Campaign,
@@ -151,6 +153,7 @@ fn charge_all(
     Ok(())
 }
 
+/// Adds to the month's events a Starved for each listed unit whose men starve, in the list's order.
 fn report_starved(month: &mut Month, list: &[UpkeepResult]) -> Result<(), AllocError>
     ensures { OnOk result (month.new
         ≡ record month.old {

@@ -29,6 +29,8 @@ pub struct UpkeepResult {
     pub starved: u32,
 }
 
+/// The money that a unit has left after it paid for its own men, and the money that it is short of
+/// for them, at this maintenance for each man. One of the two is 0.
 fn left_and_short(maintenance: u32, input: &UpkeepInput) -> (u64, u64)
     requires most { maintenance ≤ most_per_head }
     requires input { IsUpkeepInput input.now }
