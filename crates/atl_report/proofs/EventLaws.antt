@@ -33,6 +33,7 @@ some_passes p (e ∷ es) h = by_test (p e) h (some_passes p es)
 some_length : (f : FaultyLine) (fs : List FaultyLine) → (length (f ∷ fs) == 0) ≡ false
 some_length f fs = grind (arith, nat_tests)
 
+-- where no line is faulty and no event is the faction's, the lines of a report's part on orders are `None.`
 pub results_none : (faction : ℕ) (faults : List FaultyLine) (events : List Event)
     → ((length faults == 0) && not (list_any (λ (e : Event). e.faction == faction) events)) ≡ true
     → results_text faults (own_events faction events) ≡ codes "None.\n"
@@ -47,6 +48,7 @@ results_none faction [] events h =
     by_test true h rest = absurd (false≢true h)
     by_test false h rest = rest refl
 
+-- where a line is faulty or an event is the faction's, its report has the faulty lines and then its own events
 pub results_lines : (faction : ℕ) (faults : List FaultyLine) (events : List Event)
     → ((length faults == 0) && not (list_any (λ (e : Event). e.faction == faction) events)) ≡ false
     → results_text faults (own_events faction events) ≡ faulty_lines faults ++ event_lines (own_events faction events)
@@ -61,11 +63,13 @@ results_lines faction [] events h =
     by_test true h rest = rest refl
     by_test false h rest = absurd (false≢true (sym h))
 
+-- events of other factions make no difference to a faction's report
 pub others_events_are_not_reported : OthersEventsAreNotReported
 unfolding report_of orders_part
 others_events_are_not_reported w v faults events others h =
     ap (λ own. header_line v ++ ((codes "Orders:\n" ++ results_text faults own) ++ region_parts w v.regions)) h
 
+-- a report depends only on the faction's view, its faulty lines and its own events
 pub only_what_is_seen_is_reported : OnlyWhatIsSeenIsReported
 unfolding view_of
 only_what_is_seen_is_reported w c d faction faults events others seen results_text =

@@ -51,6 +51,8 @@ four_exits_are_joined None None (Some e) w =
 four_exits_are_joined None None None (Some w) = append-nil (exit_text (codes "west") w)
 four_exits_are_joined None None None None = refl
 
+-- a region's exits with commas between them are its four directions as they are written, each after a comma unless all
+-- before it have no exit
 pub joined_in_turn : (p : RegionPlan) →
     separated_texts (codes ", ") (exit_texts p)
     ≡ exit_as_written true (codes "north") p.north
@@ -69,6 +71,8 @@ four_exits_or_none None None (Some e) w = refl
 four_exits_or_none None None None (Some w) = refl
 four_exits_or_none None None None None = refl
 
+-- the text of a region's exits is `none` if it has no exit in any of the four directions, else the exits with commas
+-- between them
 pub none_or_joined : (p : RegionPlan) →
     joined_or_none (exit_texts p)
     ≡ if ((is_none p.north && is_none p.south) && is_none p.east) && is_none p.west then codes "none" else separated_texts (codes ", ") (exit_texts p)

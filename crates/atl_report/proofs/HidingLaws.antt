@@ -328,7 +328,7 @@ views_of_seen w c watch =
 
 -- ---- what the functions ask
 
--- a set that is that gathered from a region's lists, where it could be made, has the numbers of the units seen there
+-- if Ok of `r` is the set gathered from a region's lists, it has the numbers of the units that the faction sees there
 pub gathered_are_seen : {E : Type 0} (r : Result (FinMap nat_cmp (Prim.Unit {0})) E) (w : WorldValue) (c : CampaignValue) (watch : Watch) (own : List ℕ) (levels : FinMap nat_cmp (List ℕ))
     → AreLevels w c watch.region levels → own ≡ own_units_in c watch.faction watch.region
     → IfOk r (λ seen. seen ≡ numbers_seen own levels watch.observation)

@@ -16,7 +16,7 @@ use Rattle.atl_campaign.specs.Campaign.{CampaignValue}
 use Rattle.atl_campaign.specs.Totals.{total}
 use Rattle.atl_report.specs.Each.{each_text}
 
--- the name of an entry, as the text of the books prints it
+-- the name of an entry (a cause for which the books count an amount), as the text of the books prints it
 abbrev pub entry_name : BooksEntry → List ℕ
 entry_name Founding = codes "founding"
 entry_name Joining = codes "joining"
@@ -45,7 +45,8 @@ thing_name w Money = codes "money"
 thing_name w People = codes "people"
 thing_name w (Item i) = item_name (slice_get w.items i)
 
--- the end of an entry's line, after the thing: the entry's name and its amount, with `-` if it is negative
+-- the end of an entry's line, after the thing: the entry's name and the amount booked, which is how much came in, or
+-- went out if it is negative
 abbrev pub amount_text : BooksEntry → ℤ → List ℕ
 amount_text e amount = codes " " ▸ entry_name e ▸ codes " " ▸ signed_decimal amount ▸ codes "\n"
 

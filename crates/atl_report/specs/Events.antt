@@ -30,7 +30,8 @@ faulty_lines = each_text faulty_line
 abbrev pub name_of_number : ℕ → List ℕ
 name_of_number number = option_map_or event_fault_name (find (λ fault. event_fault_number fault == number) event_faults) []
 
--- the line of an event, by its outcome: done with an amount, a fault, or men that starved
+-- the line of an event with this outcome, which is `e.outcome`: done with an amount `n`, the fault of number `k`, or
+-- `n` men that starved
 abbrev pub event_text : Event → Outcome → List ℕ
 event_text e (Done n) =
     codes "Unit " ▸ decimal e.unit
@@ -45,7 +46,7 @@ event_text e (Fault k) =
     ▸ codes " " ▸ name_of_number k ▸ codes ".\n"
 event_text e (Starved n) = codes "Unit " ▸ decimal e.unit ▸ codes ": " ▸ decimal n ▸ codes " starved.\n"
 
--- the line of an event in a report, by its outcome
+-- the line of an event in a report, with the outcome that the event has
 unfoldable pub event_line : Event → List ℕ
 event_line e = event_text e e.outcome
 

@@ -26,7 +26,8 @@ abbrev pub with_all_watched : CampaignValue → ℕ → List ℕ → FinMap nat_
 with_all_watched c f [] seen = seen
 with_all_watched c f (n ∷ ns) seen = with_all_watched c f ns (with_watched c f seen (get c.units n))
 
--- `with_keyed key lists n unit`: the lists by key with a unit's number added to the list of its key
+-- `with_keyed key lists n unit`: the lists by key with the number `n` of a unit added at the end of the list of its
+-- key; the same lists where there is no such unit
 abbrev pub with_keyed : (Unit → ℕ) → FinMap nat_cmp (List ℕ) → ℕ → Option Unit → FinMap nat_cmp (List ℕ)
 with_keyed key lists n None = lists
 with_keyed key lists n (Some u) = with_listed lists (key u) n

@@ -69,7 +69,7 @@ unit_view c faction number u = record {
   side = side_of c faction u;
 }
 
--- the view that the watching faction has of a unit; None where there is no such unit, or it isn't seen
+-- the view that the watching faction has of the unit of this number; None where there is no such unit, or it isn't seen
 abbrev pub seen_unit : WorldValue → CampaignValue → Watch → ℕ → Option Unit → Option UnitView
 seen_unit w c watch number unit =
     option_and_then (λ u. if is_seen w watch u then Some (unit_view c watch.faction number u) else None) unit
@@ -84,7 +84,8 @@ unit_views w c watch = filter_map (λ n. seen_unit w c watch n (get c.units n)) 
 abbrev pub structures_in : ℕ → FinMap nat_cmp Structure → List ℕ
 structures_in region structures = numbers_where (λ s. s.region == region) structures
 
--- the number of a structure's owner; 0 where nobody owns it, or the owner isn't seen
+-- the number of the unit that owns a structure, as the watching faction is shown it; 0 where no unit does, or the
+-- faction doesn't see this unit in the watched region
 abbrev pub shown_owner : WorldValue → CampaignValue → Watch → Structure → ℕ
 shown_owner w c watch s = if is_seen_there w watch (get c.units s.owner) then s.owner else 0
 
@@ -107,7 +108,8 @@ structure_views w c watch =
 
 -- ---- markets
 
--- the view of a market: its stock, and how many more pieces its limit leaves room for
+-- the view of a market, given with the index of its item in the world: its stock, and how many more pieces its limit
+-- leaves room for
 abbrev pub market_view : Region → ℕ × Market → MarketView
 market_view r (item, m) = record { item = m.item; stock = amount_of r.stocks item; wanted = m.limit - amount_of r.stocks item }
 
@@ -121,7 +123,8 @@ region_market_views r plan = option_map_or (market_views r) plan []
 
 -- ---- the whole
 
--- the view of a region: peasants, money, markets, all structures, and the units that are seen
+-- the view of the watched region, whose record is `r`: peasants, money, markets, all structures, and the units that are
+-- seen
 abbrev pub region_view : WorldValue → CampaignValue → Watch → Region → RegionView
 region_view w c watch r = record {
   number = watch.region;

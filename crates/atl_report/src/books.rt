@@ -21,6 +21,7 @@ fn entry_name(entry: BooksEntry) -> &'static str
     )
 }
 
+/// Writes what the text of the books calls a thing: `money`, `people`, or as in `item "wood"`.
 fn write_thing(out: &mut String, world: &World, thing: Thing) -> Result<(), AllocError>
     ensures { OnOk result (string_bytes out.new
         ≡ string_bytes out.old ++ thing_name world.now thing) }
@@ -46,6 +47,7 @@ fn write_item(out: &mut String, world: &World, item: u16) -> Result<(), AllocErr
     }
 }
 
+/// Writes the end of an entry's line, after the thing, as in ` income 30` with a line feed.
 fn write_amount(out: &mut String, entry: BooksEntry, amount: i64) -> Result<(), AllocError>
     ensures { OnOk result (string_bytes out.new
         ≡ string_bytes out.old ++ amount_text entry amount) }
@@ -54,6 +56,7 @@ fn write_amount(out: &mut String, entry: BooksEntry, amount: i64) -> Result<(), 
     write!(out, " {name} {amount}\n")
 }
 
+/// Writes the line of a thing under an entry, as in `money wages 120`; nothing if the amount is 0.
 #[tactic(auto, unfolding(crate::specs::Books::amount_line))]
 fn write_entry(
     out: &mut String,
@@ -73,6 +76,8 @@ fn write_entry(
     Ok(())
 }
 
+/// Writes the lines of a thing under these entries, in their order, without those whose amount is
+/// 0.
 fn write_entries(
     out: &mut String,
     world: &World,
@@ -111,6 +116,7 @@ fn write_total(
     Ok(())
 }
 
+/// Writes all lines of a thing: those of its entries, and then its total.
 #[tactic(auto, unfolding(crate::specs::Books::thing_part))]
 fn write_thing_part(
     out: &mut String,
@@ -128,6 +134,8 @@ fn write_thing_part(
     Ok(())
 }
 
+/// Writes all lines of each item of the world, in its order. The things of the books are money,
+/// people and these items.
 fn write_items(out: &mut String, world: &World, campaign: &Campaign) -> Result<(), AllocError>
     requires things { campaign.now.value.books.things ≡ thing_count world.now }
     requires countable { IsCountable campaign.now.value }

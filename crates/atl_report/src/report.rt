@@ -19,6 +19,7 @@ trait InReport {
     ghost use Rattle.std.specs.Prelude.{List, ℕ};
     ghost use Rattle.atl_world.specs.Worlds.{WorldValue};
 
+    // The text of the part; the world gives the names in it.
     ghost text: { WorldValue → Self → List ℕ };
 
     /// Writes the text of the part at the end of `out`.
@@ -27,6 +28,7 @@ trait InReport {
             ≡ string_bytes out.old ++ text world.now self.now) };
 }
 
+/// Writes the texts of parts of one type, one after another.
 fn write_each<T: InReport>(out: &mut String, world: &World, list: &[T]) -> Result<(), AllocError>
     ensures { OnOk result (string_bytes out.new
         ≡ string_bytes out.old ++ each_text (T.text world.now) list.now) }
@@ -37,6 +39,7 @@ fn write_each<T: InReport>(out: &mut String, world: &World, list: &[T]) -> Resul
     Ok(())
 }
 
+/// Writes the first line of a report: the month last closed, and the faction's number and name.
 #[tactic(auto, unfolding(crate::specs::Report::header_line))]
 fn write_header(out: &mut String, view: &View) -> Result<(), AllocError>
     ensures { OnOk result (string_bytes out.new ≡ string_bytes out.old ++ header_line view.now) }
@@ -50,6 +53,8 @@ fn write_header(out: &mut String, view: &View) -> Result<(), AllocError>
     )
 }
 
+/// Writes the start of a unit's line: `*` and its money if it is the faction's own, or `-` and its
+/// faction if it is another's.
 fn write_head(out: &mut String, unit: &UnitView) -> Result<(), AllocError>
     ensures { OnOk result (string_bytes out.new
         ≡ string_bytes out.old ++ unit_head unit.now unit.now.side) }
@@ -77,6 +82,7 @@ fn write_head(out: &mut String, unit: &UnitView) -> Result<(), AllocError>
     }
 }
 
+/// Writes `, guard` in the line of a unit that guards; else nothing.
 fn write_guard(out: &mut String, guard: bool) -> Result<(), AllocError>
     ensures { OnOk result (string_bytes out.new ≡ string_bytes out.old ++ guard_text guard) }
 {
@@ -130,6 +136,7 @@ impl InReport for SkillView {
     }
 }
 
+/// Writes the items and then the skills of the faction's own unit; nothing for another's.
 fn write_goods(out: &mut String, world: &World, side: &Side) -> Result<(), AllocError>
     ensures { OnOk result (string_bytes out.new
         ≡ string_bytes out.old ++ goods_text world.now side.now) }
@@ -166,6 +173,8 @@ impl InReport for UnitView {
     }
 }
 
+/// Writes the line of a structure, whose kind in the world is `kind`: how much of the kind's size
+/// is done, and the unit that owns it, or 0.
 fn write_structure_text(
     out: &mut String,
     structure: &StructureView,
@@ -199,6 +208,8 @@ impl InReport for StructureView {
     }
 }
 
+/// Writes the first line of a region, with its name and terrain from the world; nothing for a
+/// region that the world doesn't have.
 #[tactic(auto, unfolding(crate::specs::Report::region_line))]
 fn write_region(out: &mut String, world: &World, region: &RegionView) -> Result<(), AllocError>
     ensures { OnOk result (string_bytes out.new
@@ -244,6 +255,7 @@ fn write_exit(
     }
 }
 
+/// Writes the exits of a region, as in `north 2, east 5`; nothing if it has none.
 fn write_directions(out: &mut String, plan: &RegionPlan) -> Result<(), AllocError>
     ensures { OnOk result (string_bytes out.new
         ≡ string_bytes out.old ++ separated_texts (codes ", ") (exit_texts plan.now)) }
@@ -258,6 +270,7 @@ fn write_directions(out: &mut String, plan: &RegionPlan) -> Result<(), AllocErro
     Ok(())
 }
 
+/// Whether a region has no exit in any of the four directions.
 fn has_no_exit(plan: &RegionPlan) -> bool
     ensures { result
         ≡ (((is_none plan.now.north && is_none plan.now.south) && is_none plan.now.east)
@@ -266,6 +279,7 @@ fn has_no_exit(plan: &RegionPlan) -> bool
     plan.north.is_none() && plan.south.is_none() && plan.east.is_none() && plan.west.is_none()
 }
 
+/// Writes the line of a region's exits, or `Exits: none.`.
 fn write_known_exits(out: &mut String, plan: &RegionPlan) -> Result<(), AllocError>
     ensures { OnOk result (string_bytes out.new ≡ string_bytes out.old ++ exits_text plan.now) }
 {
@@ -279,6 +293,7 @@ fn write_known_exits(out: &mut String, plan: &RegionPlan) -> Result<(), AllocErr
     Ok(())
 }
 
+/// Writes the line of a region's exits; nothing for a region that the world doesn't have.
 #[tactic(auto, unfolding(crate::specs::Report::exits_line))]
 fn write_exits(out: &mut String, world: &World, region: &RegionView) -> Result<(), AllocError>
     ensures { OnOk result (string_bytes out.new
@@ -290,6 +305,8 @@ fn write_exits(out: &mut String, world: &World, region: &RegionView) -> Result<(
     }
 }
 
+/// Writes the line of a market: what it has in stock at its price, and how many pieces it wants at
+/// what it pays.
 fn write_market_text(
     out: &mut String,
     seen: MarketView,
@@ -310,6 +327,8 @@ fn write_market_text(
     )
 }
 
+/// Writes the line of the market of an item in this region; nothing if the world has no such
+/// market.
 #[tactic(auto, unfolding(crate::specs::Report::market_line))]
 fn write_market(
     out: &mut String,
@@ -329,6 +348,7 @@ fn write_market(
     }
 }
 
+/// Writes the lines of markets of one region, in their order.
 fn write_markets(
     out: &mut String,
     world: &World,

@@ -93,6 +93,7 @@ fn unit_view(
     })
 }
 
+/// The views of the units that the watching faction sees in the watched region, in the order of
 /// their numbers; `own` has the numbers of the faction's own units there.
 fn unit_views(
     alloc: Global,
@@ -257,6 +258,7 @@ fn region_view(
     })
 }
 
+/// Adds the number of a region to the set `seen`, if the campaign has the region.
 fn add_region_seen(
     seen: &mut Numbered<()>,
     campaign: &Campaign,
@@ -271,6 +273,7 @@ fn add_region_seen(
     Ok(())
 }
 
+/// The set of the numbers of the regions that a faction sees: those where it has a unit with men.
 fn regions_seen(
     alloc: Global,
     campaign: &Campaign,
@@ -343,7 +346,8 @@ pub fn view_over(
 /// level at most the faction's best observation level there. Of its own units the faction sees the
 /// money, the items and the skills too. A structure's owner is 0 where there is none, or the owner
 /// isn't seen. For each region seen the call goes over all its units and over all structures of the
-/// campaign: for the views of many factions there is `view_over`. AllocError without memory. See docs/RULES.md, "Sight".
+/// campaign: for the views of many factions there is `view_over`. AllocError without memory. See
+/// docs/RULES.md, "Sight".
 pub fn view(
     alloc: Global,
     world: &World,

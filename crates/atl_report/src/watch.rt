@@ -43,7 +43,8 @@ fn best_observation(world: &World, campaign: &Campaign, numbers: &[u32]) -> u32
     best
 }
 
-/// units there, whose numbers are `own`.
+/// A faction's watch in a region, with the best observation level of the faction's units there,
+/// whose numbers are `own`.
 pub(crate) fn watch_over(
     world: &World,
     campaign: &Campaign,
@@ -73,6 +74,7 @@ pub(crate) fn hiding_level(world: &World, unit: &Unit) -> u32
     }
 }
 
+/// Whether a unit's stealth level is at most the best observation level of the watching faction.
 fn is_identified(world: &World, watch: Watch, unit: &Unit) -> bool
     ensures { result ≡ nat_le (level_in_any unit.now.holding world.now.rules.stealth)
         watch.observation }

@@ -208,9 +208,11 @@ module _ (db : Trees) (one other : List ℕ) (c d : CampaignValue) (h : Holds db
   one_row : row_of_campaign one c ≡ row_of_campaign other d
   one_row = (j.rows Own (row_of_campaign one c)).0 ((h.rows Own (row_of_campaign one c)).1 refl)
 
+  -- the world texts are equal, if the tables of one database hold both, each with a campaign
   pub one_text : one ≡ other
   one_text = let own = one_row in cc
 
+-- one database holds at most one world text and, for one world, one good campaign (`HoldsOneCampaign`)
 pub holds_one : HoldsOneCampaign
 holds_one w db one other c d good sound h j =
     let own : row_of_campaign one c ≡ row_of_campaign other d = one_row db one other c d h j in

@@ -32,6 +32,8 @@ use Rattle.atl_world.proofs.TrackLaws.{get_inserted}
 
 -- ---- one entry more in a map
 
+-- if rows are those of the map `m`, then with the row of `v` put under the number `n` they are those of `m` with `v`
+-- under `n`
 pub put_rows : {V : Type 0} (line : ℕ → V → Row) (numbered : (n : ℕ) (v : V) → take 1 (line n v) ≡ int n ∷ []) (rows news : List Row) (m : FinMap nat_cmp V) (n : ℕ) (v : V)
     → HasExactly rows (RowsOf line m) → HasExactly news (put 1 (line n v) (Has rows))
     → HasExactly news (RowsOf line (insert m n v))
@@ -125,13 +127,17 @@ module _ (c : CampaignValue) (e : BooksEntry) (t : Thing) where
 
 -- the statements that write an amount of the books (`OfAmount`)
 module _ (c : CampaignValue) (e : BooksEntry) (t : Thing) (n k : ℕ) (entry : n ≡ entry_index e + 1) (thing : k ≡ thing_index t) where
+  -- the statement that puts the row of an amount, which is not 0, is the one that writes it; the row has `n` and `k`
+  -- for entry and thing
   pub amount_put : (z : ℤ) → z ≡ amount_in c.books e t → z ≢ pos 0
       → OfAmount c e t (upsert books_table 2) (books_row n k z)
   amount_put z amount some = rw (entry, thing, amount) (puts_amount (λ zero. some (amount ∙ zero)))
 
+  -- if an amount is 0, the statement that deletes the row of its key is the one that writes it
   pub amount_taken : amount_in c.books e t ≡ pos 0 → OfAmount c e t (deletion books_table 2) (books_key n k)
   amount_taken zero = rw (entry, thing) (drops_amount zero)
 
+-- a statement that writes an amount of the books is one that a change may run (`OfChange`)
 pub amount_changes : (c : CampaignValue) (e : BooksEntry) (t : Thing) (sql : List ℕ) (params : Row)
     → OfAmount c e t sql params → OfChange c sql params
 amount_changes c e t sql params (puts_amount some) = changes_row (puts_row Books (λ own. (e, t, some, refl)))
@@ -145,6 +151,7 @@ amount_changes c e t sql params (drops_amount zero) = drops_row Books (
 
 -- an amount is written: its row is put, or deleted if the amount is 0
 module _ (c : CampaignValue) (e : BooksEntry) (t : Thing) (n k : ℕ) (entry : n ≡ entry_index e + 1) (thing : k ≡ thing_index t) (old new : Database) where
+  -- to put the row of an amount `z` that is not 0 writes the amount
   pub put_writes_amount : (z : ℤ) → z ≡ amount_in c.books e t → z ≢ pos 0 → Puts books_table 2 (books_row n k z) old new
       → WritesAmount c e t old new
   put_writes_amount z amount some did =
@@ -158,6 +165,7 @@ module _ (c : CampaignValue) (e : BooksEntry) (t : Thing) (n k : ℕ) (entry : n
         others = did.others;
       }
 
+  -- to delete the row of an amount's key writes the amount, if this is 0
   pub drop_writes_amount : amount_in c.books e t ≡ pos 0 → Drops books_table 2 (books_key n k) old new
       → WritesAmount c e t old new
   drop_writes_amount none did =

@@ -56,6 +56,7 @@ module _ (marks : FinSet nat_cmp) where
   abbrev is_marked_at : ℕ → ℕ → Bool
   is_marked_at e t = contains marks (entry_count * t + e)
 
+  -- a row is of a marked amount of one of the entries `e ∷ es` exactly if it is of one of `e`, or of one of `es`
   pub next_entry : (e : ℕ) (es : List ℕ) (things : ℕ → Bool) (r : Row)
       → is_of_marked_amount marks (is_among (e ∷ es)) things r ≡ (is_of_marked_amount marks (equals_number e) things r || is_of_marked_amount marks (is_among es) things r)
   next_entry e es things r =
@@ -64,6 +65,7 @@ module _ (marks : FinSet nat_cmp) where
       accounts_same (λ k t. is_among (e ∷ es) k && (things t && is_marked_at k t)) (λ k t. one k t || rest k t) (λ k t. and-or_distrib_right (equals_number e k) (is_among es k) (things t && is_marked_at k t)) r
       ∙ accounts_either one rest r
 
+  -- a row is of a marked amount of one of the things `t ∷ ts` exactly if it is of one of `t`, or of one of `ts`
   pub next_thing : (entries : ℕ → Bool) (t : ℕ) (ts : List ℕ) (r : Row)
       → is_of_marked_amount marks entries (is_among (t ∷ ts)) r ≡ (is_of_marked_amount marks entries (equals_number t) r || is_of_marked_amount marks entries (is_among ts) r)
   next_thing entries t ts r =
@@ -72,11 +74,13 @@ module _ (marks : FinSet nat_cmp) where
       accounts_same (λ e k. entries e && (is_among (t ∷ ts) k && is_marked_at e k)) (λ e k. one e k || rest e k) (λ e k. and_or (entries e) (equals_number t k) (is_among ts k) (is_marked_at e k)) r
       ∙ accounts_either one rest r
 
+  -- no row is of a marked amount of an entry of the empty list
   pub no_entry : (es : List ℕ) (things : ℕ → Bool) → es ≡ [] → (r : Row)
       → is_of_marked_amount marks (is_among es) things r ≡ false
   no_entry es things none r =
       ap (λ l. is_of_marked_amount marks (is_among l) things r) none ∙ accounts_none (λ e t. false) (λ e t. refl) r
 
+  -- no row is of a marked amount of a thing of the empty list
   pub no_thing : (entries : ℕ → Bool) (ts : List ℕ) → ts ≡ [] → (r : Row)
       → is_of_marked_amount marks entries (is_among ts) r ≡ false
   no_thing entries ts none r =
@@ -160,6 +164,7 @@ module _ (c : MarkedCampaign) (e : BooksEntry) (t : Thing) where
       let row_is : r ≡ row = is ∙ ap (λ k. books_row (k + 1) (thing_index u) (amount_in books f u)) entries ∙ ap (λ k. books_row (entry_index e + 1) k (amount_in books f u)) things ∙ ap (books_row (entry_index e + 1) (thing_index t)) same in
       subst (Has (amount_lines c.value e t)) (sym row_is) (has_optional (int_eq (amount_in books e t) (pos 0)) row (is_differing (amount_in books e t) (λ none. some (same ∙ none))))
 
+  -- if the amount of entry `e` and thing `t` is not marked, no row is of it as a marked amount
   pub unmarked_none : contains c.marks.books (amount_number e t) ≡ false → (r : Row) → is_here r ≡ false
   unmarked_none unmarked r = accounts_none _ (λ k j. false_from_ne_true _ (λ is.
       let one = and_parts _ _ is in
@@ -202,6 +207,7 @@ module _ (c : MarkedCampaign) (e : BooksEntry) (t : Thing) where
         same_place of.0 of.1 of.2 (omega (arith, keys.0)) keys.1 r of.3)
         books_table old new did.rows did.others
 
+    -- to write the amount of entry `e` and thing `t`, which is marked, rewrites its row and no other
     pub amount_is_rewritten_inside : (old new : State) → DoesInside HasTables (WritesAmount c.value e t) old new
         → DoesInside HasTables (RewritesAmounts c (equals_number (entry_index e)) (equals_number (thing_index t))) old new
     amount_is_rewritten_inside old new did =
@@ -222,6 +228,8 @@ module _ (c : MarkedCampaign) where
       Remaining books_table wanted (λ r. is_of_marked_amount c.marks.books (is_among (map entry_index rest)) things r)
       (λ r. is_of_marked_amount c.marks.books (is_among (map entry_index all)) things r) old new
 
+  -- after the marked amounts of `x`, the next entry, are rewritten, only those of the entries after it are left to
+  -- rewrite
   pub one_less_entry : (things : ℕ → Bool) (x : BooksEntry) (now rest all : List BooksEntry) → now ≡ x ∷ rest
       → (old mid new : State)
       → DoesInside HasTables (RemainingEntries things now all) old mid
@@ -235,6 +243,7 @@ module _ (c : MarkedCampaign) where
       (λ r. is_of_marked_amount c.marks.books (is_among (map entry_index all)) things r)
       (λ r. ap (λ es. is_of_marked_amount c.marks.books (is_among (map entry_index es)) things r) is ∙ next_entry c.marks.books (entry_index x) (map entry_index rest) things r)
 
+  -- when no entry is left to rewrite, the marked amounts of all the listed entries are rewritten
   pub entries_rewritten : (things : ℕ → Bool) (rest all : List BooksEntry) → rest ≡ [] → (old new : State)
       → DoesInside HasTables (RemainingEntries things rest all) old new
       → DoesInside HasTables (RewritesAmounts c (is_among (map entry_index all)) things) old new
@@ -253,6 +262,8 @@ module _ (c : MarkedCampaign) where
       (λ r. is_of_marked_amount c.marks.books (is_among (map entry_index all_entries)) (is_among rest) r)
       (λ r. is_of_marked_amount c.marks.books (is_among (map entry_index all_entries)) (is_among all) r) old new
 
+  -- after the marked amounts of `t`, the next thing, are rewritten, only those of the things after it are left to
+  -- rewrite
   pub one_less_thing : (t : ℕ) (now rest all : List ℕ) → now ≡ t ∷ rest → (old mid new : State)
       → DoesInside HasTables (RemainingThings now all) old mid
       → DoesInside HasTables (RewritesAmounts c (is_among (map entry_index all_entries)) (equals_number t)) mid new

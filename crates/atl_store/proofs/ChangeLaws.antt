@@ -198,6 +198,8 @@ unmarked_held c old new changes text rest =
           (subst (λ (h : CampaignRowValue). HasExactly (rows_in (table_of part) new.trees) (rows_after_rewrite (is_marked c.marks part) (rows_for (campaign_row h text) c.value part) (Has (rows_in (table_of part) old.trees)))) rest.head (did.rows part));
     }
 
+-- tables that hold a campaign `before` hold what is not marked of `c`, if `c` differs from `before` only in what is
+-- marked
 pub covers_unmarked : (c : MarkedCampaign) (db : Trees) (text : List ℕ) (before : CampaignValue)
     → Covers c.marks before c.value → Holds db text before → HoldsUnmarked db text c
 covers_unmarked c db text before covers held =
@@ -233,6 +235,8 @@ covers_unmarked c db text before covers held =
         unmarked_rows_agree (stocks_marked c.marks) (MarketRowsOf before.regions) (MarketRowsOf c.value.regions) _ (λ r is. stocks_follow before.regions c.value.regions c.marks r covers.stocks is)
         (λ r is. stocks_follow c.value.regions before.regions c.marks r (λ n item not_marked. sym (covers.stocks n item not_marked)) is) (held.rows Markets)
 
+-- tables that held a campaign `before` hold `c` once its marked rows are written, if `c` differs from `before` only in
+-- what is marked
 pub changes_held : (c : MarkedCampaign) (old new : Database) → WritesChanges c old new
     → (text : List ℕ) (before : CampaignValue) → Covers c.marks before c.value → Holds old.trees text before
     → Holds new.trees text c.value

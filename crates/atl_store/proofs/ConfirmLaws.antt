@@ -26,6 +26,7 @@ module _ (sql : List ℕ) (old new : State) (plain : IsPlain (understood old.now
   pub commits_none : Survives old new (CommitsShowing sql [] old) → Survives old new (λ _. ⊥)
   commits_none = survives_weaker old new _ _ (λ _ db. never_commits sql [] old db plain)
 
+  -- a plain query that shows its rows changes nothing
   pub shown_unchanged : (rows : List Row) → Shown sql [] old new rows → IsUnchanged old new
   unfolding Shown
   shown_unchanged rows h = (subst (ShowsRows old new sql h.0 _ rows) (subst IsPlain h.1.is plain).0 h.2).3
@@ -37,9 +38,12 @@ module _ (sql : List ℕ) (old new : State) (plain : IsPlain (understood old.now
   rolled_stays settled clean h =
       record { was_open = h.was_open; same = λ up. let back = h.undone up in (back.0 ∙ sym (settled clean (h.was_open up)), back.1) }
 
+  -- after a plain query that shows its rows the tables and the last commit are as they were (`TablesStay`)
   pub shown_stays : (rows : List Row) → Shown sql [] old new rows → TablesStay old new
   shown_stays rows h = unchanged_stays (shown_unchanged rows h)
 
+  -- after a plain query that is refused, even if it is rolled back, the tables are as they were, if they were committed
+  -- and the disk was clean
   pub refused_stays : IsCommitted old → HasCleanDisk old → (e : Error) → FailsToQuery sql [] old new e
       → TablesStay old new
   unfolding FailsToQuery IsNotRun

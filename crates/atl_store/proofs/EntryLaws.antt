@@ -27,6 +27,7 @@ pub less_apart : (m n : ℕ) → is_lt (nat_cmp m n) ≡ true → m ≢ n
 less_apart m n less same = true≢false (sym less ∙ ap (λ k. is_lt (nat_cmp m k)) (sym same) ∙ not_less_itself m)
 
 module _ {V : Type 0} where
+  -- if `k` is below the numbers of all entries of a list, it is below that of each
   pub below_has : (k : ℕ) (es : List (ℕ × V)) (x : ℕ × V) → below_all nat_cmp k es ≡ true → Has es x
       → is_lt (nat_cmp k x.0) ≡ true
   below_has k [] x below there = absurd there
@@ -63,17 +64,21 @@ module _ {V : Type 0} where
       ] refl in
       ap (λ b. cond b (Some e.1) (find nat_cmp n es)) other ∙ has_get es n v (and_parts _ _ sorted).1 later
 
+  -- a value that a map has under a number is among its entries
   pub got_entry : (m : FinMap nat_cmp V) (n : ℕ) (v : V) → get m n ≡ Some v → Has (entries m) (n, v)
   got_entry m n v got = get_has (entries m) n v (sym (get-entries m n) ∙ got)
 
+  -- each entry of a map is what the map has under its number
   pub entry_got : (m : FinMap nat_cmp V) (n : ℕ) (v : V) → Has (entries m) (n, v) → get m n ≡ Some v
   entry_got m n v there = get-entries m n ∙ has_get (entries m) n v (is_true _ (entries_sorted m)) there
 
+  -- the entries of a map are sorted by number
   pub in_order : (m : FinMap nat_cmp V) → is_sorted nat_cmp (entries m) ≡ true
   in_order m = is_true _ (entries_sorted m)
 
 -- ---- lists made of lists
 
+-- each element of a `flat_map` is one that `f` gives for an element of the list
 pub flat_has : {X Y : Type 0} (f : X → List Y) (xs : List X) (r : Y) → Has (flat_map f xs) r
     → (x : X) × Has xs x × Has (f x) r
 flat_has f [] r there = absurd there
@@ -82,6 +87,7 @@ flat_has f (x ∷ xs) r there = elim (has_either (f x) (flat_map f xs) r there) 
   | inr more ↦ let found = flat_has f xs r more in (found.0, inr found.1, found.2)
 ]
 
+-- what `f` gives for an element of the list is in the `flat_map`
 pub has_flat : {X Y : Type 0} (f : X → List Y) (xs : List X) (x : X) (r : Y) → Has xs x → Has (f x) r
     → Has (flat_map f xs) r
 has_flat f [] x r there here = absurd there
@@ -104,6 +110,7 @@ puts_has key (x ∷ xs) S apart free r =
       λ h. later.1 (elim h [ inl (inl same) ↦ inr (inl same) | inl (inr there) ↦ inl there | inr was ↦ inr (inr (was, free r was x (inl refl))) ]),
     )
 
+-- an empty table into which rows with different keys are put has exactly these rows
 pub empty_table_has_put_rows : (key : ℕ) (rows news old : List Row) → old ≡ [] → DifferInKey key news
     → HasExactly rows (puts key news (Has old)) → HasExactly rows (Has news)
 empty_table_has_put_rows key rows news old none apart made r =
@@ -113,6 +120,8 @@ empty_table_has_put_rows key rows news old none apart made r =
       λ there. (made r).1 (all.1 (inl there)),
     )
 
+-- the rows of two lists together differ in their keys, if those of each list do and no two of different lists have one
+-- key
 pub apart_append : (key : ℕ) (xs ys : List Row) → DifferInKey key xs → DifferInKey key ys
     → ((x y : Row) → Has xs x → Has ys y → take key x ≢ take key y) → DifferInKey key (xs ++ ys)
 apart_append key [] ys one two cross = two
@@ -123,9 +132,11 @@ apart_append key (x ∷ xs) ys one two cross = (
 
 -- ---- one row for each entry
 
+-- two numbers are equal if rows of each alone are
 pub same_number : (m n : ℕ) → ◌≡◌ {A = Row} (int m ∷ []) (int n ∷ []) → m ≡ n
 same_number m n e = cc
 
+-- each row of the list that `line` makes of a map's entries is in the set of the map's rows (`RowsOf`)
 pub lines_rows : {V : Type 0} (line : ℕ → V → Row) (m : FinMap nat_cmp V) (es : List (ℕ × V)) → es ≡ entries m
     → (r : Row) → Has (rows_in_order line es) r → RowsOf line m r
 lines_rows {V} line m es same r there =

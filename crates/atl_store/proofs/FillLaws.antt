@@ -35,12 +35,14 @@ empty_table_has_put_row rows old row none made r = (
 module _ (c : CampaignValue) where
   -- ---- one table
 
+  -- putting the campaign row fills its part, if its table was empty
   pub own_filled : (text : List ℕ) (old new : Database) → PutsCampaignRow (campaign_row_of c) text old new
       → FillsWithOwn text c (Own ∷ []) old new
   own_filled text old new did none =
       one_changed (Fills c (row_of_campaign text c)) Own _ old new (did.first none)
       (λ rows empty. empty_table_has_put_row _ _ (row_of_campaign text c) empty rows)
 
+  -- putting one row for each entry of `m` fills a part, if the rows that the part has to have are those of `m`
   pub numbered_filled : {V : Type 0} (part : Part) (line : ℕ → V → Row)
       → ((n : ℕ) (v : V) → take 1 (line n v) ≡ int n ∷ []) → (m : FinMap nat_cmp V)
       → ((own : Row) (rows : List Row) → HasExactly rows (RowsOf line m) → HasExactly rows (rows_for own c part))
@@ -52,6 +54,8 @@ module _ (c : CampaignValue) where
       let now = rows_in (table_of part) new.trees in
       are own now (rows_filled line numbered now was m none (subst (λ (l : List (ℕ × V)). HasExactly now (puts 1 (rows_in_order line l) (Has was))) same made)))
 
+  -- putting the rows that `lines` gives for all entries of `m` fills a part, if its rows come in these groups
+  -- (`AreGroups`)
   pub groups_fill : {V : Type 0} (part : Part) (lines : ℕ → V → List Row) (more : ℕ) (m : FinMap nat_cmp V)
       → ((own : Row) → AreGroups lines (suc more) m (rows_for own c part)) → (es : List (ℕ × V)) → es ≡ entries m
       → (old new : Database)
@@ -61,6 +65,7 @@ module _ (c : CampaignValue) where
       let now = rows_in (table_of part) new.trees in
       groups_filled lines more m (rows_for own c part) (are own) now was none (subst (λ (l : List (ℕ × V)). HasExactly now (puts (suc more) (groups_of lines l) (Has was))) same made))
 
+  -- putting the rows of all amounts that are not 0 fills the books
   pub books_fill : AreBooks c.books.things c.books → (old new : Database)
       → PutsRows books_table 2 (things_lines c (range_with_len 0 c.books.things)) old new
       → FillsParts c (Books ∷ []) old new

@@ -34,6 +34,7 @@ shows_open : (old new : State) (sql : List ℕ) (c : _) (row : Row) (rows : List
 shows_open old new sql c row rows None h = h.3.0.was_open
 shows_open old new sql c row rows (Some what) h = h.1.shown.was_open
 
+-- if a query showed rows, the connection was open before it
 pub shown_open : (sql : List ℕ) (old new : State) (rows : List Row) → Shown sql [] old new rows → IsTrue old.is_open
 unfolding Shown
 shown_open sql old new rows h = shows_open old new sql h.0 _ rows h.0.returning h.2
@@ -62,6 +63,7 @@ each_of_one P x p y (inl same) = subst P (sym same) p
 each_of_one P x p y (inr none) = absurd none
 
 module _ {S : Type 0} (g : Ghosts S) where
+  -- without any read the connection is as after reads, if it is in no transaction
   pub leaves_none : (old : Held S) → old.in_transaction ≡ false → AfterReads g old old
   leaves_none old idle = record {
     stays = λ _. record { was_open = λ up. up; same = λ up. (refl, refl) };
@@ -69,6 +71,7 @@ module _ {S : Type 0} (g : Ghosts S) where
     idle = idle;
   }
 
+  -- reads after reads are reads: together they leave the tables as they were
   pub leaves_then : (old mid new : Held S) → AfterReads g old mid → AfterReads g mid new → AfterReads g old new
   leaves_then old mid new one two = record {
     stays = λ clean.
@@ -82,6 +85,7 @@ module _ {S : Type 0} (g : Ghosts S) where
     idle = two.idle;
   }
 
+  -- if the tables were those of the last commit before reads, they are so after them
   pub settled_then : (old new : Held S) → IsCommitted (state g old) → AfterReads g old new → IsCommitted (state g new)
   settled_then old new settled leaves clean up =
       let stays = leaves.stays clean in
@@ -213,6 +217,7 @@ module _ {S : Type 0} (g : Ghosts S) where
     answered = answers.answered;
   }
 
+  -- a fault of reading by `selects` after other reads is one that reading by them may return from the start
   pub fails_then : (old mid : Held S) → AfterReads g old mid → (selects : List (List ℕ × List Form)) (fault : LoadFault)
       → FailsToRead g mid selects fault → FailsToRead g old selects fault
   fails_then old mid first selects Store (inl refused) = inl (refuses_then old mid first selects read.Store refused)
@@ -275,6 +280,7 @@ module _ {S : Type 0} (g : Ghosts S) where
       found (Ok None) h = h
       found (Err fault) h = tt
 
+  -- if reading by the first list of SELECTs, `xs`, fails, reading by both lists fails with the same fault
   pub first_fails : {A B : Type 0} (xs ys : List (List ℕ × List Form)) (P : A → Type 0) (Q : B → Type 0) (old new : Held S) (fault : LoadFault) (one : Result (Option A) LoadFault) (r : Result (Option B) LoadFault)
       → ReadsSome g old xs P one new → one ≡ Err fault → IsErrAnd r (λ says. says ≡ fault) → ReadsSome g old (xs ++ ys) Q r new
   first_fails xs ys P Q old new fault one (Ok o) first was says = absurd says
@@ -288,6 +294,8 @@ module _ {S : Type 0} (g : Ghosts S) where
   -- the second stage begins at `mid`, where the first ended
   module _ {A B : Type 0} (xs ys : List (List ℕ × List Form)) (P : A → Type 0) (Q : B → Type 0) (old mid new : Held S) (one : Result (Option A) LoadFault) (two : Result (Option B) LoadFault)
       (first : ReadsSome g old xs P one mid) (second : ReadsSome g mid ys Q two new) (a : Option A) (was_first : one ≡ Ok a) where
+    -- if reading by the first list succeeds and reading by the second, `ys`, fails, reading by both fails with the
+    -- second's fault
     pub second_fails : {C : Type 0} (R : C → Type 0) (fault : LoadFault) (r : Result (Option C) LoadFault)
         → two ≡ Err fault → IsErrAnd r (λ says. says ≡ fault) → ReadsSome g old (xs ++ ys) R r new
     second_fails R fault (Ok o) was says = absurd says
@@ -355,6 +363,8 @@ module _ {S : Type 0} (g : Ghosts S) where
       not_early : (part : Part) → Has second_format_parts part → ¬ Has (parts_in First) part
       not_early part there = not_among (parts_in First) part (no (is_among (parts_in First) part) (test_has (λ p. not (is_among (parts_in First) p)) second_format_parts part refl there))
 
+  -- in the first format: if all rows of its parts are read, and no row is taken of the others, each part has the rows
+  -- that the format gives it (`AreOfFormat`)
   pub reads_first : {A B : Type 0} (selects : List (List ℕ × List Form)) (some : A → ReadRows) (others : B → ReadRows) (old new : Held S) (one : Result (Option A) LoadFault)
       → ReadsSome g old selects (λ a. AreAllRows (state g old).now (some a)) one new
       → (a : Option A) → one ≡ Ok a → (b : B) → AreNone (others b) → ((a : A) → map (λ read. read.0) (some a) ≡ other_parts First) → map (λ read. read.0) (others b) ≡ second_format_parts
@@ -369,11 +379,15 @@ module _ {S : Type 0} (g : Ghosts S) where
     leaves = first.leaves;
   }
 
+  -- in the second format: if all rows of the parts are read, each part has the rows that the format gives it
+  -- (`AreOfFormat`)
   pub reads_second : {A : Type 0} (selects : List (List ℕ × List Form)) (rows : A → ReadRows) (old new : Held S) (r : Result (Option A) LoadFault)
       → ReadsSome g old selects (λ a. AreAllRows (state g old).now (rows a)) r new
       → ReadsSome g old selects (λ a. AreOfFormat Second (state g old).now (rows a)) r new
   reads_second selects rows old new r reads = reads_as selects _ _ old new r (λ a are. record { each = λ read there. inl (every_part read.0, are read there) }) reads
 
+  -- if reading by `selects` fails, so does a reading that is to give something else (`Q`) by the same SELECTs with the
+  -- same fault
   pub fails_as : {A B : Type 0} (selects : List (List ℕ × List Form)) (P : A → Type 0) (Q : B → Type 0) (old new : Held S) (fault : LoadFault) (one : Result (Option A) LoadFault) (r : Result (Option B) LoadFault)
       → ReadsSome g old selects P one new → one ≡ Err fault → IsErrAnd r (λ says. says ≡ fault) → ReadsSome g old selects Q r new
   fails_as selects P Q old new fault one (Ok o) first was says = absurd says
@@ -384,11 +398,13 @@ module _ {S : Type 0} (g : Ghosts S) where
     leaves = first.leaves;
   }
 
+  -- what reading in the format `is` gives, reading in `f` gives, which is the same format
   pub reads_by : {A : Type 0} (some others : List (List ℕ × List Form)) (rows : A → ReadRows) (old new : Held S) (r : Result (Option A) LoadFault) (f is : Format)
       → f ≡ is
       → ReadsSome g old (selects_by is some others) (λ a. AreOfFormat is (state g old).now (rows a)) r new → ReadsSome g old (selects_by f some others) (λ a. AreOfFormat f (state g old).now (rows a)) r new
   reads_by some others rows old new r f is same reads = subst (λ f. ReadsSome g old (selects_by f some others) (λ a. AreOfFormat f (state g old).now (rows a)) r new) (sym same) reads
 
+  -- what was found by reading after other reads is so of the tables as they were before these, on a clean disk
   pub format_before : {A : Type 0} (f : Format) (rows : A → ReadRows) (old mid new : Held S) → AfterReads g old mid
       → (selects : List (List ℕ × List Form)) (r : Result (Option A) LoadFault)
       → ReadsSome g mid selects (λ a. AreOfFormat f (state g mid).now (rows a)) r new → (o : Option A) → r ≡ Ok o
@@ -396,6 +412,7 @@ module _ {S : Type 0} (g : Ghosts S) where
   format_before f rows old mid new before selects r reads o was clean =
       found_before old mid new before selects (λ a. AreOfFormat f (state g mid).now (rows a)) (λ a. AreOfFormat f (state g old).now (rows a)) r reads o was (λ same a are. subst (λ (db : Database). AreOfFormat f db (rows a)) same are) clean
 
+-- if neither of two lists of parts has a row, both together have none
 pub both_none : (some others : ReadRows) → AreNone some → AreNone others → AreNone (some ++ others)
 both_none some others first second = each_of_both (λ read. read.1 ≡ []) some others first second
 
@@ -406,6 +423,7 @@ same_selects : (some others : List (List ℕ × List Form)) → some ≡ other_s
 same_selects some others first second First = first
 same_selects some others first second Second = second
 
+-- to read by `some` and, in the second format, by `others` is to read all tables of the format but `campaign`
 pub reads_others : {A S : Type 0} (g : Ghosts S) (some others : List (List ℕ × List Form)) (P : A → Type 0) (old new : Held S) (r : Result (Option A) LoadFault) (f : Format)
     → some ≡ other_selects First → some ++ others ≡ other_selects Second
     → ReadsSome g old (selects_by f some others) P r new → ReadsSome g old (other_selects f) P r new

@@ -44,6 +44,7 @@ module _ {V : Type 0} (lines : ℕ → V → List Row) (more : ℕ) (values : Fi
       let number = same_number e.0 found.0.0 (sym (are.numbered e.0 e.1 x early) ∙ first_of more x y same ∙ are.numbered found.0.0 found.0.1 y found.2) in
       less_apart e.0 found.0.0 (below_has e.0 es found.0 (and_parts _ _ sorted).0 found.1) number)
 
+  -- each row that `lines` gives for an entry of the map is wanted
   pub groups_rows : (es : List (ℕ × V)) → es ≡ entries values → (r : Row) → Has (groups_of lines es) r → Wanted r
   groups_rows es same r there =
       let found = flat_has (λ (v : ℕ × V). lines v.0 v.1) es r there in
@@ -95,6 +96,8 @@ module _ {V : Type 0} (lines : ℕ → V → List Row) (more : ℕ) (values : Fi
         (λ r is of. let line = lined_at r is of in none-some line.0 (sym none ∙ line.1))
         table old new (λ r. let so = dropped.rows r in (λ h. inr (so.0 h), λ h. so.1 (kept_only h))) dropped.others
 
+    -- if a value has the number `n`, deleting the rows of `n` and then putting those of the value rewrites the rows of
+    -- `n`
     pub lines_done : (v : V) → get values n ≡ Some v → (old mid new : State)
         → DoesInside HasTables (Drops table 1 (int n ∷ [])) old mid
         → DoesInside HasTables (PutsRows table (suc more) (lines n v)) mid new
@@ -104,12 +107,14 @@ module _ {V : Type 0} (lines : ℕ → V → List Row) (more : ℕ) (values : Fi
         let puts = PutsRows table (suc more) (lines n v) in
         inside_weaker HasTables (DoesBoth drops puts) (RewritesGroup table Wanted n) old new (λ has did. lines_rewrite old.now did.0 new.now did.1 v there did.2) (inside_then HasTables drops puts old mid new one two)
 
+    -- if no value has the number `n`, deleting the rows of `n` rewrites them
     pub bare_done : get values n ≡ None → (old new : State) → DoesInside HasTables (Drops table 1 (int n ∷ [])) old new
         → DoesInside HasTables (RewritesGroup table Wanted n) old new
     bare_done none old new did =
         inside_weaker HasTables (Drops table 1 (int n ∷ [])) (RewritesGroup table Wanted n) old new
         (λ has drops. bare_rewrite old.now new.now drops none) did
 
+-- to put a wanted row is a statement of the campaign's rows (`OfRow`), if each wanted row is one of the part's
 pub puts_wanted : (part : Part) (more : ℕ) → key_width_of part ≡ suc more → (Wanted : CampaignValue → Row → Type 0)
     → ((own : Row) (c : CampaignValue) (r : Row) → Wanted c r → rows_for own c part r) → (c : CampaignValue) (r : Row)
     → Wanted c r

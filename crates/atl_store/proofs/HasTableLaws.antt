@@ -19,15 +19,18 @@ use Rattle.atl_store.proofs.EntryLaws.{apart_append, below_has, less_apart, got_
 
 -- ---- one amount
 
+-- a row of a list that is empty if `b` is true and else has one row is that row, and `b` is false
 pub optional_has : (b : Bool) (row r : Row) → Has (if b then [] else row ∷ []) r → (b ≡ false) × (r ≡ row)
 optional_has true row r there = absurd there
 optional_has false row r (inl same) = (refl, same)
 optional_has false row r (inr none) = absurd none
 
+-- a list that is empty if `b` is true has its one row if `b` is false
 pub has_optional : (b : Bool) (row : Row) → b ≡ false → Has (if b then [] else row ∷ []) row
 has_optional true row is = absurd (true≢false is)
 has_optional false row is = inl refl
 
+-- the rows of a list of at most one row differ in their key
 pub optional_apart : (key : ℕ) (b : Bool) (row : Row) → DifferInKey key (if b then [] else row ∷ [])
 optional_apart key true row = tt
 optional_apart key false row = (λ y none. absurd none, tt)
@@ -42,6 +45,7 @@ is_not_zero a apart =
 -- ---- the amounts under some numbers
 
 module _ (row : ℕ → ℕ → Row) where
+  -- each row that `row` makes of the amounts of a list is of one of them that is not 0
   pub amounts_have : (es : List (ℕ × ℕ)) (r : Row) → Has (amount_rows row es) r
       → (e : ℕ × ℕ) × Has es e × (e.1 ≢ 0) × (r ≡ row e.0 e.1)
   amounts_have es r there =
@@ -49,11 +53,13 @@ module _ (row : ℕ → ℕ → Row) where
       let line = optional_has (found.0.1 == 0) (row found.0.0 found.0.1) r found.2 in
       (found.0, found.1, not_zero found.0.1 line.0, line.1)
 
+  -- each amount of a list that is not 0 has its row among those that `row` makes
   pub have_amount : (es : List (ℕ × ℕ)) (n amount : ℕ) → Has es (n, amount) → amount ≢ 0
       → Has (amount_rows row es) (row n amount)
   have_amount es n amount there some =
       has_flat (λ (e : ℕ × ℕ). if e.1 == 0 then [] else row e.0 e.1 ∷ []) es (n, amount) _ there (has_optional (amount == 0) (row n amount) (is_not_zero amount some))
 
+  -- the rows of amounts sorted by thing differ in their key, if rows of one key are of one thing
   pub amounts_apart : (key : ℕ) → ((m a n b : ℕ) → take key (row m a) ≡ take key (row n b) → m ≡ n)
       → (es : List (ℕ × ℕ)) → is_sorted nat_cmp es ≡ true → DifferInKey key (amount_rows row es)
   amounts_apart key says [] sorted = tt
@@ -66,6 +72,7 @@ module _ (row : ℕ → ℕ → Row) where
 
 -- ---- the things of one kind: items or skills
 
+-- two keys of `has` are equal only if unit, kind and thing are
 pub three_same : (a b c d e f : ℕ) → ◌≡◌ {A = Row} (has_key a b c) (has_key d e f) → (a ≡ d) × (b ≡ e) × (c ≡ f)
 three_same a b c d e f same = (cc, cc, cc)
 
@@ -85,6 +92,7 @@ module _ (unit : ℕ) (sort : ThingKind) where
 
 -- ---- all that one unit has
 
+-- each row of what a unit holds is of an item or a skill whose amount is not 0
 pub goods_has : (unit : ℕ) (held : HoldingValue) (r : Row) → Has (goods_lines unit held) r
     → (sort : ThingKind) × (e : ℕ × ℕ) × Has (entries (things_of sort held)) e × (e.1 ≢ 0)
     × (r ≡ has_row unit (sort_number sort) e.0 e.1)
@@ -94,6 +102,7 @@ goods_has unit held r there =
       | inr skill ↦ let e = kind_row_is_of_entry unit Skill (entries held.days) r skill in (Skill, e.0, e.1, e.2, e.3)
     ]
 
+-- each item or skill of a unit whose amount is not 0 has its row
 pub has_goods : (unit : ℕ) (held : HoldingValue) (sort : ThingKind) (thing amount : ℕ)
     → Has (entries (things_of sort held)) (thing, amount) → amount ≢ 0
     → Has (goods_lines unit held) (has_row unit (sort_number sort) thing amount)
@@ -104,6 +113,7 @@ has_goods unit held Skill thing amount there some =
     has_right (kind_lines unit Item (entries held.items)) (kind_lines unit Skill (entries held.days)) _
     (entry_has_kind_row unit Skill (entries held.days) thing amount there some)
 
+-- the rows of what a unit holds differ in their key
 pub goods_apart : (unit : ℕ) (held : HoldingValue) → DifferInKey 3 (goods_lines unit held)
 goods_apart unit held =
     apart_append 3 (kind_lines unit Item (entries held.items)) (kind_lines unit Skill (entries held.days)) (sort_apart unit Item (entries held.items) (in_order held.items)) (sort_apart unit Skill (entries held.days) (in_order held.days))
@@ -149,9 +159,11 @@ under_none Item thing = ap (λ (o : Option ℕ). unwrap_or o 0) (get-empty {X = 
 under_none Skill thing = ap (λ (o : Option ℕ). unwrap_or o 0) (get-empty {X = ℕ} nat_cmp thing)
 
 module _ (units : FinMap nat_cmp Unit) where
+  -- without a unit of the number each amount is 0
   pub amount_none : (n : ℕ) (sort : ThingKind) (thing : ℕ) → get units n ≡ None → amount_under units n sort thing ≡ 0
   amount_none n sort thing none = ap (λ o. amount_of (things_under sort o) thing) none ∙ under_none sort thing
 
+  -- with a unit of the number an amount is the one that this unit's holding has
   pub amount_some : (n : ℕ) (sort : ThingKind) (thing : ℕ) (u : Unit) → get units n ≡ Some u
       → amount_under units n sort thing ≡ amount_of (things_of sort u.holding) thing
   amount_some n sort thing u there =

@@ -194,6 +194,7 @@ module _ (n : ℕ) (f : Faction) (m : ℕ) (u : Unit) (report : List ℕ) (after
             (λ e. free (inr (inr (inr (inl (same_part part Reports e)))))) (λ e. free (inr (inr (inr (inr (inl (same_part part Books e)))))));
       }
 
+  -- tables that held the campaign before a join hold the one after it, `after`, once the join is written
   pub join_held : (a d : Database) → WritesJoin n after a d → (text : List ℕ) (before : CampaignValue)
       → IsJoining before n after → Holds a.trees text before → Holds d.trees text after
   unfolding after_join
@@ -238,6 +239,7 @@ module _ (n : ℕ) (f : Faction) (m : ℕ) (u : Unit) (report : List ℕ) (after
           (λ (c : CampaignValue). HasExactly (rows_in (table_of part) d.trees) (rows_for (row_of_campaign text c) c part))
           (sym joining.7) (stays part refl)
 
+-- the campaign row, the faction's row and the unit's row are put, if they are put one after another
 pub enrolling_done : (n : ℕ) (f : Faction) (m : ℕ) (u : Unit) (after : CampaignValue) (world : List ℕ) (start one two three : State)
     → DoesInside HasTables (PutsCampaignRow (campaign_row_of after) world) start one
     → DoesInside HasTables (Puts faction_table 1 (row_of_faction n f)) one two
@@ -248,6 +250,7 @@ enrolling_done n f m u after world start one two three first second third =
     let units = Puts unit_table 1 (row_of_unit m u) in
     inside_then HasTables (PutsCampaignRow (campaign_row_of after) world) (DoesBoth factions units) start one three first (inside_then HasTables factions units one two three second third)
 
+-- the report's row is put and both amounts are written, if this is done one after another
 pub reporting_done : (n : ℕ) (report : List ℕ) (after : CampaignValue) (start one two three : State)
     → DoesInside HasTables (Puts report_table 1 (report_row n report)) start one
     → DoesInside HasTables (WritesAmount after Joining Money) one two
@@ -258,6 +261,7 @@ reporting_done n report after start one two three first second third =
     let people = WritesAmount after Joining People in
     inside_then HasTables (Puts report_table 1 (report_row n report)) (DoesBoth money people) start one three first (inside_then HasTables money people one two three second third)
 
+-- to put campaign row, faction and unit, and then to write the report and both amounts, writes the join (`WritesJoin`)
 pub joining_done : (n : ℕ) (f : Faction) (m : ℕ) (u : Unit) (report : List ℕ) (after : CampaignValue) (world : List ℕ) (start one two : State)
     → HasArrivalWith after n f m u report
     → DoesInside HasTables (DoesBoth (PutsCampaignRow (campaign_row_of after) world) (DoesBoth (Puts faction_table 1 (row_of_faction n f)) (Puts unit_table 1 (row_of_unit m u)))) start one
@@ -269,6 +273,7 @@ joining_done n f m u report after world start one two found first second =
 
 -- ---- a mailing
 
+-- tables that held a campaign hold it with a faction's mail once this is written
 pub mail_held : (faction : ℕ) (mail : List ℕ) (a b : Database) → WritesMail faction mail a b
     → (text : List ℕ) (before : CampaignValue) → Holds a.trees text before
     → Holds b.trees text (with_mail before faction mail)

@@ -24,6 +24,7 @@ use Rattle.atl_store.proofs.EntryLaws.{same_number}
 use Rattle.atl_store.proofs.FillLaws.{numbered_filled}
 use Rattle.atl_store.proofs.TurnLaws.{one_changed}
 
+-- the key of a part that has one row for each number is one column
 pub key_one : (part : Part) → IsNumberedPart part → key_width_of part ≡ 1
 key_one Own is = absurd is
 key_one Goods is = absurd is
@@ -47,12 +48,14 @@ rewritten_as one other P Q same are after before is r =
 -- ---- a part with one row for each number
 
 module _ {V : Type 0} (part : Part) (line : ℕ → V → Row) (values : CampaignValue → FinMap nat_cmp V) (are : (own : Row) (c : CampaignValue) (r : Row) → rows_for own c part r ↔ RowsOf line (values c) r) where
+  -- to put the row of a value of the campaign is a statement of the campaign's rows (`OfRow`)
   pub puts_line : key_width_of part ≡ 1 → (c : CampaignValue) (r : Row) → RowsOf line (values c) r
       → OfRow c (upsert (table_of part) 1) r
   puts_line key c r is =
       subst (λ k. OfRow c (upsert (table_of part) k) r) key (puts_row part (λ own. (are own c r).1 is))
 
   module _ (numbered : (n : ℕ) (v : V) → take 1 (line n v) ≡ int n ∷ []) where
+    -- to delete the row of a number that no value of the campaign has is a statement of a change (`OfChange`)
     pub drops_none : key_width_of part ≡ 1 → (c : CampaignValue) (n : ℕ) → get (values c) n ≡ None
         → OfChange c (deletion (table_of part) 1) (int n ∷ [])
     drops_none key c n none = subst (λ k. OfChange c (deletion (table_of part) k) (int n ∷ [])) key (drops_row part (
@@ -70,6 +73,7 @@ module _ {V : Type 0} (part : Part) (line : ℕ → V → Row) (values : Campaig
         numbered_filled c part line numbered (values c)
         (λ own rows is r. (λ there. (are own c r).1 ((is r).0 there), λ of. (is r).1 ((are own c r).0 of)))
 
+  -- rewriting the rows of all marked numbers rewrites the part (`RewritesPart`), if its rows are marked by number
   pub kept_rewritten : (marks : Marks → FinSet nat_cmp)
       → ((m : Marks) (r : Row) → is_marked m part r ≡ begins_marked (marks m) r)
       → (c : MarkedCampaign) (old new : Database)

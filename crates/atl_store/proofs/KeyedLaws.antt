@@ -85,10 +85,12 @@ entries_apart {V} (e ∷ es) sorted = (
   entries_apart es (and_parts _ _ sorted).1,
 )
 
+-- the rows of a map's entries have different integers in the first column, if `line` puts the number there
 pub lines_keys : {V : Type 0} (line : ℕ → V → Row) → ((n : ℕ) (v : V) → column (line n v) 0 ≡ Int (pos n))
     → (m : FinMap nat_cmp V) → HaveDistinctIntegers 0 (rows_in_order line (entries m))
 lines_keys {V} line numbered m = numbers_keys (λ (e : ℕ × V). line e.0 e.1) (λ (e : ℕ × V). pos e.0) 0 (λ e. numbered e.0 e.1) (entries m) (entries_apart (entries m) (in_order m))
 
+-- one row alone, with an integer in its first column, has integers there, no two alike
 pub one_keys : (row : Row) (n : ℤ) → column row 0 ≡ Int n → HaveDistinctIntegers 0 (row ∷ [])
 unfolding IsDistinct
 one_keys row n is = record { apart = (tt, tt); ints = (ap is_int is, tt) }
@@ -128,10 +130,12 @@ in_places part is = elim (shown_by part) [ inl positions ↦ positions.1 | inr w
 row_number : (part : Part) → shows_rowids part ≡ false → (r : Row) → column (visible_row (table_of part) r) 0 ≡ rowid r
 row_number part is = elim (shown_by part) [ inl positions ↦ absurd (true≢false (sym positions.0 ∙ is)) | inr whole ↦ whole.2 ]
 
+-- the rows of a part that is shown with rowids are, without these, their columns before the rowid
 pub cut_places : (part : Part) (rows : List Row) → shows_rowids part ≡ true
     → without_ids part rows ≡ map (take (column_count part)) rows
 cut_places part rows is = ap (λ b. if b then map (take (column_count part)) rows else rows) is
 
+-- the rows of a part that is shown without rowids stay as they are
 pub cut_nothing : (part : Part) (rows : List Row) → shows_rowids part ≡ false → without_ids part rows ≡ rows
 cut_nothing part rows is = ap (λ b. if b then map (take (column_count part)) rows else rows) is
 
@@ -146,18 +150,21 @@ module _ (part : Part) (db : Trees) (rows : List Row) where
     same_placed : IsPermutation (map (placed_row part) (db (table_of part).tree)) rows
     same_placed = subst (λ l. IsPermutation l rows) (in_places part is db) same
 
+    -- if the rowids that the part's SELECT shows are different integers, so are those in the table's tree
     pub places_keyed : HaveDistinctIntegers (column_count part) rows → AreKeyedByRowid (db (table_of part).tree)
     places_keyed keys = keyed_by (placed_row part) (column_count part) (db (table_of part).tree) rows (row_place part) same_placed keys
 
+    -- if the rowids in the table's tree are different integers, so are those that the part's SELECT shows
     pub keyed_places : AreKeyedByRowid (db (table_of part).tree) → HaveDistinctIntegers (column_count part) rows
     keyed_places keyed = keyed_shown (placed_row part) (column_count part) (db (table_of part).tree) rows (row_place part) same_placed keyed
 
-  -- the rowids in the table's tree are different integers, if the first column shows the rowids, and as different
-  -- integers
+  -- where a part is shown without rowids, its first column is the rowid: if that shows different integers, the rowids
+  -- in the table's tree are different integers
   pub numbers_keyed : shows_rowids part ≡ false → IsPermutation (rows_in (table_of part) db) rows
       → HaveDistinctIntegers 0 rows → AreKeyedByRowid (db (table_of part).tree)
   numbers_keyed is same keys = keyed_by (visible_row (table_of part)) 0 (db (table_of part).tree) rows (row_number part is) same keys
 
+  -- the rows that a part's SELECT shows, without rowids, are all rows of the part's table
   pub unplaced_all : IsPermutation ((select_of_part part).in_table db) rows
       → IsPermutation (rows_in (table_of part) db) (without_ids part rows)
   unplaced_all same = elim (shown_by part) [
@@ -173,22 +180,28 @@ pub record IsPlacedAs {A : Type 0} (part : Part) (stored : RowWithId A → Row) 
   pub place_is : (s : RowWithId A) → column (stored s) (column_count part) ≡ Int s.rowid
 
 module _ {A : Type 0} {part : Part} {stored : RowWithId A → Row} {values : A → Row} (is : IsPlacedAs part stored values) (placed : List (RowWithId A)) where
+  -- the values of rows read with rowids are the columns that SQL shows before the rowid
   pub placed_values : map values (map (λ s. s.row) placed) ≡ map (take (column_count part)) (map stored placed)
   placed_values =
       mapped_twice (λ (s : RowWithId A). s.row) values (λ (s : RowWithId A). values s.row) (λ s. refl) placed ∙ sym (mapped_twice stored (take (column_count part)) (λ (s : RowWithId A). values s.row) is.values_are placed)
 
+  -- if the rowids that were read differ, those that SQL shows are different integers
   pub placed_keys : HaveDistinctRowids placed → HaveDistinctIntegers (column_count part) (map stored placed)
   placed_keys apart = numbers_keys stored (λ s. s.rowid) (column_count part) is.place_is placed apart
 
+  -- if the rowids that SQL shows are different integers, those that were read differ
   pub placed_apart : HaveDistinctIntegers (column_count part) (map stored placed) → HaveDistinctRowids placed
   placed_apart keys = numbers_apart stored (λ s. s.rowid) (column_count part) is.place_is placed keys.apart
 
+-- a row of `has` is shown as its values and after them the rowid
 pub has_placed : IsPlacedAs Goods has_stored has_row_values
 has_placed = record { values_are = λ s. refl; place_is = λ s. refl }
 
+-- a row of `books` is shown as its values and after them the rowid
 pub books_placed : IsPlacedAs Books books_stored books_values
 books_placed = record { values_are = λ s. refl; place_is = λ s. refl }
 
+-- a row of `market` is shown as its values and after them the rowid
 pub market_placed : IsPlacedAs Markets market_stored market_values
 market_placed = record { values_are = λ s. refl; place_is = λ s. refl }
 
@@ -200,6 +213,7 @@ pub record IsMadeAs (p : Parts) (read : Part × List Row) : Type 0 where
   pub rows : (text : List ℕ) → rows_read text p read.0 ≡ without_ids read.0 read.1
   pub apart : shows_rowids read.0 ≡ true → HaveDistinctIntegers (column_count read.0) read.1
 
+-- a part that is shown without rowids is made of the rows that were read (`IsMadeAs`)
 pub made_whole : {p : Parts} {rows : List Row} (part : Part) → shows_rowids part ≡ false
     → ((text : List ℕ) → rows_read text p part ≡ rows) → IsMadeAs p (part, rows)
 made_whole {p} {rows} part free are = record {
@@ -207,6 +221,8 @@ made_whole {p} {rows} part free are = record {
   apart = λ placed. absurd (true≢false (sym placed ∙ free));
 }
 
+-- a part that is shown with rowids is made of the rows that were read without them (`IsMadeAs`), if no two rowids are
+-- alike
 pub made_placed : {p : Parts} {A : Type 0} {part : Part} {stored : RowWithId A → Row} {values : A → Row}
     → IsPlacedAs part stored values → shows_rowids part ≡ true → (placed : List (RowWithId A))
     → ((text : List ℕ) → rows_read text p part ≡ map values (map (λ s. s.row) placed)) → HaveDistinctRowids placed → IsMadeAs p (part, map stored placed)

@@ -58,16 +58,19 @@ amount_is c entry thing e t z entry_is thing_is amount some =
     ∙ ap (λ n. books_row n (thing_index thing) value ∷ []) (sym entry_is)
     ∙ ap (λ n. books_row e n value ∷ []) (sym thing_is) ∙ ap (λ n. books_row e t n ∷ []) (sym amount)
 
+-- two keys of `books` are equal only if the numbers of entry and thing are
 pub books_key_determines_numbers : (a b c d : ℕ) → ◌≡◌ {A = Row} (books_key a b) (books_key c d) → (a ≡ c) × (b ≡ d)
 books_key_determines_numbers a b c d same = (cc, cc)
 
 -- ---- indexes within bounds
 
+-- each number of the range of `count` numbers from `from` is at least `from` and below `from + count`
 pub range_has : (from count i : ℕ) → Has (range_with_len from count) i → (from ≤ i) × (i < from + count)
 range_has from zero i there = absurd there
 range_has from (suc count) i (inl same) = (omega (arith, same), omega (arith, same))
 range_has from (suc count) i (inr later) = let h = range_has (from + 1) count i later in (omega (arith, h.0), omega (arith, h.1))
 
+-- each number that is at least `from` and below `from + count` is in the range
 pub has_range : (from count i : ℕ) → from ≤ i → i < from + count → Has (range_with_len from count) i
 has_range from zero i least most = absurd (omega (arith, least, most))
 has_range from (suc count) i least most = elim (cases_lt from i) [
@@ -126,6 +129,7 @@ module _ (c : CampaignValue) where
       let indices : from ≡ found.0 = sym (index_of_thing_at from) ∙ keys.1 ∙ index_of_thing_at found.0 in
       absurd (omega (arith, indices, (range_has (from + 1) count found.0 found.1).0)))
 
+  -- each row of the listed things is one of the rows that the books have to have (`BooksRowsOf`)
   pub things_rows : (indices : List ℕ) (r : Row) → Has (things_lines c indices) r → BooksRowsOf c.books r
   things_rows indices r there =
       let found = flat_has (λ index. entries_lines c (thing_at index) all_entries) indices r there in

@@ -59,6 +59,7 @@ mapped_distinct f at (r ∷ rows) is apart = (
   mapped_distinct f at rows is apart.1,
 )
 
+-- if the rowids of a tree are different integers, so are those that a SELECT of its rows shows in the column `at`
 pub keyed_shown : (f : Row → Row) (at : ℕ) (tree shown : List Row) → ((r : Row) → column (f r) at ≡ rowid r)
     → IsPermutation (map f tree) shown → AreKeyedByRowid tree → HaveDistinctIntegers at shown
 keyed_shown f at tree shown is same keyed = record {
@@ -66,6 +67,8 @@ keyed_shown f at tree shown is same keyed = record {
   ints = all-permutation _ (map f tree) shown same (mapped_all f _ _ tree (λ r h. ap is_int (is r) ∙ h) keyed.ints);
 }
 
+-- if the rowids that a SELECT of a tree's rows shows in the column `at` are different integers, so are those of the
+-- tree
 pub keyed_by : (f : Row → Row) (at : ℕ) (tree shown : List Row) → ((r : Row) → column (f r) at ≡ rowid r)
     → IsPermutation (map f tree) shown → HaveDistinctIntegers at shown → AreKeyedByRowid tree
 keyed_by f at tree shown is same have =

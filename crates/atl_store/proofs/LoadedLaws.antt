@@ -46,6 +46,7 @@ use Rattle.atl_sql.proofs.SelectLaws.{has_first}
 use Rattle.atl_store.proofs.WorldTextLaws.{kept_text_is}
 
 module _ (f : Format) {S : Type 0} (g : Ghosts S) where
+  -- if the campaign row was read, the SELECT of `campaign` shows one row, which keeps the first rule
   pub own_kept : (old : Held S) (own : StoredCampaign) (w : WorldValue) → OwnRead g old f own w → KeepsOneRow f g old
   own_kept old own w read = record {
     rows = read.rows;
@@ -196,6 +197,7 @@ module _ (f : Format) {S : Type 0} (g : Ghosts S) where
 
   -- ---- what else refuses the load after the first rule holds
 
+  -- outside a transaction, once the campaign row was read, a fault of reading the other tables refuses the load
   pub unread_refuses : (old mid : Held S) → old.in_transaction ≡ false → KeepsOneRow f g old → AfterReads g old mid
       → (fault : LoadFault) → FailsToRead g mid (other_selects f) fault → RefusesToLoadIn f g old fault
   unread_refuses old mid idle kept first fault fails = refused fault (fails_then g old mid first (other_selects f) fault fails)
@@ -246,13 +248,16 @@ module _ (f : Format) {S : Type 0} (g : Ghosts S) {A : Type 0} (rows : A → Rea
       → FoundBySelects g old (other_selects f) (λ a. AreOfFormat f (state g old).now (rows a)) says
   found says is = subst (FoundBySelects g old (other_selects f) (λ a. AreOfFormat f (state g old).now (rows a))) is (format_before g f rows old mid new before (other_selects f) r reads o was clean)
 
+  -- the parts put together of what was read are the rows of all tables (`GathersAll`)
   pub gathered_with : (a : A) → o ≡ Some a → (p : Parts) (head : StoredCampaignRow) → head ≡ own.head
       → IsMadeOf head (rows a) p → GathersAll f g old w p
   gathered_with a is p head same made = let all = found (Some a) is in gathered_of f g old own w (rows a) p row all.0 all.1 head same made
 
+  -- a value in a table but `campaign` that is not of its column's form refuses the load: Damaged by the rule of ranges
   pub mistyped_refuses : o ≡ None → RefusesToLoadIn f g old (Damaged Ranges)
   mistyped_refuses is = inl (own_kept f g old own w row, found None is)
 
+  -- outside a transaction a fault of testing the rowids, Store if two are alike, or Memory, refuses the load
   pub unmade_refuses : old.in_transaction ≡ false → (a : A) → o ≡ Some a → (fault : LoadFault)
       → FailsWithout (AllHaveDistinctRowids (rows a)) fault → RefusesToLoadIn f g old fault
   unmade_refuses idle a is fault = refused fault
@@ -266,6 +271,7 @@ module _ (f : Format) {S : Type 0} (g : Ghosts S) {A : Type 0} (rows : A → Rea
       refused Memory lacks = may_return_memory f g old idle (own_kept f g old own w row)
 
 module _ {S : Type 0} (g : Ghosts S) where
+  -- what is so of a fault is so of the error of each result that gives this fault
   pub holds_of_error : {A : Type 0} (P : LoadFault → Type 0) (fault : LoadFault) (r : Result A LoadFault)
       → IsErrAnd r (λ says. says ≡ fault) → P fault → IfErr r P
   holds_of_error P fault (Ok a) says p = tt
@@ -273,10 +279,12 @@ module _ {S : Type 0} (g : Ghosts S) where
 
   -- ---- the whole
 
+  -- a connection in autocommit mode is in no transaction
   pub is_idle : (auto inside : Bool) → auto ≡ not inside → IsTrue auto → inside ≡ false
   is_idle auto true is said = absurd (let k = sym is ∙ said in cc)
   is_idle auto false is said = refl
 
+  -- if the tables are confirmed after some reads, the tables before these reads are
   pub confirmed_before : (f : Format) (old mid new : Held S) → AfterReads g old mid → AfterReads g mid new
       → HasCleanDisk (state g mid) → HasCleanDisk (state g new) → IsConfirmed f (state g mid) (state g new)
       → IsConfirmed f (state g old) (state g new)
@@ -289,6 +297,7 @@ module _ {S : Type 0} (g : Ghosts S) where
         sound = subst (λ (d : Database). IsSound d.schema d.trees) same confirmed.sound;
       }
 
+  -- reads outside a transaction leave the connection alone (`LeavesAlone`)
   pub leaves_alone : (old new : Held S) → old.in_transaction ≡ false → AfterReads g old new → LeavesAlone g old new
   leaves_alone old new idle leaves = record {
     unchanged = λ clean. record {
@@ -322,6 +331,7 @@ module _ (f : Format) {S : Type 0} (g : Ghosts S) (old new : Held S) (w : WorldV
         rows = subst (λ (d : Database). HoldsIn f d.trees all.text c.value) (sym same.0) (rows_hold f db all.text loaded.parts c.value rows loaded.checked.rows _ loaded.checked.good.sound.steady.numbers.books);
       }
 
+  -- what was loaded (`IsLoaded`) is what Ok of loading in the format says (`LoadsIn`)
   pub loads_in : LoadsIn f g old new w c
   loads_in = record {
     world = λ clean. subst (λ t. world_of_text f t ≡ Ok w) (sym (kept_text_is f (state g new) (loaded.gathered clean).text c.value (new_is_there clean))) (loaded.gathered clean).world;
@@ -347,6 +357,7 @@ module _ {S : Type 0} (g : Ghosts S) (old new : Held S) where
         crash = λ db may. subst (λ t. Stores t text c) (sym (store db keeps.is_open may ∙ ap (λ (d : Database). d.trees) keeps.settled)) (record { schema = (state g new).now.schema; begins = keeps.begins; sound = sound; rows = rows });
       }
 
+  -- Ok of loading in the second format says what Ok of `load` says, if a crash leaves an open connection's last commit
   pub loads : ((db : Trees) → IsTrue (state g new).is_open → (state g new).may_leave db → db ≡ (state g new).committed.trees)
       → (w : WorldValue) (c : MarkedCampaign) → LoadsIn Second g old new w c → Loads g old new w c
   loads store w c loaded = record {

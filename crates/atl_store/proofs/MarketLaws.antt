@@ -51,12 +51,14 @@ module _ (regions : FinMap nat_cmp Region) where
   abbrev in_stock : ℕ → Option Region → ℕ
   in_stock item o = option_map_or (λ r. amount_of r.stocks item) o 0
 
+  -- each row of `market` gives the stock, which is not 0, of an item in its region
   pub row_has_stock : (r : Row) → MarketRowsOf regions r
       → (n : ℕ) × (item : ℕ) × (stock_in regions n item ≢ 0) × (r ≡ market_row n item (stock_in regions n item))
   row_has_stock r of =
       let amount : stock_in regions of.0 of.3 ≡ of.4 = ap (in_stock of.3) of.2 ∙ ap (λ (o : Option ℕ). unwrap_or o 0) of.5 in
       (of.0, of.3, λ none. of.6 (sym amount ∙ none), of.7 ∙ ap (market_row of.0 of.3) (sym amount))
 
+  -- each stock that is not 0 has its row of `market`
   pub stock_has_row : (n item amount : ℕ) → amount ≡ stock_in regions n item → amount ≢ 0
       → MarketRowsOf regions (market_row n item amount)
   stock_has_row n item amount is some = there (get regions n) refl
@@ -86,6 +88,7 @@ finds_stocks = record { either = either; none = none }
     none (Int (pos region) ∷ Int (pos item) ∷ row) = refl
     none row = refl
 
+-- two keys of `market` are equal only if region and item are
 pub market_key_determines_numbers : (a b c d : ℕ) → ◌≡◌ {A = Row} (market_key a b) (market_key c d) → (a ≡ c) × (b ≡ d)
 market_key_determines_numbers a b c d same = (cc, cc)
 
@@ -120,9 +123,11 @@ module _ (region item : ℕ) where
         let says : Determines region item = subst (λ n. Determines n item) keys.0 (subst (Determines had.0) keys.1 (had.2, had.3)) in
         (λ none. says.0 (sym is ∙ none), says.1 ∙ ap (market_row region item) (sym is))
 
+    -- if the stock is 0, no row that `market` has to have is of this region and item
     pub no_stock : stock ≡ 0 → (r : Row) → MarketRowsOf c.regions r → take 2 r ≢ market_key region item
     no_stock none r of key = (wanted_here r (of_key r key) of).0 none
 
+    -- to put the row of a stock that is not 0 rewrites the rows of its region and item, and no others
     pub stock_put : stock ≢ 0 → (old new : State) → DoesInside HasTables (Puts market_table 2 row) old new
         → DoesInside HasTables (RewritesChosenStocks c (is_owner_and_thing region item)) old new
     stock_put some old new did =
@@ -134,6 +139,7 @@ module _ (region item : ℕ) where
         market_table old.now new.now puts.rows puts.others)
         did
 
+    -- to delete the row of a stock that is 0 rewrites the rows of its region and item, and no others
     pub stock_dropped : stock ≡ 0 → (old new : State)
         → DoesInside HasTables (Drops market_table 2 (market_key region item)) old new
         → DoesInside HasTables (RewritesChosenStocks c (is_owner_and_thing region item)) old new

@@ -9,6 +9,7 @@ use Rattle.atl_store.proofs.AlikeLaws.{one_text}
 pub same_world : (v w : WorldValue) → ◌≡◌ {A = Result WorldValue WorldFault} (Ok v) (Ok w) → v ≡ w
 same_world v w is = cc
 
+-- the tables of one database hold texts of at most one world (`HoldsOneWorld`)
 pub holds_one_world : HoldsOneWorld
 holds_one_world v w db one other c d reads others h j =
     same_world v w (sym reads ∙ ap world_of (one_text db one other c d h j) ∙ others)

@@ -30,6 +30,7 @@ use Rattle.atl_sql.proofs.RowsLaws.{asked_rows}
 use Rattle.atl_sql.proofs.SelectLaws.{reads_part}
 use Rattle.atl_sql.proofs.SelectingLaws.{never_other}
 
+-- a list whose image by `f` is one element has one element
 pub one_mapped : {A B : Type 0} (f : A → B) (xs : List A) (y : B) → map f xs ≡ y ∷ []
     → (x : A) × (xs ≡ x ∷ []) × (f x ≡ y)
 one_mapped f [] y is = absurd (let k = is in cc)
@@ -41,12 +42,15 @@ module _ (own : StoredCampaign) (h : StoredCampaignRow) (text : List ℕ) (is : 
   same_column : (n : ℕ) → column (campaign_stored own) n ≡ column (own_stored text h) n
   same_column n = ap (λ r. column r n) is
 
+  -- if SQL shows the row `own` and the row `h` with this text alike, both have one id
   pub same_id : own.head.id ≡ h.id
   same_id = let e = same_column 0 in cc
 
+  -- if SQL shows the row `own` and the row `h` with this text alike, both have one format
   pub same_format : own.head.format ≡ h.format
   same_format = let e = same_column 1 in cc
 
+  -- if SQL shows the row `own` and the row `h` with this text alike, `own` has this text
   pub same_text : own.world ≡ text
   same_text = let e = same_column 7 in cc
 
@@ -65,6 +69,7 @@ own_read f items rows h text w shown own =
       },
     )
 
+-- if the shown rows keep the first rule, each value is of its column's form
 pub own_typed : (f : Format) (rows : List Row) (h : StoredCampaignRow) (text : List ℕ) (w : WorldValue)
     → AreOwnRow f rows h text w → AreTyped campaign_forms rows
 own_typed f rows h text w own row there =
@@ -116,6 +121,7 @@ judged_as Is Nothing P read lacks broken (Err (Damaged Books)) judged = absurd j
 judged_as Is Nothing P read lacks broken (Err (Damaged Mail)) judged = absurd judged
 
 module _ (f : Format) where
+  -- what judging the parsed rows gives (`JudgesOwn`) is right for the rows that SQL shows (`JudgesRows`)
   pub judged_rows : (items : List StoredCampaign) (rows : List Row) (r : Result (StoredCampaign × WorldValue) LoadFault)
       → map campaign_stored items ≡ map (first_columns (length campaign_forms)) rows → AreTyped campaign_forms rows
       → JudgesOwn f items r → JudgesRows f rows r
@@ -125,6 +131,7 @@ module _ (f : Format) where
       record { shown = is; id = own.id; format = own.format; utf8 = own_utf8 both.0 rows typed is; world = own.world }) tt
       (λ none h text w own. let was = own_read f items rows h text w shown own in none was.0 w was.1) r
 
+  -- a fault of parsing the rows judges them: a value of another type breaks the first rule, and else it is Memory
   pub unread_rows : (rows : List Row) (fault : ReadFault) → (fault ≡ read.OtherType → ¬ AreTyped campaign_forms rows)
       → ((fault ≡ read.OtherType → ⊥) → fault ≡ read.Memory) → JudgesRows f rows (Err (campaign_row_fault fault))
   unread_rows rows read.OtherType other which = λ h text w own. other refl (own_typed f rows h text w own)
@@ -133,6 +140,7 @@ module _ (f : Format) where
   unread_rows rows read.Refused other which = absurd (let e = which (λ e. cc) in cc)
 
 module _ (f : Format) {S : Type 0} (g : Ghosts S) (old : Held S) where
+  -- outside a transaction a fault of judging the rows of `campaign` refuses the load
   pub refuses_own : old.in_transaction ≡ false → (rows : List Row) (r : Result (StoredCampaign × WorldValue) LoadFault)
       → JudgesFormat f rows r → Selects g (selection campaign_table 1) old rows
       → IfErr r (RefusesToLoadIn f g old)
@@ -145,12 +153,14 @@ module _ (f : Format) {S : Type 0} (g : Ghosts S) (old : Held S) where
   rows_own rows (Err fault) judged says = tt
   rows_own rows (Ok both) judged says = record { rows = rows; selects = says; row = judged; table = λ begins. subst (IsPermutation (rows_in campaign_table (state g old).now.trees)) judged.shown (asked_rows First (selection campaign_table 1) (rows_in campaign_table) 8 (reads_part Own 8 refl) (state g old) (state g says.0) (state g says.1) rows says.2 says.3 begins) }
 
+  -- if judging gives a row and a world, the campaign row is read (`OwnRead`)
   pub own_is : (rows : List Row) (r : Result (StoredCampaign × WorldValue) LoadFault) → JudgesFormat f rows r
       → Selects g (selection campaign_table 1) old rows
       → IfOk r (λ both. OwnRead g old f both.0 both.1)
   own_is rows r (inl other) says = subst (λ answer. IfOk answer (λ both. OwnRead g old f both.0 both.1)) (sym other.1) tt
   own_is rows r (inr judged) says = rows_own rows r judged.1 says
 
+  -- outside a transaction a fault of asking for the campaign row refuses the load
   pub unasked_own : old.in_transaction ≡ false → (fault : ReadFault)
       → RefusesToSelect g (selection campaign_table 1) old fault → RefusesToLoadIn f g old (campaign_row_fault fault)
   unasked_own idle read.Store refused = inr (inl refused)

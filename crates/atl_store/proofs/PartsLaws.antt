@@ -264,6 +264,8 @@ module _ (f : Format) (db : Trees) (text : List ℕ) (p : Parts) (c : CampaignVa
   pub rows_hold : HoldsIn f db text c
   rows_hold = record { rows = λ part there. (by_part part there).0 }
 
+  -- the rowids of each table of the format are different integers, if those of its tables without an INTEGER PRIMARY
+  -- KEY are
   pub rows_keyed : ((table : Table) → Has (tables_with_rowids f) table → AreKeyedByRowid (db table.tree))
       → (table : Table) → Has (map table_of (parts_in f)) table → AreKeyedByRowid (db table.tree)
   rows_keyed placed table there =
@@ -273,6 +275,7 @@ module _ (f : Format) (db : Trees) (text : List ℕ) (p : Parts) (c : CampaignVa
         | inr is ↦ let keys = (by_part part.0 part.1).1 is in numbers_keyed part.0 db keys.0 is keys.1 keys.2
       ])
 
+-- tables that hold a campaign in the second format hold it: this is the format of `Holds`
 pub holds_all : (db : Trees) (text : List ℕ) (c : CampaignValue) → HoldsIn Second db text c → Holds db text c
 holds_all db text c holds = record { rows = λ part. holds.rows part (every_part part) }
 
@@ -293,6 +296,8 @@ no_markets First p none = nothing p.markets (none [] Markets (not_among (parts_i
     nothing (row ∷ rows) is = absurd (let k = is in cc)
 no_markets Second p none = refl
 
+-- rows with just one campaign row, of id 1 and this format, and none of parts that the format lacks, keep the first
+-- rule
 pub keeps_one_row : (f : Format) (w : WorldValue) (p : Parts) (h : StoredCampaignRow) → h.id ≡ pos 1
     → h.format ≡ pos (format_number f) → p.campaign ≡ h ∷ []
     → ((text : List ℕ) (part : Part) → ¬ Has (parts_in f) part → rows_read text p part ≡ []) → KeepsRule f w p OneRow

@@ -12,6 +12,7 @@ use Rattle.atl_descriptions.specs.Tables.{HasAll}
 use Rattle.atl_store.proofs.SchemaTableLaws.{one_schema}
 
 module _ {S : Type 0} (g : Ghosts S) where
+  -- a connection just opened on a database that stores a campaign keeps it, if a crash leaves its last commit
   pub keeps_stored : (new : Held S) → Opens (state g new) → IsLive (state g new)
       → ((db : Trees) → (state g new).may_leave db → db ≡ (state g new).committed.trees)
       → (text : List ℕ) (c : CampaignValue) → Stores (state g new).now.trees text c → Keeps (state g new) text c
@@ -28,6 +29,7 @@ module _ {S : Type 0} (g : Ghosts S) where
       }
 
   module _ (old new : Held S) (reopens : Reopens g old new) where
+    -- a connection opened again after a crash keeps the campaign that the one before kept, on a clean disk
     pub kept_again : (text : List ℕ) (c : CampaignValue) → HoldsCampaign g old text c → HoldsCampaign g new text c
     kept_again text c holds clean =
         reopens.keeps clean text c ((holds (reopens.clean clean)).crash (state g new).now.trees (reopens.found clean))

@@ -41,6 +41,7 @@ module _ (c : MarkedCampaign) where
       only r (inl same) = same
       only r (inr kept) = absurd (kept.1 (ap (take 1) ((was r).0 kept.0)))
 
+  -- if the campaign row is marked, putting it rewrites it
   pub head_done : c.marks.row ≡ true → (old new : State)
       → DoesInside HasTables (PutsCampaignRow (campaign_row_of c.value) []) old new
       → DoesInside HasTables (RewritesCampaignRow c) old new
@@ -48,6 +49,7 @@ module _ (c : MarkedCampaign) where
       inside_weaker HasTables (PutsCampaignRow (campaign_row_of c.value) []) (RewritesCampaignRow c) old new
       (λ has puts. head_put true is refl old.now new.now puts) did
 
+  -- if the campaign row isn't marked, to do nothing rewrites it
   pub head_left : c.marks.row ≡ false → (s : State) → DoesInside HasTables (RewritesCampaignRow c) s s
   head_left is s = (
     refl,
@@ -61,6 +63,7 @@ module _ (c : MarkedCampaign) where
 -- ---- one table after another
 
 module _ (c : MarkedCampaign) where
+  -- rewriting the campaign row rewrites its part, `Own`
   pub own_rewritten : (old new : Database) → RewritesCampaignRow c old new → RewritesWithOwn c (Own ∷ []) old new
   own_rewritten old new did before text was =
       one_changed (Becomes c (own_after c before text)) Own _ old new (did before text was) (λ rows. rows)
@@ -73,12 +76,15 @@ module _ (c : MarkedCampaign) where
       → RewritesParts c (part ∷ []) old new
   part_rewritten part any old new did own = one_changed (Becomes c own) part _ old new did (any own _ _)
 
+  -- rewriting some parts, the campaign row among them, and then others rewrites all of them, if no part is in both
+  -- lists
   pub own_then_rewritten : (ps qs : List Part) → are_apart ps qs ≡ true → (old mid new : Database)
       → RewritesWithOwn c ps old mid → RewritesParts c qs mid new → RewritesWithOwn c (ps ++ qs) old new
   own_then_rewritten ps qs apart old mid new first second before text was = let own = own_after c before text in both_changed (Becomes c own) ps qs apart old mid new (first before text was) (second own)
 
   -- ---- the whole
 
+  -- once all parts are rewritten, all that is marked is written (`WritesChanges`)
   pub all_rewritten : (parts : List Part) → list_all (is_among parts) all_parts ≡ true → (old new : Database)
       → RewritesWithOwn c parts old new → WritesChanges c old new
   all_rewritten parts all old new did before text was =

@@ -45,6 +45,7 @@ pub record Remaining (table : Table) (Wanted : Set) (rest all : Row → Bool) (o
   pub others : (t : Table) → Has all_tables t → t.tree ≢ table.tree → now.trees t.tree ≡ old.trees t.tree
 
 module _ (table : Table) (Wanted : Set) where
+  -- before the first step all rows that `all` chooses are left to rewrite
   pub all_remaining : (rest all : Row → Bool) → ((r : Row) → rest r ≡ all r) → (s : State)
       → DoesInside HasTables (Remaining table Wanted rest all) s s
   all_remaining rest all same s = (
@@ -86,6 +87,7 @@ module _ (table : Table) (Wanted : Set) where
         },
   )
 
+  -- when no row is left to rewrite, the rows that `goal` chooses, those of `all`, are rewritten
   pub all_rewritten : (rest all goal : Row → Bool) → ((r : Row) → rest r ≡ false) → ((r : Row) → all r ≡ goal r)
       → (old new : State)
       → DoesInside HasTables (Remaining table Wanted rest all) old new
@@ -107,6 +109,7 @@ module _ (table : Table) (Wanted : Set) where
         },
   )
 
+  -- after the rows that `p` chooses and then those that `q` chooses are rewritten, all that either chooses are
   pub both_rewritten : (p q : Row → Bool) (old mid new : Database) → Rewrites table p Wanted old mid
       → Rewrites table q Wanted mid new → Rewrites table (λ r. p r || q r) Wanted old new
   both_rewritten p q old mid new one two = record {
@@ -116,6 +119,7 @@ module _ (table : Table) (Wanted : Set) where
     others = λ t listed other. two.others t listed other ∙ one.others t listed other;
   }
 
+  -- if the test `step` chooses no row, to do nothing rewrites the rows that it chooses
   pub none_chosen : (step : Row → Bool) → ((r : Row) → step r ≡ false) → (s : State)
       → DoesInside HasTables (Rewrites table step Wanted) s s
   none_chosen step none s = all_rewritten step step step none (λ r. refl) s s (all_remaining step step (λ r. refl) s)
@@ -133,10 +137,12 @@ begins_none : (r : Row) → first_column_passes (λ n. false) r ≡ false
 begins_none (Int (pos n) ∷ row) = refl
 begins_none row = refl
 
+-- a row that passes the test for the number `n` begins with `n`
 pub begins_key : (n : ℕ) (r : Row) → first_column_passes (equals_number n) r ≡ true → take 1 r ≡ int n ∷ []
 begins_key n (Int (pos k) ∷ row) is = ap (λ k. int k ∷ []) (same_key k n is)
 begins_key n row is = absurd (true≢false (sym is))
 
+-- a row that begins with the number `n` passes the test for `n`
 pub key_begins : (n : ℕ) (r : Row) → take 1 r ≡ int n ∷ [] → first_column_passes (equals_number n) r ≡ true
 key_begins n [] key = absurd cc
 key_begins n (v ∷ row) key =
@@ -165,6 +171,7 @@ module _ (table : Table) (Wanted : Set) where
   RemainingNumbers rest all =
       Remaining table Wanted (λ r. first_column_passes (is_among rest) r) (λ r. first_column_passes (is_among all) r)
 
+  -- after the rows of `n`, the next number, are rewritten, only those of the numbers after it are left to rewrite
   pub one_less_number : (n : ℕ) (now rest all : List ℕ) → now ≡ n ∷ rest → (old mid new : State)
       → DoesInside HasTables (RemainingNumbers now all) old mid
       → DoesInside HasTables (Rewrites table (first_column_passes (equals_number n)) Wanted) mid new
@@ -175,6 +182,7 @@ module _ (table : Table) (Wanted : Set) where
       (λ r. first_column_passes (is_among all) r)
       (λ r. ap (λ ns. first_column_passes (is_among ns) r) is ∙ next_number n rest r)
 
+  -- when no number is left to rewrite, the rows of all marked numbers are rewritten
   pub numbers_rewritten : (marks : FinSet nat_cmp) (rest all : List ℕ) → rest ≡ [] → from_list all ≡ marks
       → (old new : State)
       → DoesInside HasTables (RemainingNumbers rest all) old new
@@ -244,6 +252,7 @@ module _ {V : Type 0} (table : Table) (line : ℕ → V → Row) (numbered : (n 
       (λ r is of. let w = wanted_at r is of in none-some w.0 (sym none ∙ w.1))
       table old new (λ r. let so = did.rows r in (λ h. inr (so.0 h), λ h. so.1 (kept_only h))) did.others
 
+  -- to put the row of a number that has a value rewrites the row of the number
   pub put_done : (v : V) → get values n ≡ Some v → (old new : State)
       → DoesInside HasTables (Puts table 1 (line n v)) old new
       → DoesInside HasTables (RewritesNumber table line values n) old new
@@ -251,6 +260,7 @@ module _ {V : Type 0} (table : Table) (line : ℕ → V → Row) (numbered : (n 
       inside_weaker HasTables (Puts table 1 (line n v)) (RewritesNumber table line values n) old new
       (λ has puts. put_rewrites old.now new.now v there puts) did
 
+  -- to delete the row of a number that has no value rewrites the row of the number
   pub drop_done : get values n ≡ None → (old new : State) → DoesInside HasTables (Drops table 1 (int n ∷ [])) old new
       → DoesInside HasTables (RewritesNumber table line values n) old new
   drop_done none old new did =

@@ -97,6 +97,8 @@ module _ (table : Table) (Wanted : Set) (finds : (ℕ → ℕ → Bool) → Row 
         (finds_same all goal same)
 
     module _ {V : Type 0} where
+      -- after the amount of `x`, the next thing of an owner, is rewritten, only those of the things after it are left
+      -- to rewrite
       pub one_less_single : (owner : ℕ) (x : ℕ × V) (now rest all : List (ℕ × V)) → now ≡ x ∷ rest
           → (old mid new : State)
           → DoesInside HasTables (RemainingSingles (is_key owner now) (is_key owner all)) old mid
@@ -106,6 +108,7 @@ module _ (table : Table) (Wanted : Set) (finds : (ℕ → ℕ → Bool) → Row 
           one_less_amount (is_owner_and_thing owner x.0) (is_key owner now) (is_key owner rest) (is_key owner all)
           (λ n t. ap (λ es. is_key owner es n t) is ∙ and-or_distrib_left (equals_number owner n) (equals_number x.0 t) (is_among (map (λ e. e.0) rest) t))
 
+      -- when no thing of an owner is left to rewrite, all amounts of the owner's listed things are rewritten
       pub singles_rewritten : (owner : ℕ) (numbers : FinMap nat_cmp V) (rest all : List (ℕ × V)) → rest ≡ []
           → all ≡ entries numbers → (old new : State)
           → DoesInside HasTables (RemainingSingles (is_key owner rest) (is_key owner all)) old new
@@ -115,6 +118,8 @@ module _ (table : Table) (Wanted : Set) (finds : (ℕ → ℕ → Bool) → Row 
           (λ n t. ap (λ es. is_key owner es n t) none ∙ and-false (equals_number owner n))
           (λ n t. ap (λ es. is_key owner es n t) is ∙ ap (λ b. equals_number owner n && b) (listed_key (entries numbers) t ∙ ap is_some (sym (get-entries numbers t))))
 
+      -- after the amounts of `x`, the next owner with its things, are rewritten, only those of the owners after it are
+      -- left to rewrite
       pub one_less_owner : (x : ℕ × FinMap nat_cmp V) (now rest all : List (ℕ × FinMap nat_cmp V)) → now ≡ x ∷ rest
           → (old mid new : State)
           → DoesInside HasTables (RemainingSingles (is_listed now) (is_listed all)) old mid

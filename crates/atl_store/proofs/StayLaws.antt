@@ -67,6 +67,8 @@ module _ (old new : State) (text : List ℕ) (settled : (db : Trees) → IsTrue 
     ];
   }
 
+-- if a transaction that does `Does` makes tables hold the campaign `c`, a crash leaves what it could have left before,
+-- or `c`
 pub may_found : (old new : State) (text : List ℕ) (c : CampaignValue) (Before : Database → Type 0) (Does : Database → Database → Type 0)
     → Before old.now → ((db : Database) → Does old.now db → Holds db.trees text c) → HasCleanDisk new
     → Survives old new (MayLeave Before Does old) → MayLeaveCampaign old text c new
@@ -75,6 +77,8 @@ may_found old new text c Before Does before holds clean survives db may = elim (
   | inr made ↦ let did = made.1 before in inr (subst (λ t. Stores t text c) (sym made.2) (held_campaign_is_stored made.0 text c did.tables (holds made.0 did.does)))
 ]
 
+-- on a clean disk a failed transaction changes nothing, if the connection was in none before and nothing was
+-- uncommitted
 pub failed_changes_nothing : (old new : State) (Commits : Trees → Type 0) → HasCleanDisk new → LeavesOff old new
     → Survives old new Commits → old.in_transaction ≡ false → (IsTrue old.is_open → old.now ≡ old.committed)
     → ChangesNothing old new
@@ -101,6 +105,7 @@ module _ {S : Type 0} (g : Ghosts S) (text : List ℕ) (c : CampaignValue) (old 
       go true same = absurd cc
       go false same = absurd cc
 
+  -- an error of the database during `create` gives the fault that `create` may return for it (`RefusesToCreate`)
   pub refused_with : (e : Error) (r : Result (Unit {0}) CreateFault) → IsErrAnd r (λ f. f ≡ create_fault e)
       → (HasCleanDisk (state g new) → Gives g (OfFounding text c) e old new)
       → IfErr r (RefusesToCreate g text c old new)
@@ -109,11 +114,14 @@ module _ {S : Type 0} (g : Ghosts S) (text : List ℕ) (c : CampaignValue) (old 
       refused_by_fault f (λ none. never_not_empty e (sym says ∙ none))
       (record { ready = ready; reports_error = λ clean. (e, says, gave clean) })
 
+-- if a transaction gave an error and the result's fault is the one made of it, this error is the fault's cause
+-- (`IsFaultOfError`)
 pub error_of : {S F A : Type 0} (g : Ghosts S) (own : Statements) (fault_of : Error → F) (old new : Held S) (e : Error) (r : Result A F)
     → IsErrAnd r (λ f. f ≡ fault_of e) → Gives g own e old new → IfErr r (IsFaultOfError g own fault_of old new)
 error_of g own fault_of old new e (Ok a) says gave = tt
 error_of g own fault_of old new e (Err f) says gave = (e, says, gave)
 
+-- if the test of the schema finds no table `campaign`, there is none
 pub not_there : {S : Type 0} (g : Ghosts S) (conn : Held S) (schema : Schema) (found : Bool)
     → schema ≡ (state g conn).now.schema → found ≡ has_campaign schema → found ≡ false
     → has_campaign conn.schema ≡ false
@@ -128,10 +136,12 @@ pub survives_is_later : (old new : State) (Commits : Trees → Type 0) → Survi
 survives_is_later old new Commits survives =
     record { clean = λ clean. omega (arith, survives.clean); counts = survives.counts; shield = survives.shield }
 
+-- after a commit no table or index is gone, and tables that aren't the campaign's hold what they held
 pub commit_leaves_others : (old new : State) (Before : Database → Type 0) (Does : Database → Database → Type 0)
     → Commits Before Does old new → (HasTables old.now → Before old.now) → LeavesOthersAlone old new
 commit_leaves_others old new Before Does done before up has settled = (done.does (before has)).carries
 
+-- after a failed transaction no table or index is gone, and tables that aren't the campaign's hold what they held
 pub leaves_others : (old new : State) → LeavesOff old new → LeavesOthersAlone old new
 leaves_others old new off up has settled =
     subst (Carries old.now) (sym ((off.undone up).0 ∙ settled)) (carries_none old.now)

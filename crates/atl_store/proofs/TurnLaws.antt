@@ -12,9 +12,11 @@ use Rattle.atl_sql.proofs.PartLaws.{tree_of, same_part, listed, are_apart, not_b
 
 -- ---- rows that stay
 
+-- a table whose tree is as it was has the rows that it had
 pub same_rows : (t : Table) (a b : Database) → b.trees t.tree ≡ a.trees t.tree → rows_in t b.trees ≡ rows_in t a.trees
 same_rows t a b same = ap (map (visible_row t)) same
 
+-- a table whose tree is as it was has exactly the rows of the set that it had before
 pub stays_is : (t : Table) (S : Set) (a b : Database) → b.trees t.tree ≡ a.trees t.tree
     → HasExactly (rows_in t a.trees) S → HasExactly (rows_in t b.trees) S
 stays_is t S a b same is = subst (λ rows. HasExactly rows S) (sym (same_rows t a b same)) is
@@ -22,6 +24,7 @@ stays_is t S a b same is = subst (λ rows. HasExactly rows S) (sym (same_rows t 
 -- ---- one table, and one after another
 
 module _ (Becomes : Part → List Row → List Row → Type 0) where
+  -- a change of one table changes its part alone (`Changes`), if its new rows are what `Becomes` says
   pub one_changed : (part : Part) (S : Set) (old new : Database) → Alters (table_of part) S old new
       → (HasExactly (rows_in (table_of part) new.trees) S → Becomes part (rows_in (table_of part) old.trees) (rows_in (table_of part) new.trees))
       → Changes Becomes (part ∷ []) old new
@@ -30,6 +33,7 @@ module _ (Becomes : Part → List Row → List Row → Type 0) where
     others = λ p free. did.others (table_of p) (listed p) (λ same. free (inl (same_part p part same)));
   }
 
+  -- after some parts change and then others, all of them are changed, if no part is in both lists
   pub both_changed : (ps qs : List Part) → are_apart ps qs ≡ true → (old mid new : Database)
       → Changes Becomes ps old mid → Changes Becomes qs mid new → Changes Becomes (ps ++ qs) old new
   both_changed ps qs apart old mid new first second = record {
@@ -42,10 +46,12 @@ module _ (Becomes : Part → List Row → List Row → Type 0) where
 
 -- ---- each of some parts, one after another
 
+-- what is done for one part is done in turn for the list of this part
 pub in_turn_one : (Does : Part → Database → Database → Type 0) (part : Part) (old new : Database) → Does part old new
     → InTurn Does (part ∷ []) old new
 in_turn_one Does part old new did = (new, did, refl)
 
+-- what is done in turn for some parts, and then for others, is done in turn for both lists
 pub in_turn_then : (Does : Part → Database → Database → Type 0) (ps qs : List Part) (old mid new : Database)
     → InTurn Does ps old mid → InTurn Does qs mid new → InTurn Does (ps ++ qs) old new
 in_turn_then Does [] qs old mid new none rest = subst (λ db. InTurn Does qs db new) none rest

@@ -37,6 +37,7 @@ use Rattle.atl_store.proofs.StayLaws.{commits_keeps, failed_changes_nothing, may
 -- ---- what was loaded is what the tables held
 
 module _ {S : Type 0} (g : Ghosts S) (text : List ℕ) (old mid : Held S) (alone : LeavesAlone g old mid) (clean : HasCleanDisk (state g mid)) where
+  -- if a campaign is loaded in the first format, the tables held it before, as loading changes nothing
   pub loaded_old : (w : WorldValue) (c : MarkedCampaign) → LoadsIn First g old mid w c
       → HoldsOld (state g old) w c.value
   loaded_old w c loads =
@@ -61,6 +62,8 @@ module _ {S : Type 0} (g : Ghosts S) (text : List ℕ) (old mid : Held S) (alone
     held = subst (λ v. HoldsOld (state g old) v c.value) (sym (bare_before ready.before c ready.loads) ∙ sym ready.same) (loaded_old ready.before c ready.loads);
   }
 
+  -- if the new text's world differs from that of the loaded campaign in more than markets, the fault Differs is right
+  -- (`HasOtherWorld`)
   pub other_world : (before w : WorldValue) (c : MarkedCampaign) → LoadsIn First g old mid before c
       → world_of text ≡ Ok w → ¬ (without_markets w ≡ without_markets before) → HasOtherWorld g text old mid
   other_world before w c loads is differs = record {
@@ -72,6 +75,7 @@ module _ {S : Type 0} (g : Ghosts S) (text : List ℕ) (old mid : Held S) (alone
     differs = λ same. differs (same ∙ sym (bare_before before c loads));
   }
 
+  -- if the schema is more than that of the first format, the fault Store is right for this cause (`HasMoreTables`)
   pub has_more : (w : WorldValue) (c : MarkedCampaign) → IsReadyToUpgrade g text old mid w c
       → ¬ IsFirstFormatOnly mid.schema → HasMoreTables g text old mid
   has_more w c ready more =
@@ -85,6 +89,7 @@ module _ {S : Type 0} (g : Ghosts S) (text : List ℕ) (old mid : Held S) (alone
         more = λ just. more (ap (λ (d : Database). d.schema) same.0 ∙ just);
       }
 
+-- after two calls, one after the other, the connection is the same one later (`IsLater`)
 pub later_both : (old mid new : State) (FirstMayLeave SecondMayLeave : Trees → Type 0) → Survives old mid FirstMayLeave
     → Survives mid new SecondMayLeave → IsLater old new
 later_both old mid new FirstMayLeave SecondMayLeave one two =
@@ -93,6 +98,7 @@ later_both old mid new FirstMayLeave SecondMayLeave one two =
 -- ---- before the transaction
 
 module _ {S : Type 0} (g : Ghosts S) (text : List ℕ) (old new : Held S) where
+  -- a fault of loading in the first format is one that a check of `upgrade` may return, by its name there
   pub fails_to_load : (fault : LoadFault) → RefusesToLoadIn First g old fault
       → FailsCheck g text old new (first_format_fault fault)
   fails_to_load load.Store refused = inl refused
@@ -101,6 +107,7 @@ module _ {S : Type 0} (g : Ghosts S) (text : List ℕ) (old new : Held S) where
   fails_to_load load.OtherFormat refused = refused
   fails_to_load load.Memory refused = inl refused
 
+  -- a fault of reading the new text, once a campaign is loaded, is one that a check of `upgrade` may return
   pub fails_to_read : (fault : WorldFault) → Reads (λ (w : WorldValue). w) (Err fault) (world_of text)
       → HasOld g text old new → FailsCheck g text old new (new_world_fault fault)
   fails_to_read world.NotToml reads was = (was, reads, λ e. absurd cc)
@@ -113,6 +120,7 @@ module _ {S : Type 0} (g : Ghosts S) (text : List ℕ) (old new : Held S) where
   fails_to_read world.NoLand reads was = (was, reads, λ e. absurd cc)
   fails_to_read world.Memory reads was = inr was
 
+  -- an upgrade is refused with the fault of a failed check; nothing is changed
   pub refused_before : (fault : UpgradeFault) → (HasCleanDisk (state g new) → FailsCheck g text old new fault)
       → LeavesAlone g old new → RefusesToUpgrade g text old new fault
   refused_before fault fails alone = record {
@@ -201,6 +209,7 @@ module _ {S : Type 0} (g : Ghosts S) (text : List ℕ) (old mid new : Held S) (w
     fails_to_write e true is gave clean_mid = broken_off e true is gave clean_mid
     fails_to_write e false is gave clean_mid = broken_off e false is gave clean_mid
 
+    -- an upgrade is refused with the fault of an error of its transaction; the tables are as they were, on a clean disk
     pub refused_after : (e : Error) → (HasCleanDisk (state g new) → Gives g (OfUpgrade text c.value) e mid new)
         → RefusesToUpgrade g text old new (upgrade_fault e)
     refused_after e gave = record {

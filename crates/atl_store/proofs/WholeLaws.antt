@@ -18,6 +18,7 @@ use Rattle.atl_sql.proofs.CarryLaws.{carries_then}
 use Rattle.atl_sql.proofs.WriteLaws.{on_ok_of_error, HandsOn, weaker, two_steps}
 use Rattle.atl_campaign.proofs.SlotLaws.{on_err}
 
+-- two steps inside a transaction, one after the other, are one step that does both
 pub inside_then : (Before : Database → Type 0) (First Second : Database → Database → Type 0) (a b c : State)
     → DoesInside Before First a b → DoesInside HasTables Second b c → DoesInside Before (DoesBoth First Second) a c
 inside_then Before First Second a b c one two = (
@@ -28,6 +29,7 @@ inside_then Before First Second a b c one two = (
       record { does = (b.now, was.does, now.does); tables = now.tables; carries = carries_then a.now b.now c.now was.carries now.carries },
 )
 
+-- a step that does `Does`, on tables that are as `Before` says, does also `Less`, which follows from it
 pub inside_weaker : (Before : Database → Type 0) (Does Less : Database → Database → Type 0) (a b : State)
     → (Before a.now → Does a.now b.now → Less a.now b.now) → DoesInside Before Does a b → DoesInside Before Less a b
 inside_weaker Before Does Less a b weaker h =
@@ -35,12 +37,14 @@ inside_weaker Before Does Less a b weaker h =
 
 -- the effect of a write on the tables, weakened, and of two writes
 module _ {S : Type 0} (g : Ghosts S) {own : Statements} {A : Type 0} {r : Result A Error} where
+  -- a write whose step does `First` is also one that does `Does`, which follows from it
   pub done_as : {First Does : Database → Database → Type 0} {a b : MutBor (Held S)}
       → ((old new : Database) → First old new → Does old new) → Writes g own (DoesInside HasTables First) r a b
       → Writes g own (DoesInside HasTables Does) r a b
   done_as {First = First} {Does = Does} said one =
       weaker g (λ old new did. inside_weaker HasTables First Does old new (λ has. said old.now new.now) did) one
 
+  -- a write that succeeds and a second one after it are one write, which does what both together do (`Does`)
   pub then_done : {First Second Does : Database → Database → Type 0} {X : Type 0} {x : X} {a b d : MutBor (Held S)}
       → ((old mid new : Database) → First old mid → Second mid new → Does old new)
       → Writes g own (DoesInside HasTables First) (Ok x) a b → Writes g own (DoesInside HasTables Second) r b d
@@ -64,6 +68,7 @@ module _ {S : Type 0} (g : Ghosts S) (old begun mid end : Held S) (begins : begu
       ))
       (survives_begin g old (state g mid) _ (rw begins at one)) two
 
+  -- BEGIN, step and commit together: on a clean disk the step is done and all is committed (`Commits`)
   pub committed_after : (HasCleanDisk (state g mid) → DoesInside Before Does (state g begun) (state g mid))
       → Survives (state g mid) (state g end) (λ db. db ≡ (state g mid).now.trees)
       → (HasCleanDisk (state g end) → IsTrue (state g mid).in_transaction × Shows (state g mid) (state g end) (state g mid).now (state g mid).now false × KeepsCounts (state g mid) (state g end) × ((state g end).marks ≡ []))

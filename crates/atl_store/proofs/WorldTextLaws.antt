@@ -28,9 +28,12 @@ text_held f s text c holds = text_in_rows (rows_in campaign_table s.now.trees) h
     text_in_rows [] is = absurd ((is (campaign_row_in f (campaign_row_of c) text)).1 refl)
     text_in_rows (r ∷ rows) is = ap (λ (x : Row). world_text_in_rows (x ∷ [])) ((is r).0 (inl refl))
 
+-- the text in the tables of a connection that keeps a campaign with a text is this text
 pub world_text_is : (s : State) (text : List ℕ) (c : CampaignValue) → Keeps s text c → world_text s ≡ text
 world_text_is s text c keeps = text_held Second s text c (keeps.rows.rows Own)
 
+-- the text in the tables of a connection that keeps a campaign in one of the formats with a text (`KeepsIn`) is this
+-- text
 pub kept_text_is : (f : Format) (s : State) (text : List ℕ) (c : CampaignValue) → KeepsIn f s text c
     → world_text s ≡ text
 kept_text_is f s text c keeps = text_held f s text c (keeps.rows.rows Own (has_own f))

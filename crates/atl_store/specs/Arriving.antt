@@ -20,8 +20,8 @@ use Rattle.atl_sql.specs.Shown.{CampaignRowValue, campaign_row, mail_row, report
 use Rattle.atl_store.specs.GroupedRows.{amount_lines}
 use Rattle.atl_store.specs.Rows.{row_of_campaign, row_of_faction, row_of_unit}
 
--- What a write of a join needs: the campaign has the faction, its report, and the unit numbered `next_unit - 1`.
--- The books have money and people among their things.
+-- What `write_join` needs of `c`, the campaign after a join: the faction `number`, which joined, its report, and the
+-- unit that came last, `next_unit - 1`, are there. The books have money and people among their things.
 pub record HasArrival (c : CampaignValue) (number : ℕ) : Type 0 where
   -- `next_unit` is not 0, so there is a number before it, that of the unit that came last
   pub next : 1 ≤ c.next_unit
@@ -31,8 +31,8 @@ pub record HasArrival (c : CampaignValue) (number : ℕ) : Type 0 where
   pub unit : IsSome (get c.units (c.next_unit - 1))
   pub report : IsSome (get c.reports number)
 
--- The campaign has this faction, this report, and this unit, whose number `unit_number` is the last (`next_unit - 1`).
--- The books have money and people among their things.
+-- The campaign has this faction, under `number`, its report, and the unit that came last, under `unit_number`.
+-- The books have money and people among their things. This is `HasArrival`, with what is there given by name.
 pub record HasArrivalWith (c : CampaignValue) (number : ℕ) (faction : Faction) (unit_number : ℕ) (unit : Unit) (report : List ℕ) : Type 0 where
   -- the unit's number `unit_number` is the last: the next one is `next_unit`
   pub place_is : c.next_unit ≡ unit_number + 1

@@ -41,7 +41,8 @@ use Rattle.atl_sql.specs.declared.rows.stored.RowWithId.{RowWithId}
 
 -- ---- what a step leaves
 
--- if the disk is clean and the connection is open, its tables are those of the last commit
+-- on a clean disk the tables of an open connection are those of the last commit, so a read that fails and is rolled
+-- back leaves them as they were
 abbrev pub IsCommitted : State → Type 0
 IsCommitted s = HasCleanDisk s → IsTrue s.is_open → s.now ≡ s.committed
 
@@ -64,7 +65,8 @@ rows_or_none (Err read.Refused) = Err Store
 rows_or_none (Err read.Memory) = Err Memory
 rows_or_none (Err read.OtherType) = Ok None
 
--- when a step that needs `P` may return each fault: Store if `P` doesn't hold, Memory at any time, and no other fault
+-- when a step that needs `P`, such as that rowids differ, may return each fault: Store if `P` doesn't hold, Memory at
+-- any time, and no other fault
 abbrev pub FailsWithout : Type 0 → LoadFault → Type 0
 FailsWithout P Store = ¬ P
 FailsWithout P (Damaged rule) = ⊥
@@ -149,8 +151,8 @@ AreNone reads = (read : Part × List Row) → Has reads read → read.1 ≡ []
 abbrev pub second_format_parts : List Part
 second_format_parts = drop (length (parts_in First)) all_parts
 
--- the SELECTs that are asked in a format: `some` and, in the second format, also `others`, of the tables that the first
--- lacks
+-- the SELECTs that are asked in a format, each with the forms of its columns: `some` and, in the second format, also
+-- `others`, of the tables that the first lacks
 abbrev pub selects_by : Format → List (List ℕ × List Form) → List (List ℕ × List Form) → List (List ℕ × List Form)
 selects_by First some others = some
 selects_by Second some others = some ++ others
@@ -177,7 +179,7 @@ module _ {S : Type 0} (g : Ghosts S) (old : Held S) where
   FoundBySelects selects P None = HasOtherType g old selects
   FoundBySelects selects P (Some a) = AllSelectsShowTyped g old selects × P a
 
-  -- one SELECT of the list `selects`, asked after other reads, shows some rows
+  -- one SELECT of the list `selects`, asked after other reads, shows some rows; memory may then run out (`FailsToRead`)
   pub record AnswersOne (selects : List (List ℕ × List Form)) : Type 0 where
     -- the SELECT that is answered, with the forms of its columns
     pub select : List ℕ × List Form
@@ -258,8 +260,8 @@ pub record AllHaveDistinctRowids (reads : ReadRows) : Type 0 where
 abbrev pub without_ids : Part → List Row → List Row
 without_ids part rows = if shows_rowids part then map (take (column_count part)) rows else rows
 
--- The parts `p` are put together of what was read: the campaign row `head` and all other rows, without their rowids.
--- No two rows of a part have the same rowid.
+-- The parts `p` are put together of what was read: the campaign row `head`, and the rows `reads` of all other parts.
+-- In `p` the rows have no rowids. No two rows of a part had the same rowid.
 pub record IsMadeOf (head : StoredCampaignRow) (reads : ReadRows) (p : Parts) : Type 0 where
   -- all parts but the campaign row were read, in their order
   pub parts : map (λ read. read.0) reads ≡ other_parts Second

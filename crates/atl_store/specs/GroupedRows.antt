@@ -25,12 +25,12 @@ abbrev pub DifferInKey : ℕ → List Row → Type 0
 DifferInKey key [] = ⊤
 DifferInKey key (x ∷ xs) = ((y : Row) → Has xs y → take key x ≢ take key y) × DifferInKey key xs
 
--- the rows that `lines` gives for each entry of a map, one entry after another
+-- the rows that `lines` gives for each number and value of a list, one after another in the order of the list
 abbrev pub groups_of : {V : Type 0} → (ℕ → V → List Row) → List (ℕ × V) → List Row
 groups_of lines entries = flat_map (λ e. lines e.0 e.1) entries
 
--- `lines` gives the rows of each value of the map: they begin with its number and differ in their key.
--- The rows of all values together are exactly those of the set `Wanted`.
+-- `lines` gives the rows of each value of the map: they begin with its number and differ in their key, the first `key`
+-- columns. The rows of all values together are exactly those of the set `Wanted`.
 pub record AreGroups {V : Type 0} (lines : ℕ → V → List Row) (key : ℕ) (values : FinMap nat_cmp V) (Wanted : Set) : Type 0 where
   -- the rows that `lines` gives for a value begin with the value's number
   pub numbered : (n : ℕ) (v : V) (r : Row) → Has (lines n v) r → take 1 r ≡ int n ∷ []
@@ -91,6 +91,7 @@ amount_lines c entry thing =
 abbrev pub entries_lines : CampaignValue → Thing → List BooksEntry → List Row
 entries_lines c thing entries = flat_map (λ entry. amount_lines c entry thing) entries
 
--- the rows of `books` for the amounts of the things with the listed numbers, under all entries, that aren't 0
+-- the rows of `books` for the amounts, under all entries, of the things with the listed numbers; an amount of 0 has
+-- none
 abbrev pub things_lines : CampaignValue → List ℕ → List Row
 things_lines c indices = flat_map (λ index. entries_lines c (thing_at index) all_entries) indices

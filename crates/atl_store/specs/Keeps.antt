@@ -49,7 +49,7 @@ pub record Keeps (s : State) (text : List ℕ) (c : CampaignValue) : Type 0 wher
   pub crash : (db : Trees) → s.may_leave db → Stores db text c
 
 -- If the disk is clean so far, the connection keeps this world text and this campaign (`Keeps`).
--- Of a disk that isn't clean nothing is said.
+-- A disk is clean if each read has returned what was written (docs/PROVED.md, "Premises"); of another nothing is said.
 abbrev pub HoldsCampaign : {S : Type 0} → Ghosts S → Held S → List ℕ → CampaignValue → Type 0
 HoldsCampaign g conn text c = HasCleanDisk (state g conn) → Keeps (state g conn) text c
 
@@ -140,7 +140,8 @@ RefusesToCreate g text c old new Memory = FailsToCreate g text c old new × Brea
 
 -- ---- writing
 
--- `after` is the good campaign `before` once the faction has joined it and its first report is stored
+-- `after` is the good campaign `before` once the faction has joined it and its first report is stored. The faction has
+-- this name and pass text; `word`, a number from the dice, picks where its unit is (`after_join`).
 abbrev pub IsJoining : CampaignValue → ℕ → CampaignValue → Type 0
 IsJoining before faction after =
     (w : WorldValue) × (name : List ℕ) × (pass : List ℕ) × (word : ℕ) × (report : List ℕ)

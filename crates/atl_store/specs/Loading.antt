@@ -64,7 +64,8 @@ books_values s = Int s.entry ∷ Int s.thing ∷ Int s.amount ∷ []
 abbrev pub market_values : StoredMarket → Row
 market_values s = Int s.region ∷ Int s.item ∷ Int s.stock ∷ []
 
--- the rows of each part that were read, as SQL shows them; the campaign row is given this world text
+-- the rows of each part that were read, as SQL shows them; the campaign row, which `p` has without its world text, is
+-- given this one
 abbrev pub rows_read : List ℕ → Parts → Part → List Row
 rows_read text p Own = map (own_stored text) p.campaign
 rows_read text p Factions = map faction_stored p.factions
@@ -225,7 +226,8 @@ module _ {S : Type 0} (g : Ghosts S) (old : Held S) where
     -- the disk failed during the reads
     pub failed : MoreFaults (state g old).faults (state g after).faults
 
-  -- the SELECT of the books, asked again after other reads, is refused; `memory` says whether for lack of memory
+  -- The SELECT of the books, asked again after other reads to see that the connection is still open, is refused.
+  -- `memory` says whether for lack of memory.
   pub record RefusesAgain (memory : Bool) : Type 0 where
     -- the connection after the other reads, before the books are asked for again
     pub before : Held S

@@ -15,7 +15,8 @@ use Rattle.atl_store.specs.Rows.{campaign_row_of, row_of_faction, row_of_unit, r
 use Rattle.atl_descriptions.specs.Statements.{Statements, OneStatement, Creations, campaign_upsert, upgrading_upsert, deletion, upsert}
 use Rattle.atl_descriptions.specs.Tables.{Part, Markets, books_table, creation_of, faction_table, IsGroupedPart, key_width_of, mail_table, report_table, table_of, unit_table}
 
--- the statement that writes an amount of the books: puts the amount's row, or deletes the row if the amount is 0
+-- the statement, with its parameters, that writes an amount of the books: it puts the amount's row, or deletes the row
+-- if the amount is 0
 pub data OfAmount (c : CampaignValue) (entry : BooksEntry) (thing : Thing) : List ℕ → Row → Type 0 where
   -- an amount other than 0: its row is put
   puts_amount : amount_in c.books entry thing ≢ pos 0
@@ -33,7 +34,7 @@ IsRowOf c part row = (own : Row) → rows_for own c part row
 abbrev pub HasNoRow : CampaignValue → Part → Row → Type 0
 HasNoRow c part key = (length key ≡ key_width_of part) × ((own row : Row) → rows_for own c part row → take (key_width_of part) row ≢ key)
 
--- the statements that put a row of the campaign into the table of its part
+-- the statements that put a row of the campaign, other than the campaign row, into the table of its part
 pub data OfRow (c : CampaignValue) : List ℕ → Row → Type 0 where
   -- the row of the part is put
   puts_row : (part : Part) {row : Row} → IsRowOf c part row → OfRow c (upsert (table_of part) (key_width_of part)) row

@@ -124,7 +124,8 @@ RewritesCampaignRow c old new =
 
 -- ---- one table after another
 
--- the part's marked rows become those of the campaign, with `own` as its campaign row; the part's other rows stay
+-- The part's marked rows become those of the campaign, whose campaign row is `own`; the part's other rows stay.
+-- `before` and `after` are all rows of the part's table.
 abbrev pub Becomes : MarkedCampaign → Row → Part → List Row → List Row → Type 0
 Becomes c own part before after =
     HasExactly after (rows_after_rewrite (is_marked c.marks part) (rows_for own c.value part) (Has before))

@@ -31,6 +31,7 @@ pub(crate) trait AmountWriter: Copy {
             tx.new.conn };
 }
 
+/// Puts the row of the amount that an owner has of a thing; nothing if the amount is 0.
 fn put_nonzero<O: AmountWriter, S: Alter>(
     tx: &mut Transaction<'_, S>,
     owner: O,

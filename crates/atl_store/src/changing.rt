@@ -20,6 +20,7 @@ use crate::write_parts::{OtherParts, WrittenPart};
 use atl_campaign::Campaign;
 use sqlite::{Alter, Connection, Error, Transaction};
 
+/// Rewrites all that is marked: the campaign row, and then the other parts, one after another.
 fn rewrite_parts<S: Alter>(tx: &mut Transaction<'_, S>, campaign: &Campaign) -> Result<(), Error>
     requires { campaign.now.value.books.things ≤ most_things }
     ensures { Writes S.Store (OfChange campaign.now.value)
@@ -29,6 +30,7 @@ fn rewrite_parts<S: Alter>(tx: &mut Transaction<'_, S>, campaign: &Campaign) -> 
     OtherParts::rewrite(tx, campaign)
 }
 
+/// Writes all that is marked in one transaction; the marks stay as they are.
 fn write_marked<S: Alter>(conn: &mut Connection<S>, campaign: &Campaign) -> Result<(), Error>
     requires idle { conn.old.in_transaction ≡ false }
     requires things { campaign.now.value.books.things ≤ most_things }
@@ -40,9 +42,10 @@ fn write_marked<S: Alter>(conn: &mut Connection<S>, campaign: &Campaign) -> Resu
     tx.commit()
 }
 
-/// Writes what is marked of a campaign, in one transaction, into a store that holds the rest of it.
-/// Whatever the store has under marked keys, the campaign's rows are put, the rows that it lacks
-/// are deleted, and no other row is touched. With Ok the store holds the campaign, and nothing of
+/// Writes what is marked of a campaign, in one transaction, into a store that holds the rest of it
+/// (`HoldsUnmarked`), such as one that holds a campaign which differs only in what is marked
+/// (`Covers`). Whatever the store has under marked keys, the campaign's rows are put and all others
+/// there are deleted; no other row is touched. With Ok the store holds the campaign, and nothing of
 /// it is marked. Memory: the database says that it has none. Store: it gives another error. After a
 /// fault the tables are as before while the connection is open, a crash leaves them so or with the
 /// campaign, and the marks stay. See docs/FORMATS.md, "Tables".

@@ -41,6 +41,7 @@ struct UnitThings {
     sort: ThingKind,
 }
 
+/// Puts each item or skill as a row of `has`, whose key is unit, kind and thing.
 impl AmountWriter for UnitThings {
     ghost table = { has_table };
 
@@ -58,6 +59,7 @@ impl AmountWriter for UnitThings {
     }
 }
 
+/// Puts the rows of what a unit, which has this number, holds: its items, and then its skills.
 fn put_goods<S: Alter>(
     tx: &mut Transaction<'_, S>,
     unit: u32,
@@ -78,6 +80,7 @@ fn put_goods<S: Alter>(
     put_amounts(tx, skills, holding.days())
 }
 
+/// Puts the rows of the items and skills of these units, one unit after another.
 pub(crate) fn put_all_goods<S: Alter>(
     tx: &mut Transaction<'_, S>,
     units: SlotEntries<'_, Unit>,

@@ -21,6 +21,8 @@ use own::read_own;
 use sqlite::{Alter, Connection};
 use std::alloc::Global;
 
+/// Reads all tables of the format: the rows of all parts, without rowids, and the world of the
+/// world text. A value of another type in a table but `campaign` is Damaged by the second rule.
 fn gather<S: Alter>(
     alloc: Global,
     conn: &mut Connection<S>,

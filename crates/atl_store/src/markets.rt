@@ -39,6 +39,7 @@ struct RegionStocks {
     region: u32,
 }
 
+/// Puts each stock as a row of `market`, whose key is region and item.
 impl AmountWriter for RegionStocks {
     ghost table = { market_table };
 
@@ -56,6 +57,7 @@ impl AmountWriter for RegionStocks {
     }
 }
 
+/// Puts the rows of all stocks of a region, which has this number, that are not 0.
 fn put_stocks<S: Alter>(
     tx: &mut Transaction<'_, S>,
     number: u32,
@@ -68,6 +70,7 @@ fn put_stocks<S: Alter>(
     put_amounts(tx, RegionStocks { region: number }, region.stocks.iter())
 }
 
+/// Puts the rows of all stocks of these regions that are not 0, one region after another.
 pub(crate) fn put_all_stocks<S: Alter>(
     tx: &mut Transaction<'_, S>,
     regions: Entries<'_, Region>,

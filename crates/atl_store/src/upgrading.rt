@@ -21,6 +21,7 @@ use atl_world::{Format, World};
 use sqlite::{Alter, Connection, Error, Transaction};
 use std::alloc::Global;
 
+/// Makes the table `market`, and gives the campaign row the second format and the new world text.
 fn put_upgrade<S: Alter>(
     tx: &mut Transaction<'_, S>,
     text: &str,
@@ -34,6 +35,7 @@ fn put_upgrade<S: Alter>(
     upgrade_campaign_row(tx, campaign, text)
 }
 
+/// Writes an upgrade in one transaction.
 fn write_upgrade<S: Alter>(
     conn: &mut Connection<S>,
     text: &str,

@@ -134,6 +134,7 @@ pub(crate) fn read_by<X: AllRows, Y: AllRows, S: Alter>(
     }
 }
 
+/// The rowids of rows, in the order of the rows.
 fn rowids_of<T>(alloc: Global, placed: &[RowWithId<T>]) -> Result<Vec<i64>, AllocError>
     ensures { IfOk result (λ rowids. rowids.items ≡ map (λ s. s.rowid) placed.now) }
 {
@@ -144,6 +145,7 @@ fn rowids_of<T>(alloc: Global, placed: &[RowWithId<T>]) -> Result<Vec<i64>, Allo
     Ok(rowids)
 }
 
+/// Whether no two of the rows have the same rowid; sound tables have only such rows.
 fn have_distinct_rowids<T>(alloc: Global, placed: &[RowWithId<T>]) -> Result<bool, AllocError>
     ensures { IfOk result (λ yes. IsTrue yes ↔ (HaveDistinctRowids placed.now)) }
 {
@@ -151,6 +153,7 @@ fn have_distinct_rowids<T>(alloc: Global, placed: &[RowWithId<T>]) -> Result<boo
     are_distinct(alloc, &rowids)
 }
 
+/// The rows without their rowids, in their order.
 fn without_ids<T: Drop>(alloc: Global, placed: Vec<RowWithId<T>>) -> Result<Sequence<T>, AllocError>
     ensures { IfOk result (λ rows. rows ≡ map (λ s. s.row) placed.items) }
 {
@@ -161,6 +164,7 @@ fn without_ids<T: Drop>(alloc: Global, placed: Vec<RowWithId<T>>) -> Result<Sequ
     Ok(Sequence::from_vec(rows))
 }
 
+/// Ok if the rowids of a table are apart, no two alike, or else the fault Store.
 fn check_apart(are_apart: bool) -> Result<(), LoadFault>
     ensures { result ≡ (if are_apart then Ok tt else Err Store) }
 {

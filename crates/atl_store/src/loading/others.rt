@@ -15,6 +15,7 @@ use atl_world::{Format, Sequence};
 use sqlite::{Alter, Connection};
 use std::alloc::Global;
 
+/// The rows of `faction`, `region`, `unit` and `has`.
 type RowsToGoods = (
     Vec<StoredFaction>,
     (
@@ -23,6 +24,7 @@ type RowsToGoods = (
     ),
 );
 
+/// The rows of `structure`, `mail`, `report` and `books`.
 type RowsFromStructures = (
     Vec<StoredStructure>,
     (

@@ -34,6 +34,7 @@ fn campaign_row_fault(fault: ReadFault) -> LoadFault
     }
 }
 
+/// The row, if there is just one; None for no row or more.
 fn only_row(mut rows: Vec<StoredCampaign>) -> Option<StoredCampaign>
     ensures { result ≡ only_of rows.items }
 {
@@ -41,6 +42,7 @@ fn only_row(mut rows: Vec<StoredCampaign>) -> Option<StoredCampaign>
     if rows.is_empty() { last } else { None }
 }
 
+/// Whether a campaign row has the id 1 and the number of this format.
 fn has_id_and_format(head: &StoredCampaignRow, format: Format) -> bool
     ensures { IsTrue result ↔
         ((head.now.id ≡ pos 1) × (head.now.format ≡ pos (format_number format))) }
@@ -48,6 +50,7 @@ fn has_id_and_format(head: &StoredCampaignRow, format: Format) -> bool
     head.id == 1 && head.format == i64::from(format.number())
 }
 
+/// Reads a world text by the rules of the format: a world of the first has no markets.
 fn world_by(alloc: Global, text: &str, format: Format) -> Result<World, WorldFault>
     ensures { Reads (λ w. w) result (world_of_text format text.now) }
 {
@@ -57,6 +60,7 @@ fn world_by(alloc: Global, text: &str, format: Format) -> Result<World, WorldFau
     }
 }
 
+/// Reads the world text of a campaign row; a text of no world breaks the first rule of the tables.
 fn world_from(alloc: Global, text: &str, format: Format) -> Result<World, LoadFault>
     ensures { ReadsWorld format text.now result }
 {
@@ -86,6 +90,8 @@ fn check_own_rows(
     Ok((own, world))
 }
 
+/// Parses the rows that SQL shows of `campaign`, and judges them by the first rule of the tables. A
+/// value of another type breaks it.
 fn judge_rows(
     alloc: Global,
     rows: &[Row],
@@ -110,6 +116,7 @@ fn other_format(format: Format) -> Format
     }
 }
 
+/// Whether the second column of a row of `campaign`, its format, is the number of this format.
 fn has_format(row: &Row, format: Format) -> bool
     ensures { IsTrue result ↔ (column row.now 1 ≡ int (format_number format)) }
 {
