@@ -16,7 +16,8 @@ use std::io::ErrorKind;
 pub trait Work {
     type Done: Drop;
 
-    /// Whether the file may grow by far more than one command adds.
+    /// Whether the work may run many commands, so that the file may grow by far more than one adds.
+    /// Then up to `MOST_PAGES` pages are kept in memory, however small the file is.
     const LASTS: bool = false;
 
     /// Does the work on an open service, and returns its result or a failure.
@@ -47,6 +48,7 @@ pub enum Opening<'a> {
 /// The number of bytes in the header of a database. A shorter file is no database.
 const HEADER_BYTES: u64 = 100;
 
+/// Whether a file or a folder is at the path; Store, or Memory, if the system can't tell.
 fn is_there(rt: &HostRuntime, path: &str) -> Result<bool, Failure> {
     match fs::exists(rt, path) {
         Ok(is_there) => Ok(is_there),
@@ -133,7 +135,8 @@ fn options_for(rt: &HostRuntime, pages: u64) -> Result<Options, Failure> {
 }
 
 /// Opens the database file and its log, and makes those that are missing. A path that SQLite would
-/// read in another way is refused.
+/// read in another way is refused. With Ok both files are usable, which
+/// `Connection::open_files_with` requires.
 fn open_files<S: Start>(
     rt: &HostRuntime,
     path: &str,
@@ -153,9 +156,9 @@ fn open_files<S: Start>(
     }
 }
 
-/// Opens the file as a database, or makes it, with so many pages in memory. A file that is made has
-/// no checksums on its pages, since a `sqlite3` without the extension for checksums would spoil
-/// them.
+/// Opens the file as a database, or makes it, with at most `pages` pages in memory. A file that is
+/// made has no checksums on its pages, since a `sqlite3` without the extension for checksums would
+/// spoil them.
 fn connect<S: Start>(
     rt: &HostRuntime,
     path: &str,
@@ -170,6 +173,7 @@ fn connect<S: Start>(
     }
 }
 
+/// Founds, opens or upgrades the campaign of the connection, as `opening` says.
 fn open_service<S: Alter>(
     alloc: Global,
     conn: Connection<S>,
@@ -182,6 +186,8 @@ fn open_service<S: Alter>(
     }
 }
 
+/// Does the work on the campaign of the connection, and returns its result, or why there is no
+/// campaign to work on. Either way it returns the connection, so that the file can be shut.
 fn run_work<S: Alter + Drop, W: Work>(
     alloc: Global,
     conn: Connection<S>,

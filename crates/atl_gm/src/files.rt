@@ -4,10 +4,13 @@ use std::alloc::Global;
 use std::io::Read;
 use std::{fs, io};
 
+/// The failure for an error of reading a file or standard input: Memory if memory ran out, else
+/// File.
 fn read_failure(error: io::Error) -> Failure {
     Failure::of_system(error, Failure::File)
 }
 
+/// The text of the file at the path; File if it can't be read or isn't UTF-8.
 pub fn text_at(rt: &HostRuntime, path: &str) -> Result<String, Failure> {
     fs::read_to_string(rt, path).map_err(read_failure)
 }
@@ -23,6 +26,7 @@ pub fn first_bytes_at(rt: &HostRuntime, path: &str, most: u64) -> Result<Vec<u8>
     }
 }
 
+/// The text on standard input; File if it can't be read or isn't UTF-8.
 pub fn text_on_input<R: Input>(rt: &R, alloc: Global) -> Result<String, Failure> {
     io::read_to_string(alloc, rt.reader()).map_err(read_failure)
 }

@@ -57,6 +57,7 @@ fn command_line<'a>(alloc: Global) -> Result<Command<'a>, AllocError> {
     All::add_to(alloc, line)
 }
 
+/// Runs the subcommand that the parsed command line names.
 fn dispatch(rt: &HostRuntime, matches: &ArgMatches<'_>) -> Result<(), Failure> {
     match matches.subcommand() {
         Some((name, options)) => All::run(rt, name, options),
@@ -64,6 +65,7 @@ fn dispatch(rt: &HostRuntime, matches: &ArgMatches<'_>) -> Result<(), Failure> {
     }
 }
 
+/// The failure for an error of the parser: Memory if it ran out of memory, else the error itself.
 fn refused_line(error: Error) -> Failure {
     if error.kind() == ErrorKind::OutOfMemory {
         return Failure::Memory;
@@ -81,6 +83,7 @@ fn refused_words(alloc: Global, words: &[String], error: Error) -> Result<Failur
     }
 }
 
+/// The words with each control character as its escape, so that each is on one line.
 fn escaped_words(alloc: Global, words: &[String]) -> Result<Vec<String>, AllocError> {
     let mut escaped = Vec::new(alloc);
     for word in words {
@@ -115,6 +118,7 @@ fn place_of_no_text(rt: &HostRuntime) -> Result<usize, AllocError> {
     Ok(usize::MAX)
 }
 
+/// The failure for a command line of which a word is not UTF-8; it names the word's place.
 fn no_text(rt: &HostRuntime, command: &mut Command<'_>) -> Result<Failure, AllocError> {
     let place = place_of_no_text(rt)?;
     let message = format!(in rt.alloc(); "word {place} is not UTF-8")?;
@@ -122,6 +126,7 @@ fn no_text(rt: &HostRuntime, command: &mut Command<'_>) -> Result<Failure, Alloc
     Ok(refused_line(error))
 }
 
+/// The words of the command line, with the program's name first.
 fn words(rt: &HostRuntime, command: &mut Command<'_>) -> Result<Vec<String>, Failure> {
     match env::args(rt) {
         Ok(args) => Ok(args.collect(rt.alloc())?),

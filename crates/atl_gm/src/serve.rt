@@ -22,6 +22,7 @@ struct Serving<'a> {
     dice: Dice,
 }
 
+/// The failure for a port that can't be bound: Memory if memory ran out, else Net.
 fn bind_failure(error: io::Error) -> Failure {
     Failure::of_system(error, Failure::Net)
 }

@@ -2,8 +2,8 @@
 use libc::types::rlimit;
 use std::alloc::{AllocError, Global};
 
-/// In how many steps the stack grows as far as a command may need. A world text that nests tables as
-/// deep as TOML allows, and then has a fault, takes 2.4 MB.
+/// In how many steps the stack grows as far as a command may need. A world text that nests tables
+/// as deep as TOML allows, and then has a fault, takes 2.4 MB.
 const STEPS: usize = 10;
 
 /// The number of bytes of a step.
@@ -42,6 +42,7 @@ fn ask_for_room(alloc: Global) -> Result<(), AllocError> {
     Ok(())
 }
 
+/// Whether all bytes are 0. The test keeps a compiler from leaving out the buffer.
 #[inline(never)]
 fn is_clear(room: &[u8]) -> bool {
     for each in room {

@@ -29,6 +29,7 @@ pub trait Subcommands {
     fn run(rt: &HostRuntime, name: &str, options: &ArgMatches<'_>) -> Result<(), Failure>;
 }
 
+/// The parser of one subcommand, by its name, its help and its options.
 fn command_of<'a, S: Subcommand>(alloc: Global) -> Result<Command<'a>, AllocError> {
     let name: &'a str = S::NAME;
     let about: &'a str = S::ABOUT;

@@ -10,6 +10,7 @@ use clap::ArgMatches;
 use sqlite::{Connection, MemStore};
 use std::alloc::{AllocError, Global};
 
+/// The join of the trial: `Avalon` with pass text `pw` and word 0.
 fn join(alloc: Global) -> Result<atl_service::Command, Failure> {
     Ok(atl_service::Command::Join {
         name: Sequence::from_slice(alloc, b"Avalon")?,
@@ -18,6 +19,7 @@ fn join(alloc: Global) -> Result<atl_service::Command, Failure> {
     })
 }
 
+/// The report of faction 1, the first that joins.
 fn report(alloc: Global) -> Result<atl_service::Command, Failure> {
     Ok(atl_service::Command::Report {
         faction: 1,
@@ -37,6 +39,7 @@ fn report_after_join(
     }
 }
 
+/// Founds the campaign on the connection with pass text `gm`, and runs the join and the report.
 fn first_report(
     alloc: Global,
     conn: Connection<MemStore>,
@@ -50,6 +53,7 @@ fn first_report(
     }
 }
 
+/// The answer of the trial in a new campaign in memory, with the world of this text.
 fn report_answer(alloc: Global, world_text: &str) -> Result<Answer, Failure> {
     let join = join(alloc)?;
     let report = report(alloc)?;

@@ -39,6 +39,7 @@ after_prefix_by x y w p rest true e ih k =
     rw (same, ih k) refl
 after_prefix_by x y w p rest false e ih k = cc
 
+-- if `rest` is what a path `p` has after a prefix `w`, the path is the prefix and then `rest`
 pub after_prefix_is : (w p rest : List ℕ) → after_prefix w p ≡ Some rest → p ≡ w ++ rest
 after_prefix_is [] p rest h = cc
 after_prefix_is (x ∷ w) [] rest h = cc
@@ -101,6 +102,7 @@ key_found key b p e h =
     let whole : after_param (([], key) ∷ []) (b ∷ p) ≡ Some key = after_param-end [] (Some key) b p tt refl h in
     rw (e, seek-empty 0 p, whole) refl
 
+-- A lookup found this key or nothing.
 abbrev IsKeyOrNone : ℕ → Option ℕ → Type 0
 IsKeyOrNone key found = (found ≡ Some key) ⊎ (found ≡ None)
 
@@ -108,6 +110,7 @@ or_either : (key : ℕ) (a b : Option ℕ) → IsKeyOrNone key a → IsKeyOrNone
 or_either key a b (inl e) h = inl (ap (λ x. or_else x b) e)
 or_either key a b (inr e) h = subst (λ x. IsKeyOrNone key (or_else x b)) (sym e) h
 
+-- a row with nothing left to match finds nothing for a path that has bytes left
 pub end_none : (key b : ℕ) (p : List ℕ) → seek 0 (([], key) ∷ []) (b ∷ p) ≡ None
 unfolding seek
 end_none key b p = simp (seek-empty 0 p, param_step-empty (b ∷ p), seek-empty ((param_step {K = ℕ} [] (b ∷ p)).0 - 1) p)
@@ -156,6 +159,7 @@ all_utf8 test small p h =
 digits_utf8 : (p : List ℕ) → list_all is_ascii_digit p ≡ true → IsUtf8 p
 digits_utf8 p h = all_utf8 is_ascii_digit (λ b e. grind (arith, nat_tests)) p h
 
+-- a text of bytes below 128 is UTF-8
 pub ascii_utf8 : (p : List ℕ) → list_all (λ b. ltb b 128) p ≡ true → IsUtf8 p
 ascii_utf8 p h = all_utf8 (λ b. ltb b 128) (λ b e. grind (arith, nat_tests)) p h
 

@@ -24,11 +24,13 @@ front_and_rest input = take-append-drop most_head input
 front_short : (input : List ℕ) → length (take most_head input) ≤ most_head
 front_short input = let e = length-take most_head input in omega (arith, e)
 
+-- the first 8,192 bytes of an input are no longer than the input
 pub front_within : (input : List ℕ) → length (take most_head input) ≤ length input
 front_within input = let e = length-take most_head input in omega (arith, e)
 
 -- ---- a whole head
 
+-- a head at these spans has at most 32 fields, since there is no room for more spans of fields
 few_fields : (front : List ℕ) (headers : List HeaderSpan) (spans : RequestSpans) (head : RequestHead)
     → IsRequestAt front headers spans head → length headers ≡ most_fields → length head.fields ≤ most_fields
 few_fields front headers spans head at room =
@@ -38,6 +40,8 @@ few_fields front headers spans head at room =
     let count = length-take spans.headers headers in
     omega (arith, same, taken, named, count, room)
 
+-- If the first 8,192 bytes begin with a head at these spans, with room for 32 fields, the input begins with this head,
+-- within the limits (`HasHead`). The rest is what follows the head.
 pub whole_head : (input : List ℕ) (headers : List HeaderSpan) (spans : RequestSpans) (head : RequestHead)
     → IsRequestWithin (take most_head input) headers spans → IsRequestAt (take most_head input) headers spans head
     → length headers ≡ most_fields → HasHead input head (drop spans.len input)
@@ -52,11 +56,13 @@ whole_head input headers spans head lies at room =
       fields = few_fields front headers spans head at room;
     }
 
+-- an input with a whole head has the same head with more bytes after it, which are added to the rest
 pub head_stays : (input more : List ℕ) (head : RequestHead) (rest : List ℕ) → HasHead input head rest
     → HasHead (input ++ more) head (rest ++ more)
 head_stays input more head rest h =
     record { reads = ReadsRequest-append input head rest more h.reads; bytes = h.bytes; fields = h.fields }
 
+-- the checks by the parts at the spans, with the bytes after the head, lead to the verdict on the head
 verdict_is : (input : List ℕ) (headers : List HeaderSpan) (spans : RequestSpans) (head : RequestHead) (rest : List ℕ)
     → IsRequestAt (take most_head input) headers spans head
     → verdict_with_body (head_checks spans.version (span_bytes (take most_head input) spans.method) (span_bytes (take most_head input) spans.path) (field_pairs (take most_head input) (take spans.headers headers))) rest
@@ -65,6 +71,7 @@ verdict_is input headers spans head rest at = rw (at.version, at.method, at.path
 
 -- ---- a refused head
 
+-- an input whose front has more than 32 fields (`RequestExceeds`) stays so with more bytes after it
 exceeds_stays : (input more : List ℕ) → RequestExceeds most_fields input → RequestExceeds most_fields (input ++ more)
 exceeds_stays input more (front, rest, e, head, reads, over) =
     (front, rest ++ more, ap (λ l. l ++ more) e ∙ append_assoc front rest more, head, reads, over)
@@ -76,17 +83,21 @@ overflows_stays : (input more : List ℕ) → RequestOverflows most_fields input
 overflows_stays input more over again head rest reads =
     over (more ++ again) head rest (subst (λ l. ReadsRequest l head rest) (append_assoc input more again) reads)
 
+-- an input without a good head, whatever bytes follow (`IsRefused`), stays so with more bytes after it
 pub refused_stays : (input more : List ℕ) → IsRefused input → IsRefused (input ++ more)
 refused_stays input more (inl never) =
     inl (λ again. subst HasNoRequest (sym (append_assoc input more again)) (never (more ++ again)))
 refused_stays input more (inr (exceeds, over)) = inr (exceeds_stays input more exceeds, overflows_stays input more over)
 
+-- if the first 8,192 bytes of an input are refused (`IsRefused`), so is the input
 pub front_refused : (input : List ℕ) → IsRefused (take most_head input) → IsRefused input
 front_refused input h =
     subst IsRefused (front_and_rest input) (refused_stays (take most_head input) (drop most_head input) h)
 
 -- ---- a head that isn't whole
 
+-- an input below 8,192 bytes is unfinished (`IsUnfinished`), if its front, which then is all of it, has no whole head
+-- and may become one
 pub short_front : (input : List ℕ) → length input < most_head → HasNoRequest (take most_head input)
     → MayBecomeRequest (take most_head input) → IsUnfinished input
 short_front input h none goes_on =
@@ -102,6 +113,8 @@ LeadsToVerdict input rest checks =
     (head : RequestHead) × HasHead input head rest ×
     ((after : List ℕ) → verdict_with_body checks after ≡ verdict_of head after)
 
+-- the checks of the head at the spans that the parser found in the front lead to the verdict on the input
+-- (`LeadsToVerdict`)
 pub finds_head : (input front method target rest : List ℕ) (headers fields : List HeaderSpan) (spans : RequestSpans)
     → front ≡ take most_head input → IsRequestWithin front headers spans × IsRequestOf front headers spans
     → length headers ≡ most_fields → method ≡ span_bytes front spans.method → target ≡ span_bytes front spans.path
@@ -125,10 +138,12 @@ comes_whole input rest checks (Ends outcome) (head, has, same) e = whole head re
 comes_whole input rest checks (Missing count) (head, has, same) (some, short) =
     (some, λ more few. whole head (rest ++ more) (head_stays input more head rest has) (sym (short more few) ∙ same (rest ++ more)))
 
+-- the verdict on an input is BadRequest, if its first 8,192 bytes (`front`) are refused (`IsRefused`)
 pub judges_refused : (input front : List ℕ) → front ≡ take most_head input → IsRefused front
     → Judges input (Refused BadRequest)
 judges_refused input front e h = refused (front_refused input (subst IsRefused e h)) refl
 
+-- the verdict on an input below 8,192 bytes is More, if it has no whole head and may become one
 judges_more : (input front : List ℕ) → front ≡ take most_head input → length input < most_head
     → HasNoRequest front × MayBecomeRequest front → Judges input More
 judges_more input front e h (none, goes_on) =
@@ -139,11 +154,13 @@ short_by_one : (input : List ℕ) → Judges input More → (more : List ℕ) �
 short_by_one input h [] few = subst (λ l. Judges l More) (sym (append-nil input)) h
 short_by_one input h (x ∷ more) few = absurd (omega (arith, few))
 
+-- an input below 8,192 bytes lacks at least one byte (`ComesTo`), if it has no whole head and may become one
 pub missing_one : (input front : List ℕ) → front ≡ take most_head input → length input < most_head
     → HasNoRequest front × MayBecomeRequest front → ComesTo input (Missing 1)
 missing_one input front e h unfinished_front =
     (omega arith, short_by_one input (judges_more input front e h unfinished_front))
 
+-- if Q follows from P for each value, and the value of an Ok has P, it has Q
 pub if_ok : {T E : Type 0} {P Q : T → Type 0} (r : Result T E) → ((x : T) → P x → Q x) → IfOk r P → IfOk r Q
 if_ok (Ok x) f h = f x h
 if_ok (Err e) f h = tt

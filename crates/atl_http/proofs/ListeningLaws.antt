@@ -8,6 +8,7 @@ use Rattle.atl_http.specs.declared.listening.ListenFault.{ListenFault}
 use Rattle.atl_http.specs.declared.listening.ListenFault.TheVariants.{Net, Memory}
 use Rattle.atl_http.specs.Listening.{ServesConnection, ServesInTurn, ServesEach}
 
+-- if `count` requests were served in turn, and one more after them, `count + 1` were served in turn
 pub one_more_is_served : {S : Type 0} (g : Ghosts S) (dice : Dice) (count : ℕ) (old between new : ServiceValue S)
     → ServesInTurn g dice count old between → ServesConnection g dice between (Ok tt) new
     → ServesInTurn g dice (count + 1) old new
@@ -15,6 +16,8 @@ one_more_is_served g dice count old between new turn h =
     let more : suc count ≡ count + 1 = omega arith in
     subst (λ n. ServesInTurn g dice n old new) more (between, turn, h)
 
+-- If fewer than `count` requests (`done`) were served in turn, and memory ran out for the next one, serving `count`
+-- ends in this fault as promised (`ServesEach`). The fault Net never comes of a request.
 pub fault_ends_serving : {S : Type 0} (g : Ghosts S) (dice : Dice) (done count : ℕ) (old between new : ServiceValue S) (fault : ListenFault)
     → done < count → ServesInTurn g dice done old between → ServesConnection g dice between (Err fault) new
     → ServesEach g dice count old (Err fault) new

@@ -38,6 +38,7 @@ verdict_by_checks_stays (Err problem) rest more final = refl
 verdict_by_checks_stays (Ok (route, size, pass)) rest more final =
     verdict_with_body_stays (nat_lt (length rest) size) route size pass rest more refl final
 
+-- an input whose first 8,192 bytes hold no whole head (`IsTooLong`) stays so with more bytes after it
 long_stays : (input more : List ℕ) → IsTooLong input → IsTooLong (input ++ more)
 long_stays input more (long, none) =
     ((let k = length-append input more in omega (arith, long, k)), subst HasNoRequest (sym (take-append-le most_head input more long)) none)
@@ -52,6 +53,7 @@ judged_still input more v (unfinished h e) final = absurd (subst IsFinal e final
 
 -- ---- one verdict
 
+-- an input with a whole head within the limits is not refused
 not_refused : (input : List ℕ) (head : RequestHead) (rest : List ℕ) → HasHead input head rest → IsRefused input → ⊥
 not_refused input head rest h (inl never) =
     never [] head rest (subst (λ l. ReadsRequest l head rest) (sym (append-nil input)) h.reads)
@@ -64,6 +66,7 @@ take-append-more n xs ys h =
     let e : n ≡ length xs + (n - length xs) = omega arith in
     ap (λ k. take k (xs ++ ys)) e ∙ take-append-add xs ys (n - length xs)
 
+-- an input with a whole head within the limits is not too long
 not_too_long : (input : List ℕ) (head : RequestHead) (rest : List ℕ) → HasHead input head rest → IsTooLong input → ⊥
 not_too_long input head rest h (long, none) =
     let front : take most_head input ≡ print_request head ++ take (most_head - length (print_request head)) rest =

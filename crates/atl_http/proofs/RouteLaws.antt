@@ -25,15 +25,18 @@ use Rattle.atl_http.proofs.FrontLaws.{after_prefix_is, lookup_after_prefix, numb
 
 -- ---- the text of a number in a path
 
+-- the name of the parameter of each route with a number
 abbrev number_text : List ℕ
 number_text = codes "number"
 
+-- one step of `is_text`, by whether the first byte is below `param_token`
 text_step : (b : ℕ) (front : List ℕ) (t : Bool) → ltb b param_token ≡ t
     → (list_all (λ c. ltb c param_token) front ≡ true → IsText front)
     → (t && list_all (λ c. ltb c param_token) front) ≡ true → IsText (b ∷ front)
 text_step b front true e ih h = (grind (arith, nat_tests), ih h)
 text_step b front false e ih h = cc
 
+-- a prefix of bytes below `param_token` has no parameter (`IsText`)
 is_text : (front : List ℕ) → list_all (λ b. ltb b param_token) front ≡ true → IsText front
 is_text [] h = tt
 is_text (b ∷ front) h = text_step b front (ltb b param_token) refl (λ k. is_text front k) h
@@ -50,6 +53,7 @@ walk_front (b ∷ front) len t h l =
     let same : t + 1 + length front ≡ t + length (b ∷ front) = omega arith in
     rw (byte, inside, walk_front front len (t + 1) h.1 more, same) refl
 
+-- the part of a path from its byte `n` to its end is the path without its first `n` bytes
 part_rest : (path : List ℕ) (n : ℕ) → n ≤ length path → part_of path n (length path) ≡ drop n path
 part_rest path n h =
     let one : leb n (length path) ≡ true = grind (arith, nat_tests) in
@@ -145,6 +149,8 @@ abbrev route_of_found : ℕ → Option (List ℕ) → Option Route
 route_of_found key None = None
 route_of_found key (Some rest) = route_in (kept_at key).value (Some rest)
 
+-- for a path with the prefix of a route with a number, the router finds the route that `route_of` gives (`Leads`), if
+-- both look at what follows the prefix
 leads_number : (key : ℕ) (front path rest : List ℕ) → path ≡ front ++ rest → IsNumberPrefix key front
     → first rows path ≡ first (number_row key) rest → route_of path ≡ route_in (kept_at key).value (Some rest)
     → IsNumberLookup key rest → Leads path
@@ -179,6 +185,7 @@ letter_step : (c : ℕ) (q : List ℕ) → first after_slash (c ∷ q) ≡ seek 
 unfolding seek
 letter_step c q = simp (param_step-empty (c ∷ q), seek-empty ((param_step {K = ℕ} [] (c ∷ q)).0 - 1) q, or_else-none)
 
+-- to look up a path in the router's rows is to look up what follows its slash and letter `c` in the rows that begin so
 letter_first : (c : ℕ) (q : List ℕ) → first rows (47 ∷ c ∷ q) ≡ seek 0 (step c after_slash) q
 letter_first c q = slash_first (47 ∷ c ∷ q) ∙ letter_step c q
 
@@ -204,6 +211,7 @@ leads_report q =
 abbrev join_row : Rows
 join_row = ([], 1) ∷ []
 
+-- a path that begins with `/j` and isn't `/join` finds no row for `/join`
 join_none : (q : List ℕ) (found : Option (List ℕ)) → after_prefix (codes "oin") q ≡ found → (q ≡ codes "oin" → ⊥)
     → option_and_then (λ rest. first join_row rest) found ≡ None
 join_none q None h n = refl
@@ -214,6 +222,7 @@ at_join : Leads (codes "/join")
 unfolding seek route_of
 at_join = to_join refl (ascii_utf8 (codes "/join") refl) refl
 
+-- for each path that begins with `/j` the router finds the route that `route_of` gives, by whether it is `/join`
 join_by : (q : List ℕ) (t : Bool) → bytes_eq q (codes "oin") ≡ t → Leads (47 ∷ 106 ∷ q)
 unfolding route_of
 join_by q true e = subst Leads (ap (λ l. 47 ∷ 106 ∷ l) (sym ((bytes_eq-Decides q (codes "oin")).0 e))) at_join
@@ -282,6 +291,7 @@ leads (a ∷ q) = leads_begin a q (a == 47) refl
 
 -- ---- the laws that the code needs
 
+-- the lookup in the rows with routes finds the route whose index the lookup in the rows with indices finds
 kept_first : (path : List ℕ) (found : Option ℕ) → first rows path ≡ found
     → first route_rows path ≡ map_key kept_at found
 kept_first path found e = first-rename kept_at rows path ∙ ap (map_key kept_at) e
@@ -291,6 +301,7 @@ missing_by path h (to_join e text is) = (let some = kept_first path (Some 1) e i
 missing_by path h (to_number key rest e taken cut text is) = (let some = kept_first path (Some key) e in cc)
 missing_by path h (nowhere e is) = is
 
+-- a path for which the router finds no row has no route
 pub no_route_if_none_found : (path : List ℕ) → first route_rows path ≡ None → route_of path ≡ None
 no_route_if_none_found path h = missing_by path h (leads path)
 
@@ -300,6 +311,8 @@ FindsRoute path e =
     AllText (walk e.pattern e.text path e.names 0 0) ×
     (route_of path ≡ route_in e.value (named (codes "number") (walk e.pattern e.text path e.names 0 0)))
 
+-- the route that the router found for a UTF-8 path has UTF-8 parameters, and with them gives `route_of` of the path
+-- (`FindsRoute`), if `Leads` holds of the path
 finds_route_if_leads : (path : List ℕ) (e : RouteOf RouteKey) → IsUtf8 path → first route_rows path ≡ Some e
     → Leads path → FindsRoute path e
 finds_route_if_leads path e text h (to_join at utf8 is) =
@@ -343,5 +356,6 @@ no_text_by path h (to_number key rest e taken cut (inl none) is) = none
 no_text_by path h (to_number key rest e taken cut (inr text) is) = absurd (h text)
 no_text_by path h (nowhere e is) = is
 
+-- a path that isn't UTF-8 has no route
 pub no_route_without_utf8 : (path : List ℕ) → (IsUtf8 path → ⊥) → route_of path ≡ None
 no_route_without_utf8 path h = no_text_by path h (leads path)

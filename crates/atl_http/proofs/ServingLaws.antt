@@ -17,12 +17,16 @@ use Rattle.atl_http.specs.Replies.{problem_reply}
 use Rattle.atl_http.specs.Serving.{IsReply, command_in}
 use Rattle.atl_http.specs.Io.{MatchesReply, RepliesWith}
 
+-- The message for a problem is right for a request that is refused with this problem (`RepliesWith`). If memory ran out
+-- for the message, there is none.
 pub replies_to_problem : {S : Type 0} (g : Ghosts S) (dice : Dice) (old : ServiceValue S) (outcome : FinalVerdict) (problem : Problem) (r : Result Message AllocError)
     → outcome ≡ Refused problem → IfOk r (MatchesReply (problem_reply problem)) → RepliesWith g dice old outcome r old
 replies_to_problem g dice old outcome problem (Ok message) e says =
     (problem_reply problem, says, subst (λ o. IsReply g dice old o (problem_reply problem) old) (sym e) (refl, refl))
 replies_to_problem g dice old outcome problem (Err none) e says = inl refl
 
+-- The message for an answer is right for a request whose command was run with this answer (`RepliesWith`). If memory
+-- ran out for the message, there is none, and the command has been run.
 pub replies_to_request : {S : Type 0} (g : Ghosts S) (dice : Dice) (old new : ServiceValue S) (outcome : FinalVerdict) (request : Request) (answer : Answer) (r : Result Message AllocError)
     → outcome ≡ Asks request → Runs g old (command_in dice old request) answer new
     → IfOk r (MatchesReply (answer_reply answer)) → RepliesWith g dice old outcome r new

@@ -11,11 +11,11 @@ use Rattle.atl_service.specs.declared.command.Refusal.TheVariants.{NameTaken, Fu
 use Rattle.atl_service.specs.Numbers.{number_of, refusal_name, fault_name}
 use Rattle.atl_http.specs.Replies.{Reply, json, plain, no_number, error_body}
 
--- the body for a join: {"faction":F,"unit":U}
+-- the body for a join: {"faction":F,"unit":U}, with the numbers of the faction and of its unit
 unfoldable pub joined_body : (faction unit : ℕ) → List ℕ
 joined_body faction unit = codes "{\"faction\":" ▸ decimal faction ▸ codes ",\"unit\":" ▸ decimal unit ▸ codes "}"
 
--- a faulty line as [L,K]: its number and the number of its fault
+-- a faulty line as [L,K]: the line's number in the mailing and the number of its fault
 unfoldable pub pair : FaultyLine → List ℕ
 pair faulty = codes "[" ▸ decimal faulty.line ▸ codes "," ▸ decimal (fault_number faulty.fault) ▸ codes "]"
 
@@ -29,7 +29,7 @@ abbrev pub pairs : List FaultyLine → List ℕ
 pairs [] = []
 pairs (faulty ∷ more) = pair faulty ▸ more_pairs more
 
--- the body for a mailing: {"faults":[..],"orders":N}
+-- the body for a mailing: {"faults":[..],"orders":N}, with its faulty lines (`pairs`) and the number of its orders
 unfoldable pub mailed_body : (orders : ℕ) → List FaultyLine → List ℕ
 mailed_body orders faults = codes "{\"faults\":[" ▸ pairs faults ▸ codes "],\"orders\":" ▸ decimal orders ▸ codes "}"
 

@@ -1,5 +1,5 @@
--- What single reads and writes return, and how reading a request and writing its reply end. See docs/FORMATS.md, "For
--- developers".
+-- What single reads and writes return, and how reading a request and writing its reply end. `before` and `after` are
+-- the bytes, if they are known, that a reader has left or that a writer holds. See docs/FORMATS.md, "For developers".
 use Rattle.std.specs.Prelude.{◌≡◌, ◌≢◌, ◌≤◌, ◌<◌, ◌+◌, ◌⊎◌, ℕ, zero, List, [], length, take, Option, Result, Ok, Err, ⊤}
 use Rattle.std.specs.Io.KnownBytes.{Keeps, Appends, Consumes, IsAtEnd}
 use Rattle.std.specs.IoError.{error_kind}
@@ -24,8 +24,8 @@ most_interrupted = 1000000
 
 -- ---- one read
 
--- The outcome of one read by its result: a piece, or the end of the input for no bytes; an interruption or a failure
--- for an error.
+-- The outcome that one read has by what it returned. For Ok it is a piece, or the end of the input if it gave no bytes;
+-- for an error it is an interruption or a failure.
 abbrev pub IsReadOutcome : Result ℕ Error → ReadOutcome → Type 0
 IsReadOutcome (Ok count) (came.Piece n) = (n ≡ count) × (0 < count)
 IsReadOutcome (Ok count) came.End = count ≡ 0
@@ -60,8 +60,8 @@ GoesOn came.Interrupted = ⊤
 GoesOn came.End = ⊥
 GoesOn came.Failed = ⊥
 
--- The reads explain the fault: the input ended (Cut), or a read failed or was the last one allowed (ReadFault).
--- Memory needs a last read that gave a piece or was interrupted; WriteFault is never explained.
+-- The reads explain the fault: the input ended (Cut), or a read failed or was the last one allowed (ReadFault). Memory
+-- may come before the first read, or after one that gave a piece or was interrupted; WriteFault is never explained.
 abbrev pub ReadFaultOf : ReadCalls → HttpFault → Type 0
 ReadFaultOf reads Cut = reads.last ≡ came.End
 ReadFaultOf reads ReadFault = (reads.last ≡ came.Failed) ⊎ (GoesOn reads.last × (reads.count ≡ most_reads))
@@ -76,8 +76,8 @@ EndsReading reads (Err fault) = (reads.count ≤ most_reads) × ReadFaultOf read
 
 -- ---- one write
 
--- The outcome of one write by its result: bytes taken; a failure for no bytes; an interruption or a failure for an
--- error.
+-- The outcome that one write has by what it returned. For Ok it is the number of bytes taken, or a failure if that is
+-- 0; for an error it is an interruption or a failure.
 abbrev pub IsWriteOutcome : Result ℕ Error → WriteOutcome → Type 0
 IsWriteOutcome (Ok count) (written.Taken n) = (n ≡ count) × (0 < count)
 IsWriteOutcome (Ok count) written.Interrupted = ⊥
@@ -86,8 +86,8 @@ IsWriteOutcome (Err e) (written.Taken n) = ⊥
 IsWriteOutcome (Err e) written.Interrupted = error_kind e ≡ kind.Interrupted
 IsWriteOutcome (Err e) written.Failed = error_kind e ≢ kind.Interrupted
 
--- What one write does, by its outcome: it has appended the first `count` bytes of `rest`, or nothing if interrupted or
--- failed.
+-- What one write does, by its outcome: of the bytes `rest`, which are still to be written, it has appended the first
+-- `count`, or none if interrupted or failed.
 abbrev pub Takes : (before after : Option (List ℕ)) → (rest : List ℕ) → WriteOutcome → Type 0
 Takes before after rest (written.Taken count) = (0 < count) × (count ≤ length rest) × Appends before after (take count rest)
 Takes before after rest written.Interrupted = Appends before after []

@@ -25,7 +25,8 @@ or_problem problem (Some x) = Ok x
 
 -- ---- the first check: a request of HTTP/1.1 has exactly one Host
 
--- whether a request of HTTP/1.1 has exactly one field Host; a request of HTTP/1.0 needs none
+-- whether a request of HTTP/1.1 has exactly one field Host; one of HTTP/1.0 needs none. `minor` is the digit after
+-- `HTTP/1.`
 unfoldable pub has_host : (minor : ℕ) → List Pair → Bool
 has_host minor fields = minor == 0 || is_some (single_value (values_of (codes "Host") fields))
 
@@ -46,7 +47,8 @@ requested_route minor method target fields =
 
 -- ---- the third: how many bytes the body of a POST has
 
--- the length of a body, if it is a number and no greater than a mailing may be; else BadRequest, or BodyTooLong
+-- the length of a body, by the number that Content-Length writes: BadRequest if it writes none, BodyTooLong if it is
+-- greater than the length that a mailing may have
 abbrev pub size_within : Option ℕ → Result ℕ Problem
 size_within None = Err BadRequest
 size_within (Some n) = if nat_lt most_bytes n then Err BodyTooLong else Ok n
@@ -60,12 +62,13 @@ declared_size false [] = Err NoLength
 declared_size optional (value ∷ []) = size_within (number_of value)
 declared_size optional (value ∷ other ∷ more) = Err BadRequest
 
--- the length, if there is no field Transfer-Encoding; else NoLength
+-- the given result `size`, if Transfer-Encoding has no values, so the head has no such field; else NoLength
 abbrev pub unless_coded : List (List ℕ) → Result ℕ Problem → Result ℕ Problem
 unless_coded [] size = size
 unless_coded (coding ∷ more) size = Err NoLength
 
--- the length of the body of a POST by the fields Content-Length and Transfer-Encoding, or the problem with them
+-- the length of the body of a POST by the fields Content-Length and Transfer-Encoding, or the problem with them;
+-- `optional` says that Content-Length may be missing
 unfoldable pub posted_size : (optional : Bool) → List Pair → Result ℕ Problem
 posted_size optional fields =
     unless_coded (values_of (codes "Transfer-Encoding") fields) (declared_size optional (values_of (codes "Content-Length") fields))
@@ -97,7 +100,7 @@ pass_of (Report faction) fields = pass_field fields
 abbrev pub json_of : List ℕ → Option Data
 json_of body = if is_utf8 body then read body else None
 
--- the text under a key of an object of JSON; None if there is none
+-- the text under a key of an object of JSON; None if the value is no object, or has no text under this key
 abbrev pub text_at : List ℕ → Data → Option (List ℕ)
 text_at key d = option_and_then as_str (get key d)
 

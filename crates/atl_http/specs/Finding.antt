@@ -37,25 +37,27 @@ add_value Several value = Several
 abbrev pub field_pairs : List ℕ → List HeaderSpan → List Pair
 field_pairs bytes fields = map (header_bytes bytes) fields
 
--- The code's error is the problem that the definition gives, unless memory ran out.
+-- The code's error is the problem that the definition gives (`read`), unless memory ran out.
 abbrev pub FailsAsDefined : {Y : Type 0} → CheckError → Result Y Problem → Type 0
 FailsAsDefined Memory read = ⊤
 FailsAsDefined (Failed problem) read = read ≡ Err problem
 
--- The code's result, its value mapped by `view`, is what the definition gives, unless memory ran out.
+-- The code's result, its value mapped by `view`, is what the definition gives (`read`), unless memory ran out. If it
+-- ran out, nothing is said of `read`.
 abbrev pub GivesAsDefined : {X Y : Type 0} → (X → Y) → Result X CheckError → Result Y Problem → Type 0
 GivesAsDefined view (Ok x) read = read ≡ Ok (view x)
 GivesAsDefined view (Err e) read = FailsAsDefined e read
 
--- The progress is what a head's checks and the bytes `rest` after the head say: the verdict, or a count above 0 of
--- missing bytes. As long as fewer bytes than this follow, the verdict stays More.
+-- The progress is what a head's checks (`head_checks`) and the bytes `rest` after the head say: the verdict, or a count
+-- above 0 of missing bytes. As long as fewer bytes than this follow, the verdict stays More.
 abbrev pub EndsAs : Result (Route × ℕ × List ℕ) Problem → (rest : List ℕ) → Progress → Type 0
 EndsAs checks rest (Missing count) =
     (0 < count) × ((more : List ℕ) → length more < count → verdict_with_body checks (rest ++ more) ≡ More)
 EndsAs checks rest (Ends outcome) = as_verdict outcome ≡ verdict_with_body checks rest
 
--- The result of parsing `front` as a head is right. Whole: `front` has a whole head, with its parts at these spans.
--- Partial: it has none, but may have one with further bytes. Refused: it is refused (`IsRefused`).
+-- The result of parsing `front` as a head is right. Whole: it has a whole head, with its parts at `spans`, and its
+-- fields at the first of `fields`. Partial: it has none, but may have one with further bytes. Refused: no good head can
+-- come of it (`IsRefused`).
 abbrev pub ParsesHead : List ℕ → List HeaderSpan → HeadParse → Type 0
 ParsesHead front fields (Whole spans) = IsRequestWithin front fields spans × IsRequestOf front fields spans
 ParsesHead front fields Partial = HasNoRequest front × MayBecomeRequest front

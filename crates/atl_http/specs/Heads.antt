@@ -69,7 +69,7 @@ abbrev pub as_verdict : FinalVerdict → Verdict
 as_verdict (outcome.Refused problem) = Refused problem
 as_verdict (outcome.Asks asked) = Asks asked
 
--- With fewer than `count` more bytes the request isn't whole.
+-- With fewer than `count` more bytes after `seen` the request isn't whole, so until then nothing is parsed.
 abbrev pub IsShortBy : (seen : List ℕ) → (count : ℕ) → Type 0
 IsShortBy seen count = (more : List ℕ) → length more < count → Judges (seen ++ more) More
 
@@ -88,8 +88,8 @@ verdict_by (progress.Ends outcome) = as_verdict outcome
 abbrev pub most_at_once : ℕ
 most_at_once = 8192
 
--- No read was done after the request was whole or refused: before the last read the verdict was More, or nothing was
--- read at all.
+-- No read was done after the request was whole or refused: before the last read, which gave the bytes `last`, the
+-- verdict was More, or nothing was read at all.
 abbrev pub ReadsNoFurther : List ℕ → Type 0
 ReadsNoFurther seen =
     (seen ≡ [])

@@ -22,7 +22,8 @@ number_of bytes =
 abbrev pub after_prefix : List ℕ → List ℕ → Option (List ℕ)
 after_prefix front text = if pointwise nat_eq (take (length front) text) front then Some (drop (length front) text) else None
 
--- the route with the number after a prefix, None if no number follows, or `other` if the path lacks the prefix
+-- `numbered route rest other`: the route with the number that `rest`, the rest of a path after a prefix, writes; None
+-- if it writes none. It is `other` if there is no rest: the path lacks the prefix (`after_prefix`).
 abbrev pub numbered : (ℕ → Route) → Option (List ℕ) → Option Route → Option Route
 numbered route None other = other
 numbered route (Some parameter) other = option_map route (number_of parameter)

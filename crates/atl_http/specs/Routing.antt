@@ -9,7 +9,8 @@ use Rattle.atl_http.specs.declared.route.RouteKey.{RouteKey}
 use Rattle.atl_http.specs.declared.route.RouteKey.TheVariants.{Join, Orders, Close, Report}
 use Rattle.atl_http.specs.Routes.{number_of}
 
--- a route of the router: a prefix, and a number after it
+-- a route of the router: a prefix, and a number after it; `names` has where the name `number` begins and ends in the
+-- text
 abbrev pub numbered_route : (front : List ℕ) → RouteKey → RouteOf RouteKey
 numbered_route front key =
     record {
@@ -19,14 +20,14 @@ numbered_route front key =
       value = key;
     }
 
--- the route at each index of the router, which has its routes in the order of their texts
+-- the route at each index of the router, which has its routes in the order of their texts; 3 is the last index in use
 abbrev pub kept_at : ℕ → RouteOf RouteKey
 kept_at zero = numbered_route (codes "/close/") Close
 kept_at (suc zero) = record { pattern = codes "/join"; text = codes "/join"; names = []; value = Join }
 kept_at (suc (suc zero)) = numbered_route (codes "/orders/") Orders
 kept_at (suc (suc (suc more))) = numbered_route (codes "/report/") Report
 
--- the rows of the router, each with the index of its route
+-- the rows of the router: the pattern of each route, and the route's index (`kept_at`)
 abbrev pub rows : Rows
 rows =
     (codes "/close/" ++ param_token ∷ [], 0)

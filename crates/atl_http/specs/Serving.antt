@@ -27,8 +27,8 @@ abbrev pub next_faction : Option CampaignValue → ℕ
 next_faction None = 0
 next_faction (Some c) = c.next_faction
 
--- the command that a request asks for, with dice words: one for the faction that joins next, or one per region for a
--- month
+-- The command that a request asks for, with words of the dice. A join has the word for the faction that joins next,
+-- whose number is `next`; a close has one word for each of the `regions` regions.
 abbrev pub command_of : Dice → (next regions : ℕ) → Request → Command
 command_of dice next regions (Join name pass) = command.Join name pass (word_of (generator dice.seed (joining_streams + next)))
 command_of dice next regions (Orders faction pass text) = command.Mail faction pass text

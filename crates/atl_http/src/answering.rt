@@ -19,7 +19,7 @@ fn joined_body(alloc: Global, faction: u32, unit: u32) -> Result<String, AllocEr
     format!(in alloc; "{{\"faction\":{faction},\"unit\":{unit}}}")
 }
 
-/// Writes a faulty line as `[L,K]`: its number and the number of its fault.
+/// Writes a faulty line as `[L,K]`: the line's number in the mailing and the number of its fault.
 #[tactic(auto, unfolding(crate::specs::Answered::pair))]
 fn write_pair(out: &mut String, faulty: &FaultyLine) -> Result<(), AllocError>
     ensures { OnOk result (string_bytes out.new ≡ string_bytes out.old ++ pair faulty.now) }
@@ -29,6 +29,7 @@ fn write_pair(out: &mut String, faulty: &FaultyLine) -> Result<(), AllocError>
     write!(out, "[{line},{number}]")
 }
 
+/// Writes the faulty lines after the first, each with a comma in front.
 fn write_more_pairs(out: &mut String, faults: &[FaultyLine]) -> Result<(), AllocError>
     ensures { OnOk result (string_bytes out.new ≡ string_bytes out.old ++ more_pairs faults.now) }
 {
@@ -39,6 +40,7 @@ fn write_more_pairs(out: &mut String, faults: &[FaultyLine]) -> Result<(), Alloc
     Ok(())
 }
 
+/// Writes all faulty lines as pairs `[L,K]`, with commas between them.
 fn write_pairs(out: &mut String, faults: &[FaultyLine]) -> Result<(), AllocError>
     ensures { OnOk result (string_bytes out.new ≡ string_bytes out.old ++ pairs faults.now) }
 {
@@ -90,6 +92,7 @@ fn refusal_status(refusal: Refusal) -> StatusCode
     }
 }
 
+/// The reply to a refused command: the refusal's status, and its name and number as JSON.
 fn refusal_message(alloc: Global, refusal: Refusal) -> Result<Message, AllocError>
     ensures { IfOk result (MatchesReply (answer_reply (Answer.Refused refusal))) }
 {
@@ -102,6 +105,8 @@ fn refusal_message(alloc: Global, refusal: Refusal) -> Result<Message, AllocErro
     )
 }
 
+/// The reply to a command that could not be carried out: status 500, the fault's name, and 0 as
+/// its number.
 fn fault_message(alloc: Global, fault: Fault) -> Result<Message, AllocError>
     ensures { IfOk result (MatchesReply (answer_reply (Answer.Fault fault))) }
 {
@@ -114,6 +119,7 @@ fn fault_message(alloc: Global, fault: Fault) -> Result<Message, AllocError>
     )
 }
 
+/// The reply of status 200 with a body in JSON.
 fn success_message(alloc: Global, body: &str) -> Result<Message, AllocError>
     ensures { IfOk result (MatchesReply (success json body.now)) }
 {

@@ -49,6 +49,7 @@ pub struct WriteCalls {
     last: WriteOutcome,
 }
 
+/// Whether an error says that the call was interrupted, so that it can be done again.
 fn is_interrupted(error: &Error) -> bool
     ensures { IsTrue result ↔ (error_kind error.now ≡ ErrorKind.Interrupted) }
 {
@@ -92,6 +93,7 @@ impl ReadCalls {
         }
     }
 
+    /// The number of reads so far.
     pub fn count(self) -> u32
         ensures { result ≡ self.count }
     {
@@ -126,6 +128,7 @@ impl WriteCalls {
         }
     }
 
+    /// The number of interrupted writes so far.
     pub fn interrupted(self) -> u32
         ensures { result ≡ self.interrupted }
     {

@@ -26,7 +26,8 @@ const CONTENT_LENGTH: &[u8] = b"Content-Length";
 
 const PASS: &[u8] = b"Atlantis-Pass";
 
-/// Whether a request has exactly one field Host; a request of HTTP/1.0 needs none.
+/// Whether a request of HTTP/1.1 has exactly one field Host; one of HTTP/1.0 (`minor` is 0) needs
+/// none. The first check. The fields are given as spans that lie within `bytes`.
 #[tactic(auto, unfolding(crate::specs::Checks::has_host))]
 fn has_host(minor: u8, bytes: &[u8], fields: &[HeaderSpan]) -> bool
     requires { All (IsHeaderWithin (length bytes.now)) fields.now }
@@ -60,6 +61,7 @@ fn requested_route(
     }
 }
 
+/// Whether the bytes are the name of the one method that the route takes.
 fn is_method(method: &[u8], route: Route) -> bool
     ensures { result ≡ bytes_eq method.now (method_of route) }
 {
@@ -79,7 +81,7 @@ fn size_within(text: &[u8]) -> Result<usize, CheckError>
 }
 
 /// The length of a POST's body in bytes, by Content-Length and Transfer-Encoding; else NoLength,
-/// BadRequest or BodyTooLong. The third check.
+/// BadRequest or BodyTooLong. Content-Length may be missing if `is_optional`. The third check.
 #[tactic(auto, unfolding(crate::specs::Checks::posted_size))]
 fn posted_size(is_optional: bool, bytes: &[u8], fields: &[HeaderSpan]) -> Result<usize, CheckError>
     requires { All (IsHeaderWithin (length bytes.now)) fields.now }

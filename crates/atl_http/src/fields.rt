@@ -15,6 +15,7 @@ pub enum FieldLookup {
     Several,
 }
 
+/// Whether two names of fields are the same, ignoring ASCII case.
 fn is_same(name: &[u8], other: &[u8]) -> bool
     ensures { result ≡ str_eq_ignore_ascii_case name.now other.now }
 {
@@ -30,7 +31,8 @@ fn add_value(found: FieldLookup, value: Span) -> FieldLookup
     }
 }
 
-/// Looks up a name among the fields of a head, which are given as spans of the bytes.
+/// Looks up a name among the fields of a head, ignoring ASCII case. The fields are given as spans
+/// that lie within `bytes`.
 #[tactic(auto, unfolding(crate::specs::Fields::values_of))]
 pub fn find_value(bytes: &[u8], fields: &[HeaderSpan], name: &[u8]) -> FieldLookup
     requires { All (IsHeaderWithin (length bytes.now)) fields.now }
@@ -45,7 +47,8 @@ pub fn find_value(bytes: &[u8], fields: &[HeaderSpan], name: &[u8]) -> FieldLook
     found
 }
 
-/// The value of the field of this name, if exactly one field has the name; else None.
+/// The value of the field of this name, if exactly one field has the name, ignoring ASCII case;
+/// else None. The fields are given as spans that lie within `bytes`.
 pub fn only_value<'a>(bytes: &'a [u8], fields: &[HeaderSpan], name: &[u8]) -> Option<&'a [u8]>
     requires { All (IsHeaderWithin (length bytes.now)) fields.now }
     ensures { option_map (λ value. value.now) result

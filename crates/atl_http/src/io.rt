@@ -71,9 +71,9 @@ impl From<AllocError> for HttpFault {
     }
 }
 
-/// Reads once, appends the bytes to `seen`, and returns their number: 0 if the read was
-/// interrupted. Cut at the end of the input, ReadFault where the read fails or 1,000,000 were done
-/// before, Memory without memory for the bytes.
+/// Reads once into the buffer `room`, appends the bytes to `seen`, and returns their number: 0 if
+/// the read was interrupted. Cut at the end of the input, ReadFault where the read fails or
+/// 1,000,000 were done before, Memory without memory for the bytes.
 fn read_more<R: Read>(
     reader: &mut R,
     reads: &mut ReadCalls,
@@ -124,6 +124,7 @@ pub fn send<W: Write>(
     Ok(())
 }
 
+/// A buffer for one read, of 8,192 bytes.
 fn read_buffer(alloc: Global) -> Result<Vec<u8>, AllocError>
     ensures { IfOk result (λ room. length room.items ≡ most_at_once) }
 {
@@ -133,7 +134,8 @@ fn read_buffer(alloc: Global) -> Result<Vec<u8>, AllocError>
 }
 
 /// The verdict on the bytes received so far, or how many more are missing. They are parsed only if
-/// `missing`, the number of bytes known to be missing, is 0.
+/// `missing`, the number of bytes known to be missing, is 0: before these have come no parsing
+/// could end the request.
 fn progress_if_due(alloc: Global, seen: &[u8], missing: usize) -> Result<Progress, AllocError>
     requires { IsShortBy seen.now missing }
     ensures { IfOk result (ComesTo seen.now) }

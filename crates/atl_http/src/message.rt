@@ -32,6 +32,7 @@ impl Drop for Message {
     }
 }
 
+/// The phrase that the crate `http` gives to a status; empty if it has none.
 fn phrase_of(status: StatusCode) -> &'static str
     ensures { result.now ≡ unwrap_or (reason_phrase status) [] }
 {
@@ -41,6 +42,8 @@ fn phrase_of(status: StatusCode) -> &'static str
     }
 }
 
+/// Writes the status line and the three fields that every reply begins with, by status, content
+/// type and body.
 #[tactic(auto, unfolding(crate::specs::Replies::head_of))]
 fn write_head(
     out: &mut String,
@@ -60,6 +63,7 @@ fn write_head(
     )
 }
 
+/// Writes the line `Allow` with the method of the route, or nothing for None.
 fn write_allowed(out: &mut String, allow: Option<Route>) -> Result<(), AllocError>
     ensures { OnOk result (string_bytes out.new ≡ string_bytes out.old ++ allow_line allow) }
 {
@@ -73,7 +77,8 @@ fn write_allowed(out: &mut String, allow: Option<Route>) -> Result<(), AllocErro
     }
 }
 
-/// The reply with this status, route for `Allow`, content type and body. AllocError without memory.
+/// The reply with this status, route for the line `Allow` (None for no such line), content type and
+/// body. AllocError without memory.
 pub fn reply_message(
     alloc: Global,
     status: StatusCode,
@@ -106,7 +111,8 @@ fn error_body(alloc: Global, name: &str, number: u8) -> Result<String, AllocErro
     format!(in alloc; "{{\"error\":\"{name}\",\"number\":{number}}}")
 }
 
-/// The reply with this status to an error of this name and number. AllocError without memory.
+/// The reply with this status to a problem, refusal or fault of this name and number, with a line
+/// `Allow` if `allow` gives a route. AllocError without memory.
 pub fn error_message(
     alloc: Global,
     status: StatusCode,

@@ -61,6 +61,7 @@ impl<'a, C: Clock> Patience<'a, C> {
         Instant::now(self.clock)
     }
 
+    /// Subtracts from the time left what passed from `begun` to `ended`; 0 is left if more passed.
     fn spend(&mut self, begun: Instant, ended: Instant)
         ensures { IsSpent self.old.left begun ended self.new.left }
     {

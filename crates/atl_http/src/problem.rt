@@ -46,6 +46,7 @@ impl Problem {
         }
     }
 
+    /// The HTTP status of the reply to the problem.
     pub fn status(self) -> StatusCode
         ensures { result ≡ problem_status self }
     {

@@ -55,8 +55,9 @@ impl Drop for Request {
 impl Request {
     ghost use Rattle.atl_http.specs.Serving.{command_of};
 
-    /// Makes the command of the request, with the dice word for the faction `next` that joins, or
-    /// one word for each of `regions` for a month. AllocError without memory for these words.
+    /// Makes the command of the request. A join gets the word of the dice for the faction that
+    /// joins, whose number is `next`, and a close one word for each of the `regions` regions.
+    /// AllocError without memory for these words.
     pub fn into_command(
         self,
         alloc: Global,

@@ -65,12 +65,14 @@ pub fn number_of(bytes: &[u8]) -> Option<u32>
     Some(value as u32)
 }
 
+/// The index of the first question mark; None without one.
 fn first_question(bytes: &[u8]) -> Option<usize>
     ensures { result ≡ position is_question bytes.now }
 {
     bytes.iter().position(|byte| *byte == b'?')
 }
 
+/// The index at which the path of a target ends: its first question mark, or its end.
 #[tactic(auto, using(atl_orders::proofs::WordLaws::found_or_len, atl_orders::proofs::WordLaws::found_within))]
 fn end_of_path(target: &[u8]) -> usize
     ensures value { result ≡ position_or_len is_question target.now }
@@ -87,6 +89,8 @@ pub fn path_of(target: &[u8]) -> &[u8]
     &target[..end]
 }
 
+/// Adds a route, whose text has `{number}` in place of a number, with its key. Any error is taken
+/// for lack of memory: the four routes don't conflict.
 fn add(router: &mut Router<RouteKey>, route: &str, key: RouteKey) -> Result<(), AllocError>
     ensures { OnOk result (InsertsRead (parse_route route.now) key router.old router.new
         (Ok tt)) }
@@ -97,6 +101,7 @@ fn add(router: &mut Router<RouteKey>, route: &str, key: RouteKey) -> Result<(), 
     }
 }
 
+/// The router with the four routes. AllocError without memory for them.
 fn router(alloc: Global) -> Result<Router<RouteKey>, AllocError>
     ensures { IfOk result (λ router. router ≡ route_rows) }
 {
@@ -122,6 +127,7 @@ fn route_in(key: RouteKey, parameter: Option<&str>) -> Option<Route>
     }
 }
 
+/// The route of a path, by the router with the four routes; None if it has none.
 fn route_by(router: &Router<RouteKey>, path: &str) -> Option<Route>
     requires { router.now ≡ route_rows }
     ensures { result ≡ route_of path.now }
@@ -132,7 +138,8 @@ fn route_by(router: &Router<RouteKey>, path: &str) -> Option<Route>
     }
 }
 
-/// The route of a path; None if it has none. AllocError without memory for the routes.
+/// The route of a path; None if it has none, as each path that isn't UTF-8. AllocError without
+/// memory for the routes.
 pub fn route_of(alloc: Global, path: &[u8]) -> Result<Option<Route>, AllocError>
     ensures { IfOk result (λ route. route ≡ route_of path.now) }
 {

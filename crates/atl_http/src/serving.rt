@@ -123,7 +123,7 @@ pub fn serve_one<R: Read, W: Write, S: Alter>(
 }
 
 /// Serves one request of a peer, which is the reader as well as the writer, as `serve_one` does.
-/// Nothing is said of the bytes that are read and written.
+/// The contract doesn't say which bytes are read and written, since those of a socket aren't known.
 pub fn serve_peer<P: Read + Write, S: Alter>(
     alloc: Global,
     peer: &mut P,

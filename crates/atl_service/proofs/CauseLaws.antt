@@ -23,6 +23,7 @@ module _ {F : Type 0} (memory other : F) (apart : memory ≢ other) where
   is_first true is = refl
   is_first false is = absurd (apart is)
 
+  -- if the test chose `other`, it is false
   is_second : (b : Bool) → other ≡ cond b memory other → b ≡ false
   is_second true is = absurd (apart (sym is))
   is_second false is = refl
@@ -34,10 +35,13 @@ module _ {S : Type 0} (g : Ghosts S) (own : Statements) (old new : Held S) where
   writes_apart : write.Memory ≢ write.Store
   writes_apart is = let e = is in cc
 
+  -- if the fault Memory of creating the tables comes of an error of the statements `own`, this error is out of memory
   pub creation_lacked : IsFaultOfError g own create_fault old new create.Memory → GivesError g own true old new
   creation_lacked (e, is, given) =
       record { error = e; memory_is = is_first create.Memory create.Store creates_apart (is_memory e) is; given = given }
 
+  -- if the fault Store of creating the tables comes of an error of the statements `own`, this error is another than out
+  -- of memory
   pub creation_failed : IsFaultOfError g own create_fault old new create.Store → GivesError g own false old new
   creation_failed (e, is, given) =
       record { error = e; memory_is = is_second create.Memory create.Store creates_apart (is_memory e) is; given = given }
@@ -58,6 +62,8 @@ module _ {S : Type 0} (g : Ghosts S) (own : Statements) (old new : Held S) where
   write_has_cause write.Memory says = inr (λ clean. write_lacked_memory (says clean))
   write_has_cause write.Store says = λ clean. write_gave_other_error (says clean)
 
+  -- if a call can fail with this fault of a write alone, which on a clean disk reports an error of the write, the
+  -- call's fault has its cause (`HasCause`)
   pub call_has_cause : {A : Type 0} (fault : WriteFault) (r : Result A WriteFault) → IsErrAnd r (λ f. f ≡ fault)
       → (HasCleanDisk (state g new) → IsFaultOfError g own write_fault old new fault)
       → IfErr r (λ f. HasCause g own old new (fault_of_write f))

@@ -63,18 +63,21 @@ module _ (w : WorldValue) (n : ℕ) (text : List ℕ) where
   names_if_short true is short names = absurd (grind (arith, nat_tests))
   names_if_short false is short names = names
 
+  -- a stored mailing of faction `n` (`IsMailingOf`) can be read, and its header names this faction
   pub stored_mailing_is_read : IsMailingOf n text → IsReadAsOf (reading w text)
   unfolding reading
   stored_mailing_is_read sent =
       names_if_short (nat_lt most_bytes (length text)) refl sent.short
       (let (next, rest, is) = sent.header in named next rest is)
 
+  -- reading a stored mailing gives no fault
   pub not_unread : (fault : MailFault) → IsMailingOf n text → reading w text ≡ Err fault → ⊥
   not_unread fault sent unread = let (r, is, own) = stored_mailing_is_read sent in apart r fault (sym is ∙ unread)
     where
       apart : (r : Reading) (fault : MailFault) → ◌≡◌ {A = Result Reading MailFault} (Ok r) (Err fault) → ⊥
       apart r fault is = cc
 
+  -- if the code failed to read a stored mailing, memory ran out, since the definition reads it without a fault
   pub only_memory : (fault : MailFault) → IsMailingOf n text → AgreesOrMemory reading_of (Err fault) (reading w text)
       → fault ≡ Memory
   only_memory TooLong sent unread = absurd (not_unread TooLong sent unread)
@@ -102,6 +105,7 @@ factions_of (m ∷ ms) = ap (λ ns. m.faction ∷ ns) (factions_of ms)
 sent_by : (w : WorldValue) (c : CampaignValue) → IsGood w c → EachEntry IsMailingOf (entries c.mail)
 sent_by w c good = each-from_every IsMailingOf c.mail (λ n text there. (good.sound.mail n text there).0)
 
+-- no two mailings are of one faction (`HaveOwnFactions`), if they were read from the mail of a good campaign
 pub own_factions : (w : WorldValue) (c : CampaignValue) (ms : List Mailing) → IsGood w c
     → map reading_of ms ≡ readings w c → HaveOwnFactions ms
 own_factions w c ms good is =
@@ -112,6 +116,8 @@ own_factions w c ms good is =
 
 -- ---- the faulty lines of each mailing
 
+-- the faulty lines that the map of all faulty lines has under a faction's number are those of its stored mailing; both
+-- are none if there is no mailing
 pub faulty_lines_under : (w : WorldValue) (mail : FinMap nat_cmp (List ℕ)) (n : ℕ)
     → unwrap_or (get (map_values (λ text. faults_of (reading w text)) mail) n) [] ≡ faults_in w (get mail n)
 faulty_lines_under w mail n =
@@ -124,6 +130,7 @@ faulty_lines_under w mail n =
 -- ---- the reports
 
 module _ (w : WorldValue) (events : List Event) where
+  -- two functions that give each faction the same faulty lines give the same reports
   pub same_reports : (f g : ℕ → List FaultyLine) → ((n : ℕ) → f n ≡ g n) → (c : CampaignValue) (ns : List ℕ)
       → fold (reported_to w f events) c ns ≡ fold (reported_to w g events) c ns
   same_reports f g same c [] = refl
@@ -131,6 +138,7 @@ module _ (w : WorldValue) (events : List Event) where
       ap (λ faults. fold (reported_to w f events) (reported_with w c n faults events) ns) (same n)
       ∙ same_reports f g same (reported_to w g events c n) ns
 
+  -- a good campaign stays good when reports for some of its factions are stored
   pub good_reports : (faults : ℕ → List FaultyLine) (c : CampaignValue) (ns : List ℕ) → AreFactions c ns → IsGood w c
       → IsGood w (fold (reported_to w faults events) c ns)
   good_reports faults c [] there good = good
@@ -147,6 +155,8 @@ there_among P p (e ∷ es) (here, all) = at (p e.1) (there_among P p es all)
     at true rest = (here, rest)
     at false rest = rest
 
+-- if no faction is lost from the campaign `before` to `after`, those that weren't gone in `before` are factions of
+-- `after`
 pub active_there : (before after : CampaignValue) → ((n : ℕ) → HasValue before.factions n → HasValue after.factions n)
     → AreFactions after (active before)
 active_there before after stay =
@@ -174,24 +184,30 @@ marked_as : (c d : MarkedCampaign) (what : CampaignValue) (marks : Marks) → d.
     → MarksChanges c (record { value = what; marks = marks }) → MarksChanges c d
 marked_as c d what marks is m h = subst (MarksChanges c) (sym (ap₂ (λ s n. record { value = s; marks = n }) is m)) h
 
+-- setting the month and marking the campaign's row marks all that changed, and loses no mark (`MarksChanges`)
 pub month_marked : (c d : MarkedCampaign) (n : ℕ) → d.value ≡ with_month c.value n → d.marks ≡ mark_campaign_row c
     → MarksChanges c d
 month_marked c d n is m = marked_as c d (with_month c.value n) (mark_campaign_row c) is m (marks-month c n)
 
+-- removing all mail and marking it marks all that changed, and loses no mark (`MarksChanges`)
 pub mail_marked : (c d : MarkedCampaign) → d.value ≡ without_mail c.value → d.marks ≡ mark_all_mail c → MarksChanges c d
 mail_marked c d is m = marked_as c d (without_mail c.value) (mark_all_mail c) is m (marks-no_mail c)
 
+-- storing a faction's report and marking it marks all that changed, and loses no mark (`MarksChanges`)
 pub report_marked : (w : WorldValue) (c d : MarkedCampaign) (n : ℕ) (faults : List FaultyLine) (events : List Event)
     → d.value ≡ reported_with w c.value n faults events → d.marks ≡ mark_report c n → MarksChanges c d
 report_marked w c d n faults events is m =
     marked_as c d (reported_with w c.value n faults events) (mark_report c n) is m
     (marks-report c n (report_of w (view_of w c.value n) faults events))
 
+-- From before a month (`a`) to after it (`d`) no mark is lost, and all that changed is marked, if this holds of its
+-- phases (from `a` to `b`). After the phases the month is counted (`c`) and then the mail removed (`d`).
 pub turned_marked : (a b c d : MarkedCampaign) (n : ℕ) → MarksChanges a b → c.value ≡ with_month b.value n
     → c.marks ≡ mark_campaign_row b → d.value ≡ without_mail c.value → d.marks ≡ mark_all_mail c → MarksChanges a d
 turned_marked a b c d n run is m taken t =
     marks-trans a b d run (marks-trans b c d (month_marked b c n is m) (mail_marked c d taken t))
 
+-- if the result `r` of storing a report is Ok, no mark is lost, and all that changed is marked (`report_marked`)
 pub stored_marked : {A E : Type 0} (w : WorldValue) (c d : MarkedCampaign) (n : ℕ) (faults : List FaultyLine) (events : List Event) (r : Result A E)
     → OnOk r (d.value ≡ reported_with w c.value n faults events) → OnOk r (d.marks ≡ mark_report c n)
     → OnOk r (MarksChanges c d)
@@ -218,6 +234,8 @@ read_begins w c ms faults all good is none none_wrong =
       sent_by w c good,
     )
 
+-- after one more mailing of the mail is read, the first of those left (`here`), what was read and what is left (`rest`)
+-- still make the whole mail (`ReadSoFar`)
 pub read_goes_on : (w : WorldValue) (c : CampaignValue) (ms ns : List Mailing) (faults faults' : FinMap nat_cmp (List FaultyLine)) (here rest : List (ℕ × List ℕ)) (n : ℕ) (text : List ℕ) (m : Mailing)
     → here ≡ (n, text) ∷ rest → ns ≡ ms ++ m ∷ [] → IsReadWith w m → m.text ≡ text
     → faults' ≡ insert faults n m.faults → ReadSoFar w c ms faults here → ReadSoFar w c ns faults' rest
@@ -237,6 +255,7 @@ read_goes_on w c ms ns faults faults' here rest n text m left one_more read kept
       (subst (EachEntry IsMailingOf) left sent).1,
     )
 
+-- when no mailing is left, all mail is read (`HasRead`)
 pub read_ends : (w : WorldValue) (c : CampaignValue) (r : ReadMail) (rest : List (ℕ × List ℕ)) → rest ≡ []
     → ReadSoFar w c r.mailings.items r.faults rest → HasRead w c r
 read_ends w c r rest none (mailings, all, outcome, sent) = record {

@@ -18,25 +18,30 @@ use Rattle.atl_service.specs.Step.{step, reported}
 use Rattle.atl_world.proofs.TrackLaws.{get_inserted}
 
 module _ (w : WorldValue) (c : CampaignValue) (name pass : List ℕ) (word : ℕ) where
+  -- `step` refuses a join whose name breaks the rule of names with BadName
   pub bad_name : not (name_ok name) ≡ true → step w c (Join name pass word) ≡ (c, Refused why.BadName)
   unfolding step
   bad_name e = rw e refl
 
+  -- `step` refuses a join with a good name, whose pass text breaks the rule of pass texts, with BadPassText
   pub bad_pass : name_ok name ≡ true → not (pass_ok pass) ≡ true
       → step w c (Join name pass word) ≡ (c, Refused why.BadPassText)
   unfolding step
   bad_pass a e = rw (a, e) refl
 
+  -- `step` refuses a join with a good name and pass text with NameTaken, if `join_of` does
   pub is_taken : name_ok name ≡ true → pass_ok pass ≡ true → join_of w name pass word c ≡ Err NameTaken
       → step w c (Join name pass word) ≡ (c, Refused why.NameTaken)
   unfolding step
   is_taken a b e = rw (a, b, e) refl
 
+  -- `step` refuses a join with a good name and pass text with Full, if `join_of` does
   pub is_too_full : name_ok name ≡ true → pass_ok pass ≡ true → join_of w name pass word c ≡ Err Full
       → step w c (Join name pass word) ≡ (c, Refused why.Full)
   unfolding step
   is_too_full a b e = rw (a, b, e) refl
 
+  -- if `join_of` lets faction `n` join with unit `m`, `step` stores its first report and answers Joined
   pub steps_on : (d : CampaignValue) (n m : ℕ) → name_ok name ≡ true → pass_ok pass ≡ true
       → join_of w name pass word c ≡ Ok (d, (n, m)) → step w c (Join name pass word) ≡ (reported w d n, Joined n m)
   unfolding step
@@ -72,6 +77,8 @@ arrival w name pass word c good =
       report = is_there _ report (get_inserted c.reports c.next_faction report);
     }
 
+-- the campaign after a join, with the first report of the faction `n` that joined, has what a write of the join needs
+-- (`HasArrival`)
 pub arrives : (w : WorldValue) (name pass : List ℕ) (word : ℕ) (c d : CampaignValue) (n m : ℕ) → IsGood w c
     → join_of w name pass word c ≡ Ok (d, (n, m)) → HasArrival (reported w d n) n
 unfolding join_of
@@ -81,6 +88,8 @@ arrives w name pass word c d n m good e =
     let number : c.next_faction ≡ n = ap (λ p. p.1.0) is in
     subst (λ (s : CampaignValue). HasArrival (reported w s n) n) same (subst (λ k. HasArrival (reported w (after_join w name pass word c) k) k) number (arrival w name pass word c good))
 
+-- the campaign after a join, with the first report of the faction `n` that joined, is one that the store takes for a
+-- join (`IsJoining`)
 pub joining_is : (w : WorldValue) (name pass : List ℕ) (word : ℕ) (c d : CampaignValue) (n m : ℕ) → IsGood w c
     → join_of w name pass word c ≡ Ok (d, (n, m)) → IsJoining c n (reported w d n)
 unfolding join_of

@@ -105,6 +105,8 @@ module _ {S : Type 0} (g : Ghosts S) where
         ap (λ (e : ServiceValue S). e.world) on.1 ∙ ap (λ (e : ServiceValue S). e.world) closes.same,
       )
 
+  -- for an open service: if its first command ran as promised, and the rest of the list is answered as promised, so is
+  -- the whole list (`FollowsAt`)
   first_open : (old mid new : ServiceValue S) (c : CampaignValue) (x : Command) (a : Answer) (cs : List Command) (rs : List Answer)
       → RunsOpen g c old x a mid
       → (HasCleanDisk (state g new.conn) → HasCleanDisk (state g mid.conn))
@@ -123,6 +125,8 @@ module _ {S : Type 0} (g : Ghosts S) where
   first_open old mid new c x (Fault Store) cs rs ran was later holds up rest = let k = ended_in_fault old mid new c x Store cs rs ran.0 ran.1 holds later.clean rest in (((λ e. let d = e in cc), k.0, k.1, k.2, k.3), k.4)
   first_open old mid new c x (Fault Closed) cs rs ran was later holds up rest = absurd ran
 
+  -- for an open or a closed service: if its first command ran as promised, and the rest of the list is answered as
+  -- promised, so is the whole list (`FollowsAt`)
   first_at : (old mid new : ServiceValue S) (x : Command) (a : Answer) (cs : List Command) (rs : List Answer) (o : Option CampaignValue)
       → old.campaign ≡ o → RunsAt g old x a mid o
       → (HasCleanDisk (state g new.conn) → HasCleanDisk (state g mid.conn))
@@ -156,6 +160,7 @@ module _ {S : Type 0} (g : Ghosts S) where
   none_left now (Some c) is holds = ((is, holds), refl)
   none_left now None is holds = (tt, refl)
 
+  -- an empty list, answered with no answers, runs as promised (`RunsAll`) and changes nothing
   pub run_none : (now : ServiceValue S) → IfSome now.campaign (λ c. HoldsCampaign g now.conn (text_in g now.conn) c)
       → RunsAll g now [] [] now
   run_none now holds =
@@ -175,6 +180,8 @@ module _ {S : Type 0} (g : Ghosts S) where
       let next : drop i cs ≡ c ∷ drop (i + 1) cs = drop_more cs i c h ∙ ap (λ x. x ∷ drop (i + 1) cs) (sym is) in
       subst (λ ts. RunsAll g e cs ts new) (sym (append_assoc sofar (a ∷ []) rs)) (whole (a ∷ rs) new (subst (λ ds. RunsAll g mid ds (a ∷ rs) new) (sym next) (run_first mid now new c a (drop (i + 1) cs) rs holds ran later rest)))
 
+  -- once all commands are done (`i` is at least their number), the answers so far are those to the whole list
+  -- (`RunsAll`)
   pub all_done : (e now : ServiceValue S) (cs : List Command) (i : ℕ) (sofar : List Answer) → length cs ≤ i
       → ((ts : List Answer) (n : ServiceValue S) → RunsAll g now (drop i cs) ts n → RunsAll g e cs (sofar ++ ts) n)
       → IfSome now.campaign (λ c. HoldsCampaign g now.conn (text_in g now.conn) c) → RunsAll g e cs sofar now
@@ -194,6 +201,7 @@ module _ {S : Type 0} (g : Ghosts S) where
   all_closed (x ∷ cs) [] h = absurd h
   all_closed (x ∷ cs) (a ∷ rs) h = ap₂ (λ b bs. b ∷ bs) h.0 (all_closed cs rs h.1)
 
+  -- if the theorem holds of the commands after the first, which was answered as by `step`, it holds of all (`Ends`)
   further : (text : List ℕ) (faults : ℕ) (w : WorldValue) (c : CampaignValue) (x : Command) (a : Answer) (cs : List Command) (rs : List Answer) (new : ServiceValue S)
       → (step w c x).1 ≡ a → Ends text faults w (step w c x).0 cs rs new
       → Ends text faults w c (x ∷ cs) (a ∷ rs) new
@@ -213,6 +221,8 @@ module _ {S : Type 0} (g : Ghosts S) where
     tables = simp unary_clauses (simp unary_clauses at h.tables);
   })
 
+  -- if answers follow `step` up to a fault (`Follows`), the main theorem holds of them, or a command ended in a fault
+  -- (`Ends`)
   ends : (text : List ℕ) (faults : ℕ) (w : WorldValue) (c : CampaignValue) (cs : List Command) (rs : List Answer) (new : ServiceValue S)
       → Follows g text faults w c cs rs new → Ends text faults w c cs rs new
   ends text faults w c [] [] new f = inl (record { answers_are = refl; campaign_is = f.0; tables = f.1 })

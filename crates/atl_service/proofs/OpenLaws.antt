@@ -29,22 +29,27 @@ module _ {S : Type 0} (g : Ghosts S) where
     mode = refl;
   }
 
+  -- on a connection in a transaction, refusing to open with Store and leaving it untouched is right (`RefusesOpening`)
   pub refused_in_transaction : (conn : Held S) → conn.in_transaction ≡ true
       → RefusesOpening g conn (cause_of_loading_fault Store) conn
   refused_in_transaction conn busy =
       record { fault = Store; why_is = refl; cause = λ clean. inl busy; alone = alone_itself conn; later = survives_is_later _ _ _ (alone_itself conn).survives }
 
   module _ (old new : Held S) (alone : LeavesAlone g old new) where
+    -- if loading may fail with a fault, refusing to open with the cause of the same name is right (`RefusesOpening`)
     pub refused_by_load : (fault : StoreFault) → (HasCleanDisk (state g new) → RefusesToLoad g old fault)
         → RefusesOpening g old (cause_of_loading_fault fault) new
     refused_by_load fault cause =
         record { fault = fault; why_is = refl; cause = cause; alone = alone; later = survives_is_later _ _ _ alone.survives }
 
     module _ (w : WorldValue) (c : MarkedCampaign) (loads : Loads g old new w c) where
+      -- the service of a loaded campaign (`Loads`) is opened as promised (`Opens`)
       pub opens : Opens g old (record { conn = new; world = w; campaign = Some c.value })
       opens =
           record { campaign = c; is_open = refl; loads = loads; alone = alone; later = survives_is_later _ _ _ alone.survives }
 
+      -- on a clean disk, the service of a loaded campaign has the text, world and campaign that the tables held
+      -- (`ComesBack`)
       pub comes_back : ComesBack g old (record { conn = new; world = w; campaign = Some c.value })
       comes_back clean text v d reads good held =
           let kept = loads.tables clean in
@@ -56,8 +61,8 @@ module _ {S : Type 0} (g : Ghosts S) where
           let worlds : w ≡ v = holds_one_world w v db there text c.value d (loads.world clean) reads rows were.rows in
           (texts, worlds, ap Some (holds_one v db there text c.value d (subst (λ p. IsGood p c.value) worlds loads.good) good rows were.rows).1)
 
-      -- the service of a loaded campaign is consistent if the connection was in no transaction, and the campaign's
-      -- dirty set is empty
+      -- the service of a loaded campaign is consistent if the connection was in no transaction, and nothing of the
+      -- campaign is marked
       pub opened_consistent : old.in_transaction ≡ false → IsService g new w c true
       opened_consistent idle = record {
         consistent = record { idle = alone.mode ∙ idle; good = λ up. loads.good; tables = λ up. loads.tables; text = λ up. loads.world };

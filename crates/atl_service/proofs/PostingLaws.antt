@@ -62,6 +62,7 @@ mail_after mail (Mail faction _ text ∷ more) = mail_after (insert mail faction
 mail_after mail (Close _ _ _ ∷ more) = mail_after mail more
 mail_after mail (Report _ _ ∷ more) = mail_after mail more
 
+-- after a list of mailings that are all stored, the campaign differs from the one before in its mail alone
 run_posts : (w : WorldValue) (c : CampaignValue) (sent : List Command) → AreMailed w c sent
     → (run_of w c sent).0 ≡ record c { mail = mail_after c.mail sent }
 run_posts w c [] all = refl
@@ -105,6 +106,7 @@ same_mail : (mail : FinMap nat_cmp (List ℕ)) (sent others : List Command)
 same_mail mail sent others same = same_map nat_cmp_total nat_cmp-IsAntisymmetric (mail_after mail sent) (mail_after mail others) (λ n.
     get_posted mail sent n ∙ last_or n None (get mail n) sent ∙ ap (λ o. option_or o (get mail n)) (same n) ∙ sym (get_posted mail others n ∙ last_or n None (get mail n) others))
 
+-- for closing a month only the last stored mailing of each faction counts (`OnlyTheLastMailCounts`)
 pub only_the_last_mail_counts : OnlyTheLastMailCounts
 only_the_last_mail_counts w c sent others month pass words all all_others same =
     ap (λ d. step w d (Close month pass words)) (run_posts w c sent all ∙ ap (λ mail. record c { mail = mail }) (same_mail c.mail sent others same) ∙ sym (run_posts w c others all_others))

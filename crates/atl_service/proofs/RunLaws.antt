@@ -33,6 +33,8 @@ module _ {S : Type 0} (g : Ghosts S) where
     abbrev pub Answered : Answer → Type 0
     Answered = Answers g w c conn command c' conn'
 
+    -- on a clean disk, after a command that ended without a fault, the tables hold the new campaign with the world text
+    -- that they held before
     holding : (answer : Answer) → IsConsistent g conn w c true → LeavesIdle g conn conn' → Answered answer
         → HoldsCampaign g conn' (text_in g conn) c'
     holding answer before leaves done clean =
@@ -47,17 +49,20 @@ module _ {S : Type 0} (g : Ghosts S) where
       text = λ up clean. ap world_of (world_text_is (state g conn') (text_in g conn) c' (holding answer before leaves done clean)) ∙ before.text refl (leaves.later.clean clean);
     }
 
+    -- a command that ended without a fault (`Answered`), in a consistent open service, leaves it consistent
     pub consistent_after : (answer : Answer) (is_open : Bool) → is_open ≡ true → IsConsistent g conn w c is_open
         → LeavesIdle g conn conn' → Answered answer → IsConsistent g conn' w c' is_open
     consistent_after answer true up before leaves done = consistent_open answer before leaves done
     consistent_after answer false up before leaves done = absurd (false≢true up)
 
+    -- after a command that ended without a fault, on a clean disk, the tables hold the campaign of the open service
     pub tables_after : (answer : Answer) (is_open : Bool) → is_open ≡ true → IsConsistent g conn w c is_open
         → LeavesIdle g conn conn' → Answered answer
         → IfSome (service_value conn' w c' is_open).campaign (λ d. HoldsCampaign g conn' (text_in g conn') d)
     tables_after answer true up before leaves done = (consistent_open answer before leaves done).tables refl
     tables_after answer false up before leaves done = absurd (false≢true up)
 
+    -- an open service that answered a command without a fault did what `run` promises for this answer (`RunsOpen`)
     runs_open : (answer : Answer) → IsConsistent g conn w c true → LeavesIdle g conn conn' → Answered answer
         → RunsOpen g c (service_value conn w c true) command answer (service_value conn' w c' true)
     runs_open (Joined f u) before leaves done =
@@ -86,6 +91,7 @@ module _ {S : Type 0} (g : Ghosts S) where
     abbrev pub EndedInFault : Type 0
     EndedInFault = CommandLeavesAfterFault g w c conn command conn'
 
+    -- a consistent open service, one command of which ended in a fault, is closed as promised (`Closes`)
     closes_open : IsConsistent g conn w c true → LeavesIdle g conn conn' → EndedInFault
         → Closes g c (service_value conn w c true) command (service_value conn' w c' false)
     closes_open before leaves gave_up =

@@ -46,10 +46,12 @@ sorted_on sorted new events i d whole n h is so_far =
     ∙ ap (λ es. events_of sorted n ++ own_events n es) (sym (drop_more events i d h))
     ∙ so_far
 
+-- before any event is sorted, no faction has one
 pub none_sorted : (m : FinMap nat_cmp (List Event)) → m ≡ empty → (n : ℕ) → events_of m n ≡ []
 none_sorted m h n =
     ap (λ (m : FinMap nat_cmp (List Event)). events_of m n) h ∙ ap (λ o. unwrap_or o []) (get-empty nat_cmp n)
 
+-- of a faction's own events all are its own: to choose them again changes nothing
 pub own_again : (n : ℕ) (events : List Event) → own_events n (own_events n events) ≡ own_events n events
 own_again n [] = refl
 own_again n (e ∷ es) = by_test (e.faction == n) refl (own_again n es)

@@ -1,6 +1,6 @@
 -- What answering one command does to campaign and tables while the service is open: from campaign `before` and
--- connection `old` to `after` and `new`. A disk is clean if each read has returned what was written (docs/PROVED.md,
--- "Premises").
+-- connection `old` to `after` and `new`. `g` is the kind of store, in memory or in files. A disk is clean if each read
+-- has returned what was written (docs/PROVED.md, "Premises").
 use Rattle.std.specs.Prelude.{◌≡◌, ℕ, List, false, ⊤, Result, IfOk, IfErr, OnOk, OnErr}
 use Rattle.sqlite_trees.specs.declared.store.Store.{Ghosts}
 use Rattle.sqlite.specs.Held.{Held, state}
@@ -31,7 +31,7 @@ abbrev pub IsNoFault : Answer → Type 0
 IsNoFault (Fault _) = ⊥
 IsNoFault _ = ⊤
 
--- If the answer is a report (`Text`) or a refusal, the given statement P holds.
+-- If the answer is a report (`Text`) or a refusal, which change nothing, the given statement P holds.
 abbrev pub IfTextOrRefused : Answer → Type 0 → Type 0
 IfTextOrRefused (Joined _ _) P = ⊤
 IfTextOrRefused (Mailed _ _) P = ⊤
@@ -76,15 +76,15 @@ abbrev pub fault_of_write : WriteFault → Failure
 fault_of_write write.Memory = fault.Memory
 fault_of_write write.Store = fault.Store
 
--- A command may be answered: the campaign is good, and the connection is in no transaction.
+-- What must hold before a command is answered: the campaign is good, and the connection is in no transaction.
 pub record IsReadyToAnswer {S : Type 0} (w : WorldValue) (c : CampaignValue) (conn : Held S) : Type 0 where
   -- the campaign is good (`IsGood`)
   pub good : IsGood w c
   -- the connection is in no transaction
   pub idle : conn.in_transaction ≡ false
 
--- A command was answered, or failed with a fault of the write that has its cause. Either way the connection is in no
--- transaction, and an answer leaves nothing marked, if nothing was.
+-- What `answer_to` promises: a command was answered, or failed with a fault that has its cause. Either way the
+-- connection is in no transaction, and an answer leaves nothing marked, if nothing was.
 pub record AnswersOrFails {S : Type 0} (g : Ghosts S) (w : WorldValue) (before : MarkedCampaign) (old : Held S)
     (command : Command) (result : Result Answer WriteFault) (after : MarkedCampaign) (new : Held S) : Type 0 where
   -- an answer and what it leaves are those of `step` (`Answers`)

@@ -1,5 +1,6 @@
--- Why a command or founding ended in the fault Memory or Store: the error that a call of its write gave. A disk is
--- clean if each read has returned what was written (docs/PROVED.md, "Premises").
+-- Why a command or founding ended in the fault Memory or Store: the error that a call of its write gave. `old` and
+-- `new` are the connection before and after it, and `own` has the SQL statements of its write. A disk is clean if each
+-- read has returned what was written (docs/PROVED.md, "Premises").
 use Rattle.std.specs.Prelude.{◌≡◌, ◌⊎◌, ◌≤◌, ℕ, List, Bool, true, false, Ok}
 use Rattle.sqlite_trees.specs.declared.store.Store.{Ghosts}
 use Rattle.sqlite.specs.declared.error.Error.{Error}
@@ -20,15 +21,15 @@ use Rattle.atl_service.specs.declared.command.Fault.{Fault}
 use Rattle.atl_service.specs.declared.command.Fault.TheVariants.{Memory, Store, Closed}
 use Rattle.atl_service.specs.Step.{step}
 
--- the SQL statements that store what a command changes, with the rows of the campaign after the command; none for a
--- report
+-- the set of the SQL statements that store what a command changes, with the rows of the campaign after the command; for
+-- a report it is empty
 abbrev pub OfCommand : WorldValue → CampaignValue → Command → Statements
 OfCommand w c (Join name pass word) = OfJoining c.next_faction (step w c (Join name pass word)).0
 OfCommand w c (Mail faction pass text) = OfMail faction text
 OfCommand w c (Close month pass words) = OfChange (step w c (Close month pass words)).0
 OfCommand w c (Report faction pass) = λ sql params. ⊥
 
--- the SQL statements that found a campaign with this world text and pass text; none if the text is no world
+-- the set of the SQL statements that found a campaign with this world text and pass text; empty if the text is no world
 abbrev pub OfFoundingBy : List ℕ → List ℕ → Statements
 OfFoundingBy text pass sql params = (w : WorldValue) × (world_of text ≡ Ok w) × OfFounding text (founded_of w pass) sql params
 
@@ -41,8 +42,8 @@ pub record GivesError {S : Type 0} (g : Ghosts S) (own : Statements) (memory : B
   -- a statement of `own`, or the commit, gave the error (`Gives`)
   pub given : Gives g own error old new
 
--- What the fault Memory means: the connection is unchanged, or, if the disk is clean, a call of the write ran out of
--- memory.
+-- What the fault Memory means. Memory ran out before the database was asked to write: then the connection is unchanged.
+-- Or else, if the disk is clean, a call of the write ran out of memory.
 abbrev pub LacksMemory : {S : Type 0} → Ghosts S → Statements → Held S → Held S → Type 0
 LacksMemory g own old new = (new ≡ old) ⊎ (HasCleanDisk (state g new) → GivesError g own true old new)
 
@@ -58,8 +59,9 @@ HasCause g own old new Memory = LacksMemory g own old new
 HasCause g own old new Store = GivesOtherError g own old new
 HasCause g own old new Closed = ⊥
 
--- The fault of a command of a list has its cause, which came after the list began: until then the disk had failed
--- `faults` times. If the disk is clean, the tables before the command held the campaign `c`.
+-- The fault of one command of a list has its cause, between the connection `old` before this command and `new` after
+-- it. `faults` is how often the disk had failed when the list began. If the disk is clean, the tables before the
+-- command held the campaign `c` and the world text `text`.
 pub record IsFault {S : Type 0} (g : Ghosts S) (text : List ℕ) (faults : ℕ) (w : WorldValue) (c : CampaignValue)
     (command : Command) (fault : Fault) (new : Held S) : Type 0 where
   pub old : Held S

@@ -13,7 +13,8 @@ use Rattle.atl_month.specs.Month.{after_month, month_of}
 use Rattle.atl_report.specs.Report.{report_of}
 use Rattle.atl_report.specs.Sight.{view_of}
 
--- the reading of a mailing's text as a list of one; an empty list if the text can't be read
+-- the reading of a mailing's text (its faction, orders and faulty lines) as a list of one; an empty list if the text
+-- can't be read
 abbrev pub read_of : Result Reading MailFault → List Reading
 read_of (Ok r) = r ∷ []
 read_of (Err fault) = []
@@ -32,22 +33,23 @@ abbrev pub faults_in : WorldValue → Option (List ℕ) → List FaultyLine
 faults_in w None = []
 faults_in w (Some text) = faults_of (reading w text)
 
--- the campaign with a new report for a faction: what it sees, the faulty lines of its mailing, and its own among the
--- events
+-- the campaign with a new report for a faction: what it sees, the faulty lines `faults` of its mailing, and its own
+-- events among `events`
 abbrev pub reported_with : WorldValue → CampaignValue → ℕ → List FaultyLine → List Event → CampaignValue
 reported_with w c faction faults events = with_report c faction (report_of w (view_of w c faction) faults events)
 
--- the campaign with a new report for a faction, where `faults` gives the faulty lines of each faction's mailing
+-- the campaign with a new report for one faction, where `faults` gives the faulty lines of each faction's mailing;
+-- folded over the factions it gives all reports of a month
 abbrev pub reported_to : WorldValue → (ℕ → List FaultyLine) → List Event → CampaignValue → ℕ → CampaignValue
 reported_to w faults events c faction = reported_with w c faction (faults faction) events
 
--- the campaign after a month's phases, with the month counted, the mail removed, and new reports for the factions not
--- gone before the month
+-- The campaign `after` with the month counted, the mail removed, and new reports for the factions not gone in `before`.
+-- `before` is the campaign before the month; `after` and `events` are what the month's phases give (`month_of`).
 abbrev pub with_month_reports : WorldValue → CampaignValue → CampaignValue × List Event → CampaignValue
 with_month_reports w before (after, events) =
     fold (reported_to w (λ n. faults_in w (get before.mail n)) events) (after_month after) (active before)
 
--- the campaign after closing a month with these words of the dice: mail read and removed, phases run, month counted,
--- reports stored
+-- the campaign after closing a month with these words of the dice, one for each region: mail read and removed, phases
+-- run, month counted, reports stored
 unfoldable pub closed : WorldValue → CampaignValue → List ℕ → CampaignValue
 closed w c words = with_month_reports w c (month_of w c (by_faction (readings w c)) words)

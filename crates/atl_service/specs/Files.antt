@@ -8,7 +8,7 @@ use Rattle.sqlite_store.specs.FileStore.{files}
 
 module _ {D : Type 0} {g : disk.Ghosts D} where
   -- A read of the database file or its log gave other bytes than were written there, with the same digest under the
-  -- log's key.
+  -- log's key. Of each file `start` gives the bytes that it began with, and `record_of` its calls since.
   abbrev pub HasCollided : (D → List ℕ) → (D → List Event) → FileStore D g → Type 0
   HasCollided start record_of store =
       let log = (files store).0 in

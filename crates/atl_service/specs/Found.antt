@@ -73,8 +73,8 @@ pub record FailsToFound {S : Type 0} (g : Ghosts S) (old : Held S) (text pass : 
       → MayLeaveCampaign (state g old) text (founded_of w pass) (state g new)
 
 -- Why founding fails with Store: the connection isn't ready (`IsReadyToCreate`) and is unchanged, or it is ready and
--- the write failed. In the second case, if the disk is clean, a call of the write gave an error other than out of
--- memory.
+-- the write, whose SQL statements are `own`, failed. In the second case, if the disk is clean, a call of the write gave
+-- an error other than out of memory.
 abbrev pub RefusesToWrite : {S : Type 0} → Ghosts S → Statements → Held S → Held S → Type 0
 RefusesToWrite g own old new =
     ((¬ IsReadyToCreate (state g old)) × (new ≡ old))

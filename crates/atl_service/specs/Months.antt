@@ -38,11 +38,12 @@ pub record HasRead (w : WorldValue) (c : CampaignValue) (r : ReadMail) : Type 0 
   -- the faulty lines of each stored mailing are under its faction's number
   pub faults : r.faults ≡ map_values (λ text. faults_of (reading w text)) c.mail
 
--- Each of these numbers is the number of a faction of the campaign.
+-- Each of these numbers is the number of a faction of the campaign, so a report for it leaves a good campaign good.
 abbrev pub AreFactions : CampaignValue → List ℕ → Type 0
 AreFactions c factions = AllByRecursion (λ n. HasValue c.factions n) factions
 
--- the campaign with a new report for each faction that the month's result lists, with its faulty lines and events
+-- The campaign with a new report for each faction that the month's result lists, in the list's order. Each report has
+-- the faulty lines and the events that the result has of its faction.
 abbrev pub reported_to_all : WorldValue → CampaignValue → MonthResult → CampaignValue
 reported_to_all w c outcome =
     fold (reported_to w (λ n. unwrap_or (get outcome.faults n) []) outcome.events.items) c outcome.factions.items

@@ -1,5 +1,6 @@
 -- What `run` and `run_all` return and leave: answers, campaign and tables of one command, and of a list. `Headline` is
--- the main theorem. A disk is clean if each read has returned what was written (docs/PROVED.md, "Premises").
+-- the main theorem. `g` is the kind of store, in memory or in files, and `state g conn` the state of the database under
+-- a connection. A disk is clean if each read has returned what was written (docs/PROVED.md, "Premises").
 use Rattle.std.specs.Prelude.{◌≡◌, ◌≢◌, ◌⊎◌, ◌<◌, ◌+◌, ◌∷◌, ◌++◌, [], ℕ, List, map, take, drop, length, slice_get, Option, Some, None, ⊤}
 use Rattle.sqlite_trees.specs.declared.store.Store.{Ghosts}
 use Rattle.sqlite.specs.Held.{state}
@@ -63,7 +64,8 @@ RunsOpen g c old command (Fault Store) new =
 RunsOpen g c old command (Fault Closed) new = ⊥
 
 -- What one command may answer and leave: an open service carries the command out, refuses it, or closes with a fault
--- (`RunsOpen`). A closed service answers Closed, and nothing changes.
+-- (`RunsOpen`). A closed service answers Closed, and nothing changes. The last parameter is the campaign of `old`,
+-- which is None if the service is closed.
 abbrev pub RunsAt : {S : Type 0} → Ghosts S → ServiceValue S → Command → Answer → ServiceValue S → Option CampaignValue → Type 0
 RunsAt g old command answer new (Some c) = RunsOpen g c old command answer new
 RunsAt g old command answer new None = (answer ≡ Fault Closed) × (new ≡ old)
@@ -74,8 +76,8 @@ Runs g old command answer new = RunsAt g old command answer new old.campaign
 
 -- ---- lists of commands
 
--- Each command of the list was run by itself, in the service that the one before it left, and gave its answer
--- (`Runs`). The last one left service `new`.
+-- Each command of the list was run by itself, in the service that the one before it left (the first one in `old`), and
+-- gave its answer (`Runs`). The last one left service `new`.
 abbrev pub RunOneByOne : {S : Type 0} → Ghosts S → ServiceValue S → List Command → List Answer → ServiceValue S → Type 0
 RunOneByOne g old [] [] new = new ≡ old
 RunOneByOne {S} g old (command ∷ cs) (answer ∷ rs) new =
@@ -96,7 +98,8 @@ AreClosed (c ∷ cs) [] = ⊥
 -- From campaign `c` on, the answers are those of `step` up to the first fault, and Closed after it. Without a fault the
 -- service ends with the last campaign, which on a clean disk the tables hold. After a fault the service is closed, and
 -- the fault has its cause. On a clean disk the tables then stay at the campaign of the commands before the fault
--- (`LeavesGood`). `faults` is how often the disk had failed before.
+-- (`LeavesGood`). `text` is the world text in the tables, and `faults` is how often the disk had failed before the
+-- list.
 abbrev pub Follows : {S : Type 0} → Ghosts S → List ℕ → ℕ → WorldValue → CampaignValue → List Command → List Answer
     → ServiceValue S → Type 0
 Follows g text faults w c [] [] new = (new.campaign ≡ Some c) × HoldsCampaign g new.conn text c
@@ -120,7 +123,8 @@ Follows g text faults w c [] (a ∷ rs) new = ⊥
 Follows g text faults w c (command ∷ cs) [] new = ⊥
 
 -- What a list of commands may answer and leave: an open service answers as `step` up to the first fault, and Closed
--- after it (`Follows`). A closed service answers Closed each time, and nothing changes.
+-- after it (`Follows`). A closed service answers Closed each time, and nothing changes. The last parameter is the
+-- campaign of `old`, which is None if the service is closed.
 abbrev pub FollowsAt : {S : Type 0} → Ghosts S → ServiceValue S → List Command → List Answer → ServiceValue S
     → Option CampaignValue → Type 0
 FollowsAt g old commands answers new (Some c) =
@@ -139,8 +143,8 @@ pub record RunsAll {S : Type 0} (g : Ghosts S) (old : ServiceValue S) (commands 
   -- (`IsLater`)
   pub later : IsLater (state g old.conn) (state g new.conn)
 
--- The main theorem: answers and campaign are those of `run_of`, and if the disk has been clean so far, the tables hold
--- exactly the campaign's rows.
+-- The main theorem, for a list of commands from campaign `c` on: answers and campaign are those of `run_of`. If the
+-- disk has been clean so far, the tables hold exactly the rows of this campaign and of the world text `text`.
 pub record Headline {S : Type 0} (g : Ghosts S) (text : List ℕ) (w : WorldValue) (c : CampaignValue)
     (commands : List Command) (answers : List Answer) (new : ServiceValue S) : Type 0 where
   -- the answers are those of `run_of`
@@ -152,6 +156,7 @@ pub record Headline {S : Type 0} (g : Ghosts S) (text : List ℕ) (w : WorldValu
 
 -- A command ended in a fault that has its cause: the answers before it are those of `run_of`, and all later answers are
 -- Closed. If the disk is clean, the tables stay at the campaign of the commands before the fault (`LeavesGood`).
+-- The list is run from campaign `c` on, and `faults` is how often the disk had failed before it.
 pub record Interrupted {S : Type 0} (g : Ghosts S) (text : List ℕ) (faults : ℕ) (w : WorldValue) (c : CampaignValue)
     (commands : List Command) (answers : List Answer) (new : ServiceValue S) : Type 0 where
   -- the number of commands before the command that failed
@@ -183,7 +188,7 @@ pub record Interrupted {S : Type 0} (g : Ghosts S) (text : List ℕ) (faults : �
       (run_of w c (take count commands)).0 (run_of w c (take (count + 1) commands)).0
 
 -- From an open service `Headline` holds, or a command ended in a fault (`Interrupted`). From a closed one every answer
--- is Closed, and nothing changes.
+-- is Closed, and nothing changes. The last parameter is the campaign of `old`, which is None if the service is closed.
 abbrev pub HeadlineAt : {S : Type 0} → Ghosts S → ServiceValue S → List Command → List Answer → ServiceValue S
     → Option CampaignValue → Type 0
 HeadlineAt g old commands answers new (Some c) =

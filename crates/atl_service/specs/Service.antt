@@ -1,5 +1,6 @@
--- A service as contracts see it: its connection, its world and, while it is open, its campaign; and its invariant. A
--- disk is clean if each read has returned what was written (docs/PROVED.md, "Premises").
+-- A service as contracts see it: its connection, its world and, while it is open, its campaign; and its invariant. `g`
+-- is the kind of store, in memory or in files, and `state g conn` the state of the database under a connection. A disk
+-- is clean if each read has returned what was written (docs/PROVED.md, "Premises").
 use Rattle.std.specs.Prelude.{◌≡◌, ℕ, List, Bool, true, false, Option, Ok, refl}
 use Rattle.std.specs.Coded.{Coded, code_by, coded×, coded_option}
 use Rattle.sqlite_trees.specs.declared.store.Store.{Ghosts}
@@ -48,7 +49,8 @@ pub record IsConsistent {S : Type 0} (g : Ghosts S) (conn : Held S)
   -- while the service is open and the disk is clean, the world text that its tables hold reads as its world
   pub text : is_open ≡ true → HasCleanDisk (state g conn) → world_of (text_in g conn) ≡ Ok w
 
--- The invariant of every service: it is consistent, and while it is open its campaign's dirty set is empty.
+-- The invariant of every service: it is consistent, and while it is open nothing of its campaign is marked: all
+-- changes have been written.
 pub record IsService {S : Type 0} (g : Ghosts S) (conn : Held S)
     (w : WorldValue) (c : MarkedCampaign) (is_open : Bool) : Type 0 where
   -- the service is consistent (`IsConsistent`)

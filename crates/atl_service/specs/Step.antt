@@ -22,7 +22,8 @@ use Rattle.atl_service.specs.declared.command.Refusal.{Refusal}
 use Rattle.atl_service.specs.declared.command.Refusal.TheVariants as why
 use Rattle.atl_service.specs.declared.command.Fault.TheVariants as faults
 
--- the campaign with a new report for a faction of what it sees, without faulty lines and events
+-- the campaign with the first report of a faction, which is stored as it joins: it says what the faction sees, and has
+-- no faulty lines and no events
 abbrev pub reported : WorldValue → CampaignValue → ℕ → CampaignValue
 reported w c faction = reported_with w c faction [] []
 
@@ -33,7 +34,7 @@ joined_with w c (Err NameTaken) = (c, Refused why.NameTaken)
 joined_with w c (Err Full) = (c, Refused why.Full)
 joined_with w c (Err Memory) = (c, Fault faults.Memory)
 
--- The faction found under a number, if the pass text is its own; else NoFaction or WrongPass.
+-- The faction that a lookup by number found, if the pass text is its own; else NoFaction or WrongPass.
 abbrev pub faction_with_pass : List ℕ → Option Faction → Result Faction Refusal
 faction_with_pass pass None = Err why.NoFaction
 faction_with_pass pass (Some f) = if not (pointwise nat_eq f.pass pass) then Err why.WrongPass else Ok f
@@ -49,16 +50,16 @@ mailed c faction text (Err mail.NoHeader) = (c, Refused why.NoHeader)
 mailed c faction text (Err mail.BadHeader) = (c, Refused why.BadHeader)
 mailed c faction text (Err mail.Memory) = (c, Fault faults.Memory)
 
--- the campaign and answer for a mailing: refused if number or pass text identify no faction or one that is gone, else
--- those of `mailed`
+-- the campaign and answer for a mailing, by what `faction_with_pass` gives: its refusal, or the refusal Gone if the
+-- faction is gone, or else those of `mailed`
 abbrev pub mailed_by : WorldValue → CampaignValue → ℕ → List ℕ → Result Faction Refusal → CampaignValue × Answer
 mailed_by w c faction text (Err refusal) = (c, Refused refusal)
 mailed_by w c faction text (Ok f) =
     if f.gone then (c, Refused why.Gone)
     else mailed c faction text (reading w text)
 
--- the unchanged campaign, and as the answer the stored report of the identified faction (empty if none is stored), or
--- the refusal
+-- the unchanged campaign, and an answer by what `faction_with_pass` gives: its refusal, or the stored report of the
+-- faction, which is empty if none is stored
 abbrev pub report_answer : CampaignValue → ℕ → Result Faction Refusal → CampaignValue × Answer
 report_answer c faction (Err refusal) = (c, Refused refusal)
 report_answer c faction (Ok f) = (c, Text (unwrap_or (get c.reports faction) []))

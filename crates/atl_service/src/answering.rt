@@ -102,8 +102,9 @@ impl From<MailFault> for MailError {
     }
 }
 
-/// Reads the mailing of a command Mail before it is stored; the error is the first refusal, or
-/// Memory. Nothing changes.
+/// Reads the mailing of a command Mail before it is stored. With Ok the faction isn't gone, the
+/// mailing is its own, and `step` stores it. The error is the first refusal, or Memory. Nothing
+/// changes.
 #[tactic(auto, unfolding(crate::specs::Step::step))]
 fn mailing_to_keep(
     alloc: Global,
@@ -191,7 +192,7 @@ fn report(
 }
 
 /// Carries out any command, or refuses it, and returns the answer. After an Err the campaign in
-/// memory may be changed in part; if the disk is clean, the tables are as before while the
+/// memory may be changed in part, or lost; if the disk is clean, the tables are as before while the
 /// connection is open.
 pub(crate) fn answer_to<S: Alter>(
     alloc: Global,

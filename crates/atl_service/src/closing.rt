@@ -52,6 +52,7 @@ fn read_stored(alloc: Global, world: &World, text: &[u8]) -> Result<Mailing, All
     }
 }
 
+/// Reads all stored mailings of a good campaign, in the order of the factions' numbers.
 fn read_mail(alloc: Global, world: &World, campaign: &Campaign) -> Result<ReadMail, AllocError>
     requires { IsGood world.now campaign.now.value }
     ensures { IfOk result (HasRead world.now campaign.now.value) }
@@ -67,9 +68,9 @@ fn read_mail(alloc: Global, world: &World, campaign: &Campaign) -> Result<ReadMa
     Ok(ReadMail { mailings, faults })
 }
 
-/// Runs the month's phases, counts the month, removes the mail, and returns what the reports need.
-/// No mark is lost, and all that changed is marked. If memory runs out, the campaign in memory may
-/// be lost, with a blank one in its place.
+/// Runs the month's phases, counts the month, removes the mail, and returns what the reports need:
+/// once they are stored, the campaign is that of `closed`. No mark is lost, and all that changed is
+/// marked. If memory runs out, the campaign in memory may be lost, with a blank one in its place.
 fn turn_month(
     alloc: Global,
     world: &World,
@@ -100,8 +101,8 @@ fn turn_month(
     })
 }
 
-/// Checks pass text, month and number of dice words of a command Close; the error is the first
-/// refusal.
+/// Checks pass text, month and number of dice words of a command Close, in the order of `step`; the
+/// error is the first refusal.
 #[tactic(auto, unfolding(crate::specs::Step::step))]
 fn check_close(
     world: &World,

@@ -172,6 +172,7 @@ impl fmt::Display for Fault {
 
 impl Error for Fault {}
 
+/// A fault of a write to the store becomes the fault of the same name.
 impl From<WriteFault> for Fault {
     ghost from_gives = { λ fault returned. returned ≡ fault_of_write fault };
 
@@ -287,6 +288,7 @@ impl From<WorldFault> for Cause {
     }
 }
 
+/// A fault of creating the tables becomes the cause of the same name.
 impl From<CreateFault> for Cause {
     ghost from_gives = { λ fault cause. cause ≡ cause_of_creation_fault fault };
 
@@ -299,6 +301,7 @@ impl From<CreateFault> for Cause {
     }
 }
 
+/// A fault of loading a campaign becomes the cause of the same name.
 impl From<StoreFault> for Cause {
     ghost from_gives = { λ fault cause. cause ≡ cause_of_loading_fault fault };
 
@@ -313,6 +316,7 @@ impl From<StoreFault> for Cause {
     }
 }
 
+/// A fault of the store's upgrade becomes the cause of the same name.
 impl From<UpgradeFault> for Cause {
     ghost from_gives = { λ fault cause. cause ≡ cause_of_upgrade_fault fault };
 

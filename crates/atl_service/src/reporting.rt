@@ -31,9 +31,9 @@ impl Drop for MonthResult {
     }
 }
 
-/// Stores a new report for a faction: what it sees (`seen`), the faulty lines `faults` of its mailing, and
-/// its own events among `events`. The report becomes dirty. If memory runs out, the campaign stays
-/// as it is.
+/// Stores a new report for a faction: what it sees (`seen`), the faulty lines `faults` of its
+/// mailing, and its own events among `events`. The report is marked. If memory runs out, the
+/// campaign stays as it is.
 fn store_report_with(
     alloc: Global,
     world: &World,
@@ -55,8 +55,8 @@ fn store_report_with(
     Ok(())
 }
 
-/// Stores the first report of a faction: what it sees. The report becomes dirty. If memory runs
-/// out, the campaign stays as it is.
+/// Stores the first report of a faction: what it sees, without faulty lines and events. The report
+/// is marked. If memory runs out, the campaign stays as it is.
 pub(crate) fn store_first_report(
     alloc: Global,
     world: &World,
@@ -72,6 +72,9 @@ pub(crate) fn store_first_report(
     store_report_with(alloc, world, campaign, &seen, faction, &[], &[])
 }
 
+/// Stores a report of the month for one faction, by the structures and the units of each region
+/// (`lists`) and the events of each faction (`sorted`). They must be right for the campaign and the
+/// month's events. No mark is lost, and what changed is marked.
 fn report_to(
     alloc: Global,
     world: &World,
@@ -95,8 +98,9 @@ fn report_to(
     store_report_with(alloc, world, campaign, &seen, faction, faults, events)
 }
 
-/// Stores a report of the month for each faction that gets one, by the structures and the units
-/// of each region (`lists`) and the events of each faction (`sorted`).
+/// Stores the reports of the month one after another, for each faction that gets one. They are made
+/// by the structures and the units of each region (`lists`) and the events of each faction
+/// (`sorted`). No report makes these lists wrong.
 fn report_to_each(
     alloc: Global,
     world: &World,

@@ -66,7 +66,7 @@ impl<S: Alter> Service<S> {
     ghost use Rattle.atl_service.specs.Runs.{Runs, RunsAll, HeadlineAt};
 
     /// Makes an open service of a world and a campaign whose rows are in the connection's
-    /// tables.
+    /// tables, with nothing of the campaign marked.
     fn opened(alloc: Global, conn: Connection<S>, world: World, campaign: Campaign) -> Service<S>
         requires { IsService S.Store conn world campaign true }
         ensures { result ≡ record { conn = conn; world = world; campaign = Some campaign.value } }
@@ -85,8 +85,8 @@ impl<S: Alter> Service<S> {
     /// gave another error than out of memory. Fault Memory means that one ran out of memory, or
     /// that memory ran out before the database was asked to write. If the disk is clean, the tables
     /// are as before after either fault, while the connection is open. A crash then leaves the
-    /// campaign before the command or after it, and a good one. After a fault the service is closed,
-    /// whatever the disk: every later command is answered Closed and changes nothing. See
+    /// campaign before the command or after it, and a good one. After a fault the service is
+    /// closed, whatever the disk: every later command is answered Closed and changes nothing. See
     /// docs/RULES.md, "Joining", "Mail", "Closing a month", "Reports" and "Refusals and faults".
     pub fn run(&mut self, command: &Command) -> Answer
         ensures runs { Runs S.Store self.old command.now result self.new }
@@ -135,8 +135,8 @@ impl<S: Alter> Service<S> {
         Ok(answers)
     }
 
-    /// The campaign, while the service is open; None once it is closed. The campaign's dirty
-    /// set is empty: all changes have been written.
+    /// The campaign, while the service is open; None once it is closed. Nothing of it is marked:
+    /// all changes have been written.
     pub fn campaign(&self) -> Option<&Campaign>
         ensures value { option_map (λ c. c.value) (option_copied result) ≡ self.now.campaign }
         ensures good { IfSome self.now.campaign (IsGood self.now.world) }
@@ -174,8 +174,8 @@ impl<S: Alter> Service<S> {
         &self.world
     }
 
-    /// Ends the service and returns its connection, with the tables as they are. The memory of world
-    /// and campaign stays taken until the process ends, which gives it back in one step.
+    /// Ends the service and returns its connection, with the tables as they are. The memory of
+    /// world and campaign stays taken until the process ends, which gives it back in one step.
     pub fn end(self) -> Connection<S>
         ensures value { result ≡ self.conn }
         ensures tables { IfSome self.campaign
