@@ -91,8 +91,8 @@ module _ {R V : Type 0} (owner : R → ℕ) (more : R → V → V) where
     put_each (t ∷ ts) m l all =
         put_each ts (insert m (number t) (before t)) (insert l (number t) (after t)) (put_one t m l all)
 
-    -- if `after` gives each of ts its value by `before` with the rows added, adding all rows to the map of ts by
-    -- `before` gives the map by `after`
+    -- Goods (`rows`) are added to the values of their owners (ts). If a t's rows turn its value by `before` into that
+    -- by `after`, all rows turn the map made of ts by `before` into that by `after`.
     pub with_rows_added-by_number : (ts : List T)
         → with_rows_added owner more rows (by_number number before ts) ≡ by_number number after ts
     with_rows_added-by_number ts =

@@ -30,6 +30,7 @@ number_small : (things : ℕ) (e : BooksEntry) (t : Thing) → thing_index t < t
     → amount_number e t < entry_count * things
 number_small things e t small = omega (arith, small, entry_small e)
 
+-- an empty dirty set with room for all amounts of the first `things` things keeps MarksAmounts
 pub none_marked : (things room : ℕ) → entry_count * things ≤ room
     → MarksAmounts things (record { numbers = set.empty; room = room })
 none_marked things room enough =
@@ -47,6 +48,7 @@ pub more_marked : (things : ℕ) (marks : RoomySet) (e : BooksEntry) (t : Thing)
 more_marked things marks e t small are =
     record { room = are.room; numbers = more_of_things things marks.numbers e t small are.numbers }
 
+-- one more amount, of one of the first `things` things, has room in the dirty set of the books
 pub fits_amount : (things : ℕ) (marks : RoomySet) (e : BooksEntry) (t : Thing) → thing_index t < things
     → MarksAmounts things marks → set.len (amount_marked marks.numbers e t) ≤ marks.room
 fits_amount things marks e t small are =

@@ -45,6 +45,7 @@ from_range low high (pos n) h e =
     (ap pos (sym same), rw same least, rw same most)
 from_range low high (negsuc n) h e = absurd (false≢true e)
 
+-- the number of the item or skill that a row of `has` is of
 abbrev pub thing_of : StoredHas → ℕ
 thing_of r = as_u32 r.thing
 
@@ -98,10 +99,12 @@ put_in_range n (r ∷ rows) m h old =
 no_some : (x : ℕ) → None ≡ Some x → ⊥
 no_some x e = cc
 
+-- the empty map lists no item, so each amount that it lists is in range
 pub none_held : (item amount : ℕ) → get (empty {X = ℕ} {R = nat_cmp}) item ≡ Some amount
     → (1 ≤ amount) × (amount ≤ holding_limit)
 none_held item amount e = absurd (no_some amount (sym (get-empty nat_cmp item) ∙ e))
 
+-- the items that rows of `has` in range give unit n have amounts from 1 to holding_limit (AreAmounts)
 pub AreAmounts-had : (n : ℕ) (rows : List StoredHas) → list_all has_in_range rows ≡ true
     → AreAmounts (things_had n 0 rows)
 AreAmounts-had n rows h = put_in_range n rows empty h none_held
@@ -116,6 +119,7 @@ IfOk-text (Err x) some bytes e h f = tt
 
 -- ---- a test that all rows pass
 
+-- the row at index i passes a test that all rows pass
 pub row_passes_test : {R : Type 0} (p : R → Bool) (rows : List R) (i : ℕ) (r : R) → i < length rows
     → r ≡ get_or rows i r → list_all p rows ≡ true → p r ≡ true
 row_passes_test p [] i r h is all = absurd (omega arith)

@@ -106,6 +106,7 @@ module _ (w : WorldValue) (c : CampaignValue) (s : Structure) (fresh : IsFresh w
         units = old.next.units;
       }
 
+  -- no unit is inside the structure of the next number before it is begun
   pub nobody_inside : Every (λ m v. v.structure ≢ next) c.units
   nobody_inside m v there here =
       let (y, at, region) = (old.known.units m v there).structure (λ none. omega (arith, none, here, old.next.structures.count)) in
@@ -143,6 +144,7 @@ module _ (w : WorldValue) (c : CampaignValue) (s : Structure) (fresh : IsFresh w
     guarded = old.guarded;
   }
 
+  -- beginning a structure changes no total
   pub total_raised : (t : Thing) → total raised t ≡ total c t
   unfolding total
   total_raised t = refl
@@ -150,6 +152,7 @@ module _ (w : WorldValue) (c : CampaignValue) (s : Structure) (fresh : IsFresh w
   pub raised_there : get raised.structures next ≡ Some s
   raised_there = get-insert_same c.structures next s
 
+-- beginning a structure, with it and the campaign row marked, marks all that changes
 pub marks-structure_begun : (c : MarkedCampaign) (s : Structure)
     → MarksChanges c (record { value = with_structure_begun c.value s; marks = mark_structure_begun c })
 marks-structure_begun c s =
@@ -272,6 +275,7 @@ module _ (w : WorldValue) (c : CampaignValue) (k : ℕ) (s : Structure) (done : 
       guarded = was.guarded;
     }
 
+    -- building on a structure changes no total
     pub total_built : (t : Thing) → total built t ≡ total c t
     unfolding total
     total_built t = refl

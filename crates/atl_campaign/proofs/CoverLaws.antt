@@ -34,6 +34,7 @@ contrapositive : (a b : Bool) → (a ≡ true → b ≡ true) → b ≡ false �
 contrapositive true b stays free = absurd (true≢false (sym (stays refl) ∙ free))
 contrapositive false b stays free = refl
 
+-- what isn't marked after some changes wasn't marked before them, if no mark is lost
 pub was_unmarked : (before after : FinSet nat_cmp) → StaysMarked before after → (n : ℕ) → contains after n ≡ false
     → contains before n ≡ false
 was_unmarked before after stays n free = contrapositive (contains before n) (contains after n) (stays n) free
@@ -73,6 +74,7 @@ covers-trans {m} {n} a b c stay one two = record {
   row = λ free. two.row free ∙ one.row (contrapositive m.row n.row stay.row free);
 }
 
+-- two changes in turn, each of which marks all that it changes, are together such a change
 pub marks-trans : (a b c : MarkedCampaign) → MarksChanges a b → MarksChanges b c → MarksChanges a c
 marks-trans a b c one two =
     record { stay = stay-trans one.stay two.stay; covers = covers-trans a.value b.value c.value two.stay one.covers two.covers }
@@ -94,6 +96,7 @@ put_there : (marks : FinSet nat_cmp) (n k : ℕ) → k ≡ n → contains (inser
 put_there marks n k e =
     contains-insert nat_cmp_total marks n k ∙ ap (λ b. b || contains marks k) (equal_numbers_compare_equal k n e)
 
+-- a number that isn't marked once n is marked is another than n
 pub unmarked_differs_from_put : (marks : FinSet nat_cmp) (n k : ℕ) → contains (insert marks n) k ≡ false → k ≢ n
 unmarked_differs_from_put marks n k free same = absurd (true≢false (sym (put_there marks n k same) ∙ free))
 
@@ -104,12 +107,14 @@ both_stay : (a b c d : Bool) → (a ≡ true → b ≡ true) → (c ≡ true →
 both_stay true b c d one two h = ap (λ x. x || d) (one refl)
 both_stay false b c d one two h = ap (λ x. b || x) (two h) ∙ or-true b
 
+-- marking all things (items, skills or stocks) of unit or region n loses no mark of a thing
 pub whole_stays : (goods : FinSet nat_cmp) (things : MarkedThings) (n : ℕ)
     → ThingsStayMarked goods things (insert goods n) things
 whole_stays goods things n k t =
     both_stay (contains goods k) (contains (insert goods n) k) (is_some (get (group_of things k) t))
     (is_some (get (group_of things k) t)) (put_stays goods n k) (λ h. h)
 
+-- if a thing of k isn't marked once all things of n are, k is another than n
 pub apart_by_whole : (goods : FinSet nat_cmp) (things : MarkedThings) (n k t : ℕ)
     → is_thing_marked (insert goods n) things k t ≡ false → k ≢ n
 apart_by_whole goods things n k t free =
@@ -138,6 +143,7 @@ module _ (goods : FinSet nat_cmp) (things : MarkedThings) (n thing : ℕ) where
           ∙ by_thing (eq_by_cmp nat_cmp t thing) (get (group_of things n) t)
       by_unit false = refl
 
+  -- marking one thing (an item, a skill or a stock) of unit or region n loses no mark of a thing
   pub thing_stays : ThingsStayMarked goods things goods (with_thing things n thing)
   thing_stays k t =
       both_stay (contains goods k) (contains goods k) (is_some (get (group_of things k) t))
@@ -152,6 +158,7 @@ module _ (goods : FinSet nat_cmp) (things : MarkedThings) (n thing : ℕ) where
           ∙ ap (λ b. eq_by_cmp nat_cmp t thing || b) h ∙ or-true (eq_by_cmp nat_cmp t thing)
       by_unit h false e = h
 
+  -- a thing t of n that isn't marked once `thing` of n is marked is another than `thing`
   pub apart_by_thing : (k t : ℕ) → is_thing_marked goods (with_thing things n thing) k t ≡ false → k ≡ n → t ≢ thing
   apart_by_thing k t free same_unit same =
       let there = put_in k t ∙ ap (λ b. cond b (eq_by_cmp nat_cmp t thing || is_some (get (group_of things n) t)) (is_some (get (group_of things k) t))) (equal_numbers_compare_equal k n same_unit)
@@ -160,6 +167,7 @@ module _ (goods : FinSet nat_cmp) (things : MarkedThings) (n thing : ℕ) where
 
 -- ---- the parts of a campaign, which are marked each for itself
 
+-- a part of a campaign that has marks of its own; laws of marks are proved part by part
 pub data MarkedPart : Type 0 where
   Factions : MarkedPart
   -- the rows of regions, without their stocks, marked by the regions' numbers
@@ -302,6 +310,7 @@ part_by_part a b stays says = record {
   };
 }
 
+-- a campaign that stays as it is has all changes marked
 pub marks-refl : (a : MarkedCampaign) → MarksChanges a a
 marks-refl a = part_by_part a a (λ p k h. h) (λ p k free. refl)
 
@@ -316,6 +325,7 @@ holds_of_changed {V} P f values n none some = by_value (get values n) refl
     by_value None is = none
     by_value (Some v) is = some v is
 
+-- changing faction n by any function f, with the faction marked, marks all that changes
 pub marks-faction : (f : Faction → Faction) (c : MarkedCampaign) (n : ℕ)
     → MarksChanges c (record { value = faction_changed f c.value n; marks = mark_faction c n })
 marks-faction f c n =
@@ -509,6 +519,8 @@ module _ (c : MarkedCampaign) (n item amount : ℕ) where
         | inr e ↦ subst (after_regions (with_changed_value stocked c.value.regions n)) (sym (e ∙ ap (λ k. all_of_region (to_restock k)) is)) (either b is).1
       ]
 
+-- if all units but n stay the same, marking n, its row and all its goods marks all that changes; n may come, go or
+-- change
 pub marks-unit : (c : MarkedCampaign) (units : FinMap nat_cmp Unit) (n : ℕ)
     → ((k : ℕ) → k ≢ n → get units k ≡ get c.value.units k)
     → MarksChanges c (record { value = record c.value { units = units }; marks = mark_unit_added c n })
@@ -530,6 +542,7 @@ marks-unit c units n others =
       | _ ↦ λ k free. refl
     ])
 
+-- booking an amount, with the amount of its entry and thing marked, marks all that changes
 pub marks-amount : (c : MarkedCampaign) (f : BooksEntry) (u : Thing) (z : ℤ)
     → MarksChanges c (record { value = with_booking c.value f u z; marks = mark_amount c f u })
 marks-amount c f u z =

@@ -41,9 +41,8 @@ use Rattle.atl_campaign.proofs.AmountLaws.{sum_of_zeros_is_zero}
 use Rattle.atl_campaign.proofs.AmountMarkLaws.{none_marked}
 use Rattle.atl_records.proofs.BookLaws.{booked-after_booking, booked-no_amounts, amount-no_amounts, AreBooks-no_amounts, AreBooks-after_booking, IsWithin-after_booking, booked_for}
 
--- AreKept holds if the lists are those of the units, and the dirty set of the books is empty, with room for all
--- amounts. AreKept says that the lists are those of the units, and that only amounts of the first `things` things are
--- marked, with room for all of these.
+-- The invariant of a `Campaign` (AreListsAndMarksKept) holds if the lists are those of the units, and no amount of the
+-- books is marked. The dirty set has to have room for all amounts of the first `things` things.
 pub AreKept-without_marks : (things : ℕ) (units : FinMap nat_cmp Unit) (lists : UnitLists) → AreUnitLists units lists
     → AreListsAndMarksKept units lists things (record { numbers = set.empty; room = entry_count * things })
 AreKept-without_marks things units lists listed =
@@ -90,6 +89,7 @@ held_items a b i m p h g e f =
     ∙ sym
     (ap (λ q. cond q (pos m) (pos 0) +ℤ cond (2 + i == 1) (pos p) (pos 0)) e ∙ ap (λ q. pos 0 +ℤ cond q (pos p) (pos 0)) f)
 
+-- the books of a founded campaign balance: what its regions hold is booked under Founding
 pub founded-balances : (w : WorldValue) (pass : List ℕ) → Balances (founded_of w pass)
 unfolding founded_of total
 founded-balances w pass Money =

@@ -55,6 +55,8 @@ module _ {R V : Type 0} (number : R → ℕ) (value : R → V) where
       let parts = and_parts (p r) (list_all p rows) all in
       put-every P p each rows (insert m (number r) (value r)) parts.1 (every-insert P m (number r) (value r) (each r parts.0) old)
 
+  -- P holds of each number of the map with its value, if all rows pass the test p, and P holds of what is read from
+  -- each row that passes
   pub by_number-every : (P : ℕ → V → Type 0) (p : R → Bool) → ((r : R) → p r ≡ true → P (number r) (value r))
       → (rows : List R) → list_all p rows ≡ true → Every P (by_number number value rows)
   by_number-every P p each rows all = put-every P p each rows empty all (every-empty P)
@@ -65,6 +67,7 @@ module _ {R V : Type 0} (number : R → ℕ) (value : R → V) where
       let more : len (insert m (number r) (value r)) ≤ len m + 1 = rw (len-insert nat_cmp_total m (number r) (value r)) (chosen_is_at_most_next (contains_key m (number r)) (len m)) in
       omega (arith, put-len rows (insert m (number r) (value r)), more)
 
+  -- the map made of rows has at most as many numbers as there are rows
   pub by_number-len : (rows : List R) → len (by_number number value rows) ≤ length rows
   by_number-len rows = omega (arith, put-len rows empty, len-empty nat_cmp V)
 
@@ -109,12 +112,14 @@ row_read things books r are =
     let put = λ (e : BooksEntry). cond (nat_lt (as_u32 r.thing) books.things) (with_amount books e (thing_at (as_u32 r.thing)) r.amount) books in
     elim (entry_numbered (as_u32 r.entry)) as (λ o. AreBooks things (option_map_or put o books)) [ None ↦ are | Some e ↦ row_put things books e r (nat_lt (as_u32 r.thing) books.things) refl are ]
 
+-- a row of a thing that is none of the books' things changes nothing
 pub row_unread : (books : BooksValue) (r : StoredBooks) → books.things ≤ as_u32 r.thing → with_books_row books r ≡ books
 row_unread books r past =
     let none : nat_lt (as_u32 r.thing) books.things ≡ false = grind (arith, nat_tests) in
     let put = λ (e : BooksEntry). with_amount books e (thing_at (as_u32 r.thing)) r.amount in
     elim (entry_numbered (as_u32 r.entry)) as (λ o. option_map_or (λ e. cond (nat_lt (as_u32 r.thing) books.things) (put e) books) o books ≡ books) [ None ↦ refl | Some e ↦ ap (λ b. cond b (put e) books) none ]
 
+-- books of `things` things that list only amounts of these, and none that is 0 (AreBooks), stay so when rows are put in
 pub put-books : (things : ℕ) (rows : List StoredBooks) (books : BooksValue) → AreBooks things books
     → AreBooks things (with_books_rows rows books)
 put-books things [] books are = are
@@ -250,6 +255,7 @@ counts p h =
     record { factions = from_le _ _ inner.0; regions = from_le _ _ inner.1; units = from_le _ _ middle.1; structures = from_le _ _ outer.1 }
 
 module _ (w : WorldValue) (p : Parts) (h : AreRowsInRange w p) where
+  -- each unit that is read from rows in range has at least one man
   pub HaveMen-said : HaveMen (campaign_of w p)
   unfolding campaign_of
   HaveMen-said =

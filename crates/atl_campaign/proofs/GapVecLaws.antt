@@ -35,6 +35,7 @@ module _ {A : Type 0} (xs : List A) (free position : ℕ) where
       rw (drop-set-add (free - 1) (copy_within xs free (free + position) (free - 1)) position x, list_after_copy xs free (free + position) (free - 1) (omega arith), count, drop_more xs (free - 1 + position) x (omega arith), after)
       (set_at (take position (drop free xs)) (get_or xs (free - 1 + position) x) (drop (free + position) xs) x position (length-take-le position (drop free xs) long) ∙ ap (λ ys. take position (drop free xs) ++ x ∷ ys) (sym (drop-drop position free xs)))
 
+  -- removing the element behind the free slots and `position` more removes the one at index `position` of the list
   pub removed : free + position ≤ length xs → drop free (remove xs (free + position)) ≡ remove (drop free xs) position
   removed l =
       let long : free ≤ length (take (free + position) xs) = omega (arith, length-take-le (free + position) xs l) in
@@ -42,6 +43,7 @@ module _ {A : Type 0} (xs : List A) (free position : ℕ) where
       drop-append-le free (take (free + position) xs) (drop (suc (free + position)) xs) long
       ∙ rw (drop-take free position xs, after) (ap (λ ys. take position (drop free xs) ++ ys) (sym (drop-drop (suc position) free xs)))
 
+  -- inserting x behind the free slots and `position` more elements inserts it at index `position` of the list
   pub inserted : (x : A) → free + position ≤ length xs
       → drop free (insert xs (free + position) x) ≡ insert (drop free xs) position x
   inserted x l =

@@ -130,6 +130,7 @@ pub total-gone : (c : CampaignValue) (n : ℕ) (t : Thing) → total (with_gone 
 unfolding total
 total-gone c n t = refl
 
+-- setting a faction gone, with the faction marked, marks all that changes
 pub marks-gone_faction : (c : MarkedCampaign) (n : ℕ)
     → MarksChanges c (record { value = with_gone c.value n; marks = mark_faction c n })
 marks-gone_faction = marks-faction as_gone

@@ -20,6 +20,7 @@ use Rattle.atl_records.proofs.EveryLaws.{every-empty, every-insert, there-new, t
 
 -- ---- mail and reports
 
+-- mail and reports of some factions stay of factions that exist, as long as each of these factions does
 pub posted-there : {factions later : FinMap nat_cmp Faction} {mail reports : FinMap nat_cmp (List ℕ)}
     → ((n : ℕ) → HasValue factions n → HasValue later n) → AreOfFactions factions mail reports
     → AreOfFactions later mail reports
@@ -34,6 +35,7 @@ pub AreOfFactions-empty : {factions : FinMap nat_cmp Faction} → AreOfFactions 
 AreOfFactions-empty = record { mail = every-empty _; reports = every-empty _ }
 
 module _ (w : WorldValue) (c : CampaignValue) (month : ℕ) (mail reports : FinMap nat_cmp (List ℕ)) where
+  -- the campaign with the given month, mail and reports
   abbrev posted : CampaignValue
   posted = record c { month = month; mail = mail; reports = reports }
 
@@ -89,12 +91,14 @@ posted-sound w c mail reports posts sent old = record {
   mail = sent;
 }
 
+-- a sound campaign stays sound when a report of one of its factions is stored
 pub IsSound-with_report : (w : WorldValue) (c : CampaignValue) (faction : ℕ) (text : List ℕ)
     → HasValue c.factions faction → IsSound w c → IsSound w (with_report c faction text)
 IsSound-with_report w c faction text there old =
     let posts = old.steady.known.posts in
     posted-sound w c c.mail (insert c.reports faction text) (record { mail = posts.mail; reports = every-insert (λ n text. HasValue c.factions n) c.reports faction text there posts.reports }) old.mail old
 
+-- a good campaign stays good when a report of one of its factions is stored
 pub IsGood-with_report : (w : WorldValue) (c : CampaignValue) (faction : ℕ) (text : List ℕ)
     → HasValue c.factions faction → IsGood w c → IsGood w (with_report c faction text)
 IsGood-with_report w c faction text there good = record {
@@ -102,6 +106,7 @@ IsGood-with_report w c faction text there good = record {
   reported = λ n f is. there-insert c.reports faction n text (good.reported n f is);
 }
 
+-- a good campaign stays good when a mailing of a faction that is there and not gone is stored
 pub IsGood-with_mail : (w : WorldValue) (c : CampaignValue) (faction : ℕ) (text : List ℕ) → IsMailingOf faction text
     → IsActive c faction → IsGood w c → IsGood w (with_mail c faction text)
 IsGood-with_mail w c faction text sent active good =

@@ -20,6 +20,7 @@ module _ {R : Type 0} (test : R → Bool) where
   first_kept P r rows true e one all = (one e, all)
   first_kept P r rows false e one all = all
 
+  -- P holds of the rows that are left by the test, if it holds of each row that passes
   pub kept : (P : R → Type 0) (rows : List R) → AllByRecursion (λ r. test r ≡ true → P r) rows
       → AllByRecursion P (filter test rows)
   kept P [] all = tt
@@ -30,6 +31,7 @@ module _ {R : Type 0} (test : R → Bool) where
   first_unkept P r rows true e all = (λ _. all.0, all.1)
   first_unkept P r rows false e all = (λ passes. absurd (false≢true (sym e ∙ passes)), all)
 
+  -- P holds of each row that passes the test, if it holds of the rows that the test leaves
   pub unkept : (P : R → Type 0) (rows : List R) → AllByRecursion P (filter test rows)
       → AllByRecursion (λ r. test r ≡ true → P r) rows
   unkept P [] all = tt
@@ -38,6 +40,7 @@ module _ {R : Type 0} (test : R → Bool) where
   pub filter_each : (P : R → Type 0) (rows : List R) → AllByRecursion P rows → AllByRecursion P (filter test rows)
   filter_each P rows all = kept P rows (each_follows P (λ r. test r ≡ true → P r) (λ r h _. h) rows all)
 
+  -- rows that are distinct by e stay distinct when some are left out
   pub filter_apart : (e : R → R → Bool) (rows : List R) → IsDistinct e rows → IsDistinct e (filter test rows)
   unfolding IsDistinct
   filter_apart e [] d = tt

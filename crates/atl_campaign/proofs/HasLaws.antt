@@ -89,6 +89,7 @@ same_key n sort g h a b e =
     let thing = b.0.thing ∙ sym (ap pos e) ∙ sym a.0.thing in
     λ i. (unit i, kind i, thing i)
 
+-- whether two keys have the same three numbers
 abbrev pub is_same_key : Key → Key → Bool
 is_same_key a b = eq_by_cmp key_cmp a b
 

@@ -25,6 +25,7 @@ pub record MayHave (w : WorldValue) (h : HoldingValue) : Type 0 where
   pub skills : Every (λ s days. s < length w.skills) h.days
   pub days : Every (λ s days. (1 ≤ days) × (days ≤ most_days * h.men)) h.days
 
+-- each unit of a steady campaign may have (MayHave) the holding that it has
 pub may_have : (w : WorldValue) (c : CampaignValue) (n : ℕ) (u : Unit) → get c.units n ≡ Some u → IsSteady w c
     → MayHave w u.holding
 may_have w c n u is steady =
@@ -35,6 +36,7 @@ module _ (w : WorldValue) (c : CampaignValue) (n : ℕ) (u : Unit) (h : HoldingV
   abbrev new_unit : Unit
   new_unit = record u { holding = h }
 
+  -- the campaign in which unit n has the holding h
   abbrev with_new_holding : CampaignValue
   with_new_holding = record c { units = insert c.units n new_unit }
 

@@ -65,6 +65,7 @@ module _ (w : WorldValue) (c : CampaignValue) (n : ℕ) (u : Unit) (h : HoldingV
   abbrev new_unit : Unit
   new_unit = record u { holding = h }
 
+  -- the campaign in which unit n has the holding h
   abbrev with_new_holding : CampaignValue
   with_new_holding = record c { units = insert c.units n new_unit }
 
@@ -141,6 +142,7 @@ module _ (w : WorldValue) (c : CampaignValue) (n : ℕ) (u : Unit) (h : HoldingV
     abbrev Agree : Unit → Unit → Type 0
     Agree x y = test x ≡ true → test y ≡ true → x.region ≡ y.region → x.faction ≡ y.faction
 
+    -- the units that pass the test stay of one faction in each region when unit n gets the holding h
     pub of_one_faction_kept : AreOfOneFaction test c → AreOfOneFaction test with_new_holding
     of_one_faction_kept old =
         every-insert (λ k x. Every (λ m y. Agree x y) with_new_holding.units) c.units n new_unit
@@ -182,6 +184,7 @@ module _ (w : WorldValue) (c : CampaignValue) (n : ℕ) (u : Unit) (h : HoldingV
 abbrev goods_of : Unit → FinMap nat_cmp ℕ × FinMap nat_cmp ℕ
 goods_of u = (u.holding.items, u.holding.days)
 
+-- changing a unit by a function that leaves its items and days as they are, with its row marked, marks all that changes
 pub marks-unit_row : (f : Unit → Unit) → ((u : Unit) → goods_of (f u) ≡ goods_of u) → (c : MarkedCampaign) (n : ℕ)
     → MarksChanges c (record { value = unit_changed f c.value n; marks = mark_unit_row c n })
 marks-unit_row f same c n =
@@ -218,6 +221,7 @@ module _ (c : MarkedCampaign) (n item amount : ℕ) where
         | _ ↦ λ k free. refl
       ])
 
+  -- setting a unit's amount of an item, with that item marked if the amount is another, marks all that changes
   pub marks-item : MarksChanges c (record { value = with_item c.value n item amount; marks = mark_item c n item amount })
   marks-item =
       holds_of_changed (λ units o. MarksChanges c (after_item units (unit_if_other_amount item amount o))) with_other
@@ -230,6 +234,7 @@ module _ (c : MarkedCampaign) (n item amount : ℕ) where
           subst (λ units. MarksChanges c (after_item units None)) (sym (put_same c.value.units n u (with_other u) is same)) (marks-refl c)
       by_amount u is false other = other_amount u is
 
+-- setting a unit's days of a skill, with that skill marked, marks all that changes
 pub marks-skill : (c : MarkedCampaign) (n skill days : ℕ)
     → MarksChanges c (record { value = with_skill c.value n skill days; marks = mark_skill c n skill })
 marks-skill c n skill days =

@@ -25,9 +25,11 @@ use Rattle.atl_world.proofs.TrackLaws.{get_inserted, remove_none}
 use Rattle.atl_campaign.specs.declared.index.IndexEntry.{IndexEntry}
 use Rattle.atl_campaign.specs.Index.{index_numbers, slots_of}
 
+-- Some is never None: from their equality anything follows
 pub some_none : {X : Type 0} (x : X) {P : Type 0} → Some x ≡ None → P
 some_none x e = cc
 
+-- the numbers of the index entries rise strictly
 abbrev IsSortedIndex : List IndexEntry → Type 0
 IsSortedIndex ps = IsStrictlySortedBy nat_cmp (index_numbers ps)
 
@@ -107,6 +109,7 @@ unlisted ps n h =
     finmap.get-from_entries nat_cmp_total (slots_of ps) n
     ∙ not_some_is_none _ (is_some-find nat_cmp n (slots_of ps) ∙ ap (list_any (eq_by_cmp nat_cmp n)) (keys_are ps) ∙ sym (set.contains-from_list nat_cmp_total (index_numbers ps) n) ∙ h)
 
+-- the map of sorted index entries has nothing under a number n that belongs at an index (BelongsAt): no entry has it
 pub get-belongs : (ps : List IndexEntry) (n i : ℕ) → IsSortedIndex ps → BelongsAt (index_numbers ps) n i
     → finmap.get (as_map ps) n ≡ None
 get-belongs ps n i s b = unlisted ps n (contains-belongs (index_numbers ps) n i s b)
@@ -145,11 +148,13 @@ get-at_index ps n i d s h =
 
 -- ---- an entry that is inserted
 
+-- an entry inserted where its number belongs adds the number with its slot to the map
 pub map-added : (ps : List IndexEntry) (n i k : ℕ) → IsSortedIndex ps → BelongsAt (index_numbers ps) n i
     → as_map (insert ps i (record { number = n; slot = k })) ≡ finmap.insert (as_map ps) n k
 map-added ps n i k s b =
     ap from_entries (map-insert (λ (p : IndexEntry). (p.number, p.slot)) ps i (record { number = n; slot = k })) ∙ from_entries-insert (slots_of ps) i n k (get-belongs ps n i s b)
 
+-- sorted index entries stay sorted when an entry is inserted where its number belongs
 pub sorted-added : (ps : List IndexEntry) (n i k : ℕ) → IsSortedIndex ps → BelongsAt (index_numbers ps) n i
     → IsSortedIndex (insert ps i (record { number = n; slot = k }))
 sorted-added ps n i k s b =
@@ -158,17 +163,20 @@ sorted-added ps n i k s b =
 
 -- ---- an entry that is removed
 
+-- removing the index entry of number n removes n from the map
 pub map-without : (ps : List IndexEntry) (n i : ℕ) → IsSortedIndex ps → IsAt (index_numbers ps) n i
     → as_map (remove ps i) ≡ finmap.remove (as_map ps) n
 map-without ps n i s h =
     let d : IndexEntry = record { number = 0; slot = 0 } in
     sym (ap (λ m. finmap.remove m n) (put_again ps n i d s h) ∙ remove_undoes_insert (as_map (remove ps i)) n (get_or ps i d).slot (removed_entry_is_absent ps n i s h))
 
+-- sorted index entries stay sorted when the entry of number n is removed
 pub sorted-without : (ps : List IndexEntry) (n i : ℕ) → IsSortedIndex ps → IsAt (index_numbers ps) n i
     → IsSortedIndex (remove ps i)
 sorted-without ps n i s h =
     rw (map-remove (λ (p : IndexEntry). p.number) ps i) (sorted-remove (index_numbers ps) i s h.within)
 
+-- removing a number that no index entry has leaves the map as it is
 pub map-missing : (ps : List IndexEntry) (n i : ℕ) → IsSortedIndex ps → BelongsAt (index_numbers ps) n i
     → as_map ps ≡ finmap.remove (as_map ps) n
 map-missing ps n i s b = sym (remove_none (as_map ps) n (get-belongs ps n i s b))
@@ -187,6 +195,7 @@ len-index ps s = len_of (slots_of ps) (rw (keys_are ps) s) ∙ length-map ps (λ
 
 -- ---- the index that a search gives: of a number, or where it belongs
 
+-- what a binary search finds (Ok) is the index of the entry with number n
 pub found-by_search : (ps : List IndexEntry) (n : ℕ) (r : Result ℕ ℕ) → IsSearchInRange r (length ps)
     → IsBinarySearchResult (λ p. nat_cmp p.number n) ps r → IfOk r (λ i. IsAt (index_numbers ps) n i)
 found-by_search ps n (Ok i) l h =
@@ -208,6 +217,7 @@ searchable ps n s = searchable_from_sorted nat_cmp_total (λ (p : IndexEntry). p
     let up = Less-from_sorted nat_cmp ns k (k + 1) d.number s (omega arith) (omega arith) in
     ap is_lt (λ i. nat_cmp (sym (at (k + 1) h) i) (sym (at k (omega arith)) i)) ∙ ap is_lt (nat_cmp_total.antisymm (get_or ns (k + 1) d.number) (get_or ns k d.number)) ∙ ap (λ r. is_lt (ordering_reverse r)) up)
 
+-- where a binary search finds no entry with number n, it gives the index where n belongs (Err)
 pub missing-by_search : (ps : List IndexEntry) (n : ℕ) (r : Result ℕ ℕ) → IsSortedIndex ps
     → IsSearchInRange r (length ps) → IsBinarySearchResult (λ p. nat_cmp p.number n) ps r
     → IfErr r (λ i. BelongsAt (index_numbers ps) n i)
@@ -223,6 +233,7 @@ missing-by_search ps n (Err i) s l h =
       after = λ k m w. let more = ranked (get_or ps k d).number n Greater (sym (parts.1 k d m (omega (arith, w, size)))) in let same = at k (omega (arith, w, size)) in omega (arith, more, same);
     }
 
+-- a number above that of the last index entry belongs at the end
 pub BelongsAt-above : (ps : List IndexEntry) (p : IndexEntry) (n : ℕ) → IsSortedIndex ps
     → slice_get ps (length ps - 1) ≡ Some p → p.number < n → BelongsAt (index_numbers ps) n (length ps)
 BelongsAt-above ps p n s is above =

@@ -60,6 +60,7 @@ held_booked w word c Money = omega (arith, ints)
 held_booked w word c People = refl
 held_booked w word c (Item i) = no_item_is_booked w word c i (grind (arith, nat_tests)) (grind (arith, nat_tests))
 
+-- the books balance after a join if they did before: the new unit's money and man are booked
 pub joined-balances : (w : WorldValue) (name pass : List ℕ) (word : ℕ) (c : CampaignValue)
     → get c.units c.next_unit ≡ None → Balances c → Balances (after_join w name pass word c)
 unfolding after_join total
@@ -108,6 +109,7 @@ still_numbered m n v old = record {
   free = still_free m (n + 1) n v (λ q l. old.free q (omega arith)) (omega arith);
 }
 
+-- what is under a number of a map stays when a value is put under a number that has none
 pub still_there : {V : Type 0} (m : FinMap nat_cmp V) (k q : ℕ) (v x : V) → get m k ≡ None → get m q ≡ Some x
     → get (insert m k v) q ≡ Some x
 still_there m k q v x free is =

@@ -12,10 +12,12 @@ use Rattle.std.proofs.lemmas.Bool.{cases_order}
 use Rattle.std.proofs.lemmas.List.{get_or_default}
 use Rattle.std.proofs.lemmas.Map.Keys.{sorted_from_all_adjacent}
 
+-- the keys from index i on are the key at i and then the keys from i + 1 on, if there is a key at i
 pub rest_at : {K : Type 0} (keys : List K) (i : ℕ) (d : K) → i < length keys
     → drop i keys ≡ get_or keys i d ∷ drop (i + 1) keys
 rest_at keys i d h = rw add-one (drop-cons keys i d h)
 
+-- the keys from index i on are x and the keys from i + 1 on, if x is the key at i
 pub next_of : {K : Type 0} (keys : List K) (i : ℕ) (x : K) → i < length keys → x ≡ get_or keys i x
     → drop i keys ≡ x ∷ drop (i + 1) keys
 next_of keys i x h is = rest_at keys i x h ∙ ap (λ y. y ∷ drop (i + 1) keys) (sym is)
@@ -31,11 +33,13 @@ module _ {A B : Type 0} (f : A → B) (e : B → B → Bool) where
   each_of_map x [] h = tt
   each_of_map x (y ∷ xs) h = (h.0, each_of_map x xs h.1)
 
+  -- what f gives for the elements of a list is distinct by e, if the elements are distinct when e compares what f gives
   pub IsDistinct-map : (xs : List A) → IsDistinct (λ x y. e (f x) (f y)) xs → IsDistinct e (map f xs)
   unfolding IsDistinct
   IsDistinct-map [] h = tt
   IsDistinct-map (x ∷ xs) h = (each_map x xs h.0, IsDistinct-map xs h.1)
 
+  -- the elements of a list are distinct when e compares what f gives for them, if what f gives is distinct by e
   pub IsDistinct-of_map : (xs : List A) → IsDistinct e (map f xs) → IsDistinct (λ x y. e (f x) (f y)) xs
   unfolding IsDistinct
   IsDistinct-of_map [] h = tt
@@ -52,11 +56,13 @@ module _ {K : Type 0} {R : K → K → Ordering} (o : IsTotalOrder R) where
   abbrev pub RisesTo : ℕ → List K → Type 0
   RisesTo i ks = (d : K) (k : ℕ) → k + 1 < i → R (get_or ks k d) (get_or ks (k + 1) d) ≡ Less
 
+  -- keys rise strictly if each but the last is less than the one after it (RisesTo)
   pub rises : (ks : List K) (i : ℕ) → length ks ≤ i → RisesTo i ks → IsStrictlySortedBy R ks
   unfolding IsStrictlySortedBy
   rises [] i most steps = tt
   rises (x ∷ xs) i most steps = sorted_from_all_adjacent o (x ∷ xs) x (λ k l. steps x k (omega (arith, l, most)))
 
+  -- if the first i keys rise (RisesTo), and the key x at i - 1 is less than the key y at i, the first i + 1 keys rise
   pub rises_more : (ks : List K) (i : ℕ) (x y : K) → 1 ≤ i → i < length ks → x ≡ get_or ks (i - 1) x → y ≡ get_or ks i y
       → R x y ≡ Less → RisesTo i ks → RisesTo (i + 1) ks
   rises_more ks i x y some within x_is y_is above steps d k l = by_order (cases_order (k + 1) i)

@@ -39,6 +39,7 @@ module _ (w : WorldValue) (c : CampaignValue) (n : ℕ) (u : Unit) (is : get c.u
   abbrev left : FinMap nat_cmp Unit
   left = remove c.units n
 
+  -- the campaign without unit n, and with the given structures
   abbrev reduced : FinMap nat_cmp Structure → CampaignValue
   reduced structures = record c { units = left; structures = structures }
 
@@ -289,9 +290,11 @@ module _ (w : WorldValue) (c : CampaignValue) (n : ℕ) (u : Unit) (is : get c.u
           steady_left c.structures (AreReowned-unchanged old.owners low (ap (λ o. is_owned_by o n) here)) old
       by_owner (Some s) here = by_test s here (is_owned_by (Some s) n) (ap (λ o. is_owned_by o n) here)
 
+  -- a steady campaign stays steady when unit n is removed, and its structure gets the next owner
   pub steady-without : IsSteady w c → IsSteady w (without_unit c n)
   steady-without old = subst (IsSteady w) (sym without-known) (steady_handed old)
 
+  -- removing unit n takes from each total what the unit held
   pub total-without : (t : Thing) → total (without_unit c n) t + unit_amount t u.holding ≡ total c t
   unfolding total
   total-without t =
@@ -317,6 +320,7 @@ module _ (w : WorldValue) (c : CampaignValue) (n : ℕ) (u : Unit) (is : get c.u
     pub month : d.month ≡ c.month
     pub reports : d.reports ≡ c.reports
 
+  -- removing unit n leaves the other units, the factions, regions, books, month and reports as they are (IsOnlyReduced)
   pub only_reduced : IsOnlyReduced (without_unit c n)
   only_reduced = subst IsOnlyReduced (sym without-known) (by_test (is_owned_by (get c.structures u.structure) n))
     where
@@ -329,6 +333,7 @@ module _ (w : WorldValue) (c : CampaignValue) (n : ℕ) (u : Unit) (is : get c.u
 
 -- ---- what is marked
 
+-- changing structure n by any function f, with the structure marked, marks all that changes
 pub marks-structure : (f : Structure → Structure) (c : MarkedCampaign) (n : ℕ)
     → MarksChanges c (record { value = structure_changed f c.value n; marks = mark_structure c n })
 marks-structure f c n =
@@ -339,6 +344,7 @@ marks-structure f c n =
     (λ p. elim p as (PartStaysMarked c.marks next.marks) [ Structures ↦ put_stays c.marks.structures n | _ ↦ λ k h. h ])
     (λ p. elim p as (KeepsUnmarked next.marks c.value next.value) [ Structures ↦ λ k free. get-insert_other c.value.structures n k (f v) (unmarked_differs_from_put c.marks.structures n k free) | _ ↦ λ k free. refl ]))
 
+-- handing a structure from owner `from` to `to`, with the structure marked if `from` owns it, marks all that changes
 pub marks-after_handover : (c : MarkedCampaign) (s from to : ℕ) → MarksChanges c (handed_marked c s from to)
 marks-after_handover c s from to = by_test (is_owned_by (get c.value.structures s) from)
   where
@@ -347,6 +353,7 @@ marks-after_handover c s from to = by_test (is_owned_by (get c.value.structures 
     by_test true = marks-structure (owned_by to) c s
     by_test false = marks-refl c
 
+-- taking unit n out, with it, its row and all its goods marked, marks all that changes
 pub marks-taken : (c : MarkedCampaign) (n : ℕ) → MarksChanges c (taken_marked c n)
 marks-taken c n = by_unit (get c.value.units n) refl
   where

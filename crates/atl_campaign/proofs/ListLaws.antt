@@ -33,6 +33,8 @@ each_list_after_put lists k xs P here there r =
     ] refl)
 
 module _ (belongs_to : Unit → ℕ) where
+  -- the lists by a key stay those of the units (AreLists) when unit u comes under a new number k, and k is put into the
+  -- list of u's key
   pub AreLists-added : (units : FinMap nat_cmp Unit) (lists : FinMap nat_cmp (List ℕ)) (k : ℕ) (u : Unit)
       → get units k ≡ None → AreLists belongs_to units lists
       → AreLists belongs_to (insert units k u) (insert lists (belongs_to u) (put_number k (list_of lists (belongs_to u))))
@@ -42,6 +44,7 @@ module _ (belongs_to : Unit → ℕ) where
       (ap (put_number k) (old own) ∙ sym (numbers_where-insert_new (λ v. belongs_to v == own) units k u fresh (same_number own)))
       (λ r ne. old r ∙ sym (numbers_where-insert_other (λ v. belongs_to v == r) units k u fresh (other_number own r ne)))
 
+  -- the lists by a key stay those of the units (AreLists) when unit u changes to v with the same key
   pub AreLists-kept : (units : FinMap nat_cmp Unit) (lists : FinMap nat_cmp (List ℕ)) (k : ℕ) (u v : Unit)
       → get units k ≡ Some u → belongs_to u ≡ belongs_to v → AreLists belongs_to units lists
       → AreLists belongs_to (insert units k v) lists
@@ -57,6 +60,8 @@ module _ (belongs_to : Unit → ℕ) where
       (ap (take_number k) (old own ∙ numbers_where-insert_new (λ v. belongs_to v == own) units k u fresh (same_number own)) ∙ taken_put k _)
       (λ r ne. old r ∙ numbers_where-insert_other (λ v. belongs_to v == r) units k u fresh (other_number own r ne))
 
+  -- the lists by a key stay those of the units (AreLists) when unit k is removed, and k is taken out of the list of its
+  -- key
   pub AreLists-removed : (units : FinMap nat_cmp Unit) (lists : FinMap nat_cmp (List ℕ)) (k : ℕ) (u : Unit)
       → get units k ≡ Some u → AreLists belongs_to units lists
       → AreLists belongs_to (remove units k) (insert lists (belongs_to u) (take_number k (list_of lists (belongs_to u))))
@@ -65,6 +70,7 @@ module _ (belongs_to : Unit → ℕ) where
 
 -- ---- lists under a key, and those of the same numbers
 
+-- lists that are the same under each key as the lists of the units are these units' lists too
 pub AreLists-same : (belongs_to : Unit → ℕ) (units : FinMap nat_cmp Unit) (old new : FinMap nat_cmp (List ℕ))
     → SameLists new old → AreLists belongs_to units old → AreLists belongs_to units new
 AreLists-same belongs_to units old new same is k = same k ∙ is k
@@ -78,6 +84,8 @@ module _ (belongs_to : Unit → ℕ) (units : FinMap nat_cmp Unit) (old new : Fi
   AreLists-came u own fresh put is =
       subst (λ l. AreLists belongs_to (insert units n u) l) (sym (put ∙ ap (λ k. insert old k (put_number n (list_of old k))) (sym own))) (AreLists-added belongs_to units old n u fresh is)
 
+  -- the lists `new` are those of the units without n, if they are `old`, the lists of the units, with n taken out of
+  -- the list of its key, `key`
   pub AreLists-went : (u : Unit) → belongs_to u ≡ key → get units n ≡ Some u
       → SameLists new (insert old key (take_number n (list_of old key))) → AreLists belongs_to units old
       → AreLists belongs_to (remove units n) new
@@ -85,6 +93,7 @@ module _ (belongs_to : Unit → ℕ) (units : FinMap nat_cmp Unit) (old new : Fi
       AreLists-same belongs_to (remove units n) (insert old key (take_number n (list_of old key))) new same
       (subst (λ k. AreLists belongs_to (remove units n) (insert old k (take_number n (list_of old k)))) own (AreLists-removed belongs_to units old n u there is))
 
+-- putting a list under the key k leaves the list under another key r as it is
 pub listed_else : (lists : FinMap nat_cmp (List ℕ)) (k : ℕ) (xs : List ℕ) (r : ℕ) → k ≢ r
     → list_of (insert lists k xs) r ≡ list_of lists r
 listed_else lists k xs r =
@@ -96,6 +105,8 @@ listed_there lists k xs =
     ap (λ o. unwrap_or o [])
     (get-insert nat_cmp_total lists k xs k ∙ ap (λ b. cond b (Some xs) (get lists k)) (key_itself k))
 
+-- putting number n into the list of `key` (`mid`) and taking it out again (`new`) gives the lists of the same units
+-- again
 pub AreLists-undone_at : (belongs_to : Unit → ℕ) (units : FinMap nat_cmp Unit) (old mid new : FinMap nat_cmp (List ℕ)) (n key : ℕ)
     → mid ≡ insert old key (put_number n (list_of old key))
     → SameLists new (insert mid key (take_number n (list_of mid key)))
@@ -106,6 +117,7 @@ AreLists-undone_at belongs_to units old mid new n key put same is =
     (ap (take_number n) (ap (λ l. list_of l key) put ∙ listed_there old key (put_number n (list_of old key))) ∙ taken_put n (list_of old key) ∙ is key)
     (λ r ne. ap (λ l. list_of l r) put ∙ listed_else old key (put_number n (list_of old key)) r ne ∙ is r))
 
+-- taking a number out of the list of a key that has none changes no list
 pub none_taken : (lists : FinMap nat_cmp (List ℕ)) (key n : ℕ) → get lists key ≡ None
     → SameLists lists (insert lists key (take_number n (list_of lists key)))
 unfolding take_number
@@ -157,6 +169,8 @@ bare_inside : (units : FinMap nat_cmp Unit) (some all : FinMap nat_cmp (List ℕ
 bare_inside units some all bare are k = bare k ∙ ap (cond (k == 0) []) (are k)
 
 module _ (units : FinMap nat_cmp Unit) (old new : FinMap nat_cmp (List ℕ)) (n key : ℕ) (u : Unit) (own : u.structure ≡ key) where
+  -- the lists by structure stay those of the units when a unit comes, and is put into the list of its structure unless
+  -- that is 0
   pub AreInsideLists-came : get units n ≡ None → new ≡ listed_unless old n key 0 → AreInsideLists units old
       → AreInsideLists (insert units n u) new
   AreInsideLists-came fresh put is =
@@ -165,6 +179,8 @@ module _ (units : FinMap nat_cmp Unit) (old new : FinMap nat_cmp (List ℕ)) (n 
       (bare_inside (insert units n u) _ (insert all key (put_number n (list_of all key))) (AreListsBut0-changed (put_number n) old all key (AreListsBut0-whole units old is))
       (AreLists-came (λ v. v.structure) units all _ n key u own fresh refl (whole_listed units old is)))
 
+  -- the lists by structure stay those of the units when a unit is removed, and is taken out of the list of its
+  -- structure unless that is 0
   pub AreInsideLists-went : get units n ≡ Some u → SameLists new (unlisted_unless old n key 0)
       → AreInsideLists units old → AreInsideLists (remove units n) new
   AreInsideLists-went there same is k =
@@ -192,6 +208,7 @@ nobody_bare k = elim (k == 0) as (λ b. list_of empty k ≡ cond b [] (list_of e
   | false ↦ refl
 ]
 
+-- the lists of no units are no lists at all
 pub AreUnitLists-nobody : AreUnitLists empty (record { by_region = empty; by_faction = empty; by_structure = empty })
 AreUnitLists-nobody = record {
   regions = nobody_listed (λ u. u.region);
@@ -260,6 +277,8 @@ module _ (belongs_to : Unit → ℕ) where
       (subst (λ q. AreLists belongs_to (insert units n v) (unlisted_unless (listed_unless old n to q) n q to)) own
       (subst (λ q. AreLists belongs_to (insert units n v) (unlisted_unless (listed_unless old n q (belongs_to u)) n (belongs_to u) q)) goes (relisted units old n u v is lists))))
 
+  -- putting number n into the list of `key` and taking it out again gives the lists of the same units again, also where
+  -- `key` is `other` and nothing is done
   pub AreLists-apart : (units : FinMap nat_cmp Unit) (old mid new : FinMap nat_cmp (List ℕ)) (n key other : ℕ)
       → mid ≡ listed_unless old n key other → SameLists new (unlisted_unless mid n key other)
       → AreLists belongs_to units old → AreLists belongs_to units new
@@ -269,6 +288,8 @@ module _ (belongs_to : Unit → ℕ) where
         | false ↦ λ p s. AreLists-undone_at belongs_to units old mid new n key p s is
       ] put same
 
+-- the lists by structure stay those of the units when a unit changes its structure, and is moved from the old one's
+-- list to the new one's
 pub AreInsideLists-relisted : (units : FinMap nat_cmp Unit) (old new : FinMap nat_cmp (List ℕ)) (n from to : ℕ) (u v : Unit)
     → get units n ≡ Some u → u.structure ≡ from → v.structure ≡ to → SameLists new (relisted_inside old n from to)
     → AreInsideLists units old → AreInsideLists (insert units n v) new
@@ -286,6 +307,8 @@ AreInsideLists-relisted units old new n from to u v is own goes same lists =
           (AreLists-relisted (λ w. w.structure) units all put taken n from to u v is own goes (rw (other_number to from (λ e. apart (sym e))) refl) (λ r. rw (other_number from to apart) refl) (whole_listed units old lists)) k)
     ]
 
+-- all lists stay those of the units when f changes unit n, if f leaves every unit's region, faction and structure as
+-- they are
 pub AreUnitLists-changed : (f : Unit → Unit) → ((u : Unit) → list_keys_of u ≡ list_keys_of (f u))
     → (units : FinMap nat_cmp Unit) (lists : UnitLists) (n : ℕ) → AreUnitLists units lists
     → AreUnitLists (with_changed_value f units n) lists

@@ -19,14 +19,17 @@ use Rattle.atl_campaign.specs.Rows.{rows_by}
 use Rattle.atl_records.specs.Every.{Every, HasValue}
 use Rattle.atl_records.proofs.EveryLaws.{none_some, there-new, there-insert, get-insert_other}
 
+-- no two of the rows have the same number, which `number` reads
 abbrev pub HaveDistinctNumbers : {R : Type 0} → (R → ℕ) → List R → Type 0
 HaveDistinctNumbers number [] = ⊤
 HaveDistinctNumbers number (r ∷ rows) = AllByRecursion (λ s. number s ≢ number r) rows × HaveDistinctNumbers number rows
 
+-- one of the rows has the number n, which `number` reads
 abbrev pub HasNumber : {R : Type 0} → (R → ℕ) → List R → ℕ → Type 0
 HasNumber number [] n = ⊥
 HasNumber number (r ∷ rows) n = (number r ≡ n) ⊎ HasNumber number rows n
 
+-- two joined lists may change places in front of a third
 pub exchange : {A : Type 0} (a b c : List A) → IsPermutation (a ++ (b ++ c)) (b ++ (a ++ c))
 exchange a b c =
     subst (λ xs. IsPermutation xs (b ++ (a ++ c))) (append_assoc a b c) (subst (λ ys. IsPermutation ((a ++ b) ++ c) ys) (append_assoc b a c) (IsPermutation-append_left c (a ++ b) (b ++ a) (IsPermutation-append_comm a b)))
@@ -130,6 +133,7 @@ HaveDistinctNumbers-keys key number same P apart (r ∷ rows) h d =
 
 -- ---- tests of each row
 
+-- P holds of each row if it holds of rows that pass the test p, and all rows pass
 pub each_passes : {R : Type 0} (p : R → Bool) (P : R → Type 0) → ((r : R) → p r ≡ true → P r) → (rows : List R)
     → list_all p rows ≡ true → AllByRecursion P rows
 each_passes p P good [] h = tt
@@ -150,6 +154,7 @@ module _ {R V : Type 0} (number : R → ℕ) (value : R → V) where
   put_found (r ∷ rows) m h =
       (put_keep rows (insert m (number r) (value r)) (number r) h.0 ∙ get_inserted m (number r) (value r), put_found rows (insert m (number r) (value r)) h.1)
 
+  -- each of rows with different numbers has its value under its number in their map
   pub rows_found : (rows : List R) → HaveDistinctNumbers number rows
       → AllByRecursion (λ r. get (by_number number value rows) (number r) ≡ Some (value r)) rows
   rows_found rows h = put_found rows empty h
@@ -159,10 +164,12 @@ module _ {R V : Type 0} (number : R → ℕ) (value : R → V) where
   every_row P m [] every h = tt
   every_row P m (r ∷ rows) every h = (every (number r) (value r) h.0, every_row P m rows every h.1)
 
+  -- what holds of each number of the map with its value holds of each row, if no two rows have the same number
   pub each_row : (P : ℕ → V → Type 0) (rows : List R) → HaveDistinctNumbers number rows
       → Every P (by_number number value rows) → AllByRecursion (λ r. P (number r) (value r)) rows
   each_row P rows h every = every_row P (by_number number value rows) rows every (rows_found rows h)
 
+  -- a number that is in a map stays there when rows are put in
   pub put_there : (rows : List R) (m : FinMap nat_cmp V) (k : ℕ) → HasValue m k
       → HasValue (put_rows number value rows m) k
   put_there [] m k h = h
@@ -175,6 +182,7 @@ module _ {R V : Type 0} (number : R → ℕ) (value : R → V) where
   all_there (r ∷ rows) m =
       (put_there rows (insert m (number r) (value r)) (number r) (there-new m (number r) (value r)), all_there rows (insert m (number r) (value r)))
 
+  -- the number of each row is in the map of the rows
   pub rows_there : (rows : List R) → AllByRecursion (λ r. HasValue (by_number number value rows) (number r)) rows
   rows_there rows = all_there rows empty
 
@@ -194,6 +202,7 @@ module _ {R V : Type 0} (number : R → ℕ) (value : R → V) where
   nothing_there : {P : Type 0} (n : ℕ) → HasValue (empty {X = V} {R = nat_cmp}) n → P
   nothing_there n h = none_some h.0 (sym (get-empty nat_cmp n) ∙ h.1)
 
+  -- each number in the map of rows is that of one of the rows
   pub row_of : (rows : List R) (n : ℕ) → HasValue (by_number number value rows) n → HasNumber number rows n
   row_of rows n h = elim (came_from rows empty n h) [ inl row ↦ row | inr there ↦ nothing_there n there ]
 
@@ -201,6 +210,7 @@ module _ {R V : Type 0} (number : R → ℕ) (value : R → V) where
   count [] = refl
   count (r ∷ rows) = ap suc (count rows)
 
+  -- the map of rows with different numbers has as many numbers as there are rows
   pub same_count : (rows : List R) → HaveDistinctNumbers number rows → len (by_number number value rows) ≡ length rows
   same_count rows h =
       let es = entries (by_number number value rows) in

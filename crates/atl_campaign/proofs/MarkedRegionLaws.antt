@@ -13,12 +13,14 @@ use Rattle.atl_campaign.specs.Marks.{AreStocksWithin, MarkedThings}
 use Rattle.atl_campaign.specs.Regions.{AreRegions}
 use Rattle.atl_campaign.proofs.UnitLaws.{within_both, within_more, within_things}
 
+-- an empty dirty set with room for this many marks
 abbrev nothing_marked : ℕ → RoomySet
 nothing_marked room = record { numbers = set.empty; room = room }
 
 abbrev cleared : RoomySet → RoomySet
 cleared marks = record marks { numbers = set.empty }
 
+-- the dirty set with region n added, if there is one
 abbrev with_region_marked : FinMap nat_cmp Region → RoomySet → ℕ → RoomySet
 with_region_marked regions marks n = record marks { numbers = marked_with marks.numbers n (get regions n) }
 
@@ -29,16 +31,19 @@ within-none = record { stocks_within = λ q e. e; items_within = nothing }
         → set.contains {R = nat_cmp} set.empty q ≡ true
     nothing q e = absurd (false≢true (sym (ap is_some (get-empty nat_cmp q)) ∙ e))
 
+-- the invariant holds of no regions, with nothing marked and no room for marks
 pub AreRegions-none : AreRegions empty (nothing_marked 0) (nothing_marked 0) (nothing_marked 0) empty
 AreRegions-none =
     record { within = within-none; rows_fit = Room-empty Region; markets_fit = Room-empty Region; stocks_fit = Room-empty Region }
 
+-- the invariant holds of any regions with nothing marked, and room to mark each of them
 pub AreRegions-of : (regions : FinMap nat_cmp Region)
     → AreRegions regions (nothing_marked (len regions)) (nothing_marked (len regions)) (nothing_marked (len regions)) empty
 AreRegions-of regions =
     record { within = within-none; rows_fit = Room-of regions; markets_fit = Room-of regions; stocks_fit = Room-of regions }
 
 module _ (regions : FinMap nat_cmp Region) (rows markets stocks : RoomySet) (items : MarkedThings) (h : AreRegions regions rows markets stocks items) where
+  -- the invariant still holds once all marks are cleared
   pub AreRegions-without_marks : AreRegions regions (cleared rows) (cleared markets) (cleared stocks) empty
   AreRegions-without_marks = record {
     within = within-none;
@@ -47,6 +52,7 @@ module _ (regions : FinMap nat_cmp Region) (rows markets stocks : RoomySet) (ite
     stocks_fit = Room-unmarked regions stocks.numbers stocks.room h.stocks_fit;
   }
 
+  -- the invariant still holds once the row of region n is marked, if it is there
   pub AreRegions-row : (n : ℕ) → AreRegions regions (with_region_marked regions rows n) markets stocks items
   AreRegions-row n =
       record { within = h.within; rows_fit = Room-put regions rows.numbers rows.room n (get regions n) refl h.rows_fit; markets_fit = h.markets_fit; stocks_fit = h.stocks_fit }
@@ -66,6 +72,7 @@ module _ (regions : FinMap nat_cmp Region) (rows markets stocks : RoomySet) (ite
       stocks_fit = h.stocks_fit;
     }
 
+    -- the invariant still holds once all stocks of region n are marked
     pub AreRegions-stocks : AreRegions regions rows (with_region_marked regions markets n) (with_region_marked regions stocks n) items
     AreRegions-stocks = record {
       within = subst (λ o. AreStocksWithin (marked_with markets.numbers n o) (marked_with stocks.numbers n o) items) (sym is) (record {
@@ -77,6 +84,7 @@ module _ (regions : FinMap nat_cmp Region) (rows markets stocks : RoomySet) (ite
       stocks_fit = Room-put regions stocks.numbers stocks.room n (get regions n) refl h.stocks_fit;
     }
 
+  -- the invariant still holds once a region is replaced by another one under its number
   pub AreRegions-over : (n : ℕ) (r s : Region) → get regions n ≡ Some r
       → AreRegions (insert regions n s) rows markets stocks items
   AreRegions-over n r s is = record {

@@ -65,9 +65,11 @@ module _ {V : Type 0} (p : V → Bool) where
         all_further (chosen es) (chosen (e ∷ es)) (λ k h. subst (IsListed k) same (further e.0 (chosen es) (p e.1) k h)) es (each_listed es),
       )
 
+  -- each number whose value passes the test is in the list of those that pass
   pub passing_listed : (m : FinMap nat_cmp V) → Every (λ n v. p v ≡ true → IsListed n (numbers_where p m)) m
   passing_listed m = every-from_each (λ n v. p v ≡ true → IsListed n (numbers_where p m)) m (each_listed (entries m))
 
+  -- each number in the list of those that pass has a value that passes
   pub listed_passing : (m : FinMap nat_cmp V) (k : ℕ) → IsListed k (numbers_where p m)
       → (v : V) × (get m k ≡ Some v) × (p v ≡ true)
   listed_passing m k h =
@@ -75,6 +77,7 @@ module _ {V : Type 0} (p : V → Bool) where
       let (v, is, t) = passes-listed p m i 0 l in
       (v, ap (get m) (sym at) ∙ is, t)
 
+  -- if the list of the numbers that pass is empty, no value passes
   pub none_passing : (m : FinMap nat_cmp V) → numbers_where p m ≡ [] → Every (λ n v. p v ≡ false) m
   none_passing m none n v is = false_from_ne_true (p v) (λ t. subst (IsListed n) none (passing_listed m n v is t))
 
@@ -85,6 +88,7 @@ module _ {V : Type 0} (p : V → Bool) where
   true_not_false : {P : Type 0} (b : Bool) → b ≡ true → b ≡ false → P
   true_not_false b t f = cc
 
+  -- if no value passes, the list of the numbers that pass is empty
   pub nothing_listed : (m : FinMap nat_cmp V) → Every (λ n v. p v ≡ false) m → numbers_where p m ≡ []
   nothing_listed m none =
       none_listed (numbers_where p m)

@@ -1,5 +1,5 @@
 -- Laws of default names: a word and a number, as `Unit 7`, keep the rule of names. The word can be the front of a name
--- (IsFront): it has 1 to 20 bytes that may be in names, and does not begin with a space.
+-- (IsNamePrefix): it has 1 to 20 bytes that may be in names, and does not begin with a space.
 use Rattle.std.proofs.Common.{◌≡◌, ℕ, ◌+◌, ◌-◌, ◌%◌, ◌≤◌, ◌<◌, ◌==◌, ◌^◌, not, true, false, List, [], ◌∷◌, ◌++◌, length, get_or, codes, decimal, refl, sym, ap, ◌∙◌, arith, length-append, append_assoc, lit≤}
 use Rattle.std.specs.List.{list_all}
 use Rattle.std.specs.Cmp.Derive.{both_true}
@@ -59,6 +59,7 @@ module _ (word : List ℕ) (front : IsNamePrefix word) where
       let end : get_or bs (length (word ++ digits)) 0 ≡ last = ap (λ l. get_or l (length (word ++ digits)) 0) (sym whole) ∙ get_or-append_seam (word ++ digits) last [] 0 in
       both_true (ap not first) (ap (λ i. not (get_or bs i 0 == 32)) place ∙ ap (λ b. not (b == 32)) end ∙ ap not other)
 
+  -- the word with a number up to last_unit after it keeps the rule of names
   pub numbered_name_ok : (n : ℕ) → n ≤ last_unit → name_ok (word ++ decimal n) ≡ true
   numbered_name_ok n h =
       let e = decimal_ends n (omega arith) in

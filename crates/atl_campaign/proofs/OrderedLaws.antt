@@ -107,6 +107,7 @@ module _ {X : Type 0} (p : X → Bool) where
         | Greater ↦ λ l g. chosen-cons p e (put nat_cmp k v es) ∙ later_step k e.0 (p e.1) (chosen es) (chosen (put nat_cmp k v es)) (ranked k e.0 Greater (sym l)) (chosen-put_new k v h es (and_parts _ _ s).1 g) ∙ ap (put_number k) (sym (chosen-cons p e es))
       ] refl g
 
+  -- putting a value that passes under a new number k puts k into the list of the numbers that pass
   pub numbers_where-insert_new : (m : FinMap nat_cmp X) (k : ℕ) (v : X) → get m k ≡ None → p v ≡ true
       → numbers_where p (insert m k v) ≡ put_number k (numbers_where p m)
   numbers_where-insert_new m k v fresh h =
@@ -116,6 +117,7 @@ module _ {X : Type 0} (p : X → Bool) where
   removed : (m : FinMap nat_cmp X) (k : ℕ) → get (keyed.remove m k) k ≡ None
   removed m k = get-remove nat_cmp_total m k k ∙ ap (λ b. cond b None (get m k)) (key_itself k)
 
+  -- replacing a value that passes by one that doesn't takes its number k out of the list of the numbers that pass
   pub numbers_where-lost : (m : FinMap nat_cmp X) (k : ℕ) (u v : X) → get m k ≡ Some u → p u ≡ true → p v ≡ false
       → numbers_where p (insert m k v) ≡ take_number k (numbers_where p m)
   numbers_where-lost m k u v is passed fails =
@@ -124,6 +126,7 @@ module _ {X : Type 0} (p : X → Bool) where
       let after : numbers_where p (insert m k v) ≡ numbers_where p base = ap (numbers_where p) (put_over m k v) ∙ numbers_where-insert_other p base k v (removed m k) fails in
       after ∙ sym (taken_put k (numbers_where p base)) ∙ ap (take_number k) (sym before)
 
+  -- replacing a value that doesn't pass by one that does puts its number k into the list of the numbers that pass
   pub numbers_where-gained : (m : FinMap nat_cmp X) (k : ℕ) (u v : X) → get m k ≡ Some u → p u ≡ false → p v ≡ true
       → numbers_where p (insert m k v) ≡ put_number k (numbers_where p m)
   numbers_where-gained m k u v is failed passes =

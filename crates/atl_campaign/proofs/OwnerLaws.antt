@@ -14,6 +14,7 @@ use Rattle.atl_campaign.specs.Campaign.{MarkedCampaign, with_owner}
 abbrev with_units_marked : MarkedCampaign → ℕ → FinMap nat_cmp Unit → Option Unit → MarkedCampaign
 with_units_marked c n units o = record { value = record c.value { units = units }; marks = whole_marked c.marks n o }
 
+-- taking out a unit that isn't there changes nothing and marks nothing
 pub taken_none : (c : MarkedCampaign) (n : ℕ) → get c.value.units n ≡ None → c ≡ taken_marked c n
 taken_none c n none =
     sym
@@ -45,6 +46,7 @@ place_at c n r s (Some u) =
     by_test (u.structure == s) (handed_marked (handed_marked (put_marked c n r s) u.structure n (heir c.value u.structure n)) s 0 n) (put_marked c n r s)
     ∙ ap (λ d. if u.structure == s then with_position c.value n r s else d) (value-handed_twice (put_marked c n r s) u.structure n (heir c.value u.structure n) s)
 
+-- moving a unit with marks (`place_marked`) does to the campaign's value what `with_place` does
 pub place-what : (c : MarkedCampaign) (n r s : ℕ) → (place_marked c n r s).value ≡ with_place c.value n r s
 unfolding place_marked with_place
 place-what c n r s = place_at c n r s (get c.value.units n)
@@ -53,12 +55,14 @@ gone_at : (c : MarkedCampaign) (n : ℕ) (o : Option Unit) → (gone_marked_at c
 gone_at c n None = refl
 gone_at c n (Some u) = after_handover-what (taken_marked c n) u.structure n (heir c.value u.structure n)
 
+-- removing a unit with marks (`gone_marked`) does to the campaign's value what `without_unit` does
 pub gone-what : (c : MarkedCampaign) (n : ℕ) → (gone_marked c n).value ≡ without_unit c.value n
 unfolding gone_marked without_unit
 gone-what c n = gone_at c n (get c.value.units n)
 
 -- ---- where the unit is known
 
+-- moving a unit that isn't there changes nothing and marks nothing
 pub place_none : (c : MarkedCampaign) (n r s : ℕ) → get c.value.units n ≡ None → c ≡ place_marked c n r s
 unfolding place_marked
 place_none c n r s none = sym (ap (place_marked_at c n r s) none)
@@ -82,6 +86,7 @@ place_leaves c n r s u is same =
     sym
     (ap (place_marked_at c n r s) is ∙ ap (λ b. if b then put_marked c n r s else handed_marked (handed_marked (put_marked c n r s) u.structure n (heir c.value u.structure n)) s 0 n) same)
 
+-- removing a unit that isn't there changes nothing and marks nothing
 pub gone_none : (c : MarkedCampaign) (n : ℕ) → get c.value.units n ≡ None → c ≡ gone_marked c n
 unfolding gone_marked
 gone_none c n none = sym (ap (gone_marked_at c n) none)

@@ -10,6 +10,7 @@ use Rattle.atl_campaign.specs.Campaign.{MarkedCampaign, with_month, with_report,
 use Rattle.atl_campaign.proofs.CoverLaws.{Mail, Reports, Row, PartStaysMarked, KeepsUnmarked, unmarked_differs_from_put, part_by_part, put_stays}
 use Rattle.atl_records.proofs.EveryLaws.{get-insert_other}
 
+-- setting the month, with the campaign row marked, marks all that changes
 pub marks-month : (c : MarkedCampaign) (n : ℕ)
     → MarksChanges c (record { value = with_month c.value n; marks = mark_campaign_row c })
 marks-month c n =
@@ -18,6 +19,7 @@ marks-month c n =
     (λ p. elim p as (PartStaysMarked c.marks next.marks) [ Row ↦ λ k h. refl | _ ↦ λ k h. h ])
     (λ p. elim p as (KeepsUnmarked next.marks c.value next.value) [ Row ↦ λ k free. absurd (true≢false free) | _ ↦ λ k free. refl ])
 
+-- storing a faction's report, with that report marked, marks all that changes
 pub marks-report : (c : MarkedCampaign) (n : ℕ) (text : List ℕ)
     → MarksChanges c (record { value = with_report c.value n text; marks = mark_report c n })
 marks-report c n text =
@@ -48,6 +50,7 @@ module _ (marks : FinSet nat_cmp) (mail : FinMap nat_cmp (List ℕ)) where
       get-empty nat_cmp k
       ∙ none_there (contains marks k) (contains_key mail k) (get mail k) refl (sym (either k) ∙ free)
 
+-- removing all mail, with the mail of each faction that had some marked, marks all that changes
 pub marks-no_mail : (c : MarkedCampaign)
     → MarksChanges c (record { value = without_mail c.value; marks = mark_all_mail c })
 marks-no_mail c =

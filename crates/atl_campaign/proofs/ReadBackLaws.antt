@@ -29,6 +29,7 @@ use Rattle.atl_world.proofs.EntryOrderLaws.{less_by_comparison}
 
 -- ---- facts of each row, in another order
 
+-- what holds of each row holds of each row in another order
 pub each_permuted : {R : Type 0} (P : R → Type 0) (xs ys : List R) → IsPermutation xs ys → AllByRecursion P xs
     → AllByRecursion P ys
 each_permuted P xs ys h all = recursion_from_All P ys (All-permutation P xs ys h (All-from_recursion P xs all))
@@ -37,6 +38,7 @@ pub each_back : {R : Type 0} (P : R → Type 0) (xs ys : List R) → IsPermutati
     → AllByRecursion P xs
 each_back P xs ys h = each_permuted P ys xs (IsPermutation-sym xs ys h)
 
+-- all rows pass the test p if P holds of each, and rows of which P holds pass
 pub all_pass : {R : Type 0} (p : R → Bool) (P : R → Type 0) → ((r : R) → P r → p r ≡ true) → (rows : List R)
     → AllByRecursion P rows → list_all p rows ≡ true
 all_pass p P good [] h = refl
@@ -44,6 +46,7 @@ all_pass p P good (r ∷ rows) h = ap (λ b. b && list_all p rows) (good r h.0) 
 
 -- ---- numbers that are written and read
 
+-- a number that fits 32 bits, written into a row, is read as itself
 pub written_is_read : (n : ℕ) → n ≤ most_u32 → as_u32 (pos n) ≡ n
 written_is_read n h = min_small n most_u32 h
 
@@ -52,6 +55,7 @@ written_fits_u32 n h = ap pos (sym (written_is_read n h))
 
 -- ---- maps
 
+-- two maps are equal if each value of one is under the same number in the other
 pub equal_by_values : {V : Type 0} (m k : FinMap nat_cmp V) → Every (λ n v. get k n ≡ Some v) m
     → Every (λ n v. get m n ≡ Some v) k → m ≡ k
 equal_by_values {V} m k there back = same_map nat_cmp_total nat_cmp-IsAntisymmetric m k (λ n.
@@ -69,10 +73,13 @@ module _ {R V : Type 0} (number : R → ℕ) (value : R → V) where
   put_from_each P [] m all old = old
   put_from_each P (r ∷ rows) m all old = put_from_each P rows _ all.1 (every-insert P m (number r) (value r) all.0 old)
 
+  -- what holds of the number and the value of each row holds of each number of their map with its value
   pub every_by : (P : ℕ → V → Type 0) (rows : List R) → AllByRecursion (λ r. P (number r) (value r)) rows
       → Every P (by_number number value rows)
   every_by P rows all = put_from_each P rows _ all (every-empty P)
 
+  -- the map made of rows is m, if each row's value is under its number in m, and each value of m is in the map made of
+  -- rows
   pub by_number_is : (m : FinMap nat_cmp V) (rows : List R)
       → AllByRecursion (λ r. get m (number r) ≡ Some (value r)) rows
       → Every (λ n v. get (by_number number value rows) n ≡ Some v) m → by_number number value rows ≡ m
@@ -92,10 +99,12 @@ module _ {V R : Type 0} (row : ℕ → V → R) where
   each_row P [] h = tt
   each_row P (e ∷ es) h = (h.0, each_row P es h.1)
 
+  -- P holds of each row made of a map's entries, if it holds of the row of each number with its value
   pub rows_every : (P : R → Type 0) (m : FinMap nat_cmp V) → Every (λ n v. P (row n v)) m
       → AllByRecursion P (rows_by row (entries m))
   rows_every P m h = rows_each P (entries m) (each-from_every (λ n v. P (row n v)) m h)
 
+  -- P holds of the row of each number of a map with its value, if it holds of each row made of the map's entries
   pub every_row : (P : R → Type 0) (m : FinMap nat_cmp V) → AllByRecursion P (rows_by row (entries m))
       → Every (λ n v. P (row n v)) m
   every_row P m h = every-from_each (λ n v. P (row n v)) m (each_row P (entries m) h)
@@ -104,14 +113,17 @@ module _ {V R : Type 0} (row : ℕ → V → R) where
   count [] = refl
   count (e ∷ es) = ap suc (count es)
 
+  -- the rows of a map, in any order, are as many as its entries
   pub count_rows : (m : FinMap nat_cmp V) (rows : List R) → IsPermutation (rows_by row (entries m)) rows
       → length rows ≡ len m
   count_rows m rows h = length_permutation (rows_by row (entries m)) rows h ∙ count (entries m) ∙ sym (len-entries m)
 
+  -- P holds of each of the rows of a map, in any order, if it holds of the row of each number with its value
   pub rows_so : (P : R → Type 0) (m : FinMap nat_cmp V) (rows : List R) → IsPermutation (rows_by row (entries m)) rows
       → Every (λ n v. P (row n v)) m → AllByRecursion P rows
   rows_so P m rows h every = each_permuted P (rows_by row (entries m)) rows h (rows_every P m every)
 
+  -- all rows of a map, in any order, pass the test p, if the row of each number with its value does
   pub rows_pass : (p : R → Bool) (m : FinMap nat_cmp V) (rows : List R) → IsPermutation (rows_by row (entries m)) rows
       → Every (λ n v. p (row n v) ≡ true) m → list_all p rows ≡ true
   rows_pass p m rows h every = all_pass p (λ r. p r ≡ true) (λ r e. e) rows (rows_so (λ r. p r ≡ true) m rows h every)
@@ -159,6 +171,7 @@ same_key a b h =
       third = int_cmp-IsAntisymmetric a.2 b.2 (is_equal (int_cmp a.2 b.2) outer.1);
     }
 
+-- keys that differ in one of their three numbers are not the same key by `is_same_key`
 pub apart_keys : (a b : Key) → ¬ (SameKey a b) → is_same_key a b ≡ false
 apart_keys a b h =
     elim (is_same_key a b) as (λ t. is_same_key a b ≡ t → is_same_key a b ≡ false)
@@ -167,12 +180,14 @@ apart_keys a b h =
 pub pos_is_injective : (m n : ℕ) → pos m ≡ pos n → m ≡ n
 pos_is_injective m n e = cc
 
+-- keys of one number, the second of which is higher, are not the same key by `is_same_key`
 pub apart_numbers : (m n : ℕ) → m < n → is_same_key (one_key (pos m)) (one_key (pos n)) ≡ false
 apart_numbers m n l =
     apart_keys (one_key (pos m)) (one_key (pos n)) (λ k. let e = pos_is_injective m n k.first in omega arith)
 
 -- ---- rows that are listed one after another
 
+-- what holds of each element of two joined lists holds of each element of both lists
 pub each_appended : {A : Type 0} (P : A → Type 0) (xs ys : List A) → AllByRecursion P (xs ++ ys)
     → AllByRecursion P xs × AllByRecursion P ys
 each_appended P [] ys h = (tt, h)
@@ -184,6 +199,7 @@ InOrder Before [] = ⊤
 InOrder Before (x ∷ xs) = AllByRecursion (Before x) xs × InOrder Before xs
 
 module _ {A : Type 0} (e : A → A → Bool) where
+  -- two joined lists are distinct by e if both are, and no element of the first equals one of the second by e
   pub append_apart : (xs ys : List A) → IsDistinct e xs → IsDistinct e ys
       → AllByRecursion (λ x. AllByRecursion (λ y. e x y ≡ false) ys) xs → IsDistinct e (xs ++ ys)
   unfolding IsDistinct
@@ -231,6 +247,7 @@ rise_sorted : {V : Type 0} (es : List (ℕ × V)) → is_sorted nat_cmp es ≡ t
 rise_sorted [] h = tt
 rise_sorted (e ∷ es) h = (below_each e.0 es (and_parts _ _ h).0, rise_sorted es (and_parts _ _ h).1)
 
+-- the numbers of a map's entries are strictly rising
 pub entries_rise : {V : Type 0} (m : FinMap nat_cmp V) → Rise (entries m)
 entries_rise m = rise_sorted (entries m) (sorted m)
 
@@ -253,6 +270,7 @@ same_symm : (a b : Key) → is_same_key a b ≡ is_same_key b a
 same_symm =
     (eq_by_cmp_equiv (then_total (then_total (on_total (λ (t : Key). t.0) int_cmp_total) (on_total (λ (t : Key). t.1) int_cmp_total)) (on_total (λ (t : Key). t.2) int_cmp_total))).symm
 
+-- rows in another order still have distinct keys
 pub keys_permuted : {R : Type 0} (key : R → Key) (xs ys : List R) → IsPermutation xs ys
     → IsDistinct (λ a b. is_same_key (key a) (key b)) xs → HaveDistinctKeys key ys
 keys_permuted key xs ys h d =

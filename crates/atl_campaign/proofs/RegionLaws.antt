@@ -95,14 +95,17 @@ module _ {V : Type 0} where
         | Greater ↦ λ o. let l = ranked k k Greater (sym o) in absurd (omega arith)
       ] refl
 
+  -- changing the value under n by f is putting f v there, if v is that value
   pub changed-known : (f : V → V) (m : FinMap nat_cmp V) (n : ℕ) (v : V) → get m n ≡ Some v
       → with_changed_value f m n ≡ insert m n (f v)
   changed-known f m n v is = ap (with_changed_option f m n) is
 
+-- a region stays in range (IsRegion) with other peasants up to most_amount
 pub IsRegion-peasants : {w : WorldValue} {n : ℕ} (r : Region) (peasants : ℕ) → peasants ≤ most_amount → IsRegion w n r
     → IsRegion w n (record r { peasants = peasants })
 IsRegion-peasants r peasants few old = record { peasants = few; money = old.money; stocks = old.stocks }
 
+-- a region stays in range (IsRegion) with other money up to most_amount
 pub IsRegion-money : {w : WorldValue} {n : ℕ} (r : Region) (money : ℕ) → money ≤ most_amount → IsRegion w n r
     → IsRegion w n (record r { money = money })
 IsRegion-money r money few old = record { peasants = old.peasants; money = few; stocks = old.stocks }
@@ -136,16 +139,19 @@ module _ (f : Region → Region) (c : CampaignValue) (n : ℕ) (r : Region) (is 
 
 -- ---- the books
 
+-- the campaign stays steady when any amount of one of the world's things is booked
 pub steady-amount : (w : WorldValue) (c : CampaignValue) (e : BooksEntry) (t : Thing) (n : ℤ)
     → thing_index t < thing_count w → IsSteady w c → IsSteady w (with_booking c e t n)
 steady-amount w c e t n there old =
     stocked-steady w c c.regions (after_booking c.books e t n) refl (λ k. (λ h. h, λ h. h)) old.numbers.regions old.known.markets (AreBooks-after_booking (thing_count w) c.books e t n old.numbers.books there) old
 
+-- booking changes no total: units and regions stay as they are
 pub total-booking : (c : CampaignValue) (e : BooksEntry) (u t : Thing) (n : ℤ)
     → total (with_booking c e u n) t ≡ total c t
 unfolding total
 total-booking c e u t n = refl
 
+-- booking under entry f and thing u leaves the amount of each other entry and thing as it is
 pub booking-other_amount : (books : BooksValue) (e f : BooksEntry) (t u : Thing) (n : ℤ)
     → amount_number e t ≢ amount_number f u → amount_in (after_booking books f u n) e t ≡ amount_in books e t
 booking-other_amount books e f t u n apart =

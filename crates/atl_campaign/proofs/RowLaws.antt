@@ -16,15 +16,18 @@ pos_is_injective e = cc
 
 -- for rows of which `shown` gives the amount that `row` made them with
 module _ {R : Type 0} (shown : R → ℤ) (row : ℕ → ℕ → R) (shows : (thing amount : ℕ) → shown (row thing amount) ≡ pos amount) where
+  -- an amount in front that isn't 0 gives one row more, in front
   pub amount_rows_one : (thing amount : ℕ) (es : List (ℕ × ℕ)) → amount ≢ 0
       → amount_rows shown row ((thing, amount) ∷ es) ≡ row thing amount ∷ amount_rows shown row es
   amount_rows_one thing amount es h =
       ap (λ b. cond (not b) (row thing amount ∷ amount_rows shown row es) (amount_rows shown row es)) (ap is_zero (shows thing amount) ∙ nonzero_fails_is_zero (pos amount) (λ e. h (pos_is_injective e)))
 
+-- an amount in front that isn't 0 gives one row of `has` more, in front
 pub sort_rows_one : (n sort thing amount : ℕ) (es : List (ℕ × ℕ)) → amount ≢ 0
     → rows_of_sort n sort ((thing, amount) ∷ es) ≡ has_row n sort thing amount ∷ rows_of_sort n sort es
 sort_rows_one n sort = amount_rows_one (λ r. r.amount) (has_row n sort) (λ i a. refl)
 
+-- the rows of two joined lists of accounts are the rows of the first and then those of the second
 pub rows_under-append : (books : BooksValue) (some others : List Account)
     → rows_under books (some ++ others) ≡ rows_under books some ++ rows_under books others
 rows_under-append books [] others = refl
@@ -52,6 +55,7 @@ more_under books entry n =
     ap (rows_under books) (map-range_with_len_more (λ i. (entry, thing_at i)) 0 n n (omega arith))
     ∙ rows_under-append books (accounts_under n entry) ((entry, thing_at n) ∷ [])
 
+-- if the amount of thing n under an entry isn't 0, its row comes after those of the things below n
 pub rows_under-some : (books : BooksValue) (entry : BooksEntry) (n : ℕ) → amount_in books entry (thing_at n) ≢ pos 0
     → rows_under books (accounts_under (n + 1) entry)
     ≡ rows_under books (accounts_under n entry) ++ books_row entry (thing_at n) (amount_in books entry (thing_at n)) ∷ []
@@ -60,6 +64,7 @@ rows_under-some books entry n h =
     more_under books entry n
     ∙ ap (λ rows. rows_under books (accounts_under n entry) ++ rows) (rows_under_one books (entry, thing_at n) ∙ ap (λ b. cond (not b) (books_row entry (thing_at n) z ∷ []) []) (nonzero_fails_is_zero z h))
 
+-- if the amount of thing n under an entry is 0, the things up to n have the same rows as those below n
 pub rows_under-none : (books : BooksValue) (entry : BooksEntry) (n : ℕ) → amount_in books entry (thing_at n) ≡ pos 0
     → rows_under books (accounts_under (n + 1) entry) ≡ rows_under books (accounts_under n entry)
 rows_under-none books entry n h =

@@ -18,6 +18,7 @@ use Rattle.atl_records.specs.Every.{Every, HasValue, EachEntry}
 use Rattle.atl_campaign.specs.Good.{IsNumbered}
 use Rattle.atl_records.proofs.EveryLaws.{none_some, every-from_each, each-from_every}
 
+-- whether a look-up of number n gives a value decides whether the map has one there
 pub Decides-there : {V : Type 0} (m : FinMap nat_cmp V) (n : ℕ) (b : Bool) → b ≡ is_some (get m n)
     → Decides b (HasValue m n)
 Decides-there {V} m n b is = (λ e. found (get m n) (sym is ∙ e), λ there. is ∙ ap is_some there.1)
@@ -26,6 +27,7 @@ Decides-there {V} m n b is = (λ e. found (get m n) (sym is ∙ e), λ there. is
     found None e = absurd (false≢true e)
     found (Some v) e = (v, refl)
 
+-- a borrowed look-up gives a value exactly if its copy does
 pub copied_some : {V : Type 0} (o : Option (Bor V)) → is_some (option_copied o) ≡ is_some o
 copied_some None = refl
 copied_some (Some v) = refl
@@ -75,6 +77,7 @@ module _ {V : Type 0} (P : ℕ → V → Type 0) where
 
 -- ---- the numbers that come next
 
+-- a map without a value under n gives None there
 pub free_from : {V : Type 0} (m : FinMap nat_cmp V) (n : ℕ) → ¬ (HasValue m n) → get m n ≡ None
 free_from {V} m n none =
     elim (get m n) as (λ o. get m n ≡ o → o ≡ None) [ None ↦ λ _. refl | Some v ↦ λ is. absurd (none (v, is)) ] refl
@@ -91,12 +94,15 @@ module _ {V : Type 0} (m : FinMap nat_cmp V) (next : ℕ) where
   from_one zero v first is = none_some v (sym first ∙ is)
   from_one (suc n) v first is = omega arith
 
+  -- nothing is under `next` or above it, if all numbers of the map are below `next`
   pub free_from_next : Every (λ n v. n < next) m → (n : ℕ) → next ≤ n → get m n ≡ None
   free_from_next few n l = free_from m n (λ there. let low = few n there.0 there.1 in omega (arith, low))
 
+  -- all numbers of the map are below `next`, if nothing is under `next` or above it
   pub every_before : ((n : ℕ) → next ≤ n → get m n ≡ None) → Every (λ n v. n < next) m
   every_before free n v is = before n v free is
 
+  -- a map whose numbers are all from 1 to `next - 1`, and as many as these, has exactly these numbers (IsNumbered)
   pub numbered : EachEntry (Between 1) (entries m) → next ≡ len m + 1 → IsNumbered m next
   numbered each count =
       let few = every-from_each (Between 1) m each in
@@ -106,6 +112,7 @@ module _ {V : Type 0} (m : FinMap nat_cmp V) (next : ℕ) where
         free = λ n l. free_from m n (λ there. let most = (few n there.0 there.1).1 in omega (arith, most));
       }
 
+  -- the numbers of a map that are exactly those from 1 to `next - 1` are all at least 1 and below `next`
   pub each_numbered : IsNumbered m next → EachEntry (Between 1) (entries m)
   each_numbered is =
       each-from_every (Between 1) m (λ n v there. (from_one n v is.first there, before n v is.free there))

@@ -56,6 +56,7 @@ module _ {V : Type 0} where
       ∙ ap (cond (eq_by_cmp nat_cmp q e.0) (slab.get s e.1)) (find_slot_entry s q es h.1)
       ∙ value_in_slot_cond (eq_by_cmp nat_cmp q e.0) s e.1 (find nat_cmp q es)
 
+  -- each slot to which a number of the index leads has a value, if each number has a slot of its own
   pub all_in_use : (i : FinMap nat_cmp ℕ) (s : slab.Slab V) → HaveOwnSlots i s → AreInUse (entries i) s
   all_in_use i s held = each-from_every (λ n k. is_some (slab.get s k) ≡ true) i held.in_use
 
@@ -67,6 +68,7 @@ module _ {V : Type 0} where
       ∙ find_slot_entry s q (entries i) (all_in_use i s held)
       ∙ ap (value_in_slot s) (sym (get-entries i q))
 
+  -- what the slab has in the slot to which number n leads is what the map of values has under n
   pub value_under : (i : FinMap nat_cmp ℕ) (s : slab.Slab V) (m : FinMap nat_cmp V) (n : ℕ) (o : Option ℕ)
       → HaveOwnSlots i s → values_of i s ≡ m → o ≡ get i n → value_in_slot s o ≡ get m n
   value_under i s m n o held is there = ap (value_in_slot s) there ∙ sym (get_values i s held n) ∙ ap (λ v. get v n) is
@@ -80,6 +82,7 @@ module _ {V : Type 0} where
   leads_nowhere i s n None e held h = refl
   leads_nowhere i s n (Some k) e held h = absurd (empty_slot (slab.get s k) (held.in_use n k e) h)
 
+  -- a number under which the map of values has nothing leads to no slot
   pub unindexed : (i : FinMap nat_cmp ℕ) (s : slab.Slab V) (n : ℕ) → HaveOwnSlots i s → get (values_of i s) n ≡ None
       → get i n ≡ None
   unindexed i s n held h = leads_nowhere i s n (get i n) refl held (sym (get_values i s held n) ∙ h)
@@ -101,6 +104,7 @@ module _ {V : Type 0} where
 
   -- ---- a value changed in its slot
 
+  -- each number still has a slot of its own once the value in slot k is another one, x
   pub HaveOwnSlots-changed : (i : FinMap nat_cmp ℕ) (s t : slab.Slab V) (k : ℕ) (x : V) → slab.Updates s t k (Some x)
       → HaveOwnSlots i s → HaveOwnSlots i t
   HaveOwnSlots-changed i s t k x u held = record {
@@ -111,6 +115,7 @@ module _ {V : Type 0} where
     by_one = held.by_one;
   }
 
+  -- once the slot to which n leads has the value x, the map of values has x under n, and is otherwise the same
   pub values_changed : (i : FinMap nat_cmp ℕ) (s t : slab.Slab V) (n k : ℕ) (x : V) → slab.Updates s t k (Some x)
       → HaveOwnSlots i s → get i n ≡ Some k → values_of i t ≡ insert (values_of i s) n x
   values_changed i s t n k x u held is = same_map nat_cmp_total nat_cmp-IsAntisymmetric _ _ (λ q.
@@ -122,6 +127,7 @@ module _ {V : Type 0} where
 
   -- ---- a value put in
 
+  -- each number still has a slot of its own once n leads to slot k, which was vacant and gets a value
   pub HaveOwnSlots-added : (i : FinMap nat_cmp ℕ) (s t : slab.Slab V) (n k : ℕ) (x : V) → slab.Updates s t k (Some x)
       → slab.get s k ≡ None → HaveOwnSlots i s → HaveOwnSlots (insert i n k) t
   HaveOwnSlots-added i s t n k x u vacant held = record {
@@ -155,6 +161,7 @@ module _ {V : Type 0} where
 
   -- ---- a value taken out
 
+  -- each number left still has a slot of its own once n is removed, and the slot to which it led is vacant
   pub HaveOwnSlots-removed : (i : FinMap nat_cmp ℕ) (s t : slab.Slab V) (n k : ℕ) → slab.Updates s t k None
       → get i n ≡ Some k → HaveOwnSlots i s → HaveOwnSlots (remove i n) t
   HaveOwnSlots-removed i s t n k u is held = record {
@@ -171,6 +178,7 @@ module _ {V : Type 0} where
         (sym (get-remove nat_cmp_total i n a) ∙ h);
   }
 
+  -- once n and the value in its slot are removed, the map of values has nothing under n, and is otherwise the same
   pub values_removed : (i : FinMap nat_cmp ℕ) (s t : slab.Slab V) (n k : ℕ) → slab.Updates s t k None → get i n ≡ Some k
       → HaveOwnSlots i s → values_of (remove i n) t ≡ remove (values_of i s) n
   values_removed i s t n k u is held = same_map nat_cmp_total nat_cmp-IsAntisymmetric _ _ (λ q.
@@ -181,14 +189,17 @@ module _ {V : Type 0} where
       (λ apart. kept s t k None (get i q) u (λ j h same. apart (held.by_one q n k (h ∙ ap Some same) is)))
       ∙ sym (get-remove nat_cmp_total (values_of i s) n q ∙ ap (cond (eq_by_cmp nat_cmp q n) None) (get_values i s held q)))
 
+  -- slabs with the same values in the same slots give the same map of values
   pub nothing_changed : (i : FinMap nat_cmp ℕ) (s t : slab.Slab V) → slab.SameValues s t → values_of i t ≡ values_of i s
   nothing_changed i s t same = ap from_entries (slot_entries_same (entries i) s t same)
 
+  -- each number still has a slot of its own in another slab with the same values in the same slots
   pub HaveOwnSlots-same : (i : FinMap nat_cmp ℕ) (s t : slab.Slab V) → slab.SameValues s t → HaveOwnSlots i s
       → HaveOwnSlots i t
   HaveOwnSlots-same i s t same held =
       record { in_use = λ n k h. ap is_some (same k) ∙ held.in_use n k h; by_one = held.by_one }
 
+  -- putting a value into a vacant slot and taking it out again gives a slab with the same values as before
   pub put_back : (s t r : slab.Slab V) (k : ℕ) (x : V) → slab.get s k ≡ None → slab.Updates s t k (Some x)
       → slab.Updates t r k None → slab.SameValues s r
   put_back s t r k x vacant u v j = elim (cases_eq j k) [
@@ -202,6 +213,7 @@ module _ {V : Type 0} where
     | inr l ↦ absurd (false≢true (sym (ap is_some (get_or_past s.slots k None l)) ∙ h))
   ]
 
+  -- writing x into slot k, which has a value, changes the slab in this slot alone
   pub written : (s : slab.Slab V) (k : ℕ) (x : V) → is_some (slab.get s k) ≡ true
       → slab.Updates s (slab.with_value s k x) k (Some x)
   written s k x h =
@@ -218,6 +230,7 @@ HaveOwnSlots-empty s = record {
 
 -- ---- the arena's invariant: as many slots are in use as there are numbers that lead to one
 module _ {V : Type 0} where
+  -- writing into a slot that has a value leaves as many slots in use
   pub len_written : (s : slab.Slab V) (k : ℕ) (w : V) → is_some (slab.get s k) ≡ true
       → slab.slab_len (slab.with_value s k w) ≡ slab.slab_len s
   len_written s k w h =
@@ -236,6 +249,7 @@ module _ {V : Type 0} where
       let size : len (insert i n k) ≡ len i + 1 = len-insert nat_cmp_total i n k ∙ ap (λ o. cond (is_some o) (len i) (len i + 1)) fresh in
       record { slots_used = HaveOwnSlots-added i s t n k x u vacant held.slots_used; none_idle = omega (arith, same, size, more) }
 
+  -- the arena's invariant still holds once number n and the value in its slot are removed
   pub IsArena-removed : (i : FinMap nat_cmp ℕ) (s t : slab.Slab V) (n k : ℕ) → slab.Updates s t k None
       → slab.slab_len t + 1 ≡ slab.slab_len s → get i n ≡ Some k → IsArena i s → IsArena (remove i n) t
   IsArena-removed i s t n k u less is held =
@@ -243,6 +257,7 @@ module _ {V : Type 0} where
       let size : len (remove i n) ≡ len i - 1 = len-remove nat_cmp_total i n ∙ ap (λ o. cond (is_some o) (len i - 1) (len i)) is in
       record { slots_used = HaveOwnSlots-removed i s t n k u is held.slots_used; none_idle = omega (arith, same, size, less) }
 
+  -- the arena's invariant still holds once the value in a slot is replaced by another one
   pub IsArena-changed : (i : FinMap nat_cmp ℕ) (s : slab.Slab V) (k : ℕ) (w : V) → is_some (slab.get s k) ≡ true
       → IsArena i s → IsArena i (slab.with_value s k w)
   IsArena-changed i s k w used held =
@@ -263,6 +278,7 @@ pub on_err : {A E P : Type 0} (r : Result A E) → P → OnErr r P
 on_err (Ok a) p = tt
 on_err (Err e) p = p
 
+-- two loans of the same value are equal if what is left after each written value is the same
 pub lent_same : {N W D E : Type 0} (n : N) (F G : W → D) → ((w : W) → F w ≡ G w)
     → ◌≡◌ {A = (N × (W → D)) ⊎ E} (inl (n, F)) (inl (n, G))
 lent_same n F G h j = inl (n, λ w. h w j)
@@ -275,6 +291,7 @@ less_than_each_key k [] h = tt
 less_than_each_key k (e ∷ es) h =
     (is_less (nat_cmp k e.0) (and_parts _ _ h).0, less_than_each_key k es (and_parts _ _ h).1)
 
+-- the keys of sorted entries rise strictly
 pub keys_rise : {V : Type 0} (es : List (ℕ × V)) → is_sorted nat_cmp es ≡ true → IsStrictlySortedBy nat_cmp (keys_of es)
 unfolding IsStrictlySortedBy
 keys_rise [] h = tt
@@ -291,11 +308,13 @@ module _ {V : Type 0} (s : slab.Slab V) where
   keys_of_slot_entries (e ∷ es) h =
       key_step e.0 (slab.get s e.1) (slot_entries es s) h.0 ∙ ap (λ ns. e.0 ∷ ns) (keys_of_slot_entries es h.1)
 
+  -- the entries of the map of values are those of the index, with the values in their slots
   pub entries_values : (i : FinMap nat_cmp ℕ) → HaveOwnSlots i s → entries (values_of i s) ≡ slot_entries (entries i) s
   entries_values i held =
       entries_of (slot_entries (entries i) s)
       (rw (keys_of_slot_entries (entries i) (all_in_use i s held)) (keys_rise (entries i) (sorted i)))
 
+  -- the map of values has as many numbers as the index
   pub len_values : (i : FinMap nat_cmp ℕ) → HaveOwnSlots i s → len (values_of i s) ≡ len i
   len_values i held =
       len-entries (values_of i s) ∙ ap length (entries_values i held)

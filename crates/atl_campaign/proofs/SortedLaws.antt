@@ -23,6 +23,7 @@ rises (x ∷ xs) (suc i) (suc j) d h le l = rises xs i j d h.1 (omega arith) (om
 less_by_transitivity : (a b n : ℕ) → a ≤ b → nat_lt b n ≡ true → nat_lt a n ≡ true
 less_by_transitivity a b n le h = grind (arith, nat_tests)
 
+-- in a sorted list the numbers below n all come before the others
 pub sorted_is_partitioned : (n : ℕ) (xs : List ℕ) → IsSorted xs → IsPartitionedBy (λ y. nat_lt y n) xs
 sorted_is_partitioned n xs h i j d le l e =
     less_by_transitivity (get_or xs i d) (get_or xs j d) n (rises xs i j d h le l) e

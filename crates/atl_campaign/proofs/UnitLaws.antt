@@ -32,18 +32,21 @@ either_there : {V : Type 0} (b : Bool) (v : V) (o : Option V) (d : Bool) → (is
 either_there true v o d h e = refl
 either_there false v o d h e = h e
 
+-- if all numbers in the dirty set g are in r too, this is so after n is put into both
 pub within_both : (g r : set.FinSet nat_cmp) (n : ℕ) → ((q : ℕ) → set.contains g q ≡ true → set.contains r q ≡ true)
     → (q : ℕ) → set.contains (set.insert g n) q ≡ true → set.contains (set.insert r n) q ≡ true
 within_both g r n h q e =
     set.contains-insert nat_cmp_total r n q
     ∙ or_keeps_implication (eq_by_cmp nat_cmp q n) (set.contains g q) (set.contains r q) (h q) (sym (set.contains-insert nat_cmp_total g n q) ∙ e)
 
+-- all numbers that are marked in some way are still in the dirty set r once n is put into it
 pub within_more : (marked : ℕ → Bool) (r : set.FinSet nat_cmp) (n : ℕ)
     → ((q : ℕ) → marked q ≡ true → set.contains r q ≡ true) → (q : ℕ) → marked q ≡ true
     → set.contains (set.insert r n) q ≡ true
 within_more marked r n h q e =
     set.contains-insert nat_cmp_total r n q ∙ or_right (eq_by_cmp nat_cmp q n) (set.contains r q) (h q e)
 
+-- if all numbers under which g has something are in the dirty set r, this is so after n comes to both
 pub within_things : {V : Type 0} (g : FinMap nat_cmp V) (r : set.FinSet nat_cmp) (n : ℕ) (v : V)
     → ((q : ℕ) → is_some (get g q) ≡ true → set.contains r q ≡ true) → (q : ℕ) → is_some (get (insert g n v) q) ≡ true
     → set.contains (set.insert r n) q ≡ true
@@ -102,13 +105,16 @@ with_number_marked marks n = record marks { numbers = set.insert marks.numbers n
 abbrev cleared : RoomySet → RoomySet
 cleared marks = record marks { numbers = set.empty }
 
+-- an empty dirty set with room for this many marks
 abbrev nothing_marked : ℕ → RoomySet
 nothing_marked room = record { numbers = set.empty; room = room }
 
+-- the invariant holds of no units, with nothing marked and no room for marks
 pub AreUnits-none : AreUnits empty (nothing_marked 0) (nothing_marked 0) (nothing_marked 0) empty empty
 AreUnits-none =
     record { within = within-none; marks_fit = Room-empty Unit; rows_fit = Room-empty Unit; goods_fit = Room-empty Unit }
 
+-- the invariant holds of any units with nothing marked, and room to mark each of them
 pub AreUnits-of : (units : FinMap nat_cmp Unit)
     → AreUnits units (nothing_marked (len units)) (nothing_marked (len units)) (nothing_marked (len units)) empty empty
 AreUnits-of units =
@@ -119,6 +125,7 @@ module _ (units : FinMap nat_cmp Unit) (marks rows goods : RoomySet) (items skil
   abbrev Before : Type 0
   Before = AreUnits units marks rows goods items skills
 
+  -- the invariant still holds once all marks are cleared
   pub AreUnits-without_marks : Before → AreUnits units (cleared marks) (cleared rows) (cleared goods) empty empty
   AreUnits-without_marks h = record {
     within = within-none;
@@ -138,6 +145,7 @@ module _ (units : FinMap nat_cmp Unit) (marks rows goods : RoomySet) (items skil
     goods_fit = Room-lent units goods.numbers goods.room n (Some u) w is refl h.goods_fit;
   }
 
+  -- the invariant still holds once a unit is replaced, and it and its row are marked
   pub AreUnits-row : (n : ℕ) (u w : Unit) → get units n ≡ Some u → Before
       → AreUnits (insert units n w) (with_number_marked marks n) (with_number_marked rows n) goods items skills
   AreUnits-row n u w is h = record {
@@ -147,6 +155,7 @@ module _ (units : FinMap nat_cmp Unit) (marks rows goods : RoomySet) (items skil
     goods_fit = Room-over units goods.numbers goods.room n w (ap is_some is) h.goods_fit;
   }
 
+  -- the invariant still holds once a unit is replaced, and it and single items of it are marked
   pub AreUnits-item : (n : ℕ) (u w : Unit) (group : FinMap nat_cmp (Prim.Unit {0})) → get units n ≡ Some u → Before
       → AreUnits (insert units n w) (with_number_marked marks n) rows goods (insert items n group) skills
   AreUnits-item n u w group is h = record {
@@ -156,6 +165,7 @@ module _ (units : FinMap nat_cmp Unit) (marks rows goods : RoomySet) (items skil
     goods_fit = Room-over units goods.numbers goods.room n w (ap is_some is) h.goods_fit;
   }
 
+  -- the invariant still holds once a unit is replaced, and it and single skills of it are marked
   pub AreUnits-skill : (n : ℕ) (u w : Unit) (group : FinMap nat_cmp (Prim.Unit {0})) → get units n ≡ Some u → Before
       → AreUnits (insert units n w) (with_number_marked marks n) rows goods items (insert skills n group)
   AreUnits-skill n u w group is h = record {
@@ -175,6 +185,7 @@ module _ (units : FinMap nat_cmp Unit) (marks rows goods : RoomySet) (items skil
     goods_fit = Room-without units goods.numbers goods.room n (Some u) is h.goods_fit;
   }
 
+  -- the invariant still holds once a unit is removed, and it, its row and its goods are marked
   pub AreUnits-gone : (n : ℕ) → is_some (get units n) ≡ true → Before
       → AreUnits (remove units n) (with_number_marked marks n) (with_number_marked rows n) (with_number_marked goods n) items skills
   AreUnits-gone n there h = gone_at n (get units n) refl there h
@@ -190,6 +201,7 @@ room_inserted : (units : FinMap nat_cmp Unit) (marks more : RoomySet) (n : ℕ) 
     → set.len more.numbers + len (insert units n w) ≤ more.room
 room_inserted units marks more n w h = let l = insert_adds_at_most_one units n w in let as_many = ap set.len h.same in omega (arith, h.room, l, as_many)
 
+-- a dirty set that has room for one unit more (IsWider) has room for the mark of a new unit
 pub fits-new : (units : FinMap nat_cmp Unit) (marks more : RoomySet) (n : ℕ) (w : Unit) → IsWider units marks more
     → set.len (set.insert more.numbers n) ≤ more.room
 fits-new units marks more n w h = fits-inserted units more.numbers more.room n w (room_inserted units marks more n w h)
@@ -222,6 +234,7 @@ module _ (r : Roster) (n item amount : ℕ) where
   abbrev after : FinMap nat_cmp Unit → Option Unit → Roster
   after units o = record r { values = units; marks = marked_with r.marks n o; items = thing_marked r.items n item o }
 
+  -- setting an item to the amount that the unit has already changes nothing and marks nothing
   pub with_item_again : (u : Unit) → get r.values n ≡ Some u → has_amount u.holding.items item amount ≡ true
       → with_item_at with_other r n item amount ≡ r
   with_item_again u is has =

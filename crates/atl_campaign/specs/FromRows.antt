@@ -49,12 +49,14 @@ abbrev pub structure_of : StoredStructure → Structure
 structure_of r =
     record { kind = as_u16 r.kind; name = r.name; region = as_u32 r.region; done = as_u32 r.done; owner = as_u32 r.owner }
 
--- the map with each row's value put under its number, in the order of the rows; a later row replaces an earlier one
+-- the map with each row's value put under its number, in the order of the rows, so a later row replaces an earlier one;
+-- the functions `number` and `value` give a row's number and its value
 abbrev pub put_rows : {R V : Type 0} → (R → ℕ) → (R → V) → List R → FinMap nat_cmp V → FinMap nat_cmp V
 put_rows number value [] m = m
 put_rows number value (r ∷ rs) m = put_rows number value rs (insert m (number r) (value r))
 
--- the values of rows by their numbers; of several rows with one number the last counts
+-- the values of rows by their numbers, as the functions `value` and `number` give them; of several rows with one number
+-- the last counts
 abbrev pub by_number : {R V : Type 0} → (R → ℕ) → (R → V) → List R → FinMap nat_cmp V
 by_number number value rows = put_rows number value rows empty
 
@@ -126,7 +128,8 @@ no_campaign_row = record {
 abbrev pub campaign_row_of : Parts → StoredCampaignRow
 campaign_row_of p = slice_index_or p.campaign 0 no_campaign_row
 
--- the campaign that is read from rows, whether they keep the rules or not
+-- the campaign that is read from rows, whether they keep the rules or not; the world says how many things its books
+-- have
 unfoldable pub campaign_of : WorldValue → Parts → CampaignValue
 campaign_of w p = record {
   month = as_u32 (campaign_row_of p).month;

@@ -1,4 +1,5 @@
--- The invariants of a campaign: after each command, and within a month. Each record is one rule.
+-- The rules of a campaign, and which of them hold when: between commands (IsGood), after a join whose report isn't
+-- stored yet (IsSound), and within a month (IsSteady). Up to the phase RECRUIT it is IsEarly too.
 -- See docs/FORMATS.md, "Rules of the tables".
 use Rattle.std.specs.Prelude.{◌≡◌, ◌≢◌, ◌≤◌, ◌<◌, ◌+◌, ◌*◌, ◌&&◌, ◌↔◌, ℕ, Bool, List, [], IsTrue, true, false, nat_lt, length, Some, None, IsSome}
 use Rattle.std.specs.Ordering.{nat_cmp}
@@ -97,8 +98,8 @@ pub record AreNamed (c : CampaignValue) : Type 0 where
 
 -- ---- of what is named by its number: all of it exists
 
--- a unit's faction and region are among the given ones, and its items and skills exist in the world. Its structure,
--- unless that is 0 (none), is among the given ones, and in the unit's region.
+-- all that a unit names by number exists: its faction, region and structure are among the given ones, its items and
+-- skills in the world. The structure is in the unit's region; 0 is no structure.
 pub record IsPlacedAmong (w : WorldValue) (factions : FinMap nat_cmp Faction) (regions : FinMap nat_cmp Region)
     (structures : FinMap nat_cmp Structure) (u : Unit) : Type 0 where
   -- the unit's faction exists
@@ -112,13 +113,13 @@ pub record IsPlacedAmong (w : WorldValue) (factions : FinMap nat_cmp Faction) (r
   -- each skill that is listed of the unit exists in the world
   pub skills : Every (λ s days. s < length w.skills) u.holding.days
 
--- a unit's faction and region exist in the campaign, and its items and skills in the world; its structure, unless that
--- is 0 (none), exists and is in the unit's region
+-- all that a unit names by number exists: its faction, region and structure in the campaign, its items and skills in
+-- the world. The structure is in the unit's region; 0 is no structure.
 abbrev pub IsPlaced : WorldValue → CampaignValue → Unit → Type 0
 IsPlaced w c u = IsPlacedAmong w c.factions c.regions c.structures u
 
--- a structure's kind exists in the world, and its region is among the given ones; its owner, unless that is 0 (nobody),
--- is one of the given units
+-- all that a structure names by number exists: its kind in the world, its region among the given ones, and its owner,
+-- unless 0 (nobody), among the given units
 pub record IsBuiltAmong (w : WorldValue) (regions : FinMap nat_cmp Region) (units : FinMap nat_cmp Unit)
     (s : Structure) : Type 0 where
   -- the structure's kind exists in the world
@@ -128,8 +129,8 @@ pub record IsBuiltAmong (w : WorldValue) (regions : FinMap nat_cmp Region) (unit
   -- the structure's owner, unless 0 (nobody), is a unit that exists
   pub owner : s.owner ≢ 0 → HasValue units s.owner
 
--- a structure's kind exists in the world, and its region in the campaign; its owner, unless that is 0 (nobody), is a
--- unit of the campaign
+-- all that a structure names by number exists: its kind in the world, its region in the campaign, and its owner,
+-- unless 0 (nobody), among the campaign's units
 abbrev pub IsBuilt : WorldValue → CampaignValue → Structure → Type 0
 IsBuilt w c s = IsBuiltAmong w c.regions c.units s
 
@@ -238,7 +239,7 @@ pub record AreAfloat (w : WorldValue) (c : CampaignValue) : Type 0 where
 abbrev pub guards : Unit → Bool
 guards u = u.holding.guard && nat_lt 0 u.holding.men
 
--- in each region, all units that pass the test are of one faction
+-- in each region, all units that pass the test, which says who counts as a guard, are of one faction
 abbrev pub AreOfOneFaction : (Unit → Bool) → CampaignValue → Type 0
 AreOfOneFaction test c =
     Every (λ n u. Every (λ m v. test u ≡ true → test v ≡ true → u.region ≡ v.region → u.faction ≡ v.faction) c.units) c.units
@@ -255,14 +256,16 @@ AreReported c = Every (λ n f. HasValue c.reports n) c.factions
 
 -- ---- of stocks
 
--- no region has anything in stock
+-- No region has anything in stock. This is no rule of campaigns: only a campaign of the first format has to be so, as
+-- that has no table of markets.
 abbrev pub HasNoStocks : CampaignValue → Type 0
 HasNoStocks c = Every (λ n r. r.stocks ≡ empty) c.regions
 
 -- ---- the campaigns
 
--- a campaign within a month: the rules on numbers, names, days, owners, water and guards hold, and gone factions
--- have no units. Unlike in a good campaign, a unit may have no men, and a faction without units needn't be gone yet.
+-- a campaign within a month: the rules on numbers, names, what is named by number, next numbers, days, owners, water
+-- and guards hold, and gone factions have no units. Unlike in a good campaign, a unit may have no men, and a faction
+-- without units needn't be gone yet.
 pub record IsSteady (w : WorldValue) (c : CampaignValue) : Type 0 where
   -- there are not too many factions, regions, units and structures, and all numbers are in their ranges
   pub numbers : AreInRange w c
@@ -283,7 +286,8 @@ pub record IsSteady (w : WorldValue) (c : CampaignValue) : Type 0 where
   -- all units of a region that guard, which takes the flag and men, are of one faction
   pub guarded : AreOfOneFaction guards c
 
--- a steady campaign in which all guard flags set in a region are of one faction, also those of units without men
+-- a steady campaign in which all guard flags set in a region are of one faction, also those of units without men; the
+-- phases up to RECRUIT need and leave it so
 pub record IsEarly (w : WorldValue) (c : CampaignValue) : Type 0 where
   pub steady : IsSteady w c
   -- all units of a region whose guard flags are set, with men or without, are of one faction
@@ -303,7 +307,7 @@ pub record IsSound (w : WorldValue) (c : CampaignValue) : Type 0 where
   -- each mail is of a faction that is there and not gone, is short enough, and has the faction's number in its header
   pub mail : HasValidMail c
 
--- a good campaign, as it is between commands: a sound one in which each faction has a report
+-- a good campaign, one that keeps all rules, as it is between commands: a sound one in which each faction has a report
 pub record IsGood (w : WorldValue) (c : CampaignValue) : Type 0 where
   pub sound : IsSound w c
   pub reported : AreReported c

@@ -21,7 +21,7 @@ list_of lists k = unwrap_or (get lists k) []
 abbrev pub AreLists : (Unit → ℕ) → FinMap nat_cmp Unit → FinMap nat_cmp (List ℕ) → Type 0
 AreLists belongs_to units lists = (k : ℕ) → list_of lists k ≡ numbers_where (λ u. belongs_to u == k) units
 
--- both maps have the same list under each key
+-- both maps have the same list under each key, where a key without a list counts as one with the empty list
 abbrev pub SameLists : FinMap nat_cmp (List ℕ) → FinMap nat_cmp (List ℕ) → Type 0
 SameLists new old = (k : ℕ) → list_of new k ≡ list_of old k
 
@@ -60,7 +60,8 @@ ListsUnit n l old new =
     (units : FinMap nat_cmp Unit) (u : Unit) → list_keys_of u ≡ l → get units n ≡ None
     → AreUnitLists units old → AreUnitLists (insert units n u) new
 
--- `new` lists the same units as `old`, of units without a number n: if `old` has the lists of such units, so has `new`
+-- `new` lists the same units as `old`, of units without a number n: if `old` has the lists of such units, so has `new`.
+-- This is what holds when unit n can't be added for want of memory.
 abbrev pub KeepsLists : ℕ → UnitLists → UnitLists → Type 0
 KeepsLists n old new = (units : FinMap nat_cmp Unit) → get units n ≡ None → AreUnitLists units old → AreUnitLists units new
 
@@ -71,7 +72,8 @@ UnlistsUnit n l old new =
     (units : FinMap nat_cmp Unit) (u : Unit) → list_keys_of u ≡ l → get units n ≡ Some u
     → AreUnitLists units old → AreUnitLists (remove units n) new
 
--- `new` lists the same units as `old`: if `old` has the lists of some units, so has `new`
+-- `new` lists the same units as `old`: if `old` has the lists of some units, so has `new`. This is what holds when a
+-- unit can't be moved for want of memory.
 abbrev pub KeepsAll : UnitLists → UnitLists → Type 0
 KeepsAll old new = (units : FinMap nat_cmp Unit) → AreUnitLists units old → AreUnitLists units new
 

@@ -22,7 +22,7 @@ with_holding c n h = with_holding_at c n h (get c.units n)
 abbrev pub after_loan : MarkedCampaign → ℕ → HoldingValue → MarkedCampaign
 after_loan c n h = record { value = with_holding c.value n h; marks = mark_unit c n }
 
--- after a loan r of unit n's holding, campaign c has r's last value there, and the unit, row and goods are marked.
--- Without a loan c is unchanged.
+-- after a loan r of unit n's holding, which `unit_mut` returns, campaign c has r's last value there, and the unit, row
+-- and goods are marked. Without a loan (None) c is unchanged.
 abbrev pub LendsHolding : MutBor MarkedCampaign → ℕ → Option (MutBor HoldingValue) → Fml
 LendsHolding c n r = LendsIf the_row holding.the_row c r (after_loan c.now n) c.now

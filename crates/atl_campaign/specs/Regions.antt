@@ -41,7 +41,8 @@ unmarked_regions values = record { values = values; rows = set.empty; markets = 
 abbrev pub number_in : (of : Region → ℕ) → map.FinMap nat_cmp Region → ℕ → ℕ
 number_in of values n = option_map_or of (map.get values n) 0
 
--- region n, if there is one and its number, which `of` reads, is another than x; else None
+-- the region whose row a change of a number marks: region n, if there is one and its number, which `of` reads, is
+-- another than the new number x; else None
 abbrev pub region_to_set : (of : Region → ℕ) → map.FinMap nat_cmp Region → ℕ → ℕ → Option Region
 region_to_set of values n x = if number_in of values n == x then None else map.get values n
 
@@ -72,7 +73,8 @@ with_item_marked r n item = with_item_marked_in r n item (map.get r.values n)
 abbrev pub with_stocks_marked : MarkedRegions → (region : ℕ) → MarkedRegions
 with_stocks_marked r n = with_stocks_marked_in r n (map.get r.values n)
 
--- region n, if there is one and its stock of an item is another than `amount`; else None
+-- the region of which a change of stock marks a stock: region n, if there is one and its stock of an item is another
+-- than the new one, `amount`; else None
 abbrev pub region_to_restock : map.FinMap nat_cmp Region → (region item : ℕ) → ℕ → Option Region
 region_to_restock values n item amount = if stock_in values n item == amount then None else map.get values n
 

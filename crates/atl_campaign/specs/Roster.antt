@@ -70,7 +70,8 @@ abbrev pub unit_if_other_amount : (item amount : ℕ) → Option Unit → Option
 unit_if_other_amount item amount None = None
 unit_if_other_amount item amount (Some u) = if has_amount u.holding.items item amount then None else Some u
 
--- unit n, if there is one and it has another amount of an item than `amount`; else None
+-- the unit of which a change of an item marks that item: unit n, if there is one and it has another amount of it than
+-- the new one, `amount`; else None
 abbrev pub unit_to_supply : map.FinMap nat_cmp Unit → (unit item : ℕ) → ℕ → Option Unit
 unit_to_supply values n item amount = unit_if_other_amount item amount (map.get values n)
 

@@ -77,7 +77,8 @@ unit_in_range r =
 abbrev pub has_in_range : StoredHas → Bool
 has_in_range r = is_from 1 1 r.sort || (is_from 0 0 r.sort && is_from 1 holding_limit r.amount)
 
--- whether the number of a row of `structure` is 1 to 10,000, and how much of it is done 1 to its kind's size
+-- Whether the number of a row of `structure` is 1 to 10,000, and how much of it is done 1 to its kind's size. A kind
+-- that the world doesn't have counts as one of size 999,999.
 abbrev pub structure_in_range : WorldValue → StoredStructure → Bool
 structure_in_range w r = is_from 1 most_structures r.number && is_from 1 (size_of w (as_u16 r.kind)) r.done
 

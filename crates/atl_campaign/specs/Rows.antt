@@ -98,11 +98,12 @@ books_row entry thing amount = record { entry = pos (entry_index entry + 1); thi
 abbrev pub market_row : ℕ → ℕ → ℕ → StoredMarket
 market_row region item stock = record { region = pos region; item = pos item; stock = pos stock }
 
--- a row for each of the given entries of a map, in their order
+-- a row for each of the given entries of a map, in their order; `row` makes it of the entry's number and value
 abbrev pub rows_by : {V R : Type 0} → (ℕ → V → R) → List (ℕ × V) → List R
 rows_by row es = map (λ e. row e.0 e.1) es
 
--- a row for each listed pair of a thing and its amount, in their order, but none that shows the amount 0
+-- a row for each listed pair of a thing and its amount, in their order, but none that shows the amount 0; `row` makes
+-- it of the pair, and `amount` reads the amount that it shows
 abbrev pub amount_rows : {R : Type 0} → (R → ℤ) → (ℕ → ℕ → R) → List (ℕ × ℕ) → List R
 amount_rows amount row es = filter (λ r. not (is_zero (amount r))) (rows_by row es)
 

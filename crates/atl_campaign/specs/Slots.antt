@@ -32,4 +32,5 @@ module _ {V : Type 0} where
   -- each number of the index leads to a slot of its own that has a value, and no other slot has one
   pub record IsArena (i : FinMap nat_cmp ℕ) (s : slab.Slab V) : Type 0 where
     pub slots_used : HaveOwnSlots i s
+    -- as many slots have a value as there are numbers in the index
     pub none_idle : slab.slab_len s ≡ len i

@@ -8,13 +8,13 @@ use Rattle.atl_records.specs.contracts.records.Unit as unit
 use Rattle.atl_campaign.specs.contracts.units.Units.{the_row}
 use Rattle.atl_campaign.specs.Roster.{Roster, with_unit_at}
 
--- after a loan u of unit n, roster r has u's last value under n, and the unit, its row and all its goods are marked.
--- Without a loan r is unchanged.
+-- after a loan u of unit n, which `get_mut` returns, roster r has u's last value under n, and the unit, its row and all
+-- its goods are marked. Without a loan (None) r is unchanged.
 abbrev pub LendsUnit : MutBor Roster → ℕ → Option (MutBor Unit) → Fml
 LendsUnit r n u = LendsIf the_row unit.the_row r u (with_unit_at r.now n) r.now
 
--- after a loan u of unit n, roster r has u's last value under n, and the unit and its row are marked.
--- Without a loan r is unchanged.
+-- after a loan u of unit n, which `row_mut` returns, roster r has u's last value under n, and the unit and its row are
+-- marked, none of its goods. Without a loan (None) r is unchanged.
 abbrev pub LendsRow : MutBor Roster → ℕ → Option (MutBor Unit) → Fml
 LendsRow r n u =
     LendsIf the_row unit.the_row r u

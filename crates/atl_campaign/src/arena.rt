@@ -62,6 +62,7 @@ impl<V: Drop> Arena<V> {
         Ok(Self { index, slots })
     }
 
+    /// The value under a number; None where there is none.
     pub(crate) fn get(&self, number: u32) -> Option<&V>
         ensures { option_copied result ≡ map.get self.now number }
     {
@@ -132,6 +133,7 @@ impl<V: Drop> Arena<V> {
         }
     }
 
+    /// How many numbers have a value: few enough that one more can be counted.
     pub(crate) fn len(&self) -> usize
         ensures value { result ≡ map.len self.now }
         ensures small { result < 2 ^ 63 }

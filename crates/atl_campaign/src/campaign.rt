@@ -186,6 +186,7 @@ impl Campaign {
         self.regions.iter()
     }
 
+    /// How many regions there are, in a good campaign as many as the world has.
     pub fn region_count(&self) -> usize
         ensures { result ≡ map.len self.now.value.regions }
     {

@@ -104,6 +104,7 @@ impl Index {
         }
     }
 
+    /// How many numbers lead to a slot: few enough that one more can be counted.
     pub(crate) fn len(&self) -> usize
         ensures value { result ≡ map.len self.now }
         ensures small { result < 2 ^ 63 }

@@ -31,6 +31,7 @@ pub(crate) struct ListKeys {
     pub(crate) structure: u32,
 }
 
+/// The keys of the lists that a unit is in.
 pub(crate) fn list_keys_of(unit: &Unit) -> ListKeys
     ensures { result ≡ list_keys_of unit.now }
 {
@@ -42,6 +43,7 @@ pub(crate) fn list_keys_of(unit: &Unit) -> ListKeys
 }
 
 impl UnitLists {
+    /// The lists of no units: none is there yet. It takes no memory.
     pub(crate) fn new(alloc: Global) -> UnitLists
         ensures { AreUnitLists map.empty result }
     {

@@ -236,7 +236,7 @@ impl Regions {
         }
     }
 
-    /// Sets how much money a region has, if it is there, and marks its row if it had another amount.
+    /// Sets how much money a region has, if it is there, and marks its row if it had more or less.
     /// It takes no memory.
     pub(crate) fn set_money(&mut self, number: u32, money: u32)
         ensures { self.new ≡ with_region_number (λ r. r.money) (λ r. record r { money = money })

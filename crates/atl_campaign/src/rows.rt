@@ -107,6 +107,7 @@ fn structure_row(
     })
 }
 
+/// The only row of the table `campaign`.
 fn campaign_rows(
     alloc: Global,
     format: Format,
@@ -130,6 +131,7 @@ fn faction_rows(alloc: Global, campaign: &Campaign) -> Result<Sequence<StoredFac
     Ok(rows)
 }
 
+/// The rows of the table `region`, by the regions' numbers, without the stocks.
 fn region_rows(alloc: Global, campaign: &Campaign) -> Result<Sequence<StoredRegion>, AllocError>
     ensures { IfOk result (λ rows. rows
         ≡ rows_by region_row (map.entries campaign.now.value.regions)) }
@@ -145,6 +147,7 @@ fn region_rows(alloc: Global, campaign: &Campaign) -> Result<Sequence<StoredRegi
     Ok(rows)
 }
 
+/// The rows of the table `unit`, by the units' numbers, without items and days of study.
 fn unit_rows(alloc: Global, campaign: &Campaign) -> Result<Sequence<StoredUnit>, AllocError>
     ensures { IfOk result (λ rows. rows ≡ rows_by unit_row (map.entries campaign.now.value.units)) }
 {
@@ -169,6 +172,7 @@ fn structure_rows(
     Ok(rows)
 }
 
+/// The rows of the table `mail`, by the numbers of the factions that sent it.
 fn mail_rows(alloc: Global, campaign: &Campaign) -> Result<Sequence<StoredMail>, AllocError>
     ensures { IfOk result (λ rows. rows ≡ rows_by mail_row (map.entries campaign.now.value.mail)) }
 {
@@ -181,6 +185,7 @@ fn mail_rows(alloc: Global, campaign: &Campaign) -> Result<Sequence<StoredMail>,
     Ok(rows)
 }
 
+/// The rows of the table `report`, by the numbers of the factions that they are for.
 fn report_rows(alloc: Global, campaign: &Campaign) -> Result<Sequence<StoredReport>, AllocError>
     ensures { IfOk result (λ rows. rows
         ≡ rows_by report_row (map.entries campaign.now.value.reports)) }
@@ -254,6 +259,7 @@ fn market_row(region: u32, item: u32, stock: u32) -> StoredMarket
     }
 }
 
+/// Adds a row of `market` for each item of which a region has more than 0 in stock.
 fn add_stocks(
     rows: &mut Sequence<StoredMarket>,
     region: u32,
@@ -269,6 +275,7 @@ fn add_stocks(
     Ok(())
 }
 
+/// The rows of the table `market`, which only the second format has, by region and item.
 fn stocks_rows(alloc: Global, campaign: &Campaign) -> Result<Sequence<StoredMarket>, AllocError>
     ensures { IfOk result (λ rows. rows
         ≡ market_rows Second (map.entries campaign.now.value.regions)) }
@@ -305,6 +312,8 @@ fn books_row(entry: BooksEntry, thing: Thing, amount: i64) -> StoredBooks
     }
 }
 
+/// Adds a row of `books` for each thing of which the amount under an entry is not 0, in the order
+/// of the things. `things` is how many things the books have.
 fn add_entry(
     rows: &mut Sequence<StoredBooks>,
     books: &Books,

@@ -38,6 +38,7 @@ each_row P [] h = tt
 each_row P (x ∷ es) h = (h.0, each_row P es h.1)
 
 module _ (books : BooksValue) where
+  -- P holds of each row of `books` if it holds of the row of each amount that the books list
   pub lines_each : (P : StoredBooks → Type 0)
       → ((e : BooksEntry) (t : Thing) (z : ℤ) → get books.amounts (e, t) ≡ Some z → P (books_row e t z))
       → AllByRecursion P (books_rows books)
@@ -45,6 +46,7 @@ module _ (books : BooksValue) where
       rows_each P (entries books.amounts)
       (each_amount (λ a z. P (books_row a.0 a.1 z)) books.amounts (λ a z is. h a.0 a.1 z is))
 
+  -- P holds of the row of each amount that the books list, if it holds of each row of `books`
   pub line_at : (P : StoredBooks → Type 0) → AllByRecursion P (books_rows books) → (e : BooksEntry) (t : Thing) (z : ℤ)
       → get books.amounts (e, t) ≡ Some z → P (books_row e t z)
   line_at P h e t z is =
@@ -110,6 +112,7 @@ entries_apart [] h = tt
 entries_apart (x ∷ es) h = let parts = and_parts (below_all account_cmp x.0 es) (is_sorted account_cmp es) h in (others_apart x es parts.0, entries_apart es parts.1)
 
 module _ (things : ℕ) (few : things ≤ 4294967294) (books : BooksValue) (are : AreBooks things books) where
+  -- each row of books of `things` things is read as the account and the amount that it was written from (IsBooked)
   pub lines_booked : AllByRecursion (IsBooked things) (books_rows books)
   lines_booked =
       lines_each books (IsBooked things) (λ e t z is.
@@ -126,11 +129,13 @@ module _ (things : ℕ) (few : things ≤ 4294967294) (books : BooksValue) (are 
       })
 
   module _ (rows : List StoredBooks) (h : IsPermutation (books_rows books) rows) where
+    -- the rows of books, in any order, have distinct keys
     pub books_keys : HaveDistinctKeys books_key rows
     books_keys =
         keys_permuted books_key (books_rows books) rows h
         (entries_apart (entries books.amounts) (amounts_sorted books.amounts))
 
+    -- the rows of books, in any order, are each read as an account and an amount (IsBooked)
     pub all_booked : AllByRecursion (IsBooked things) rows
     all_booked = each_permuted (IsBooked things) (books_rows books) rows h lines_booked
 

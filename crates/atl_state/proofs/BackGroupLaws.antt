@@ -17,10 +17,12 @@ use Rattle.atl_campaign.proofs.MapOfRowsLaws.{HaveDistinctNumbers, rows_found}
 -- ---- what holds for each element of joined lists
 
 module _ {X R : Type 0} (P : R → Type 0) (f : X → List R) where
+  -- what holds of each element of the lists that f makes holds of each element of these lists joined
   pub flat_each : (xs : List X) → AllByRecursion (λ x. AllByRecursion P (f x)) xs → AllByRecursion P (flat_map f xs)
   flat_each [] h = tt
   flat_each (x ∷ xs) h = all_append P (f x) (flat_map f xs) h.0 (flat_each xs h.1)
 
+  -- what holds of each element of the joined lists holds of each element of each list that f makes
   pub each_flat : (xs : List X) → AllByRecursion P (flat_map f xs) → AllByRecursion (λ x. AllByRecursion P (f x)) xs
   each_flat [] h = tt
   each_flat (x ∷ xs) h = let both = each_appended P (f x) (flat_map f xs) h in (both.0, each_flat xs both.1)
@@ -38,12 +40,14 @@ module _ {U R : Type 0} (f : ℕ × U → List R) (P : R → Type 0) where
   each_of [] h = tt
   each_of (e ∷ es) h = (h.0, each_of es h.1)
 
+  -- P holds of all rows if it holds of the rows of each group of the map
   pub groups_each : (units : FinMap nat_cmp U) → Every (λ n u. AllByRecursion P (f (n, u))) units
       → AllByRecursion P (flat_map f (entries units))
   groups_each units h =
       flat_each P f (entries units)
       (of_each (entries units) (each-from_every (λ n u. AllByRecursion P (f (n, u))) units h))
 
+  -- P holds of the rows of each group of the map if it holds of all rows
   pub each_group : (units : FinMap nat_cmp U) → AllByRecursion P (flat_map f (entries units))
       → Every (λ n u. AllByRecursion P (f (n, u))) units
   each_group units h =
@@ -57,16 +61,19 @@ module _ {R : Type 0} (none : R → Bool) (row : ℕ → ℕ → R) (m : FinMap 
   abbrev lines : List R
   lines = filter (λ r. not (none r)) (rows_by row (entries m))
 
+  -- P holds of the rows of a map of amounts if it holds of the row of each amount that is not 0
   pub lines_each : (P : R → Type 0) → Every (λ i a. none (row i a) ≡ false → P (row i a)) m → AllByRecursion P lines
   lines_each P h =
       kept (λ r. not (none r)) P (rows_by row (entries m))
       (rows_every row (λ r. not (none r) ≡ true → P r) m (λ i a is some. h i a is (not-true (none (row i a)) some)))
 
+  -- P holds of the row of each amount that is not 0, if it holds of the rows of the map of amounts
   pub each_line : (P : R → Type 0) → AllByRecursion P lines → Every (λ i a. none (row i a) ≡ false → P (row i a)) m
   each_line P h i a is some =
       every_row row (λ r. not (none r) ≡ true → P r) m (unkept (λ r. not (none r)) P (rows_by row (entries m)) h) i a is
       (not_from_false (none (row i a)) some)
 
+  -- the rows of a map of amounts are distinct by e, if e is false of the rows of a lower and a higher number
   pub lines_apart : (e : R → R → Bool) → ((i k a b : ℕ) → i < k → e (row i a) (row k b) ≡ false) → IsDistinct e lines
   lines_apart e apart =
       filter_apart (λ r. not (none r)) e (rows_by row (entries m)) (rows_apart row e apart (entries m) (entries_rise m))
@@ -74,6 +81,7 @@ module _ {R : Type 0} (none : R → Bool) (row : ℕ → ℕ → R) (m : FinMap 
 -- ---- the amounts of a group
 
 module _ {R : Type 0} (thing amount : R → ℕ) (mine : R → Bool) (m : FinMap nat_cmp ℕ) (listed rows : List R) (same : IsPermutation listed rows) where
+  -- the map has the amount of a row under the row's thing
   abbrev IsIn : FinMap nat_cmp ℕ → R → Type 0
   IsIn k r = get k (thing r) ≡ Some (amount r)
 

@@ -45,6 +45,7 @@ module _ (units : FinMap nat_cmp Unit) where
   has_each P h = groups_each goods_rows P units (λ n u is.
       all_append P (rows_of_sort n 0 (entries u.holding.items)) (rows_of_sort n 1 (entries u.holding.days)) (lines_each has_zero_amount (has_row n 0) u.holding.items P (h n u is 0 (omega arith))) (lines_each has_zero_amount (has_row n 1) u.holding.days P (h n u is 1 (omega arith))))
 
+  -- P holds of the row of each amount, not 0, that a unit of the map has, if it holds of each row of `has`
   pub each_had : (P : StoredHas → Type 0) → AllByRecursion P (has_rows (entries units))
       → Every (λ n u. (s : ℕ) → s < 2 → Every (λ i a. is_zero (pos a) ≡ false → P (has_row n s i a)) (goods_of s u)) units
   each_had P h n u is =
@@ -88,9 +89,11 @@ module _ (units : FinMap nat_cmp Unit) where
     pub goods : Every (λ n u. (s : ℕ) → s < 2 → Every (λ i a. (i ≤ most_u32) × (1 ≤ a) × (a ≤ most_u32)) (goods_of s u)) units
 
   module _ (had : AreHad) (rows : List StoredHas) (h : IsPermutation (has_rows (entries units)) rows) where
+    -- the rows of `has`, in any order, have distinct keys
     pub has_keys : HaveDistinctKeys has_key rows
     has_keys = keys_permuted has_key (has_rows (entries units)) rows h has_apart
 
+    -- the rows of `has`, in any order, have keys that are read as they are
     pub all_keyed : AllByRecursion KeyFitsU32 rows
     all_keyed =
         each_permuted KeyFitsU32 (has_rows (entries units)) rows h (has_each KeyFitsU32 (λ n u there s few i a is some. record {

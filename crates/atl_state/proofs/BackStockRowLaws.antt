@@ -41,6 +41,7 @@ row_is_of_its_region : (n i a : ℕ) → n ≤ most_u32 → is_row_of_region n (
 row_is_of_its_region n i a few = let e = written_is_read n few in grind (arith, nat_tests)
 
 module _ (regions : FinMap nat_cmp Region) where
+  -- P holds of each row of `market` if it holds of the row of each stock that is not 0
   pub stocks_each : (P : StoredMarket → Type 0)
       → Every (λ n r. Every (λ i a. is_zero (pos a) ≡ false → P (market_row n i a)) r.stocks) regions
       → AllByRecursion P (market_rows Second (entries regions))
@@ -65,6 +66,7 @@ module _ (regions : FinMap nat_cmp Region) where
     pub stocks : Every (λ n r. Every (λ i a. (i ≤ most_u32) × (1 ≤ a) × (a ≤ most_u32)) r.stocks) regions
 
   module _ (few : AreStocked) (rows : List StoredMarket) (h : IsPermutation (market_rows Second (entries regions)) rows) where
+    -- the rows of `market`, in any order, have distinct keys
     pub market_keys : HaveDistinctKeys market_key rows
     market_keys = keys_permuted market_key (market_rows Second (entries regions)) rows h stocks_apart
 

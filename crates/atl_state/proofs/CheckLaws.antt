@@ -70,9 +70,11 @@ no_amount books listed e t l =
     ] refl
 
 module _ (f : Format) (w : WorldValue) (p : Parts) where
+  -- there is no rule below rule 1, so any rows keep all of them
   pub below_first : KeepsRulesBelow f w p 1
   below_first r h = absurd (omega (arith, rule_number_is_positive r))
 
+  -- rows that keep the rules before rule r, and r, keep the rules before the next one
   pub below_next : (r : Rule) → KeepsRulesBelow f w p (rule_number r) → KeepsRule f w p r
       → KeepsRulesBelow f w p (rule_number r + 1)
   below_next r before holds s h =
@@ -81,6 +83,7 @@ module _ (f : Format) (w : WorldValue) (p : Parts) where
         | inr apart ↦ before s (omega arith)
       ]
 
+  -- rule r is the first that is broken, if the rows keep the rules before it, and a test that decides r fails
   pub first_broken : (r : Rule) (b : Bool) → KeepsRulesBelow f w p (rule_number r) → Decides b (KeepsRule f w p r)
       → b ≡ false → IsFirstBroken f w p r
   first_broken r b before d e = record { before = before; broken = λ holds. false≢true (sym e ∙ d.1 holds) }
@@ -119,6 +122,7 @@ module _ (f : Format) (w : WorldValue) (p : Parts) where
       no_amount (with_books_rows p.books (no_amounts (thing_count w))) (each_back (λ r. is_entry_in First (as_u32 r.entry) ≡ true) (books_rows (with_books_rows p.books (no_amounts (thing_count w)))) p.books (books_said f w p rows)
       (each_passes (is_booked f w) (λ r. is_entry_in First (as_u32 r.entry) ≡ true) (λ r h. subst (λ g. is_entry_in g (as_u32 r.entry) ≡ true) is (and_parts (is_entry_in f (as_u32 r.entry)) (nat_lt (as_u32 r.thing) (thing_count w)) h).0) p.books rows.booked))
 
+  -- the campaign assembled from rows that keep all rules is one that the format can hold (Fits)
   pub checked-fits : IsWorld w → KeepsRulesBelow f w p 13 → Fits f (campaign_of w p)
   checked-fits world k =
       let rows = rows_keep world (fewer k) in
@@ -156,23 +160,29 @@ module _ (f : Format) (w : WorldValue) (p : Parts) where
   pub few-said : KeepsRulesBelow f w p 11 → IsCountable (campaign_of w p)
   few-said k = let range = AreInRange-said w p (k Ranges (omega arith)) in omega (arith, range.few_units, range.few_regions)
 
+  -- if rows keep rules 1 to 10, their books have the world's things, and list amounts of these alone
   pub books-said : KeepsRulesBelow f w p 11 → AreBooks (thing_count w) (campaign_of w p).books
   books-said k = (AreInRange-said w p (k Ranges (omega arith))).books
 
+  -- if rows keep rules 1 to 10, the units read from them have only items of the world
   pub items-said : KeepsRulesBelow f w p 11
       → Every (λ n u. Every (λ i amount. i < length w.items) u.holding.items) (campaign_of w p).units
   items-said k n u is = ((k Known (omega arith)).0.units n u is).items
 
+  -- if rows keep rules 1 to 10, the regions read from them have only items in stock that have a market there
   pub stocks-said : KeepsRulesBelow f w p 11 → Every (λ n r. AreOfMarkets w n r.stocks) (campaign_of w p).regions
   stocks-said k = (k Known (omega arith)).0.markets
 
+  -- if rows keep rules 1 to 7, each unit read from them is in a region that exists
   pub places-said : KeepsRulesBelow f w p 8
       → Every (λ n u. HasValue (campaign_of w p).regions u.region) (campaign_of w p).units
   places-said k n u is = ((k Known (omega arith)).0.units n u is).region
 
+  -- rows that keep rules 1 to 3 have exactly one campaign row
   pub one-said : KeepsRulesBelow f w p 4 → length p.campaign ≡ 1
   one-said k = only_one f p.campaign (k OneRow (omega arith)).0
 
+  -- rows that keep rules 1 to 3 have `faction`, `region`, `unit` and `has` in their ranges
   pub people-said : KeepsRulesBelow f w p 4 → first_tables_in_range p ≡ true
   people-said k =
       let head = campaign_row_in_range (campaign_row_of p) in

@@ -23,6 +23,7 @@ names_in_entries_differ (e ∷ es) s h = (
 abbrev pub AllDiffer : FinMap nat_cmp Faction → Type 0
 AllDiffer m = Every (λ n f. Every (λ k g. f.joined_as ≡ g.joined_as → n ≡ k) m) m
 
+-- if factions with the same joined name are the same one, the list of factions has no joined name twice
 pub entries_differ : (m : FinMap nat_cmp Faction) → AllDiffer m → JoinedNamesDiffer (entries m)
 entries_differ m every =
     names_in_entries_differ (entries m) (sorted m)

@@ -126,6 +126,7 @@ module _ {V R : Type 0} (row : ℕ → V → R) (key : R → ℤ) (value : R →
       ap (λ z. is_same_key (one_key z) (one_key (key (row k u)))) (keyed n v)
       ∙ ap (λ z. is_same_key (one_key (pos n)) (one_key z)) (keyed k u) ∙ apart_numbers n k l
 
+  -- the rows of a table with a key of one number, in any order, have distinct keys
   pub table_keys : HaveDistinctKeys (λ r. one_key (key r)) rows
   table_keys =
       keys_permuted (λ r. one_key (key r)) (rows_by row (entries m)) rows h
@@ -150,6 +151,7 @@ list_of_one_row x [] l all = absurd (omega (arith, l))
 list_of_one_row x (r ∷ []) l all = ap (λ s. s ∷ []) all.0
 list_of_one_row x (r ∷ s ∷ rows) l all = absurd (omega (arith, l))
 
+-- a list with the same elements as the list of x alone is that list
 pub only_row : {R : Type 0} (x : R) (rows : List R) → IsPermutation (x ∷ []) rows → rows ≡ x ∷ []
 only_row x rows h =
     list_of_one_row x rows (length_permutation (x ∷ []) rows h) (each_permuted (λ r. r ≡ x) (x ∷ []) rows h (refl, tt))
@@ -227,6 +229,7 @@ module _ (w : WorldValue) (world : IsWorld w) (c : CampaignValue) (good : IsGood
       let money : u.holding.money ≤ holding_limit = holding.money in
       unit_small_enough u faction region structure men money
 
+  -- the numbers of each structure of a good campaign fit the bits in which they are read
   pub structure_fits : Every (λ n s. StructureFits s) c.structures
   structure_fits n s is =
       let built = good.sound.steady.known.structures n s is in
@@ -239,6 +242,7 @@ module _ (w : WorldValue) (world : IsWorld w) (c : CampaignValue) (good : IsGood
       let holding = (good.sound.steady.numbers.units n u is).1 in
       goods_fit w world u placed.items placed.skills holding.items holding.men (good.sound.steady.days n u is)
 
+  -- what units of a good campaign have fits the rows of `has` (AreHad)
   pub had : AreHad c.units
   had = record { numbers = small_enough c.units last_unit (omega arith) few_units; goods = goods_few }
 
@@ -248,6 +252,7 @@ module _ (w : WorldValue) (world : IsWorld w) (c : CampaignValue) (good : IsGood
       let below = market_known w world n i named in
       omega (arith, few, below)
 
+  -- what regions of a good campaign have in stock fits the rows of `market` (AreStocked)
   pub stocked : AreStocked c.regions
   stocked = record {
     numbers = λ n r is. let most = region_small n (r, is) in omega (arith, most);
@@ -298,9 +303,11 @@ module _ (w : WorldValue) (world : IsWorld w) (c : CampaignValue) (good : IsGood
     unfolding rows_of
     markets_listed = rows.markets
 
+    -- the rows have one campaign row, that of the campaign
     pub its_head : p.campaign ≡ campaign_row f c ∷ []
     its_head = only_row (campaign_row f c) p.campaign head_listed
 
+    -- the campaign row that is read is that of the campaign
     pub head_said : campaign_row_of p ≡ campaign_row f c
     head_said = ap (λ hs. slice_index_or hs 0 no_campaign_row) its_head
 
@@ -327,6 +334,7 @@ module _ (w : WorldValue) (world : IsWorld w) (c : CampaignValue) (good : IsGood
     amount_small : (n : ℕ) → n ≤ most_amount → n ≤ most_u32
     amount_small n h = omega (arith, h)
 
+    -- P holds of each row of `market`, if it holds of the row of each stock; in the first format there is no row
     pub each_market : (P : StoredMarket → Type 0)
         → Every (λ n r. Every (λ i a. P (market_row n i a)) r.stocks) c.regions → AllByRecursion P p.markets
     each_market P h =
@@ -339,6 +347,7 @@ module _ (w : WorldValue) (world : IsWorld w) (c : CampaignValue) (good : IsGood
     unfolding IsDistinct
     no_keys = tt
 
+    -- the rows of `market` have distinct keys
     pub markets_keyed : HaveDistinctKeys market_key p.markets
     markets_keyed =
         elim f as

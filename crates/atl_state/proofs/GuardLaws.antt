@@ -145,6 +145,7 @@ guards_are_of_one_faction c placed held n u is m v there on also same =
     alike (guard_of c) (numbers_in_region r c.units) (held r x known) n m u.faction v.faction (listed (λ (w : Unit). w.region == r) c.units n u is (here.1 refl)) (listed (λ (w : Unit). w.region == r) c.units m v there (others.1 (sym same)))
     (guard_of_guarding_unit c n u is on) (guard_of_guarding_unit c m v there also)
 
+-- the guards in each region's list are of one faction, if the guards of each region are
 pub lists_are_held_by_one : (c : CampaignValue) → AreOfOneFaction guards c → Every (λ r x. IsHeldByOne c r) c.regions
 lists_are_held_by_one c one r x known =
     hold (guard_of c) None (numbers_in_region r c.units) alike_here (λ n y z mine is e. none_some z e)

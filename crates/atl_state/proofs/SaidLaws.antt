@@ -54,7 +54,7 @@ use Rattle.atl_campaign.proofs.MapOfRowsLaws.{HaveDistinctNumbers, HasNumber, Ha
 min_less : (n m : ℕ) → min n m < m → min n m ≡ n
 min_less n m h = grind arith
 
--- if reading a row's number gives less than most_u32, the number fits 32 bits and is read as it is (IsWhole)
+-- if reading a row's number gives less than most_u32, the number fits 32 bits and is read as it is (FitsU32)
 pub whole_below : (z : ℤ) → as_u32 z < most_u32 → FitsU32 z
 whole_below (pos n) h = ap pos (sym (min_less n most_u32 h))
 whole_below (negsuc n) h = absurd (omega arith)
@@ -69,14 +69,17 @@ flag_whole (pos (suc zero)) h = refl
 flag_whole (pos (suc (suc n))) h = let most = from_le (suc (suc n)) 1 (and_parts (nat_le 0 (suc (suc n))) (nat_le (suc (suc n)) 1) h).1 in absurd (omega arith)
 flag_whole (negsuc n) h = absurd (false≢true h)
 
+-- two numbers that fit 32 bits, and are different keys, are read as different numbers
 pub one_apart : (x y : ℤ) → FitsU32 x → FitsU32 y → is_same_key (one_key x) (one_key y) ≡ false → as_u32 y ≢ as_u32 x
 one_apart x y a b d e =
     let one : x ≡ y = a ∙ ap pos (sym e) ∙ sym b in
     false≢true (sym (ap (λ z. is_same_key (one_key x) (one_key z)) one ∙ d) ∙ ties_itself (one_key x))
 
+-- a number of a map is at most `most`, if all its numbers are
 pub there_below : {V : Type 0} (m : FinMap nat_cmp V) (n most : ℕ) → Every (λ k v. k ≤ most) m → HasValue m n → n ≤ most
 there_below m n most every there = every n there.0 there.1
 
+-- a number that is 0 or in a map is at most `most`, if all numbers of the map are
 pub none_or_below : {V : Type 0} (m : FinMap nat_cmp V) (n most : ℕ) → Every (λ k v. k ≤ most) m
     → (n ≢ 0 → HasValue m n) → n ≤ most
 none_or_below m zero most every there = omega arith
@@ -177,6 +180,7 @@ limit_small : (o : Option Market) → ((m : Market) → o ≡ Some m → m.limit
 limit_small None h = omega arith
 limit_small (Some m) h = h m refl
 
+-- the largest stock of an item in a region is at most most_amount, with a market or without
 pub small_limit : (w : WorldValue) → IsWorld w → (n i : ℕ) → stock_limit w n i ≤ most_amount
 small_limit w world n i =
     limit_small (market_of w n i)
@@ -197,6 +201,7 @@ no_rows [] h = refl
 no_rows (r ∷ rows) h = absurd (grind (arith, nat_tests))
 
 module _ (f : Format) (w : WorldValue) (p : Parts) (k : RowsKeep f w p) where
+  -- the numbers of the rows are in their ranges, table by table (NumberRanges)
   pub ranges : NumberRanges w p
   ranges = number_ranges w p k.range.numbers
 
@@ -205,6 +210,7 @@ module _ (f : Format) (w : WorldValue) (p : Parts) (k : RowsKeep f w p) where
       → (FitsU32 r.number) × (as_u32 r.number ≤ last_faction)
   faction_number r h = let range = from_range 1 last_faction r.number (omega arith) (and_parts (is_from 1 last_faction r.number) (is_from 0 1 r.gone) h).0 in (range.0, range.2)
 
+  -- the rows of `faction` are read with different numbers
   pub factions_apart : HaveDistinctNumbers (λ r. as_u32 r.number) p.factions
   factions_apart =
       HaveDistinctNumbers-keys faction_key (λ r. as_u32 r.number) is_same_key (λ r. FitsU32 r.number)
@@ -537,6 +543,7 @@ module _ (f : Format) (w : WorldValue) (p : Parts) (k : RowsKeep f w p) where
       let found = market_there w.regions (as_u32 m.item) (as_u32 m.region) (get w.regions (as_u32 m.region)) refl e in
       row_of (λ r. as_u32 r.number) (region_of p.markets) p.regions (as_u32 m.region) ((k.known.regions (as_u32 m.region)).1 (found.0, found.2))) p.markets k.stocked
 
+  -- in the first format there is no row of `market`
   pub none_in_first : f ≡ First → p.markets ≡ []
   none_in_first is = no_rows p.markets (ap (λ g. are_of_format g p.markets) (sym is) ∙ k.format)
 
@@ -573,11 +580,13 @@ module _ (f : Format) (w : WorldValue) (p : Parts) (k : RowsKeep f w p) where
       let some = failing_is_nonzero r.amount (not-true (is_zero r.amount) (and_parts (not (is_zero r.amount)) (is_within (books_bound p) r.amount) range).0) in
       booked_row (thing_count w) r (whole_below r.entry (omega arith)) (whole_below r.thing (omega arith)) entry.0 entry.1 there some
 
+  -- each row of `books` is read as an account and an amount (IsBooked)
   pub all_booked : AllByRecursion (IsBooked (thing_count w)) p.books
   all_booked =
       each_follows_from_two (λ r. is_booked f w r ≡ true) (λ r. books_in_range (books_bound p) r ≡ true) (IsBooked (thing_count w)) its_account p.books (each_passes (is_booked f w) (λ r. is_booked f w r ≡ true) (λ r h. h) p.books k.booked)
       (each_passes (books_in_range (books_bound p)) (λ r. books_in_range (books_bound p) r ≡ true) (λ r h. h) p.books ranges.books)
 
+  -- the books assembled from the rows of `books` are written as the same rows, in some order
   pub books_said : IsPermutation (books_rows (with_books_rows p.books (no_amounts (thing_count w)))) p.books
   books_said =
       assembled_books_have_rows (thing_count w) p.books all_booked k.range.keys.books

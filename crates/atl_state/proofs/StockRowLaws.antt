@@ -35,6 +35,7 @@ item_of m = as_u32 m.item
 abbrev stock_of : StoredMarket → ℕ
 stock_of m = as_u32 m.stock
 
+-- whether a row of `market` is of region n
 abbrev pub is_row_of_region : ℕ → StoredMarket → Bool
 is_row_of_region n m = as_u32 m.region == n
 
@@ -55,6 +56,7 @@ same_key n m k a b e =
     let item = b.0.item ∙ sym (ap pos e) ∙ sym a.0.item in
     λ i. (region i, item i, pos 0)
 
+-- no two rows of `market` of region n are of one item, if keys are read as they are, and no two rows have the same key
 pub items_apart : (n : ℕ) (markets : List StoredMarket) → AllByRecursion HasWholeKey markets
     → IsDistinct is_same_key (map market_key markets)
     → HaveDistinctNumbers item_of (filter (is_row_of_region n) markets)

@@ -93,9 +93,9 @@ GivesBack f w p (Ok c) = (d : CampaignValue) → IsGood w d → Fits f d → Are
 GivesBack f w p (Err (Damaged r)) = (d : CampaignValue) → IsGood w d → Fits f d → ¬ (AreRowsOf f d p)
 GivesBack f w p (Err Memory) = ⊤
 
--- For proofs alone: what a check of the rules below number n may answer: Ok if the rows keep them all, the first rule
--- that they break, or Memory.
-abbrev pub Passes : Format → WorldValue → Parts → ℕ → Result (Prim.Unit {0}) CheckFault → Type 0
-Passes f w p n (Ok u) = KeepsRulesBelow f w p n
-Passes f w p n (Err (Damaged r)) = IsFirstBroken f w p r
-Passes f w p n (Err Memory) = ⊤
+-- What a check of the rules with numbers below n may answer. It is Ok only if the rows keep them all, Damaged only with
+-- the first rule that they break, or Memory. For the parts of `check_as` alone.
+abbrev pub ChecksBelow : Format → WorldValue → Parts → ℕ → Result (Prim.Unit {0}) CheckFault → Type 0
+ChecksBelow f w p n (Ok u) = KeepsRulesBelow f w p n
+ChecksBelow f w p n (Err (Damaged r)) = IsFirstBroken f w p r
+ChecksBelow f w p n (Err Memory) = ⊤

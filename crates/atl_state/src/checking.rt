@@ -5,7 +5,7 @@ ghost use Rattle.std.specs.List.{list_all};
 ghost use Rattle.atl_world.specs.Worlds.{IsWorld};
 ghost use Rattle.atl_world.specs.declared.format.Format.TheVariants.{Second};
 ghost use Rattle.atl_state.specs.declared.checking.Rule.TheVariants as rule;
-ghost use Rattle.atl_state.specs.Checking.{rule_number, KeepsRule, KeepsRulesBelow, Passes, Checks, GivesBack};
+ghost use Rattle.atl_state.specs.Checking.{rule_number, KeepsRule, KeepsRulesBelow, ChecksBelow, Checks, GivesBack};
 ghost use Rattle.atl_campaign.specs.FromRows.{campaign_of};
 ghost use Rattle.atl_campaign.specs.Good.{AreKnown, HasValidMail, AreReported};
 ghost use Rattle.atl_records.specs.Limits.{entries_in};
@@ -17,7 +17,7 @@ use crate::row_rules::{
     are_of_format, are_of_markets, is_one_campaign_row, rows_in_range, rows_named,
 };
 use crate::rules::{
-    are_afloat, are_days, are_gone, are_guarded, are_known, are_mailings,
+    are_afloat, are_days, are_gone_iff_unitless, are_guarded, are_known, are_mailings,
     are_numbered, are_owned, are_reported,
 };
 use atl_campaign::parts::{Parts, StoredBooks};
@@ -103,7 +103,7 @@ fn keeps_one_row(format: Format, parts: &Parts) -> bool
 /// Checks rules 1 to 3 (one campaign row, ranges, names) on the rows, before a campaign is made of
 /// them: Err is the first that they break, or Memory.
 fn check_rows(alloc: Global, world: &World, parts: &Parts, format: Format) -> Result<(), CheckFault>
-    ensures { Passes format world.now parts.now 4 result }
+    ensures { ChecksBelow format world.now parts.now 4 result }
 {
     if !keeps_one_row(format, parts) {
         return Err(CheckFault::Damaged(Rule::OneRow));
@@ -120,6 +120,7 @@ fn check_rows(alloc: Global, world: &World, parts: &Parts, format: Format) -> Re
     }
 }
 
+/// Whether each row of `has` is of a unit that the campaign has.
 fn are_of_units(parts: &Parts, campaign: &Campaign) -> bool
     ensures { result ≡ list_all (is_of_unit campaign.now.value) parts.now.has }
 {
@@ -147,6 +148,7 @@ fn is_booked(format: Format, world: &World, row: &StoredBooks) -> bool
     1 <= entry && entry <= entries_in(format) && (as_u32(row.thing) as usize) < things
 }
 
+/// Whether each row of `books` is of an entry of the format and a thing of the world.
 fn are_booked(format: Format, world: &World, parts: &Parts) -> bool
     ensures { result ≡ list_all (is_booked format world.now) parts.now.books }
 {
@@ -157,6 +159,8 @@ fn are_booked(format: Format, world: &World, parts: &Parts) -> bool
         .all(|row| is_booked(format, world, row))
 }
 
+/// Whether each row of `has` is of a unit of the campaign, and each row of `market` of a market of
+/// the world.
 fn are_goods_known(world: &World, parts: &Parts, campaign: &Campaign) -> bool
     ensures { IsTrue result ↔
         (IsTrue (list_all (is_of_unit campaign.now.value) parts.now.has)
@@ -198,8 +202,8 @@ fn keeps_mail(campaign: &Campaign) -> bool
 }
 
 /// Checks rules 4 to 7 (what rows name exists, next numbers, days of study, gone factions): Err is
-/// the first that is broken. The rows keep rules 1 to 3, the campaign is read from them, and `parts`
-/// are what that left of them.
+/// the first that is broken. The rows keep rules 1 to 3, the campaign is read from them, and
+/// `parts` are what that left of them.
 fn check_rules_4_to_7(
     world: &World,
     parts: &Parts,
@@ -210,7 +214,7 @@ fn check_rules_4_to_7(
     requires what { campaign.now.value ≡ campaign_of world.now rows }
     requires rest { parts.now ≡ without_moved rows }
     requires before { KeepsRulesBelow format world.now rows 4 }
-    ensures { Passes format world.now rows 8 result }
+    ensures { ChecksBelow format world.now rows 8 result }
 {
     if !keeps_known(world, parts, campaign) {
         return Err(CheckFault::Damaged(Rule::Known));
@@ -221,7 +225,7 @@ fn check_rules_4_to_7(
     if !are_days(campaign) {
         return Err(CheckFault::Damaged(Rule::Days));
     }
-    if !are_gone(campaign) {
+    if !are_gone_iff_unitless(campaign) {
         return Err(CheckFault::Damaged(Rule::Gone));
     }
     Ok(())
@@ -239,7 +243,7 @@ fn check_rules_8_to_12(
     requires what { campaign.now.value ≡ campaign_of world.now rows }
     requires rest { parts.now ≡ without_moved rows }
     requires before { KeepsRulesBelow format world.now rows 8 }
-    ensures { Passes format world.now rows 13 result }
+    ensures { ChecksBelow format world.now rows 13 result }
 {
     if !are_owned(campaign) {
         return Err(CheckFault::Damaged(Rule::Owners));

@@ -13,7 +13,7 @@ mod reports;
 mod water;
 
 pub(crate) use days::are_days;
-pub(crate) use gone::are_gone;
+pub(crate) use gone::are_gone_iff_unitless;
 pub(crate) use guards::are_guarded;
 pub(crate) use known::are_known;
 pub(crate) use mail::are_mailings;

@@ -1,4 +1,4 @@
-//! An empty campaign, without factions, regions and units.
+//! The blank campaign, which founding fills. It has no factions, regions or units.
 ghost use Rattle.std.specs.Prelude.{◌≡◌};
 ghost use Rattle.atl_campaign.specs.Campaign.{blank};
 
@@ -11,8 +11,9 @@ use atl_world::{MarkedMap, Marks, Text};
 use std::alloc::Global;
 
 impl Campaign {
-    /// An empty campaign, with nothing marked. Callers leave it where they move a campaign out;
-    /// founding never returns it. It takes no memory.
+    /// A campaign without regions, factions, units or pass text, in month 0, with books of no
+    /// things and nothing marked. `founded` starts from it and fills it. Closing a month leaves it
+    /// in place of the campaign that moves through the phases. It takes no memory.
     pub fn blank(alloc: Global) -> Campaign
         ensures { result ≡ blank }
     {

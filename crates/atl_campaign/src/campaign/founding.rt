@@ -21,6 +21,8 @@ use atl_records::{Books, BooksEntry, ENTRY_COUNT, FIRST_ITEM, Region, Thing};
 use atl_world::{Marks, Numbered, RegionPlan, Text, World};
 use std::alloc::{AllocError, Global};
 
+/// The regions as they are founded, with nothing marked: for each region of the world its peasants
+/// and its money, and nothing in stock. AllocError without memory.
 fn make_regions(alloc: Global, plans: &Numbered<RegionPlan>) -> Result<Regions, AllocError>
     ensures { IfOk result (λ regions. regions
         ≡ unmarked_regions (map_values founded_region plans.now)) }

@@ -112,6 +112,7 @@ fn book_joining(books: &mut Books, money: u32)
 }
 
 impl Campaign {
+    /// Whether a faction, gone or not, joined under exactly this name.
     fn is_name_taken(&self, name: &[u8]) -> bool
         ensures { result ≡ name_taken self.now.value name.now }
     {

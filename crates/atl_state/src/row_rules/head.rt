@@ -6,6 +6,7 @@ use super::numbers::is_from;
 use atl_campaign::parts::{Parts, StoredCampaignRow, StoredMarket};
 use atl_world::Format;
 
+/// Whether there is exactly one campaign row, with the id 1 and the number of the format.
 pub(crate) fn is_one_campaign_row(format: Format, rows: &[StoredCampaignRow]) -> bool
     ensures { result ≡ is_one_campaign_row format rows.now }
 {

@@ -93,6 +93,7 @@ impl Keyed for StoredMarket {
     }
 }
 
+/// The keys of rows, in the order of the rows.
 fn keys_of<R: Keyed>(alloc: Global, rows: &[R]) -> Result<Vec<(i64, i64, i64)>, AllocError>
     ensures { IfOk result (λ keys. keys.items ≡ map R.key_of rows.now) }
 {
@@ -141,6 +142,7 @@ pub fn are_distinct<K: Ord + Copy + Drop>(alloc: Global, keys: &[K]) -> Result<b
     Ok(are_sorted(&sorted))
 }
 
+/// Whether no two of the rows of a table have the same key.
 fn have_distinct_keys<R: Keyed>(alloc: Global, rows: &[R]) -> Result<bool, AllocError>
     ensures { IfOk result (λ yes. IsTrue yes ↔ (HaveDistinctKeys R.key_of rows.now)) }
 {

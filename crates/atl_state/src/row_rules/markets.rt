@@ -25,6 +25,7 @@ fn is_of_market(world: &World, row: &StoredMarket) -> bool
     market_of(world, row).is_some()
 }
 
+/// Whether each row of `market` is of a market of the world.
 pub(crate) fn are_of_markets(world: &World, rows: &[StoredMarket]) -> bool
     ensures { result ≡ list_all (is_of_market world.now) rows.now }
 {

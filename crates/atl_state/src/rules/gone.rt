@@ -6,6 +6,7 @@ ghost use Rattle.atl_campaign.specs.Campaign.{numbers_of_faction};
 use atl_campaign::Campaign;
 use atl_records::Faction;
 
+/// Whether faction `number` is gone exactly if it has no unit.
 fn is_gone_iff_unitless(campaign: &Campaign, number: u32, faction: &Faction) -> bool
     ensures { IsTrue result ↔
         ((faction.now.gone ≡ true → numbers_of_faction number campaign.now.value.units ≡ [])
@@ -14,8 +15,8 @@ fn is_gone_iff_unitless(campaign: &Campaign, number: u32, faction: &Faction) -> 
     faction.gone == campaign.of_faction(number).is_empty()
 }
 
-/// Whether each faction without units is gone, and each faction with units is not. Takes no memory.
-pub(crate) fn are_gone(campaign: &Campaign) -> bool
+/// Whether the factions that are gone are exactly those without units. Takes no memory.
+pub(crate) fn are_gone_iff_unitless(campaign: &Campaign) -> bool
     ensures { IsTrue result ↔ (GoneHaveNone campaign.now.value × UnitlessAreGone
         campaign.now.value) }
 {

@@ -26,6 +26,7 @@ fn agree(one: Option<u32>, other: Option<u32>) -> bool
     }
 }
 
+/// Whether all units of a region that guard are of one faction; true if none guards.
 fn has_one_holder(campaign: &Campaign, region: u32) -> bool
     ensures { result ≡ one_holder (guard_of campaign.now.value) None
         (numbers_in_region region campaign.now.value.units) }

@@ -9,7 +9,7 @@ use Rattle.atl_campaign.specs.Campaign.{CampaignValue, numbers_of_faction}
 use Rattle.atl_records.specs.Every.{Every}
 use Rattle.atl_campaign.specs.Good.{GoneHaveNone, UnitlessAreGone}
 use Rattle.atl_campaign.proofs.RuleLaws.{every_by_all}
-use Rattle.atl_state.proofs.rules.gone.are_gone.Goals as goal
+use Rattle.atl_state.proofs.rules.gone.are_gone_iff_unitless.Goals as goal
 
 abbrev IsGoneIffUnitless : FinMap nat_cmp Unit → ℕ → Faction → Type 0
 IsGoneIffUnitless units n f =
