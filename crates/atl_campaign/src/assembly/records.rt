@@ -39,7 +39,7 @@ pub(crate) fn pass_of(alloc: Global, bytes: &Sequence<u8>) -> Result<Text, Alloc
 }
 
 /// Takes all rows of a list, and leaves it empty.
-pub(super) fn take_rows<T: Drop>(alloc: Global, rows: &mut Sequence<T>) -> Sequence<T>
+pub(crate) fn take_rows<T: Drop>(alloc: Global, rows: &mut Sequence<T>) -> Sequence<T>
     ensures taken { result ≡ rows.old }
     ensures left { rows.new ≡ [] }
 {

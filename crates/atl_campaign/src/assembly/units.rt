@@ -1,6 +1,6 @@
 //! Builds the units from their rows, and the lists of units. Names are moved, not copied. Where
 //! memory runs out, the answer is AllocError.
-ghost use Rattle.std.specs.Prelude.{◌≡◌, IfOk, OnOk, true};
+ghost use Rattle.std.specs.Prelude.{◌≡◌, IfOk, true};
 ghost use Rattle.std.specs.List.{list_all};
 ghost use Rattle.atl_world.specs.Names.{name_ok};
 ghost use Rattle.atl_campaign.specs.KeptLists.{AreUnitLists};
@@ -8,16 +8,15 @@ ghost use Rattle.atl_campaign.specs.Assembling.{bare_unit};
 ghost use Rattle.atl_campaign.specs.FromRows.{as_u32, by_number, unit_of};
 ghost use Rattle.atl_campaign.specs.Roster.{unmarked_units};
 ghost use Rattle.atl_campaign.specs.RowRules.{unit_in_range, has_in_range};
-ghost use Rattle.atl_campaign.specs.Taking.{without_units};
 
 use super::goods::put_things;
-use super::records::{moved_name, take_rows};
+use super::records::moved_name;
 use crate::arena::Arena;
 use crate::lists::{UnitLists, list_keys_of};
 use crate::row_values::{as_u32, is_set};
 use crate::units::Units;
 use atl_records::{Holding, Unit};
-use atl_rows::parts::{Parts, StoredHas, StoredUnit};
+use atl_rows::parts::{StoredHas, StoredUnit};
 use atl_world::{Numbered, Sequence};
 use std::alloc::{AllocError, Global};
 use std::mem;
@@ -73,20 +72,19 @@ pub(crate) fn units_of(
     Ok(units)
 }
 
-/// The units that are read from rows, with nothing marked. Names have to keep the name rule, and
-/// numbers have to be in their ranges. The rows of `unit` are taken, and all others stay. AllocError
-/// without memory.
-pub(crate) fn roster_of(alloc: Global, parts: &mut Parts) -> Result<Units, AllocError>
-    requires named { list_all (λ r. name_ok r.name) parts.old.units ≡ true }
-    requires range { list_all unit_in_range parts.old.units ≡ true }
-    requires amounts { list_all has_in_range parts.old.has ≡ true }
-    ensures units { IfOk result (λ units. units
-        ≡ unmarked_units (by_number (λ r. as_u32 r.number) (unit_of parts.old.has)
-        parts.old.units)) }
-    ensures rest { OnOk result (parts.new ≡ without_units parts.old) }
+/// The units that rows say, as `units_of` gives them, with nothing marked.
+pub(crate) fn roster_of(
+    alloc: Global,
+    rows: Sequence<StoredUnit>,
+    has: &[StoredHas],
+) -> Result<Units, AllocError>
+    requires named { list_all (λ r. name_ok r.name) rows ≡ true }
+    requires range { list_all unit_in_range rows ≡ true }
+    requires amounts { list_all has_in_range has.now ≡ true }
+    ensures { IfOk result (λ units. units
+        ≡ unmarked_units (by_number (λ r. as_u32 r.number) (unit_of has.now) rows)) }
 {
-    let rows = take_rows(alloc, &mut parts.units);
-    let units = units_of(alloc, rows, parts.has.as_slice())?;
+    let units = units_of(alloc, rows, has)?;
     Units::unmarked_from(alloc, units)
 }
 

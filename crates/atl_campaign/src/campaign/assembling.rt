@@ -7,7 +7,9 @@ ghost use Rattle.atl_campaign.specs.RowRules.{are_named, first_tables_in_range};
 ghost use Rattle.atl_campaign.specs.Taking.{without_moved};
 
 use super::Campaign;
-use crate::assembly::{CampaignMaps, books_of, campaign_maps_of, lists_of, pass_of, roster_of};
+use crate::assembly::{
+    CampaignMaps, books_of, campaign_maps_of, lists_of, pass_of, roster_of, take_rows,
+};
 use crate::row_values::{as_u32, campaign_row_of};
 use atl_records::{ENTRY_COUNT, FIRST_ITEM};
 use atl_rows::parts::Parts;
@@ -30,7 +32,9 @@ pub fn assemble(alloc: Global, world: &World, parts: &mut Parts) -> Result<Campa
 {
     let things = FIRST_ITEM + world.items().len();
     let pass = pass_of(alloc, &campaign_row_of(parts).pass)?;
-    let units = roster_of(alloc, parts)?;
+    let rows = take_rows(alloc, &mut parts.units);
+    let has = parts.has.as_slice();
+    let units = roster_of(alloc, rows, has)?;
     let lists = lists_of(alloc, &units)?;
     let books = books_of(alloc, things, parts.books.as_slice())?;
     let amounts_marked = Marks::with_room(alloc, ENTRY_COUNT * things)?;

@@ -8,4 +8,4 @@ pub returns : goal.returns
 returns c =
     c.in_ok-put_things.ensures
     ∙ ap (with_rows_added (λ r. as_u32 r.unit) with_has_row c.args.has.now) c.in_ok-units.ensures
-    ∙ units_with_rows c.args.has.now c.args.rows.now
+    ∙ units_with_rows c.args.has.now c.args.rows
