@@ -16,6 +16,7 @@ use Rattle.atl_instant.specs.Amounts.{amounts_for}
 at_least_one : (n : ℕ) → (n == 0) ≡ false → 1 ≤ n
 at_least_one n some = grind (arith, nat_tests)
 
+-- f gives each number, such as that of a skill, an amount, such as its days
 module _ (f : ℕ → ℕ) where
   abbrev IsAmountFor : ℕ → ℕ → Type 0
   IsAmountFor n amount = (1 ≤ amount) × (amount ≡ f n)

@@ -16,7 +16,7 @@ use Rattle.atl_instant.specs.Transfer.{DaysGoWithMen, days_going, going_of, rais
 use Rattle.atl_instant.proofs.AmountsForLaws.{as_said, each_said, same_amounts}
 use Rattle.atl_records.proofs.HoldingLaws.{compared_equal_is_equal, every_amount, amount_after_setting}
 
--- the days of skills, each of which is set by a function of the skill and its days in a map
+-- `days` has the days of each skill by the skill's number; f makes of a skill and its days the new days; s is one skill
 module _ (days : FinMap nat_cmp ℕ) (f : ℕ → ℕ → ℕ) (s : ℕ) where
   -- the map `left` after the days of each skill in a list of entries are set to f of the skill and of its days in the
   -- list
@@ -27,7 +27,7 @@ module _ (days : FinMap nat_cmp ℕ) (f : ℕ → ℕ → ℕ) (s : ℕ) where
   is_among es = list_any (eq_by_cmp nat_cmp s) (map (λ e. e.0) es)
 
   -- if each entry has the days that `days` has of its skill: once the entries are set, skill s has f of its days where
-  -- it is among them, and else what it had
+  -- it is among the entries, and otherwise the days that `left` had of s
   set_among : (es : List (ℕ × ℕ)) (left : FinMap nat_cmp ℕ) → EachEntry (λ k v. amount_of days k ≡ v) es
       → amount_of (set_all left es) s ≡ cond (is_among es) (f s (amount_of days s)) (amount_of left s)
   set_among [] left each = refl
@@ -49,8 +49,8 @@ module _ (days : FinMap nat_cmp ℕ) (f : ℕ → ℕ → ℕ) (s : ℕ) where
           ap (cond (is_among es) (f s (amount_of days s))) here ∙ choice_of_same (is_among es) (f s (amount_of days s))
       by_key false is = refl
 
-  -- After each skill that the map `days` lists is set to f of its days, skill s has f of its days in `days`. If `days`
-  -- has 0 of it, s must have f of 0 before.
+  -- Once each skill that `days` lists is set, in the map `left`, to f of the skill and its days, skill s has f of s and
+  -- of its days in `days`. If `days` has 0 days of s, `left` must already have f of s and 0 for it.
   pub set_each : (left : FinMap nat_cmp ℕ) → (amount_of days s ≡ 0 → amount_of left s ≡ f s 0)
       → amount_of (set_all left (entries days)) s ≡ f s (amount_of days s)
   set_each left others =

@@ -52,6 +52,7 @@ pub record OrderKeeps (holds : Condition) (fit : Type 0) (w : WorldValue) (c : C
   pub well : holds w c → fit → StepsWell holds nothing_remaining w c d
   pub others : (k : ℕ) (v : Unit) → get c.units k ≡ Some v → k ≢ n → IsStillThere (IsLeftAlone f) d k v
 
+-- an order of faction f for unit n of campaign c; `holds` is what the order keeps true, if it fits the world (`fit`)
 module _ {holds : Condition} {fit : Type 0} (w : WorldValue) (c : CampaignValue) (n f : ℕ) where
   -- an order that changes no unit but n, and keeps `holds` and the books (`StepsWell`), keeps what `OrderKeeps` says
   pub keeps_others : (d : CampaignValue) → (holds w c → fit → StepsWell holds nothing_remaining w c d)
@@ -111,6 +112,7 @@ leaves_men holds step keeps w a c t x own =
 
 -- ---- two units, of which one gives and the other gets
 
+-- unit `from` (u) of campaign c gives something to another unit, `to` (v); afterwards u holds h, and v holds k
 module _ (c : CampaignValue) (from to : ℕ) (u v : Unit) (h k : HoldingValue) (giver : get c.units from ≡ Some u) (receiver : get c.units to ≡ Some v) (apart : to ≢ from) where
   -- the campaign after the giver has given, and before the receiver has got
   abbrev between : CampaignValue
@@ -154,7 +156,8 @@ module _ (c : CampaignValue) (from to : ℕ) (u v : Unit) (h k : HoldingValue) (
       unbooked_well w c moved (early-having w between to v k receiver_still more more_flag (early-having w c from u h giver less less_flag early))
       (same_month_by refl) refl (total-moved w both)
 
-  -- after a move from giver to receiver each unit but the giver is left alone (`IsLeftAlone`), if the receiver is
+  -- after a move from giver to receiver by an order of faction f each unit but the giver is left alone (`IsLeftAlone`),
+  -- if the receiver is
   pub others-moved : (f : ℕ) → IsLeftAlone f v (record v { holding = k }) → (n : ℕ) (x : Unit) → get c.units n ≡ Some x
       → n ≢ from → IsStillThere (IsLeftAlone f) moved n x
   others-moved f is_unaffected n x there other = elim (cases_eq n to) [
@@ -166,8 +169,9 @@ module _ (c : CampaignValue) (from to : ℕ) (u v : Unit) (h k : HoldingValue) (
         record { unit = x; there = get-insert_other between.units to n (record v { holding = k }) away ∙ get-insert_other c.units from n (record u { holding = h }) other ∙ there; is_unaffected = record { better = no_worse x; men = λ apart. refl } }
   ]
 
--- P holds of the campaign after an order that moves something from unit `from` to `to`, if P holds of the campaign
--- before. Where no fault applies and `from` isn't `to`, P must also hold of the campaign after the move.
+-- P holds of the campaign after an order that moves something from unit `from` (u) to `to` (v), if P holds of c before.
+-- Where no fault applies and `from` isn't `to`, P must also hold of the campaign in which u holds h, and v holds k.
+-- The function `fault` gives the order's fault, by whether `to` is `from` itself.
 pub moved_cases : (P : CampaignValue → Type 0) (c : CampaignValue) (from to : ℕ) (u v : Unit) (h k : HoldingValue) (fault : Bool → Option EventFault) (o : Outcome)
     → P c
     → (to ≢ from → fault false ≡ None → P (with_holding_at (with_holding_at c from h (Some u)) to k (Some v)))

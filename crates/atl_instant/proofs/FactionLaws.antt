@@ -13,6 +13,7 @@ use Rattle.atl_campaign.specs.Campaign.{CampaignValue, numbers_of_faction, with_
 use Rattle.atl_records.proofs.EveryLaws.{every-insert, get-insert_other, none_some, there-insert}
 use Rattle.atl_campaign.proofs.RegionLaws.{changed-known, same_len}
 
+-- faction n (x) of campaign c shows another name, given by its bytes (`name`)
 module _ (c : CampaignValue) (n : ℕ) (x : Faction) (name : List ℕ) (is : get c.factions n ≡ Some x) where
   abbrev renamed : Faction
   renamed = record x { name = name }

@@ -58,6 +58,7 @@ pub unit_limits_not_reached : (c : CampaignValue) → is_unit_limit c ≡ false
     → (len c.units < most_units) × (c.next_unit ≤ last_unit)
 unit_limits_not_reached c h = below_limits (len c.units) c.next_unit h
 
+-- unit p (u) of the early campaign c forms a unit (`child`) with the next unit number
 module _ (w : WorldValue) (c : CampaignValue) (p : ℕ) (u : Unit) (is : get c.units p ≡ Some u) (early : IsEarly w c) where
   abbrev child : Unit
   child = new_unit c.next_unit u.faction u.region u.structure
@@ -210,11 +211,13 @@ marks-begun c u =
 
 -- ---- one order
 
+-- an early campaign c, before one order of FORM
 module _ (w : WorldValue) (c : CampaignValue) (early : IsEarly w c) where
   -- in an early campaign no unit has the next unit number
   pub free_number : get c.units c.next_unit ≡ None
   free_number = early.steady.next.units c.next_unit (omega arith)
 
+  -- the order is of faction f, for unit n
   module _ (f n : ℕ) where
     formed_is : (u : Unit) → get c.units n ≡ Some u → u.faction ≡ f
         → with_formed_unit c f n ≡ with_unit_begun c (new_unit c.next_unit u.faction u.region u.structure)

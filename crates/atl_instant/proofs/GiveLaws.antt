@@ -139,6 +139,8 @@ gift_receiver_no_worse (Item i) n v =
 
 -- ---- one order
 
+-- unit `from` (u) of campaign c gives n of the gift to unit `to`; if the order fits the world (`fit`), the gift is
+-- money, or an item of the world (`known`)
 module _ {fit : Type 0} (w : WorldValue) (c : CampaignValue) (from to : ℕ) (gift : Gift) (n : ℕ) (u : Unit) (giver : get c.units from ≡ Some u) (known : fit → IsKnown w gift) where
   moved_kept : (v : Unit) → get c.units to ≡ Some v → to ≢ from → CanGive gift n u v
       → OrderKeeps IsEarly fit w c from u.faction (with_holding_at (with_holding_at c from (with_held_of gift u.holding (held_of gift u.holding - n)) (Some u)) to (with_held_of gift v.holding (held_of gift v.holding + n)) (Some v))

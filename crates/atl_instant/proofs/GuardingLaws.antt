@@ -68,6 +68,7 @@ own_guards c region faction none m v there guarding here =
 
 -- ---- a unit with another name and guard flag
 
+-- unit n (u) of campaign c, and the guard flag and name (its bytes) that the unit gets
 module _ (w : WorldValue) (c : CampaignValue) (n : ℕ) (u : Unit) (is : get c.units n ≡ Some u) (name : List ℕ) (flag : Bool) where
   -- what unit n holds, with the name `name` and the guard flag `flag` in place of its own
   abbrev pub labelled : HoldingValue
@@ -106,6 +107,7 @@ can_guard c u none =
     has_men : (n : ℕ) → (n == 0) ≡ false → nat_lt 0 n ≡ true
     has_men n some = grind (arith, nat_tests)
 
+-- unit n (u) of campaign c, which begins to guard its region
 module _ (c : CampaignValue) (n : ℕ) (u : Unit) (is : get c.units n ≡ Some u) where
   -- unit n with its guard flag set
   abbrev pub guarding : Unit

@@ -32,7 +32,7 @@ use Rattle.atl_instant.proofs.EffectLaws.{OrderKeeps, StepKeeps, keeps_others, k
 use Rattle.atl_instant.proofs.GuardingLaws.{labelled, may_label, total-labelled}
 use Rattle.atl_instant.proofs.FactionLaws.{count-faction_name, known-faction_name, steady-faction_name}
 
--- what an order of NAME or GUARD 0 for unit n keeps (`OrderKeeps`), if the order fits the world (`fit`)
+-- what an order of NAME or GUARD 0 for unit n (u) of campaign c keeps (`OrderKeeps`), if it fits the world (`fit`)
 module _ (fit : Type 0) (w : WorldValue) (c : CampaignValue) (n : ℕ) (u : Unit) (is : get c.units n ≡ Some u) where
   -- Campaign d, which an order for unit n makes of c, is early and in balance, if c is and the order fits the world
   -- (`fit`). No unit but n is worse off in d (`OrderKeeps`).

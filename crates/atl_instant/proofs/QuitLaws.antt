@@ -348,6 +348,7 @@ books_leave_total : (c : CampaignValue) (books : BooksValue) (t : Thing)
 unfolding total
 books_leave_total c books t = refl
 
+-- unit n (u) of the steady campaign c leaves with all that it has
 module _ (w : WorldValue) (c : CampaignValue) (n : ℕ) (u : Unit) (is : get c.units n ≡ Some u) (steady : IsSteady w c) where
   -- the campaign in which all that the unit holds is booked as gone, before the unit is removed
   abbrev booked_off : CampaignValue
@@ -579,6 +580,7 @@ own_before c d t some own = by_unit (get d.units t.unit) refl own
 abbrev OwnSince : CampaignValue → Condition
 OwnSince begun w c = IsSteady w c × ((t : Task) → is_own c t ≡ true → is_own begun t ≡ true)
 
+-- `begun` is the campaign as the phase of QUIT begins
 module _ (begun : CampaignValue) where
   since_well : (w : WorldValue) (c : CampaignValue) (x : Unit) → OwnSince begun w c → (s : OperandsValue)
       → IfSome (quit_effect s) (λ effect. StepsWell (OwnSince begun) quit_remaining w c (effect c x).0)

@@ -23,6 +23,7 @@ use Rattle.atl_instant.proofs.GuardingLaws.{flagged, flagged_is, guarding, own_g
 
 -- ---- as units are noted
 
+-- the units of campaign c, noted one by one in a map from each guarded region to the faction that guards it
 module _ (c : CampaignValue) where
   abbrev AreUnits : List (ℕ × Unit) → Type 0
   AreUnits es = EachEntry (λ n u. get c.units n ≡ Some u) es
@@ -31,6 +32,7 @@ module _ (c : CampaignValue) where
   abbrev Held : (region faction : ℕ) → Type 0
   Held region faction = (n : ℕ) × (u : Unit) × (get c.units n ≡ Some u) × IsGuardOf region faction u
 
+  -- one region, and one faction, both by number
   module _ (region faction : ℕ) where
     abbrev IsOwn : Unit → Type 0
     IsOwn u = guards u ≡ true → u.region ≡ region → u.faction ≡ faction
@@ -77,6 +79,7 @@ module _ (c : CampaignValue) where
   held_of m [] are old = old
   held_of m (e ∷ es) are old = held_of (with_guard_of m e.1) es are.1 (λ r f. held_more r f m e.0 e.1 are.0 (old r f))
 
+  -- all units that guard one and the same region are of one faction (`one`)
   module _ (one : AreOfOneFaction guards c) where
     own_of : (n : ℕ) (u : Unit) → get c.units n ≡ Some u → guards u ≡ true → (es : List (ℕ × Unit)) → AreUnits es
         → EachEntry (λ k v. IsOwn u.region u.faction v) es
@@ -120,6 +123,7 @@ list_any_false p [] none = refl
 list_any_false p (n ∷ ns) none =
     ap (λ b. b || list_any p ns) (none n (inl refl)) ∙ list_any_false p ns (λ k listed. none k (inr listed))
 
+-- map m has exactly the factions that guard regions of campaign c (`are`); one region and one faction by number
 module _ (c : CampaignValue) (m : GuardMap) (are : AreRegionGuards c m) (region faction : ℕ) where
   abbrev against : ℕ → Bool
   against n = guards_against faction (get c.units n)
@@ -138,7 +142,7 @@ module _ (c : CampaignValue) (m : GuardMap) (are : AreRegionGuards c m) (region 
       by_test u true noted here = ap (λ f. not (f == faction)) (own u here (noted refl)) ∙ ap not (equal_itself faction)
       by_test u false noted here = refl
 
-  -- by the map another faction guards the region exactly if this is so in the campaign
+  -- by the map another faction than the given one guards the region exactly if this is so in the campaign
   pub map_agrees : has_other_guard faction (get m region) ≡ is_guarded_against c region faction
   map_agrees = by_holder (get m region) refl
     where
@@ -156,8 +160,9 @@ module _ (c : CampaignValue) (m : GuardMap) (are : AreRegionGuards c m) (region 
       by_holder None at = sym (all_own (λ u here noted. none_some u.faction (sym at ∙ ap (get m) (sym here) ∙ noted)))
       by_holder (Some holder) at = other_holder holder at (holder == faction) refl
 
--- the fault that the code finds by the map, for a unit that would begin to guard, is that of the definition
--- (`guard_fault`)
+-- The fault that the code finds by the map, for a unit that would begin to guard, is that of the definition
+-- (`guard_fault`). The code finds whether the unit has no men (`few`), and whether another faction guards its region by
+-- the map (`held`).
 pub found_fault_is : (c : CampaignValue) (m : GuardMap) → AreRegionGuards c m → (u : Unit) (few held : Bool)
     → (u.holding.men == 0) ≡ few → has_other_guard u.faction (get m u.region) ≡ held
     → first_fault ((few, NoMen) ∷ (held, Guarded) ∷ []) ≡ guard_fault c u
@@ -167,6 +172,7 @@ found_fault_is c m are u few held few_is held_is =
 
 -- ---- once a unit begins to guard
 
+-- map m has exactly the factions that guard regions of campaign c (`are`), and unit n (u) begins to guard its region
 module _ (c : CampaignValue) (m : GuardMap) (n : ℕ) (u : Unit) (is : get c.units n ≡ Some u) (are : AreRegionGuards c m) where
   abbrev set_now : GuardMap
   set_now = insert m u.region u.faction

@@ -198,6 +198,7 @@ men_receiver_no_worse n other v = record {
 
 -- ---- one order
 
+-- unit `from` (u) of campaign c sends n men to unit `to`; `fit` says that the order fits the world
 module _ {fit : Type 0} (w : WorldValue) (c : CampaignValue) (from to n : ℕ) (u : Unit) (sender : get c.units from ≡ Some u) where
   moved_kept : (v : Unit) → get c.units to ≡ Some v → to ≢ from → CanSend n u v
       → OrderKeeps IsEarly fit w c from u.faction (with_holding_at (with_holding_at c from (after_sending n u.holding) (Some u)) to (after_receiving n u.holding v.holding) (Some v))

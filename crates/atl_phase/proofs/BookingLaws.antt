@@ -23,6 +23,7 @@ near_by x y z n small h = elim h [
 near_if_equal : (x y : ℤ) → y ≡ x → IsNear 0 x y
 near_if_equal x y is = record { above = omega (arith, ints, is); below = omega (arith, ints, is) }
 
+-- a booking of z, at most n in size, in the amount of entry e and thing t of the books
 module _ (books : BooksValue) (e : BooksEntry) (t : Thing) (z : ℤ) (n : ℕ) (small : IsWithin n z) where
   -- a booking of at most n in size moves the amount of entry e and thing t by at most n, and no other amount
   pub booked-near : (f : BooksEntry) (u : Thing)
@@ -35,7 +36,7 @@ module _ (books : BooksValue) (e : BooksEntry) (t : Thing) (z : ℤ) (n : ℕ) (
       by_number false is = near_if_equal _ _ (booking-other_amount books f e u t z (is_unequal _ _ is))
 
   -- after a booking of at most n in size the books have room for the bound `next`, if before they had room for this
-  -- bound, and for n besides on the booked amount
+  -- bound, and on the amount of entry e and thing t for n besides
   pub booked-room : (next : BookBound)
       → ((f : BooksEntry) (u : Thing) → HasRoom (moves_only n e t f u + next f u) (amount_in books f u))
       → (f : BooksEntry) (u : Thing) → HasRoom (next f u) (amount_in (after_booking books e t z) f u)

@@ -85,8 +85,8 @@ pub one_reported : (t : Task) (b : Bool) → map report_for (cond b (t ∷ []) [
 one_reported t true = refl
 one_reported t false = refl
 
--- of the reports of a phase's orders just one is of an order's faction and on its line, if the order is one of the
--- phase's
+-- of the reports of a phase's orders just that of order t is of t's faction and on t's line, if t has a verb of the
+-- phase and counts in its mailing (`order_counts`), and otherwise none is
 pub report_in_phase : (w : WorldValue) (m : MonthValue) (aliases : Aliases) (readings : FinMap nat_cmp Reading)
     → m.aliases ≡ aliases → m.readings ≡ readings → AreFit w readings
     → (t : Task) (there : IsInMailing aliases readings t) (is_of : Verb → Bool) (a : Arrangement)
@@ -105,6 +105,7 @@ reports_made outcome (t ∷ ts) = ap (λ rs. report_for t ∷ rs) (reports_made 
 
 -- ---- orders in turn
 
+-- X is what orders carried out in turn change besides the month, such as the campaign
 module _ {X : Type 0} where
   -- what each order keeps of the month is kept by orders in turn
   pub fold_keeps : {A : Type 0} (part : MonthValue → A) (step : X × MonthValue → Task → X × MonthValue)
@@ -140,6 +141,8 @@ Fits v o = shape_of o ≡ (row_of v).shape
 abbrev pub all_orders : Task → Bool
 all_orders t = true
 
+-- a phase with the verbs that pass `is_of`. Of its orders `step` takes just those that pass `takes`, and passes over
+-- the others (`takes_those`).
 module _ (step : OrderMeaning) (is_of : Verb → Bool) (takes : Task → Bool) (takes_those : TakesThose step is_of takes) where
   -- an order adds its event, if the phase doesn't pass it over
   one_event : (c : CampaignValue) (m : MonthValue) (t : Task) (o : Option OrderEffect)

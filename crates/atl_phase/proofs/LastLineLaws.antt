@@ -15,7 +15,7 @@ use Rattle.atl_phase.specs.Month.{Aliases}
 use Rattle.atl_phase.specs.PhaseOrders.{unit_of, slot_number, is_same_slot, last_line, tasks_from}
 use Rattle.atl_phase.specs.OrderIndices.{LastLineMap, line_in, with_line}
 
--- the greatest line in a slot for a unit, after one more line is noted
+-- the lines noted so far (`lines`), and one more line that is noted, for the slot of number k and for unit u
 module _ (lines : LastLineMap) (k u line : ℕ) where
   -- after a line of slot k and unit u is noted, slot k has for u the greater of this line and the old one; other slots
   -- stay
@@ -63,6 +63,8 @@ module _ (lines : LastLineMap) (k u line : ℕ) where
       other true a = omega arith
       other false a = omega arith
 
+-- the mailing of a faction, with the bytes `text`: `rest_from i es unit` is the greatest line that the entries es from
+-- index i on have in the slot for the unit (0 where none is)
 module _ (slot : Slot) (aliases : Aliases) (faction : ℕ) (text : List ℕ) where
   abbrev rest_from : ℕ → List Entry → ℕ → ℕ
   rest_from i es unit = last_line slot unit (tasks_from aliases faction i (map (entry_value text) (drop i es)))

@@ -31,6 +31,7 @@ left_less Less up apart = refl
 left_less Equal up apart = cc
 left_less Greater up apart = cc
 
+-- lists of elements that a total order R compares
 module _ {X : Type 0} {R : X → X → Ordering} (o : IsTotalOrder R) where
   strictly : (xs : List X) → IsDistinct (eq_by_cmp R) xs → IsSortedBy (λ x y. is_lt (R x y)) xs
       → IsStrictlySortedBy R xs
@@ -48,6 +49,7 @@ module _ {X : Type 0} {R : X → X → Ordering} (o : IsTotalOrder R) where
   sorted_strictly xs ys p apart =
       strictly ys (IsDistinct-IsPermutation (eq_by_cmp R) (eq_by_cmp_equiv o).symm xs ys p apart)
 
+-- entries of a key (K) with a value (X), and maps from keys to values, where a total order R compares the keys
 module _ {K X : Type 0} {R : K → K → Ordering} (o : IsTotalOrder R) where
   abbrev same_entry_key : K × X → K × X → Bool
   same_entry_key e f = eq_by_cmp R e.0 f.0
@@ -59,6 +61,7 @@ module _ {K X : Type 0} {R : K → K → Ordering} (o : IsTotalOrder R) where
   keys_apart : (es : List (K × X)) → IsDistinct same_entry_key es → IsDistinct (eq_by_cmp R) (keys_of es)
   keys_apart es = IsDistinct-map (λ (e : K × X). e.0) (eq_by_cmp R) es
 
+  -- `entry` makes of each element of a list the entry of a map: its key with its value
   module _ {A : Type 0} (entry : A → K × X) where
     put_first : (e : K × X) (xs : List A) → AllByRecursion (λ x. R e.0 (entry x).0 ≡ Less) xs
         → put R e.0 e.1 (map entry xs) ≡ e ∷ map entry xs
@@ -87,6 +90,7 @@ module _ {K X : Type 0} {R : K → K → Ordering} (o : IsTotalOrder R) where
   pub entries_rise : (m : FinMap R X) → IsStrictlySortedBy by_key (entries m)
   entries_rise m = rising (entries m) (is_true _ (entries_sorted m))
 
+  -- `exact`: only equal keys compare as equal
   module _ (exact : IsAntisymmetric R) where
     -- the search of a map's entries for a key is the general look-up of a list by a test of equality
     pub find_is : (q : K) (es : List (K × X)) → find R q es ≡ lookup (eq_by_cmp R q) es

@@ -61,7 +61,7 @@ room_when_sound w c book_bound l sound e t =
     within a bound change few little h =
         record { above = omega (arith, ints, h.most); below = omega (arith, ints, h.least) }
 
--- books with room for two phases have room for the second after the first, if that keeps its bound (`LeavesWell`)
+-- books with room for two phases have room for the second after the first, if the first keeps its bound (`LeavesWell`)
 pub room_for_second : {leaves : Condition} (j k : BookBound) (w : WorldValue) (c d : CampaignValue)
     → LeavesWell leaves j w c d → HaveRoom (both_move j k) c → HaveRoom k d
 room_for_second j k w c d well room e t =
@@ -130,7 +130,8 @@ pub well_unchanged : {leaves : Condition} (book_bound : BookBound) (w : WorldVal
 well_unchanged book_bound w c h =
     record { leaves_it = h; same_month = same_month c; balances = λ b. b; near = λ e t. near_same (book_bound e t) (amount_in c.books e t) }
 
--- steps of one kind in turn, each of which keeps the books in balance and within one bound (`LeavesWell`)
+-- steps of one kind in turn, one for each element of a list of A. Each is taken where `leaves` is true, and keeps it
+-- true, the books in balance, and each amount within `book_bound` (`LeavesWell`).
 module _ {A : Type 0} {leaves : Condition} (book_bound : BookBound) (w : WorldValue) (step : CampaignValue → A → CampaignValue) (each : (c : CampaignValue) (x : A) → leaves w c → LeavesWell leaves book_bound w c (step c x)) where
   more : {B : Type 0} (x : B) (xs : List B)
       → IsBoundWithin (both_move book_bound (moved_times (length xs) book_bound)) (moved_times (length (x ∷ xs)) book_bound)

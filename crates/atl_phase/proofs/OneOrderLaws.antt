@@ -95,6 +95,8 @@ distinct_also P e f also (x ∷ xs) all apart = (
   distinct_also P e f also xs all.1 apart.1,
 )
 
+-- a phase with the verbs that pass `is_of`, and its orders, sorted as `a` says; the readings of the mailings, by
+-- faction (`readings`), fit the world (`fit`)
 module _ (w : WorldValue) (is_of : Verb → Bool) (a : Arrangement) (aliases : Aliases) (readings : FinMap nat_cmp Reading) (fit : AreFit w readings) where
   are_one : (t o : Task) → IsPhaseOrder is_of aliases readings t → IsPhaseOrder is_of aliases readings o
       → share_slot t o ≡ true → t ≡ o

@@ -110,8 +110,8 @@ no_worse_is_relation = record { same = no_worse; transitive = no_worse_twice; fa
 
 -- ---- orders
 
--- P holds of the result of a faction's order, if it holds of NotYours with the campaign as it was, and of the order's
--- effect on a unit of the faction
+-- P holds of the campaign and outcome after a faction's order for unit n, if P holds of the unchanged campaign with the
+-- fault NotYours, and of what the effect makes where unit n is there and of this faction
 pub carried_cases : (P : CampaignValue × Outcome → Type 0) (effect : OrderEffect) (c : CampaignValue) (faction n : ℕ)
     → P (c, Fault 1) → ((u : Unit) → get c.units n ≡ Some u → u.faction ≡ faction → P (effect c u))
     → P (faction_effect effect c faction n)
@@ -145,6 +145,8 @@ pub result_of_effect : (effect : OrderEffect) (c d : CampaignValue) (faction n :
     → (d, o) ≡ faction_effect effect c faction n → (d, Some o) ≡ order_result (Some effect) c faction n
 result_of_effect effect c d faction n o is = ap with_some is
 
+-- a phase that is `IsOrderly`, and of which `step` says what one order does. Each order keeps `holds` true, and moves
+-- no amount further than `remaining` falls. `unaffected` relates each unit that it doesn't affect to the unit after it.
 module _ (step : OrderMeaning) {holds : Condition} {remaining : RemainingBound} {book_bound : BookBound} {affects : Affects} {unaffected : Unaffected} (orderly : IsOrderly step holds remaining book_bound affects unaffected) (w : WorldValue) where
   -- each order that can be read with the world steps well (`StepsWell`), with a fault or without, if its phase is
   -- `IsOrderly` and `holds` is true before
@@ -196,6 +198,7 @@ module _ (w : WorldValue) where
       → IsOrderOf w e.order_value
   entry_fit r k e fit is = (fit_at r.entries k e (recursion_from_All (IsEntry w) r.entries fit.entries) is).order
 
+  -- the readings of the mailings, by faction (`readings`), which fit the world (`fit`)
   module _ (aliases : Aliases) (readings : FinMap nat_cmp Reading) (fit : AreFit w readings) where
     in_mailing_in_bounds : (t : Task) → IsInMailing aliases readings t → IsOrderOf w t.order_value
     in_mailing_in_bounds t h =
@@ -207,6 +210,8 @@ module _ (w : WorldValue) where
         → All (λ t. IsOrderOf w t.order_value) (orders_of is_of ByUnit aliases readings)
     orders_fit is_of k d l = in_mailing_in_bounds _ (orders_are_in_mailings is_of ByUnit aliases readings k d l)
 
+    -- a phase with the verbs that pass `is_of`, whose orders are sorted as `a` says. P is so of each order with such a
+    -- verb that can be read with the world (`so`).
     module _ (is_of : Verb → Bool) (a : Arrangement) (P : Task → Type 0) (so : (t : Task) → is_of t.order_value.verb ≡ true → IsOrderOf w t.order_value → P t) where
       -- what is so (P) of all orders that have a verb of the phase and can be read with the world is so of each order
       -- of the phase

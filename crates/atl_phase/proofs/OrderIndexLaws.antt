@@ -20,6 +20,8 @@ by_lines : (ts : List Task) (lines : LastLineMap) (t : Task) → AreLastLines ts
 by_lines ts lines t last None = refl
 by_lines ts lines t last (Some slot) = ap (λ n. t.line == n) (last slot t.unit)
 
+-- the mailing at index `at` of the list `ms` (`read`), and its orders that count and have verbs that pass `is_of`: the
+-- orders that count for the phase
 module _ (is_of : Verb → Bool) (aliases : Aliases) (ms : List Mailing) (at : ℕ) where
   abbrev read : Mailing
   read = mailing_at ms at
@@ -55,6 +57,7 @@ module _ (is_of : Verb → Bool) (aliases : Aliases) (ms : List Mailing) (at : �
     pub there : All (IsThere ms) old → All (IsThere ms) list
     pub tasks : map (task_at ms) list ++ rest_from i ≡ map (task_at ms) old ++ rest_from 0
 
+  -- `list` has the indices of the orders that count before the order at i, after those of `old` (`before`)
   module _ (old list : List OrderIndex) (i : ℕ) (h : i < length read.entries) (before : Added old i list) where
     -- if the order at i doesn't count for the phase, the list already has all that count before i + 1 (`Added`)
     pub passed : counts i ≡ false → Added old (i + 1) list
@@ -74,7 +77,8 @@ module _ (is_of : Verb → Bool) (aliases : Aliases) (ms : List Mailing) (at : �
           ∙ ap (λ ts. map (task_at ms) list ++ ts) (sym (opened i h ∙ ap (λ b. cond b (task_at ms (place_of i) ∷ rest_from (i + 1)) (rest_from (i + 1))) counted)) ∙ before.tasks;
     }
 
-  -- the mailing, the entry and the unit that the code reads
+  -- what the code reads: the mailing m, its entry e at index i, and the number of the unit that the order there is for
+  -- (`unit`). The premises say that each is as `ms` has it.
   module _ (i : ℕ) (m : Mailing) (e : Entry) (unit : ℕ) (here : m ≡ read) (entry : e ≡ entry_at i) (for_unit : unit ≡ unit_of aliases m.faction e.target) where
     abbrev found : OrderIndex
     found = record { unit = unit; line = e.line; faction = m.faction; mailing = at; index = i }
@@ -103,8 +107,8 @@ module _ (is_of : Verb → Bool) (aliases : Aliases) (ms : List Mailing) (at : �
         subst (Added old (i + 1)) (sym (is ∙ ap (λ p. list ++ p ∷ []) found_is))
         (pushed old list i h before within counted)
 
-  -- past the last order of a mailing the list has the old indices and those
-  -- of all its orders that count (`AddsMailing`)
+  -- past the last order of the mailing the list has the old indices and those of all orders of the mailing that count
+  -- for the phase (`AddsMailing`)
   pub ended : (old list : List OrderIndex) (i : ℕ) → length read.entries ≤ i → Added old i list
       → AddsMailing is_of aliases ms at old list
   ended old list i h before = record {

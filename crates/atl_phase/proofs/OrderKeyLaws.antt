@@ -44,6 +44,7 @@ other_key a t u other = false_from_ne_true (same_key a t u) (λ h.
     let same = same_key_same_index a t u (tells_apart (slice_cmp-IsAntisymmetric nat_cmp-IsAntisymmetric) (key_of a t) (key_of a u) h) in
     other same.0 same.1)
 
+-- the orders of mailings, each with its key in arrangement `a`: the list of numbers that it is sorted by (`key_of`)
 module _ (a : Arrangement) (aliases : Aliases) where
   from_low : (faction low index : ℕ) (es : List EntryValue) → low ≤ index
       → AllByRecursion (λ t. (t.faction ≡ faction) × (low ≤ t.index)) (tasks_from aliases faction index es)

@@ -14,7 +14,7 @@ use Rattle.atl_campaign.proofs.InsideLaws.{inside_is_listed, listed_is_inside}
 use Rattle.atl_campaign.proofs.LeavingLaws.{owned_by}
 use Rattle.atl_campaign.proofs.NumberListLaws.{IsListed, first_of}
 
--- two campaigns c and d, in which all units but n are the same
+-- campaigns c before and d after unit n went elsewhere: all units but n are the same in both (`away`)
 module _ (c d : CampaignValue) (n : ℕ) (away : (k : ℕ) → k ≢ n → get d.units k ≡ get c.units k) where
   -- from campaign c to d units other than n stay: P holds of each unit of d, if it holds of unit n there, and of each
   -- other unit as it is in c

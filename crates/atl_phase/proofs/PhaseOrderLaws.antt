@@ -24,6 +24,7 @@ use Rattle.atl_phase.proofs.MappedLaws.{no_entries}
 
 -- ---- what is so of each entry is so of each that a map lists
 
+-- P is a property of a key (K) with its value (X), and R compares keys
 module _ {K X : Type 0} (R : K → K → Ordering) (P : K → X → Type 0) where
   abbrev Entries : List (K × X) → Type 0
   Entries = AllByRecursion (λ e. P e.0 e.1)
@@ -46,6 +47,7 @@ module _ {K X : Type 0} (R : K → K → Ordering) (P : K → X → Type 0) wher
 
 -- ---- the orders of a phase
 
+-- a phase with the verbs that pass `is_of`, and what was read of each faction's mailing, by faction (`readings`)
 module _ (is_of : Verb → Bool) (aliases : Aliases) (readings : FinMap nat_cmp Reading) where
   -- the order is in its faction's mailing, counts there, and has a verb of the phase
   pub record IsPhaseOrder (t : Task) : Type 0 where

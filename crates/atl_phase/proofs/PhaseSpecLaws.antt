@@ -8,7 +8,7 @@ use Rattle.atl_phase.specs.PhaseSpecs.{EachPhase, MovesItsOwn, PhaseSpec, keeps_
 use Rattle.atl_phase.specs.Unmailed.{starved_in}
 use Rattle.atl_phase.proofs.UnmailedLaws.{ClosesUnmailed, LeavesUnmailed, both_leave, then_closes}
 
--- if Q holds of each phase of which P holds, and P holds of each phase of a list, so does Q
+-- Q holds of each phase of a list, if P does, and if Q holds of every phase of which P holds
 pub each_also : {P Q : PhaseSpec → Type 0} → ((phase : PhaseSpec) → P phase → Q phase) → (phases : List PhaseSpec)
     → EachPhase P phases → EachPhase Q phases
 each_also also [] each = tt

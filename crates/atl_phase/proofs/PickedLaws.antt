@@ -32,7 +32,7 @@ filter-map p f (x ∷ xs) =
       | false ↦ rest
     ]
 
--- the sorted orders of those that pass a test are those of all sorted orders that pass, if no two keys are equal
+-- to sort the orders that pass a test p is to sort all orders and keep those that pass, if no two keys are equal
 pub sorted-passing : (a : Arrangement) (p : Task → Bool) (ts : List Task) → IsDistinct (same_key a) ts
     → sorted_by (key_of a) (filter p ts) ≡ filter p (sorted_by (key_of a) ts)
 sorted-passing a p ts apart =
@@ -55,7 +55,8 @@ pub twice : (b : Bool) → b ≡ (b && b)
 twice true = refl
 twice false = refl
 
--- the phase's verbs (`is_of`) are among those of the indices (`wide`)
+-- `wide` says for which verbs the indices of orders were gathered, `is_of` which verbs the phase has; each verb of the
+-- phase is among the former (`within`)
 module _ (wide is_of : Verb → Bool) (within : (v : Verb) → is_of v ≡ (wide v && is_of v)) (aliases : Aliases) where
   picked_tasks : (es : List (ℕ × Reading))
       → tasks_of_phase is_of aliases es ≡ filter (has_verb is_of) (tasks_of_phase wide aliases es)

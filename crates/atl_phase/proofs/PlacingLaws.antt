@@ -53,6 +53,8 @@ owns_no_other w c n u is steady q y there other own =
     let unit : v ≡ u = cc in
     other (sym inside ∙ ap (λ (x : Unit). x.structure) unit)
 
+-- in the steady campaign c unit n (u) goes from the structure that it is inside to another one, s; structure 0
+-- stands for none
 module _ (w : WorldValue) (c : CampaignValue) (n : ℕ) (u : Unit) (s : ℕ) (is : get c.units n ≡ Some u) (steady : IsSteady w c) (apart : u.structure ≢ s) where
   abbrev old_place : ℕ
   old_place = u.structure
@@ -162,6 +164,7 @@ module _ (w : WorldValue) (c : CampaignValue) (n : ℕ) (u : Unit) (s : ℕ) (is
 
   -- ---- the campaign
 
+  -- structure s, if not 0, is in the unit's region (`inside`), and where the region is water, s is a ship (`afloat`)
   module _ (inside : s ≢ 0 → (x : Structure) × (get c.structures s ≡ Some x) × (x.region ≡ u.region)) (afloat : is_land_at w u.region ≡ false → (x : Structure) × (get c.structures s ≡ Some x) × (is_ship w x ≡ true)) where
     refit : IsRefit w c n u s is after_entering.structures owner_after
     refit = record {
@@ -186,9 +189,10 @@ module _ (w : WorldValue) (c : CampaignValue) (n : ℕ) (u : Unit) (s : ℕ) (is
     pub placed_total : (t : Thing) → total placed_campaign t ≡ total c t
     placed_total = total-refitted w c n u s is after_entering.structures owner_after
 
+-- in the early campaign c unit n (u) goes from the structure that it is inside to another one, s; 0 is none
 module _ (w : WorldValue) (c : CampaignValue) (n : ℕ) (u : Unit) (s : ℕ) (is : get c.units n ≡ Some u) (early : IsEarly w c) (apart : u.structure ≢ s) where
-  -- A move to another structure of the region, or on land to none, keeps an early campaign early and in balance
-  -- (`StepsWell`). On water the structure must be a ship.
+  -- A move to another structure of the region, or on land to none (0), keeps an early campaign early, in its month and
+  -- with balanced books (`StepsWell`). On water the structure must be a ship.
   pub place_well : (s ≢ 0 → (x : Structure) × (get c.structures s ≡ Some x) × (x.region ≡ u.region))
       → (is_land_at w u.region ≡ false → (x : Structure) × (get c.structures s ≡ Some x) × (is_ship w x ≡ true))
       → StepsWell IsEarly nothing_remaining w c (with_place c n u.region s)

@@ -37,7 +37,7 @@ pub mapped_from : {A B : Type 0} (f : A → B) (o : Option A) (x : B) → option
 mapped_from f None x is = none_some x is
 mapped_from f (Some v) x is = let same : f v ≡ x = cc in (v, refl, same)
 
--- a campaign with other units and structures
+-- campaign c, and the units and structures that take the place of its own, both by number
 module _ (c : CampaignValue) (units : FinMap nat_cmp Unit) (structures : FinMap nat_cmp Structure) where
   -- campaign c with `units` and `structures` in place of its own
   abbrev pub replaced : CampaignValue
@@ -80,6 +80,8 @@ module _ (c : CampaignValue) (units : FinMap nat_cmp Unit) (structures : FinMap 
     units = λ k l. no_unit k (old.units k l);
   }
 
+-- unit n (u) of campaign c is put inside structure s (0 for none), and `structures` take the place of the old ones; g
+-- makes of a structure's number and the structure before the structure after
 module _ (w : WorldValue) (c : CampaignValue) (n : ℕ) (u : Unit) (s : ℕ) (is : get c.units n ≡ Some u) (structures : FinMap nat_cmp Structure) (g : ℕ → Structure → Structure) where
   -- unit n as it is inside structure s
   abbrev pub moved_unit : Unit
@@ -102,6 +104,7 @@ module _ (w : WorldValue) (c : CampaignValue) (n : ℕ) (u : Unit) (s : ℕ) (is
     pub inside : s ≢ 0 → (x : Structure) × (get c.structures s ≡ Some x) × (x.region ≡ u.region)
     pub afloat : is_land_at w u.region ≡ false → (x : Structure) × (get c.structures s ≡ Some x) × (is_ship w x ≡ true)
 
+  -- the campaign `refitted` is a refit of c, with right owners (`refit`)
   module _ (refit : IsRefit) where
     every_structure : (P : ℕ → Structure → Type 0) → Every (λ k y. P k (g k y)) c.structures → Every P structures
     every_structure P h k x there =
@@ -209,7 +212,8 @@ module _ (w : WorldValue) (c : CampaignValue) (n : ℕ) (u : Unit) (s : ℕ) (is
       cancelled (sum_over stock units) (sum_over stock c.units) (unit_amount t u.holding) (sum_over (λ (r : Region). region_amount t r) c.regions)
       (sum_over-insert_known stock c.units n u moved_unit is)
 
--- a campaign in which structures alone change
+-- Campaign c with `structures` in place of its own, as g makes them of each number and structure (`at`): as many,
+-- changed in owner and name at most (`same`), rightly owned (`owned`). Unit n (u) stays where it is.
 module _ (w : WorldValue) (c : CampaignValue) (n : ℕ) (u : Unit) (is : get c.units n ≡ Some u) (structures : FinMap nat_cmp Structure) (g : ℕ → Structure → Structure)
     (at : (k : ℕ) → get structures k ≡ option_map (g k) (get c.structures k)) (count : len structures ≡ len c.structures)
     (same : Every (λ k y. IsRelabelled y (g k y)) c.structures) (owned : Every (λ k y. IsOwned c k (g k y)) c.structures) where

@@ -38,6 +38,7 @@ pub second_false : (a b : Bool) → b ≡ false → (a && b) ≡ false
 second_false true b fails = fails
 second_false false b fails = refl
 
+-- the orders that a faction wrote on one line of its mailing: both are given by number
 module _ (aliases : Aliases) (faction line : ℕ) where
   -- whether an order is of the faction and on the line
   abbrev pub is_at : Task → Bool
@@ -110,6 +111,8 @@ alone t a true =
     ap (map (λ e. e.1)) (entries-insert nat_list_cmp_total (from_entries {R = slice_cmp nat_cmp} []) (key_of a t) t ∙ ap (put (slice_cmp nat_cmp) (key_of a t) t) (no_entries (slice_cmp nat_cmp)))
 alone t a false = ap (map (λ e. e.1)) (no_entries (slice_cmp nat_cmp))
 
+-- order t, which is in its faction's mailing (`there`), and a phase with the verbs that pass `is_of`; the mailings by
+-- faction (`readings`) can be read with the world (`fit`)
 module _ (w : WorldValue) (aliases : Aliases) (readings : FinMap nat_cmp Reading) (fit : AreFit w readings) (t : Task) (there : IsInMailing aliases readings t) (is_of : Verb → Bool) where
   -- whether an order is of the faction and on the line of order t
   abbrev pub is_there : Task → Bool
@@ -191,8 +194,8 @@ module _ (w : WorldValue) (aliases : Aliases) (readings : FinMap nat_cmp Reading
           filter-append is_there (of_mailing e) (flat_map of_mailing es)
           ∙ ap₂ (λ xs ys. xs ++ ys) (in_turn p is_there us ∙ ap (filter p) (none_of aliases t.faction t.line e.0 0 e.1.entries other)) (rest later)
 
-  -- of the orders of the phase none but t is of t's faction and on its line, and t is among them just once, if it is
-  -- one of the phase's
+  -- of the orders of the phase none but t is of t's faction and on t's line; t is among them just once, if it is one of
+  -- the phase's, and otherwise not at all
   pub one_in_phase : (a : Arrangement) → filter is_there (orders_of is_of a aliases readings) ≡ if_of_phase
   one_in_phase a =
       let us = flat_map of_mailing (entries readings) in

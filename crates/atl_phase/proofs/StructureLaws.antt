@@ -15,6 +15,7 @@ use Rattle.atl_campaign.proofs.RegionLaws.{get-insert_same, same_len}
 
 -- ---- a value of a map that is changed
 
+-- map m, in which the value under number k, if there is one, is changed to f of it
 module _ {V : Type 0} (f : V → V) (m : FinMap nat_cmp V) (k : ℕ) where
   -- what a change under number k makes of the value under number q: f of it if q is k, and the value as it is otherwise
   abbrev pub at_number : ℕ → V → V
@@ -62,6 +63,7 @@ module _ {V : Type 0} (f : V → V) (m : FinMap nat_cmp V) (k : ℕ) where
 abbrev pub handed_on : (k from to q : ℕ) → Structure → Structure
 handed_on k from to q y = if q == k && y.owner == from then owned_by to y else y
 
+-- a handover in campaign c: structure k, if its owner is unit `from`, gets unit `to` as owner; owner 0 is nobody
 module _ (c : CampaignValue) (k from to : ℕ) where
   -- the campaign after structure k got the owner `to`, if `from` owned it (the test is true), and otherwise as it was
   abbrev after : Bool → CampaignValue

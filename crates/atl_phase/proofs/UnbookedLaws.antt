@@ -56,17 +56,16 @@ other_unit c t x k v own there apart same =
     let unit : x ≡ v = same_Some _ _ (sym own.there ∙ ap (get c.units) (sym same) ∙ there) in
     apart (record { unit = sym same; faction = sym own.faction ∙ ap (λ (y : Unit). y.faction) unit })
 
--- A unit for which its own faction didn't write an order is there after it, in its place with its name and guard flag,
--- and has lost nothing (`IsNoWorse`). For this the order is for a unit of its writer's faction, and no other unit
--- changes.
+-- Order t is for a unit of its writer's faction, and no other unit changes from campaign c to d. Then each unit for
+-- which its own faction didn't write the order is there in d, and is no worse off (`IsNoWorse`).
 pub other_is_no_worse : (c d : CampaignValue) (t : Task) (x : Unit)
     → ((k : ℕ) → k ≢ t.unit → get d.units k ≡ get c.units k) → IsUnitOf c t x → (k : ℕ) (v : Unit)
     → get c.units k ≡ Some v → (IsOwnOrder t k v.faction → ⊥) → IsStillThere IsNoWorse d k v
 other_is_no_worse c d t x stay own k v there apart =
     record { unit = v; there = stay k (other_unit c t x k v own there apart) ∙ there; is_unaffected = no_worse v }
 
--- A unit for which its own faction didn't write an order is there after it and no worse off. For this the effect of the
--- order, if it has one, changes no other unit than the one that it is for.
+-- The effect of order t (`step`), if there is one, changes no unit but the one that the order is for. Then each unit
+-- for which its own faction didn't write the order is there after the effect, and is no worse off (`IsNoWorse`).
 pub unchanged_is_no_worse : (step : Option OrderEffect) (c : CampaignValue) (t : Task) (x : Unit) → IsUnitOf c t x
     → (k : ℕ) (v : Unit) → get c.units k ≡ Some v → (IsOwnOrder t k v.faction → ⊥)
     → ((j : ℕ) → j ≢ t.unit → IfSome step (λ effect. get (effect c x).0.units j ≡ get c.units j))

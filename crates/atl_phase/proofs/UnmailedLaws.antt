@@ -89,6 +89,7 @@ still_none : {first : Meaning} {early : Frame} → LeavesUnmailed first early
 still_none one w c m f g same none =
     ap (λ (r : FinMap nat_cmp Reading). get r g) (one.readings w c m) ∙ ap (get m.readings) same ∙ none
 
+-- two phases, `first` and then `second`, with what each keeps: `early` for the first, and `late` for the second
 module _ {first second : Meaning} {early late : Frame} where
   -- two phases in turn leave units of factions without a mailing as `LeavesUnmailed` says, if each does
   pub both_leave : LeavesUnmailed first early → LeavesUnmailed second late
@@ -222,6 +223,8 @@ none_less x y u v same men items =
     nobody : (a b : ℕ) → b ≡ a → b + (y - x) ≡ a
     nobody a b e = omega (arith, same)
 
+-- A phase that keeps the mailings, and reports no man as starved (`nobody`). If it keeps what `keeps` says, units of
+-- factions without a mailing have their men and items after it.
 module _ {meaning : Meaning} {keeps : Frame} (readings : (w : WorldValue) (c : CampaignValue) (m : MonthValue) → (meaning w c m).1.readings ≡ m.readings)
     (nobody : (w : WorldValue) (c : CampaignValue) (m : MonthValue) (n : ℕ) → starved_in (meaning w c m).1.events n ≡ starved_in m.events n)
     (men : (w : WorldValue) (c : CampaignValue) (m : MonthValue) → keeps w m c (meaning w c m).0 → UnmailedAre HasItsMen m c (meaning w c m).0)
@@ -274,6 +277,7 @@ LeavesOthersMen step =
     (w : WorldValue) (a : Aliases) (c : CampaignValue) (t : Task) (x : Unit) → IsUnitOf c t x → IfSome (step w a t)
     (λ effect. OthersHaveMen t.faction c (effect c x).0)
 
+-- a phase that carries its orders out one by one; `step` says what one order does
 module _ (step : OrderMeaning) where
   order_leaves_men : LeavesOthersMen step → (w : WorldValue) (a : Aliases) (c : CampaignValue) (t : Task)
       → OthersHaveMen t.faction c (order_result (step w a t) c t.faction t.unit).0
@@ -309,6 +313,7 @@ module _ (step : OrderMeaning) where
   orders_starve_none w p [] n = refl
   orders_starve_none w p (t ∷ ts) n = orders_starve_none w (one_order step w p t) ts n ∙ order_starves_none w p t n
 
+  -- the phase has the verbs that pass `is_of`
   module _ (is_of : Verb → Bool) where
     -- a phase that carries its orders out one by one keeps the mailings
     pub carried_readings : (w : WorldValue) (c : CampaignValue) (m : MonthValue)
