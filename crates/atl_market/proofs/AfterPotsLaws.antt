@@ -107,6 +107,7 @@ works_at_once w c os =
 
 -- ---- PRODUCE
 
+-- `asked` has by unit the item that its order names
 module _ (asked : FinMap nat_cmp ℕ) (w : WorldValue) where
   used_regions : (d : CampaignValue) (n i amount : ℕ) → (with_used d n i amount).regions ≡ d.regions
   used_regions d n i amount = by_unit d n (λ (s : CampaignValue). s.regions ≡ d.regions) _ refl (λ u is. refl)

@@ -60,6 +60,7 @@ traded_twice : (trade : Trade) (stock s t : ℕ)
 traded_twice Sell stock s t = omega arith
 traded_twice Buy stock s t = omega arith
 
+-- unit `n`, which is `u`, trades item `i`; `deal` is the result, whose money is booked under `entry`
 module _ (d : CampaignValue) (n : ℕ) (u : Unit) (i : ℕ) (entry : BooksEntry) (deal : TradeResult) (is : get d.units n ≡ Some u) where
   dealt_units : (with_trade_booked d n u i entry deal).units
       ≡ insert d.units n (record u { holding = with_trade_result u.holding i deal })
@@ -74,6 +75,7 @@ module _ (d : CampaignValue) (n : ℕ) (u : Unit) (i : ℕ) (entry : BooksEntry)
 
 -- ---- one unit trades
 
+-- `items` has by unit the item that its order names
 module _ (trade : Trade) (items : FinMap nat_cmp ℕ) (w : WorldValue) where
   -- what unit `n` is after it traded a number of pieces with the market for its order's item, if there is one
   abbrev trader : ℕ → UnitChange
@@ -93,7 +95,8 @@ module _ (trade : Trade) (items : FinMap nat_cmp ℕ) (w : WorldValue) where
           ∙ ap (λ k. get k e.0) (dealt_units d e.0 u m.item (trade_entry trade) deal is) ∙ get-insert_same d.units e.0 (record u { holding = with_trade_result u.holding m.item deal })
           ∙ ap (λ h. Some (record u { holding = h })) (trade_is trade u.holding stock e.1 m)
 
--- what the trade of a unit that is there changes of each region's stocks
+-- What a trade changes of each region's stocks. `e` is the number of unit `u` with its share: how many pieces it trades
+-- of the item that `items` has for it. The unit is in `d` as in `units`, those of the campaign when the phase began.
 module _ (trade : Trade) (items : FinMap nat_cmp ℕ) (w : WorldValue) (units : FinMap nat_cmp Unit) (d : CampaignValue) (e : ℕ × ℕ) (u : Unit)
     (is : get d.units e.0 ≡ Some u) (there : get units e.0 ≡ Some u) where
   -- how many of item `i` the unit takes from, or adds to, the stock of region `r`
@@ -117,6 +120,7 @@ module _ (trade : Trade) (items : FinMap nat_cmp ℕ) (w : WorldValue) (units : 
     amounts = λ i. sym (ap (stock_after trade (amount_of q.stocks i)) (none_drawn (draws_item units items (r, i) e.0) e.1 none) ∙ none_traded trade (amount_of q.stocks i));
   }
 
+  -- `m` is the market of the unit's region for the item that its order names
   module _ (m : Market) (at : market_for w u (get items e.0) ≡ Some m) (says : get items e.0 ≡ Some m.item) where
     abbrev deal : TradeResult
     deal = trade_result_of trade u.holding (stock_of d u.region m.item) e.1 m
@@ -194,6 +198,7 @@ module _ (trade : Trade) (items : FinMap nat_cmp ℕ) (w : WorldValue) (units : 
 
 -- ---- one unit trades after the other
 
+-- `items` has by unit the item that its order names
 module _ (trade : Trade) (items : FinMap nat_cmp ℕ) (w : WorldValue) where
   abbrev step : CampaignValue → ℕ × ℕ → CampaignValue
   step d e = after_trade trade items w d e
@@ -219,6 +224,7 @@ module _ (trade : Trade) (items : FinMap nat_cmp ℕ) (w : WorldValue) where
         ∙ ap (λ o. Some (paid_unit (trader trade items w n) u o)) (sym (found_other e es n apart))
   ]
 
+  -- `c` is the campaign when the phase began; `d` is the one that the trades so far leave
   module _ (c : CampaignValue) where
     -- the unit of a pair (unit, share) is in campaign `c`, and the share is 0 where the unit has no market for its item
     abbrev Trades : ℕ × ℕ → Type 0
@@ -245,6 +251,7 @@ module _ (trade : Trade) (items : FinMap nat_cmp ℕ) (w : WorldValue) where
               ∙ traded_twice trade (amount_of q.stocks i) (cond (draws_item c.units items (r, i) e.0) e.1 0) later;
         }
 
+-- SELL or BUY (`trade`) begins in campaign `c`; `os` are the orders of the phase
 module _ (trade : Trade) (w : WorldValue) (c : CampaignValue) (os : List Task) where
   abbrev named : FinMap nat_cmp ℕ
   named = items_by (trade_pots trade) w c os

@@ -41,6 +41,7 @@ pub record Pays (needs : Bool) (step : CampaignValue → ℕ × ℕ → Campaign
   pub nothing : (q : Region) → gives q 0 ≡ q
   pub twice : (q : Region) (s t : ℕ) → gives (gives q s) t ≡ gives q (s + t)
 
+-- `step` pays the unit of a pair (unit, share): the unit changes by `gets` and its region by `gives` (`Pays`)
 module _ {needs : Bool} {step : CampaignValue → ℕ × ℕ → CampaignValue} {gets : ℕ → UnitChange} {gives : RegionChange} (pays : Pays needs step gets gives) where
   still_around : (d : CampaignValue) (e : ℕ × ℕ) (u v : Unit) → get d.units e.0 ≡ Some u → HasRegion needs d u
       → HasRegion needs d v → HasRegion needs (step d e) v
@@ -56,6 +57,7 @@ module _ {needs : Bool} {step : CampaignValue → ℕ × ℕ → CampaignValue} 
         | inr apart ↦ (q, others v.region apart ∙ at)
       ]
 
+  -- `c` is the campaign when the phase began; `d` is the one that the payments so far leave
   module _ (c : CampaignValue) where
     -- payment `e` can be made: its unit is there in `c`, and the unit's region in `d`, if that is needed (`HasRegion`)
     abbrev CanBePaid : CampaignValue → ℕ × ℕ → Type 0

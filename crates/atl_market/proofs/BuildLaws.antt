@@ -144,6 +144,7 @@ least_within_third x y z = omega arith
 product_is_positive : (a b : ℕ) → 1 ≤ a → 1 ≤ b → 1 ≤ a * b
 product_is_positive a b l m = let h : a * 1 ≤ a * b = mul-le-mul_left a m in omega (arith, l, h)
 
+-- a unit with the holding `h` builds at a structure of kind `k`, of whose size `done` is done
 module _ (k : Kind) (h : HoldingValue) (done : ℕ) where
   -- a unit adds at most as much as it holds of the material
   pub size_held : size_added k h done ≤ amount_of h.items k.material
@@ -163,6 +164,7 @@ kind_size w i k is = ap (λ o. option_map_or (λ (x : Kind). x.size) o most_size
 
 -- ---- a structure is begun
 
+-- unit `n`, which is `u`, begins a structure of kind `k`, which has the number `kind`
 module _ (w : WorldValue) (c : CampaignValue) (n kind : ℕ) (u : Unit) (k : Kind) (is : get c.units n ≡ Some u) where
   abbrev size : ℕ
   size = size_added k u.holding 0
@@ -185,6 +187,7 @@ module _ (w : WorldValue) (c : CampaignValue) (n kind : ℕ) (u : Unit) (k : Kin
       ∙ place_stays (with_new_structure after_use kind k u.region size) n u.region c.next_structure j apart
       ∙ others_stay w c n k.material size u is j apart
 
+  -- `k` is the world's kind with the number `kind`, and the unit can begin the structure (`fit`)
   module _ (kind_is : slice_get w.kinds kind ≡ Some k) (can : CanBuild w c) (fit : CanBegin w c u k) where
     good : IsKind (length w.items) (length w.skills) k
     good = can.kinds kind k kind_is
@@ -225,6 +228,7 @@ module _ (w : WorldValue) (c : CampaignValue) (n kind : ℕ) (u : Unit) (k : Kin
 
 -- ---- more of a structure is done
 
+-- unit `n`, which is `u`, continues the structure `s` of kind `k`
 module _ (w : WorldValue) (c : CampaignValue) (n : ℕ) (u : Unit) (s : Structure) (k : Kind) (is : get c.units n ≡ Some u) where
   abbrev added : ℕ
   added = size_added k u.holding s.done
@@ -244,6 +248,7 @@ module _ (w : WorldValue) (c : CampaignValue) (n : ℕ) (u : Unit) (s : Structur
       → get (after_building_on c n k.material added u.structure (s.done + added)).units j ≡ get c.units j
   on_stays j apart = ap (λ (d : CampaignValue). get d.units j) on_is ∙ others_stay w c n k.material added u is j apart
 
+  -- the unit is inside `s` (`there`), whose kind is `k` (`kind_is`), and can continue it (`fit`)
   module _ (there : get c.structures u.structure ≡ Some s) (kind_is : slice_get w.kinds s.kind ≡ Some k) (can : CanBuild w c) (fit : CanGoOn u s k) where
     paid_well : StepsWell CanBuild build_remaining w c paid
     paid_well =
@@ -433,7 +438,8 @@ begun_outcome c n kind k region size = (after_start c n kind k region size, Done
 abbrev continued_outcome : CampaignValue → (n material size structure done : ℕ) → CampaignValue × Outcome
 continued_outcome c n material size structure done = (after_building_on c n material size structure done, Done size)
 
--- where `BUILD kind` has no fault, the campaign and outcome that the code makes are those of its definition (`begin`)
+-- Where `BUILD kind` of faction `f` for unit `n` has no fault, the campaign `d` and the outcome `Done says` that the
+-- code makes are those of the order's definition (`begin`). `size` is how much the unit adds.
 pub begin_done : (w : WorldValue) (c d : CampaignValue) (f n kind : ℕ) (u : Unit) (k : Kind) (size says : ℕ)
     → of_faction f (get c.units n) ≡ Some u → begin_fault w c u k ≡ None
     → d ≡ after_start c n kind k u.region size → says ≡ size → size ≡ size_added k u.holding 0
@@ -444,8 +450,8 @@ begin_done w c d f n kind u k size says is none first asked_is size_is =
     let chain : faction_effect (begin w n kind k) c f n ≡ whole = ap (effect_on (begin w n kind k) c) is ∙ ap (λ o. unless c o whole) none in
     rw (first, asked_is, size_is) (sym chain)
 
--- where `BUILD` inside a structure has no fault, the campaign and outcome that the code makes are those of its
--- definition (`go_on`)
+-- Where `BUILD` of faction `f` for unit `n` inside structure `s` has no fault, the campaign `d` and the outcome
+-- `Done says` that the code makes are those of the order's definition (`go_on`). `size` is how much the unit adds.
 pub go_on_done : (w : WorldValue) (c d : CampaignValue) (f n : ℕ) (u : Unit) (s : Structure) (k : Kind) (size says : ℕ)
     → of_faction f (get c.units n) ≡ Some u → get c.structures u.structure ≡ Some s → slice_get w.kinds s.kind ≡ Some k
     → inside_fault u s k ≡ None → d ≡ after_building_on c n k.material size u.structure (s.done + size) → says ≡ size

@@ -21,6 +21,8 @@ use Rattle.atl_market.proofs.BuildBegunLaws.{unbooked_change_steps_well}
 equal_addends_cancel : (a b h g : ℕ) → a + h ≡ b + g → g ≡ h → a ≡ b
 equal_addends_cancel a b h g e f = omega (arith, e, f)
 
+-- Unit `n`, which is `u`, moves into structure `s`, another than the one that it is inside (`apart`). The number 0
+-- stands for the place outside of all structures.
 module _ (w : WorldValue) (c : CampaignValue) (n : ℕ) (u : Unit) (s : ℕ) (is : get c.units n ≡ Some u) (can : CanBuild w c) (apart : u.structure ≢ s) where
   abbrev placed : CampaignValue
   placed = placed_campaign w c n u s is can.steady apart

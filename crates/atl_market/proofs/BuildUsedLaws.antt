@@ -114,6 +114,7 @@ only_used item amount e t = by_number (amount_number e t == amount_number Used (
 sum_falls_with_term : (s t f g x : ℕ) → s + f ≡ t + g → f ≡ g + x → s + x ≡ t
 sum_falls_with_term s t f g x e h = omega (arith, e, h)
 
+-- unit `n`, which is `u`, uses `amount` of an item, by the number `item`
 module _ (w : WorldValue) (c : CampaignValue) (n item amount : ℕ) (u : Unit) (is : get c.units n ≡ Some u) where
   -- the unit after it used `amount` of the item
   abbrev pub user : Unit
@@ -131,6 +132,7 @@ module _ (w : WorldValue) (c : CampaignValue) (n item amount : ℕ) (u : Unit) (
   pub others_stay : (k : ℕ) → k ≢ n → get used.units k ≡ get c.units k
   others_stay k apart = get-insert_other c.units n k user apart
 
+  -- the unit holds at least the amount (`enough`), and the world has the item (`known`)
   module _ (enough : amount ≤ amount_of u.holding.items item) (known : item < length w.items) (can : CanBuild w c) where
     well : LeavesWell IsSteady (moves_only amount Used (Item item)) w c used
     well =

@@ -43,12 +43,14 @@ all_pairs P (e ∷ es) h = (h.0, all_pairs P es h.1)
 abbrev pub Drawers : Type 0
 Drawers = ℕ → Bool
 
+-- `draws` tells which units draw from one pot; `e` and `es` are shares, as pairs (unit, share)
 module _ (draws : Drawers) where
   -- the sum of those shares whose units draw from the pot
   abbrev pub drawn : List (ℕ × ℕ) → ℕ
   drawn [] = 0
   drawn (e ∷ es) = cond (draws e.0) e.1 0 + drawn es
 
+  -- `amount` gives a share for each unit, by the unit's number
   module _ (amount : ℕ → ℕ) where
     -- if the unit of a pair (unit, share) draws from the pot, the unit is on a list, and the share is what `amount` has
     -- for it
@@ -126,6 +128,7 @@ pub record DrawnPots (K : Type 0) : Type 0 where
   pub draws : K → Drawers
   pub left : K → Region → ℕ
 
+-- `d` is a campaign in which the shares `e` and `es`, pairs (unit, share), are still to be drawn from the pots
 module _ {K : Type 0} (pots : DrawnPots K) where
   -- in a campaign each pot holds at least the sum of those of the shares whose units draw from it
   abbrev pub HaveEnough : CampaignValue → List (ℕ × ℕ) → Type 0
@@ -138,6 +141,7 @@ module _ {K : Type 0} (pots : DrawnPots K) where
       (k : K) (x : Region) → get after.regions (pots.pot_region k) ≡ Some x
       → (q : Region) × (get d.regions (pots.pot_region k) ≡ Some q) × (pots.left k x + cond (pots.draws k e.0) e.1 0 ≡ pots.left k q)
 
+  -- `e` and then `es` are the shares still to be drawn, as pairs (unit, share); the pots of `d` have enough for them
   module _ (d : CampaignValue) (e : ℕ × ℕ) (es : List (ℕ × ℕ)) (enough : HaveEnough d (e ∷ es)) where
     -- the first share is at most what is left of a pot that its unit draws from
     pub first_draws : (k : K) (q : Region) → get d.regions (pots.pot_region k) ≡ Some q → pots.draws k e.0 ≡ true
@@ -158,6 +162,7 @@ module _ {K : Type 0} (pots : DrawnPots K) where
         left_over : (share rest less all : ℕ) → share + rest ≤ all → less + share ≡ all → rest ≤ less
         left_over share rest less all h k = omega (arith, h, k)
 
+  -- `e` is a unit's number with the share that it draws; `d` is the campaign before, and `after` the one after
   module _ (d : CampaignValue) (e : ℕ × ℕ) (after : CampaignValue) where
     -- All pots lose just what a unit draws (`Drains`), if one region alone changes, its pots lose the share where the
     -- unit draws, and the unit draws in no other region.
@@ -192,11 +197,13 @@ module _ {K : Type 0} (pots : DrawnPots K) where
 abbrev pub draws_region : FinMap nat_cmp Unit → ℕ → Drawers
 draws_region units r n = is_in_region r (get units n)
 
+-- `units` are those of the campaign when the phase begins; `left` gives what is left of a region's pot
 module _ (units : FinMap nat_cmp Unit) (left : Region → ℕ) where
   -- the pots of regions, by region: `left` gives what is left in each
   abbrev pub region_pots : DrawnPots ℕ
   region_pots = record { pot_region = λ r. r; draws = draws_region units; left = λ r q. left q }
 
+  -- `e` is the number of unit `u` with its share, and `q` is the unit's region as it is in `d`
   module _ (d : CampaignValue) (e : ℕ × ℕ) (u : Unit) (q : Region) (there : get units e.0 ≡ Some u) (around : get d.regions u.region ≡ Some q) where
     -- a change of the unit's region that takes the unit's share off its pot is a draw of the share (`Drains`)
     pub one_drains : (after : CampaignValue) (f : Region → Region)
@@ -213,7 +220,8 @@ module _ (units : FinMap nat_cmp Unit) (left : Region → ℕ) where
         first_draws region_pots d e es enough u.region q around
         (ap (is_in_region u.region) there ∙ same_number u.region)
 
--- The pot of a region is enough for all who draw from it: they get shares of it, which are together at most the pot.
+-- The pot of region `r` is enough for all who draw from it (`draws`): their shares are together at most the pot.
+-- `pot_of` gives the pot of a region by its number. `wants` has by unit how much the unit wants, and `given` its share.
 module _ (pot_of : ℕ → ℕ) (wants : FinMap nat_cmp ℕ) (c : CampaignValue) (r : ℕ) (draws : Drawers) (given : FinMap nat_cmp ℕ) where
   abbrev amount : ℕ → ℕ
   amount n = amount_given pot_of wants c n
@@ -255,6 +263,7 @@ pot_is_enough pot_of wants c r there =
 
 -- ---- units that have not been paid yet are as they were
 
+-- `c` is the campaign when the phase begins; the pairs below are units with their shares
 module _ (c : CampaignValue) where
   -- the units of some shares are in campaign `d` as they are in `c`
   abbrev pub AreUntouched : CampaignValue → List (ℕ × ℕ) → Type 0
@@ -285,7 +294,8 @@ pub record SharesArePayable {K : Type 0} (pots : DrawnPots K) (Fits : ℕ × ℕ
   pub fits : AllByRecursion Fits es
   pub enough : HaveEnough pots d es
 
--- after the first share is paid, the later ones can be paid, if only its unit changed and the pots lost just its share
+-- after the first share (`e`) is paid, the later ones can be paid, if only the unit of `e` changed, the campaign is
+-- still early, and the pots lost just this share
 pub ready_after : {K : Type 0} (pots : DrawnPots K) {Fits : ℕ × ℕ → Type 0} (w : WorldValue) (c d : CampaignValue) (e : ℕ × ℕ) (es : List (ℕ × ℕ)) (after : CampaignValue)
     → SharesArePayable pots Fits w c d (e ∷ es) → IsEarly w after
     → ((k : ℕ) → k ≢ e.0 → get after.units k ≡ get d.units k)

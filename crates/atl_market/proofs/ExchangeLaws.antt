@@ -32,6 +32,8 @@ pub record KeepsTogether (u : Unit) (q : Region) (f : Region → Region) (more :
   pub items : (i : ℕ)
       → amount_of more.items i + amount_of (f q).stocks i ≡ amount_of u.holding.items i + amount_of q.stocks i
 
+-- Unit `n`, which is `u`, exchanges with its region `q`. Then the unit holds `more`, the region is what `f` makes of
+-- `q`, and `z` money is booked under `entry`.
 module _ (w : WorldValue) (c : CampaignValue) (n : ℕ) (u : Unit) (q : Region) (f : Region → Region) (more : HoldingValue) (entry : BooksEntry) (z : ℤ)
     (is : get c.units n ≡ Some u) (around : get c.regions u.region ≡ Some q) where
   abbrev supplied : CampaignValue

@@ -55,6 +55,7 @@ item_is c n u i amount is =
 
 -- ---- a unit holds another amount of an item, which is booked
 
+-- unit `n`, which is `u`, is set to hold `amount` of item `i`
 module _ (w : WorldValue) (c : CampaignValue) (n : ℕ) (u : Unit) (i amount : ℕ) (is : get c.units n ≡ Some u) where
   abbrev more : HoldingValue
   more = record u.holding { items = with_amount_of u.holding.items i amount }
@@ -71,10 +72,12 @@ module _ (w : WorldValue) (c : CampaignValue) (n : ℕ) (u : Unit) (i amount : �
     days = old.days;
   }
 
+  -- `z` is what is booked of the item under entry `e`
   module _ (e : BooksEntry) (z : ℤ) where
     abbrev after : CampaignValue
     after = with_booking with_set e (Item i) z
 
+    -- what is booked is the new amount less the old
     module _ (change : pos amount ≡ pos (amount_of u.holding.items i) +ℤ z) where
       by_test : (j : ℕ) (q : Bool) → eq_by_cmp nat_cmp j i ≡ q → (x y t : ℕ) → x ≡ y
           → y + amount_of u.holding.items j ≡ t + cond q amount (amount_of u.holding.items j)
@@ -129,6 +132,7 @@ taken_off a k l = omega (arith, ints, l)
 pub put_to : (a k : ℕ) → pos (a + k) ≡ pos a +ℤ pos k
 put_to a k = omega (arith, ints)
 
+-- `k` is how many of item `i` unit `n` uses or makes
 module _ (w : WorldValue) (c : CampaignValue) (n i k : ℕ) where
   -- where the unit is there, using `k` of item `i` sets the unit's amount of it, and books `k` as used
   pub used_is : (u : Unit) → get c.units n ≡ Some u
@@ -160,14 +164,14 @@ module _ (w : WorldValue) (c : CampaignValue) (n i k : ℕ) where
       subst (λ d. LeavesWell IsSteady (moves_only limit entries.Used (Item i)) w c d) (sym (used_is u there))
       (set_well w c n u i (a - k) there entries.Used (neg_ℤ (pos k)) (taken_off a k enough) limit known (omega (arith, within)) (within-neg k limit most) steady)
 
-  -- a use that can be made (`CanUse`) keeps the campaign steady and its books balanced
+  -- a use that can be made (`CanUse`) keeps a campaign steady and its books balanced, and books only the item as used
   pub used_well : CanUse w c n i k
       → LeavesWell IsSteady (moves_only holding_limit entries.Used (Item i)) w c (with_used c n i k)
   used_well can =
       let within = held_within can.unit can.there can.steady in
       used_up_to holding_limit (omega (arith, within, can.enough)) can.unit can.there can.known can.enough can.steady
 
-  -- making that can be done (`CanMake`) keeps the campaign steady and its books balanced
+  -- making that can be done (`CanMake`) keeps a campaign steady and its books balanced, and books only the item as made
   pub made_well : CanMake w c n i k
       → LeavesWell IsSteady (moves_only holding_limit entries.Made (Item i)) w c (with_made c n i k)
   made_well can =

@@ -47,6 +47,7 @@ module _ (f : ℕ × ℕ → ℕ) where
 
 -- ---- what is made
 
+-- `asked` has by unit the item that its order names, and `wants` how many pieces of it the unit wants to make
 module _ (asked : FinMap nat_cmp ℕ) (w : WorldValue) (c : CampaignValue) (wants : FinMap nat_cmp ℕ) where
   -- what each unit makes, put into the empty map unit by unit, is the map of the definition
   pub makes_are : with_entries empty (map (λ e. (e.0, amount_made w asked c wants e)) (entries wants))

@@ -97,6 +97,7 @@ as_pairs P (e ∷ es) h = (h.0, as_pairs P es h.1)
 
 -- ---- entries that agree with a function, put into a map in turn
 
+-- `g` gives the value that belongs to a number, if any
 module _ (g : ℕ → Option ℕ) where
   -- each entry's value is the one that the function `g` has for the entry's number
   abbrev pub AgreeWith : Entries → Type 0
@@ -219,6 +220,7 @@ pub each_flat : {A : Type 0} (P : ℕ × ℕ → Type 0) (f : A → Entries) (xs
 each_flat P f [] h = tt
 each_flat P f (x ∷ xs) h = all_append P (f x) (flat_map f xs) h.0 (each_flat P f xs h.1)
 
+-- `f` gives the entries of a region, by its number; `rs` are regions
 module _ (f : ℕ → Entries) where
   abbrev from_all : List ℕ → Entries
   from_all rs = flat_map f rs
@@ -316,6 +318,7 @@ amounts_are_low wants low =
 
 -- ---- the wants for one pot
 
+-- `asked_by` gives, by a unit's number, the pot that it asks for, if any; `wants` has by unit how much it wants of it
 module _ (asked_by : ℕ → Option ℕ) (wants : FinMap nat_cmp ℕ) where
   -- the wants for a pot have a unit's want, if the unit asks for the pot, and else nothing
   pub want_at : (pot n : ℕ)
@@ -324,7 +327,7 @@ module _ (asked_by : ℕ → Option ℕ) (wants : FinMap nat_cmp ℕ) where
       get-retain_keys wants (λ k. asks_for pot (asked_by k)) n
       (λ k tie. ap (λ j. asks_for pot (asked_by j)) (sym (nat_cmp-IsAntisymmetric n k tie)))
 
-  -- a unit that has a want for a pot asks for the pot, and the want is its own
+  -- a unit with a want among those for a pot (`wants_for`) asks for the pot, and has the same want in `wants`
   pub asking : (pot n want : ℕ) → get (wants_for asked_by wants pot) n ≡ Some want
       → (asked_by n ≡ Some pot) × (get wants n ≡ Some want)
   asking pot n want is = by_pot (asked_by n) refl (sym (want_at pot n) ∙ is)
@@ -348,6 +351,7 @@ module _ (asked_by : ℕ → Option ℕ) (wants : FinMap nat_cmp ℕ) where
 
 -- ---- units with a want
 
+-- `wants` has by unit how much it wants; `units` has in which region each unit is
 module _ (wants : FinMap nat_cmp ℕ) (units : FinMap nat_cmp Unit) where
   -- a unit, by its number, is in region `r` and has a want
   abbrev pub IsTaker : ℕ → ℕ → Type 0
@@ -370,7 +374,7 @@ module _ (wants : FinMap nat_cmp ℕ) (units : FinMap nat_cmp Unit) where
   pub takers_risen : (r : ℕ) → IsRisen (takers_in wants units r)
   takers_risen r = keys_risen (entries (wants_at wants units r)) (entries_rise (wants_at wants units r))
 
-  -- a unit that has a want has it among the wants of its region
+  -- a unit's want is among the wants of the region that the unit is in (`wants_at`)
   pub taker_wants : (n want : ℕ) (u : Unit) → get wants n ≡ Some want → get units n ≡ Some u
       → get (wants_at wants units u.region) n ≡ Some want
   taker_wants n want u wanted is =
@@ -385,6 +389,7 @@ module _ (wants : FinMap nat_cmp ℕ) (units : FinMap nat_cmp Unit) where
 
 -- ---- shares of all regions
 
+-- `pot_of` gives the pot of a region by its number; `wants` has by unit how much it wants of its region's pot
 module _ (pot_of : ℕ → ℕ) (wants : FinMap nat_cmp ℕ) (units : FinMap nat_cmp Unit) where
   -- the units of region `r` that have a want, each with its share of the region's pot
   abbrev given_in : ℕ → Entries
@@ -411,6 +416,7 @@ module _ (pot_of : ℕ → ℕ) (wants : FinMap nat_cmp ℕ) (units : FinMap nat
       let share : Some s ≡ Some t = sym is ∙ ap (λ k. find nat_cmp n (given_in k)) region ∙ also in
       cc
 
+-- `pot_of` gives the pot of a region by its number; `wants` has by unit how much it wants of its region's pot
 module _ (pot_of : ℕ → ℕ) (wants : FinMap nat_cmp ℕ) (c : CampaignValue) where
   -- the share of a unit (`share_of`) is the one found under its number among the shares of all regions
   pub found_is : (n : ℕ)

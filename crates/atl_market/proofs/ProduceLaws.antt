@@ -119,7 +119,9 @@ of_numbered w (Some i) f is = by_world (slice_get w.items i) refl is
         subst (λ (g : ℕ × Item). (Some i ≡ Some g.0) × (slice_get w.items g.0 ≡ Some g.1)) (same_Some (i, x) f found)
         (refl, there)
 
+-- `asked` has by unit the item that its order names. `e` is a unit's number with how many pieces it makes.
 module _ (asked : FinMap nat_cmp ℕ) (w : WorldValue) (c : CampaignValue) (e : ℕ × ℕ) where
+  -- the unit of `e` can make its pieces (`can`), and its order names item `i` of the world, which is `x`
   module _ (can : CanProduce asked w c e) (i : ℕ) (x : Item) (says : get asked e.0 ≡ Some i) (there : slice_get w.items i ≡ Some x) where
     held : (r : ℕ) → amount_of can.unit.holding.items r ≤ holding_limit
     held r = amount_within can.unit.holding r (can.steady.numbers.units e.0 can.unit can.there).1
@@ -242,6 +244,7 @@ names_item h None fine = absurd (by_men (h.men == 0) fine)
     by_men true never = none_some NoMen (sym never)
     by_men false never = none_some NoSkill (sym never)
 
+-- PRODUCE begins in campaign `c`; `os` are the orders of the phase
 module _ (w : WorldValue) (c : CampaignValue) (os : List Task) where
   abbrev items : FinMap nat_cmp ℕ
   items = items_by produce_pots w c os
@@ -250,7 +253,7 @@ module _ (w : WorldValue) (c : CampaignValue) (os : List Task) where
   abbrev Makes : ℕ × ℕ → Type 0
   Makes e = (u : Unit) × (get c.units e.0 ≡ Some u) × (e.1 ≤ most_makeable w u.holding (get items e.0))
 
-  -- each unit that makes something is there, and makes at most what it can make of its order's item
+  -- each unit that makes something is there, and makes at most what it can make of the item that its order names
   pub given_can : Every (λ n made. Makes (n, made)) (given_by produce_pots w c os)
   given_can n made is =
       let (u, t, there, own, low, fine, named) = given_is_named produce_pots w c (produce_gives_to_wants w c) os n made is in
@@ -283,6 +286,7 @@ raw_in : (items r : ℕ) (o : Option ℕ) → o ≡ Some r → IfSome o (λ k. k
 raw_in items r None is known = none_some r is
 raw_in items r (Some k) is known = let same : k ≡ r = cc in subst (λ m. m < items) same known
 
+-- `asked` has by unit the item that its order names
 module _ (asked : FinMap nat_cmp ℕ) (w : WorldValue) (c : CampaignValue) (world : IsWorld w) (steady : IsSteady w c) where
   fits_by : (n made : ℕ) (u : Unit) → get c.units n ≡ Some u → made ≤ most_makeable w u.holding (get asked n)
       → (i : ℕ) (x : Item) → get asked n ≡ Some i → slice_get w.items i ≡ Some x → HasRoomAndRaw w u made i x
@@ -305,6 +309,7 @@ HasRoomFor asked w c e =
     (u : Unit) × (get c.units e.0 ≡ Some u) ×
     ((i : ℕ) (x : Item) → get asked e.0 ≡ Some i → slice_get w.items i ≡ Some x → HasRoomAndRaw w u e.1 i x)
 
+-- `asked` has by unit the item that its order names; shares are pairs (unit, pieces to make)
 module _ (asked : FinMap nat_cmp ℕ) (w : WorldValue) where
   abbrev step_moves : BookBound
   step_moves = produce_moves holding_limit
@@ -329,6 +334,7 @@ module _ (asked : FinMap nat_cmp ℕ) (w : WorldValue) where
             (still c (after_production asked w c e) e.0 es (produced_others asked w c e) rise.0 all),
       )
 
+-- PRODUCE begins in the steady campaign `c`; `os` are the orders of the phase
 module _ (w : WorldValue) (c : CampaignValue) (world : IsWorld w) (steady : IsSteady w c) (os : List Task) where
   abbrev shares : List (ℕ × ℕ)
   shares = entries (given_by produce_pots w c os)

@@ -62,6 +62,7 @@ with_recruits_booked c n u q recruits cost =
     with_booking (region_changed (with_fewer_peasants q recruits) (with_recruits_joined c n u recruits cost) u.region)
     Recruiting Money (neg_ℤ (pos cost))
 
+-- unit `n`, which is `u`, takes `recruits` of the peasants of its region `q` as men, and pays `cost` money for them
 module _ (w : WorldValue) (c : CampaignValue) (n : ℕ) (u : Unit) (q : Region) (recruits cost : ℕ) (is : get c.units n ≡ Some u) (around : get c.regions u.region ≡ Some q) where
   abbrev after : CampaignValue
   after = with_recruits_booked c n u q recruits cost
@@ -84,6 +85,7 @@ module _ (w : WorldValue) (c : CampaignValue) (n : ℕ) (u : Unit) (q : Region) 
       (λ o. with_booking (with_peasants (with_holding_at c n more o) u.region (q.peasants - recruits)) Recruiting Money (neg_ℤ (pos cost)))
       is
 
+  -- the unit has room for the recruits and can pay for them, and the region has at least as many peasants
   module _ (fits : u.holding.men + recruits ≤ men_limit) (payable : cost ≤ u.holding.money) (enough : recruits ≤ q.peasants) (early : IsEarly w c) where
     may : MayHave w more
     may =
@@ -109,12 +111,13 @@ module _ (w : WorldValue) (c : CampaignValue) (n : ℕ) (u : Unit) (q : Region) 
 
 -- ---- one step
 
+-- `e` is a unit's number with its share: how many recruits it gets
 module _ (w : WorldValue) (c : CampaignValue) (e : ℕ × ℕ) where
   abbrev price : ℕ
   price = e.1 * w.rules.recruit_price
 
-  -- recruiting by a unit that is there, in a region that is there, moves the unit's share of peasants into the unit,
-  -- and takes and books their price (`with_recruits_booked`)
+  -- If the unit of `e` is there and is `u`, in region `q`, the campaign after the step (`after_recruiting`) is that in
+  -- which the share of the peasants of `q` joined `u`. Their price is paid and booked (`with_recruits_booked`).
   pub recruited_is : (u : Unit) (q : Region) → get c.units e.0 ≡ Some u → get c.regions u.region ≡ Some q
       → after_recruiting w c e ≡ with_recruits_booked c e.0 u q e.1 price
   unfolding after_recruiting
@@ -156,6 +159,7 @@ recruit_keeps_others w c os =
 abbrev step_moves : BookBound
 step_moves = recruit_moves holding_limit
 
+-- `c` is the campaign when RECRUIT begins, `d` the one after the shares given so far; `es` are the shares to come
 module _ (w : WorldValue) (c : CampaignValue) where
   abbrev pots : DrawnPots ℕ
   pots = region_pots c.units peasants_of
@@ -193,6 +197,7 @@ module _ (w : WorldValue) (c : CampaignValue) where
             (later_room step_moves w d joined e es well room),
       )
 
+  -- `os` are the orders; the books have room for all that the phase may book (`room`)
   module _ (early : IsEarly w c) (os : List Task) (room : HaveRoom (recruit_moves most_moved) c) where
     abbrev shares : List (ℕ × ℕ)
     shares = entries (given_by recruit_pots w c os)

@@ -103,6 +103,7 @@ produce_gives = pots_give _ is_produce
 
 -- ---- WORK
 
+-- a line of a faction's mailing: lines count from 1 (`low`), and the orders of WORK for units without one are on line 0
 module _ (c : CampaignValue) (aliases : Aliases) (faction line : ℕ) (low : 0 < line) where
   -- whether an order is of the faction and on the line
   abbrev at : Task → Bool

@@ -54,6 +54,7 @@ with_share_taken q share r = record r { money = q.money - share }
 abbrev pub after_share_taken : CampaignValue → ℕ → Unit → Region → ℕ → CampaignValue
 after_share_taken c n u q share = region_changed (with_share_taken q share) (richer c n u share) u.region
 
+-- unit `n`, which is `u`, takes `share` of the money of its region `q`
 module _ (w : WorldValue) (c : CampaignValue) (n : ℕ) (u : Unit) (q : Region) (share : ℕ) (is : get c.units n ≡ Some u) (around : get c.regions u.region ≡ Some q) where
   abbrev after : CampaignValue
   after = after_share_taken c n u q share
@@ -99,8 +100,10 @@ module _ (w : WorldValue) (c : CampaignValue) (n : ℕ) (u : Unit) (q : Region) 
 
 -- ---- one step
 
+-- `e` is a unit's number with its share: how much money it takes
 module _ (w : WorldValue) (c : CampaignValue) (e : ℕ × ℕ) where
-  -- where unit and region are there, its tax moves the share from the region to the unit, and changes nothing else
+  -- if the unit of `e` is there and is `u`, in region `q`, the campaign after the tax (`after_tax`) is that after `u`
+  -- took its share of the money of `q` (`after_share_taken`)
   pub taxed_is : (u : Unit) (q : Region) → get c.units e.0 ≡ Some u → get c.regions u.region ≡ Some q
       → after_tax c e ≡ after_share_taken c e.0 u q e.1
   unfolding after_tax
@@ -146,6 +149,7 @@ tax_keeps_units w c os = each_no_worse w c (entries (given_by tax_pots w c os))
 
 -- ---- all shares can be paid in turn
 
+-- `c` is the campaign when TAX begins, `d` the one after the shares taken so far; `es` are the shares to come
 module _ (w : WorldValue) (c : CampaignValue) where
   abbrev pots : DrawnPots ℕ
   pots = region_pots c.units money_of
@@ -173,6 +177,7 @@ module _ (w : WorldValue) (c : CampaignValue) where
         all_can (after_tax d e) es (ready_after pots w c d e es (after_tax d e) ready early (taxed_others w d e can) (taxed_drains w d e can c.units (sym ready.same.0 ∙ can.at.there))),
       )
 
+  -- TAX begins in the early campaign `c`; `os` are the orders of the phase
   module _ (early : IsEarly w c) (os : List Task) where
     abbrev shares : List (ℕ × ℕ)
     shares = entries (given_by tax_pots w c os)

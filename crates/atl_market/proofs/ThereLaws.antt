@@ -17,6 +17,7 @@ by_option {A} P f o otherwise without with = by_case o refl
     by_case None is = without
     by_case (Some x) is = with x is
 
+-- `n` is the number of a unit or, for changes of a region, of a region
 module _ (c : CampaignValue) (n : ℕ) where
   -- a change for unit `n` is made, if the unit is there
   pub unit_there : (change : Unit → CampaignValue) (u : Unit) → get c.units n ≡ Some u → at_unit c n change ≡ change u

@@ -88,6 +88,8 @@ abbrev pub after_deal : CampaignValue → ℕ → Unit → ℕ → BooksEntry �
 after_deal c n u i entry d =
     with_booking (region_changed (λ r. restocked r i d.stock) (with_trader_set c n u i d) u.region) entry Money d.booked
 
+-- Unit `n`, which is `u`, trades item `i` in its region `q`. `d` has the amounts that the trade leaves, and the money
+-- that is booked under `entry`.
 module _ (w : WorldValue) (c : CampaignValue) (n : ℕ) (u : Unit) (q : Region) (i : ℕ) (entry : BooksEntry) (d : TradeResult) (is : get c.units n ≡ Some u) (around : get c.regions u.region ≡ Some q) where
   abbrev after : CampaignValue
   after = after_deal c n u i entry d
@@ -107,6 +109,7 @@ module _ (w : WorldValue) (c : CampaignValue) (n : ℕ) (u : Unit) (q : Region) 
   pub deal_is : with_trade_booked c n u i entry d ≡ after
   deal_is = ap (λ o. with_booking (with_stock (with_holding_at c n more o) u.region i d.stock) entry Money d.booked) is
 
+  -- the result is within all limits (`fits`), the world has item `i` (`known`), and the region has a market for it
   module _ (fits : ResultFits w u i (amount_of q.stocks i) d) (known : i < length w.items) (market : IsSome (market_of w u.region i)) (early : IsEarly w c) where
     may : MayHave w more
     may =
@@ -167,6 +170,8 @@ market_is w world u (Some i) m is = by_plan (get w.regions u.region) refl is
 
 -- ---- the result of a trade is within all limits
 
+-- Unit `u` trades `share` pieces with market `m` of its region, which has `stock` pieces of the item, at most the
+-- market's limit (`low`).
 module _ (w : WorldValue) (u : Unit) (m : Market) (stock share : ℕ) (there : market_of w u.region m.item ≡ Some m) (holds : IsHolding u.holding) (low : stock ≤ m.limit) where
   limit_is : stock_limit w u.region m.item ≡ m.limit
   limit_is = ap (λ o. option_map_or (λ (x : Market). x.limit) o most_amount) there
@@ -243,13 +248,17 @@ traded_at trade c e u o =
     (λ m. with_trade_booked c e.0 u m.item (trade_entry trade) (trade_result_of trade u.holding (stock_of c u.region m.item) e.1 m))
     o c
 
+-- `items` has by unit the item that its order names. `e` is a unit's number with its share: how many pieces it trades.
 module _ (trade : Trade) (items : FinMap nat_cmp ℕ) (w : WorldValue) (c : CampaignValue) (e : ℕ × ℕ) where
-  -- where the unit is there, its trade is the one with the market of its region for its order's item (`traded_at`)
+  -- If the unit of `e` is there and is `u`, the campaign after the trade (`after_trade`) is that after `u` traded its
+  -- share with `o` (`traded_at`). `o` is the market of the region of `u` for the item that its order names. Without a
+  -- market (None) nothing changes.
   pub traded_is : (u : Unit) → get c.units e.0 ≡ Some u → (o : Option Market) → market_for w u (get items e.0) ≡ o
       → after_trade trade items w c e ≡ traded_at trade c e u o
   unfolding after_trade
   traded_is u is o at = unit_there c e.0 _ u is ∙ ap (traded_at trade c e u) at
 
+  -- the unit of `e` can trade its share (`can`), and `m` is the market of its region for the item that its order names
   module _ (can : CanTrade trade items w c e) (m : Market) (at : market_for w can.at.unit (get items e.0) ≡ Some m) where
     abbrev deal : TradeResult
     deal = trade_result_of trade can.at.unit.holding (amount_of can.at.region.stocks m.item) e.1 m
@@ -303,7 +312,7 @@ module _ (trade : Trade) (items : FinMap nat_cmp ℕ) (w : WorldValue) (c : Camp
             ∙ add-zero (market_pot trade (limit_of w k.1 k.0) (amount_of (with_amount_of can.at.region.stocks m.item deal.stock) k.1))
             ∙ ap (market_pot trade (limit_of w k.1 k.0)) (amount_after_setting can.at.region.stocks m.item deal.stock k.1 ∙ ap (λ b. cond b deal.stock (amount_of can.at.region.stocks k.1)) is)
 
-  -- the trade of a unit that can trade keeps the campaign early and its books balanced, within the bound of one trade
+  -- a trade that can be made (`CanTrade`) keeps a campaign early and its books balanced, within the bound of one trade
   pub traded_well : CanTrade trade items w c e
       → LeavesWell IsEarly (trade_moves trade holding_limit) w c (after_trade trade items w c e)
   traded_well can = by_market (market_for w can.at.unit (get items e.0)) refl
@@ -348,7 +357,8 @@ pub trade_keeps_others : (trade : Trade) (w : WorldValue) (c : CampaignValue) (o
 trade_keeps_others trade w c os =
     others_no_worse (trade_pots trade) w (λ items. traded_others trade items w) c (trades_give trade w c) os
 
--- what a unit wants to trade it can afford, if its holding is within the limits
+-- A unit whose holding `h` is within the limits (`holds`) can afford what it wants to trade with market `m`. `says` is
+-- how many pieces its order asks for, and `share` how many pieces it gets to trade.
 module _ (h : HoldingValue) (m : Market) (says share : ℕ) (holds : IsHolding h) where
   few_of : (says a b : ℕ) → share ≤ min says (min a b) → (share ≤ a) × (share ≤ b)
   few_of says a b low = (omega (arith, low), omega (arith, low))
@@ -360,7 +370,7 @@ module _ (h : HoldingValue) (m : Market) (says share : ℕ) (holds : IsHolding h
   room_for : (a k limit : ℕ) → a ≤ limit → k ≤ limit - a → a + k ≤ limit
   room_for a k limit fits few = omega (arith, fits, few)
 
-  -- a unit can afford any share that is at most its want
+  -- a unit can afford any share that is at most its want (`trade_want`)
   pub wanted_fits : (trade : Trade) → share ≤ trade_want trade h says (Some m) → CanAfford trade h share (Some m)
   wanted_fits Sell low =
       let (few, payable) = few_of says (amount_of h.items m.item) ((holding_limit - h.money) / m.pays) low in
@@ -371,6 +381,8 @@ module _ (h : HoldingValue) (m : Market) (says share : ℕ) (holds : IsHolding h
 
 -- ---- all shares can be traded in turn
 
+-- `items` has by unit the item that its order names. `c` is the campaign when the phase begins; `d` below is what it is
+-- after the trades ahead of a list `es` of shares, which are pairs (unit, pieces).
 module _ (trade : Trade) (items : FinMap nat_cmp ℕ) (w : WorldValue) (world : IsWorld w) (c : CampaignValue) where
   abbrev step_moves : BookBound
   step_moves = trade_moves trade holding_limit
@@ -431,6 +443,8 @@ module _ (trade : Trade) (items : FinMap nat_cmp ℕ) (w : WorldValue) (world : 
             (later_room step_moves w d next e es well room),
       )
 
+-- SELL or BUY (`trade`) begins in the early campaign `c` with the orders `os`; the books have room for all that the
+-- phase may book (`room`)
 module _ (trade : Trade) (w : WorldValue) (world : IsWorld w) (c : CampaignValue) (early : IsEarly w c) (os : List Task) (room : HaveRoom (trade_moves trade most_moved) c) where
   abbrev named : FinMap nat_cmp ℕ
   named = items_by (trade_pots trade) w c os
@@ -562,8 +576,10 @@ stock_most w c r i world early = by_region (get c.regions r) refl
         let limit = by_market q low (get w.regions r) refl in
         omega (arith, low, limit)
 
--- a campaign `c`, then `d` with other goods of a unit, and then `e` with another stock of a region
+-- A trade in two steps. In `d` unit `n` has what `f` makes of its holding in `c`; `e` is `d` with `stock` pieces of the
+-- item in the stock of the region.
 module _ (c d e : MarkedCampaign) (n region item stock : ℕ) (f : HoldingValue → HoldingValue) (set : ChangesHolding c d n f) (put : e.value ≡ with_stock d.value region item stock) where
+  -- the two steps leave the books as they are
   pub traded_books : e.value.books ≡ c.value.books
   traded_books = ap (λ (s : CampaignValue). s.books) put ∙ ap (λ (s : CampaignValue). s.books) set.value
 
@@ -571,6 +587,7 @@ module _ (c d e : MarkedCampaign) (n region item stock : ℕ) (f : HoldingValue 
   pub traded_marks : MarksStock d region item stock e.marks → MarksChanges c e
   traded_marks how = marks-trans c d e set.marks (marks_by d e _ put refl (marks-stock d region item stock e.marks how))
 
+  -- if unit `n` is there and is `u`, the two steps set what the unit holds and the stock, and change nothing else
   pub traded_what : (u : Unit) → get c.value.units n ≡ Some u
       → e.value ≡ with_stock (with_holding c.value n (f u.holding)) region item stock
   traded_what u is =

@@ -44,6 +44,8 @@ later_room book_bound w c d x xs well room =
     room_for_second book_bound (moved_times (length xs) book_bound) w c d well
     (room_less (both_move book_bound (moved_times (length xs) book_bound)) (moved_times (length (x ∷ xs)) book_bound) c (one_more book_bound x xs) room)
 
+-- `step` makes the step of an element in a campaign in which it can be made (`can`). Each step keeps the rules `leaves`
+-- and the balance of the books, and books at most `book_bound` (`each`).
 module _ {A : Type 0} {leaves : Condition} (book_bound : BookBound) (w : WorldValue) (can : CampaignValue → A → Type 0) (step : CampaignValue → A → CampaignValue) (each : (c : CampaignValue) (x : A) → can c x → LeavesWell leaves book_bound w c (step c x)) where
   -- steps that can be taken in turn (`CanInTurn`) keep a campaign's rules and its books balanced, within the sum of
   -- their bounds, if each step does

@@ -61,7 +61,7 @@ module _ (p : PotMeaning) (w : WorldValue) (c : CampaignValue) where
       sum_by-append (λ (e : Event). if e.unit == n then men_starved_by e.verb e.outcome else 0) events (map (event_of p w c (given_by p w c os)) os)
       ∙ ap (λ x. starved_in events n + x) (none_starve (given_by p w c os) os n) ∙ add-zero (starved_in events n)
 
--- a phase with pots
+-- a phase with pots (`p`); `orders` gives the orders of the phase in a campaign and its month
 module _ (p : PotMeaning) (orders : CampaignValue → MonthValue → List Task) where
   -- the meaning of a phase with pots that finds its orders by `orders`
   abbrev pub shared : Meaning
@@ -129,6 +129,7 @@ none_listed n f (t ∷ ts) h =
     neither true b d e g = rw (e, g) refl
     neither false b d e g = g
 
+-- `is_of` tells which verbs are of the phase
 module _ (is_of : Verb → Bool) (m : MonthValue) where
   -- a unit whose faction sent no mailing has no order of its own faction
   pub unordered : (n : ℕ) (u : Unit) → get m.readings u.faction ≡ None

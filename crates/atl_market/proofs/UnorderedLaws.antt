@@ -60,6 +60,7 @@ module _ (p : PotMeaning) (w : WorldValue) (c : CampaignValue) (n : ℕ) (u : Un
 
 -- ---- units without an order stay as they are
 
+-- `step` is for the unit of a pair (unit, share), and leaves every other unit as it is (`others`)
 module _ (step : CampaignValue → ℕ × ℕ → CampaignValue) (others : (c : CampaignValue) (e : ℕ × ℕ) (k : ℕ) → k ≢ e.0 → get (step c e).units k ≡ get c.units k) where
   -- steps that each change their own unit alone leave a unit that none of them is for as it is
   pub passed_over : (c : CampaignValue) (es : List (ℕ × ℕ)) (n : ℕ) → AllByRecursion (λ e. n ≢ e.0) es

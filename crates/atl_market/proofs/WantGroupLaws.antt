@@ -36,6 +36,7 @@ kept_in_order p (e ∷ es) rise = by_test (p e) (kept_in_order p es rise.1)
 
 -- ---- the group of a pot
 
+-- `asked_by` gives, by a unit's number, the number of the pot that it asks for, if any
 module _ (asked_by : ℕ → Option ℕ) where
   one_put : (groups : WantGroups) (e : ℕ × ℕ) (rest : Entries) (pot : ℕ)
       → with_entries (group_of (with_want asked_by groups e) pot) rest
@@ -68,6 +69,7 @@ module _ (asked_by : ℕ → Option ℕ) where
       group_put (with_want asked_by groups e) es pot
       ∙ one_put groups e (filter (λ f. asks_for pot (asked_by f.0)) es) pot
 
+  -- `wants` has by unit how much it wants of its pot
   module _ (wants : FinMap nat_cmp ℕ) where
     abbrev groups_made : WantGroups
     groups_made = grouped asked_by wants
@@ -123,6 +125,7 @@ module _ (asked_by : ℕ → Option ℕ) where
 
 -- ---- the shares of all regions
 
+-- `pot_of` gives the pot of a region by its number; `wants` has by unit how much it wants of its region's pot
 module _ (pot_of : ℕ → ℕ) (wants : FinMap nat_cmp ℕ) (c : CampaignValue) where
   abbrev regions_listed : List ℕ
   regions_listed = keys (grouped (region_of_unit c.units) wants)

@@ -71,6 +71,7 @@ rise_apart (e ∷ es) h = (others e.0 es h.0, rise_apart es h.1)
     others k [] h = tt
     others k (f ∷ es) h = (differs k f.0 h.0, others k es h.1)
 
+-- `p` is a phase with pots that begins in campaign `c`
 module _ (p : PotMeaning) (w : WorldValue) (c : CampaignValue) where
   -- Some order for unit `n` has no fault and wants `want`, and the item that it names, if any, is `n`'s in `items`.
   abbrev IsWanted : FinMap nat_cmp ℕ → ℕ → ℕ → Type 0
@@ -105,6 +106,7 @@ module _ (p : PotMeaning) (w : WorldValue) (c : CampaignValue) where
       by_unit None at h = none_some u (ap result_ok h)
       by_unit (Some v) at h = by_test v at (v.faction == t.faction) refl h
 
+  -- by unit, `m` has the wants and `items` the items that the orders ahead of order `t` put in
   module _ (m items : FinMap nat_cmp ℕ) (t : Task) where
     abbrev wanting : Result Unit EventFault → Option (ℕ × ℕ)
     wanting r = option_map (λ u. (t.unit, p.want w u t)) (result_ok r)
@@ -154,8 +156,10 @@ module _ (p : PotMeaning) (w : WorldValue) (c : CampaignValue) where
       subst (Every (IsWanted (items_by p w c ts))) (put_in_turn (filter_map (want_by p w c) ts))
       (subst (λ k. Every (IsWanted k) (with_entries empty (filter_map (want_by p w c) ts))) (put_in_turn (filter_map (item_by p w c) ts)) (all_wanted empty empty ts (every-empty (IsWanted empty))))
 
+  -- the phase gives only to units with a want, and to none more than it wants
   module _ (gives : GivesToWants p w c) where
-    -- each unit gets at most what it wants by some order without a fault, and its item is the one that the order names
+    -- Each unit that gets something wants at least as much by some order without a fault that is for the unit. If that
+    -- order names an item, this is the item listed for the unit (`items_by`).
     pub given_is_named : (ts : List Task) →
         Every (λ n share. (u : Unit) × (t : Task) × (get c.units n ≡ Some u) × (t.unit ≡ n) × (share ≤ p.want w u t) × (p.fault w u t ≡ None) × ((i : ℕ) → item_in t.order_value.operands ≡ Some i → get (items_by p w c ts) n ≡ Some i)) (given_by p w c ts)
     given_is_named ts n share is =

@@ -48,6 +48,7 @@ use Rattle.atl_market.specs.Payable.{CanWork}
 
 -- ---- one unit gets its wages
 
+-- unit `n`, which is `u`, is paid `money` as wages
 module _ (w : WorldValue) (c : CampaignValue) (n : ℕ) (u : Unit) (money : ℕ) (is : get c.units n ≡ Some u) where
   abbrev more : HoldingValue
   more = paid c n u money
@@ -102,8 +103,10 @@ module _ (w : WorldValue) (c : CampaignValue) (n : ℕ) (u : Unit) (money : ℕ)
 
 -- ---- one step
 
+-- `e` is a unit's number with its share: how many work places it gets
 module _ (w : WorldValue) (c : CampaignValue) (e : ℕ × ℕ) where
-  -- where the unit is there, the payment of its work places pays it their wages (`wages_paid`)
+  -- if the unit of `e` is there and is `u`, the campaign after the payment (`after_work`) is that in which `u` got the
+  -- wages of its work places, which are booked (`wages_paid`)
   pub worked_is : (u : Unit) (is : get c.units e.0 ≡ Some u)
       → after_work w c e ≡ wages_paid w c e.0 u (wages_for w u.region e.1) is
   unfolding after_work
@@ -175,6 +178,7 @@ module _ (w : WorldValue) where
       let cost : t.wage * places ≤ t.wage * (room / t.wage) = mul-le-mul_left t.wage few in
       omega (arith, split, cost, fits, mul_comm places t.wage)
 
+  -- WORK begins in the steady campaign `c`; `os` are the orders of the phase
   module _ (c : CampaignValue) (steady : IsSteady w c) (os : List Task) where
     abbrev shares : List (ℕ × ℕ)
     shares = entries (given_by work_pots w c os)

@@ -54,6 +54,7 @@ still_in_after_entries m (e ∷ es) n h =
 
 -- ---- values that a map lists, each under its own key, differ in their keys
 
+-- `R` compares keys, and finds only equal ones equal (`exact`); `key` gives the key of a value
 module _ {K X : Type 0} (R : K → K → Ordering) (exact : IsAntisymmetric R) (key : X → K) where
   abbrev AreKeyed : List (K × X) → Type 0
   AreKeyed = AllByRecursion (λ e. e.0 ≡ key e.1)
@@ -139,6 +140,7 @@ module _ (c : CampaignValue) where
 
   -- ---- the work of units without an order
 
+  -- `os` are written orders; the writers are the units for which their own faction wrote one of them
   module _ (os : List Task) where
     abbrev writers : FinMap nat_cmp ℕ
     writers = own_writers c os
@@ -205,8 +207,8 @@ module _ (c : CampaignValue) where
 
 -- ---- who has an order
 
--- After the writers of some orders are put into a map, it has unit n exactly if it had it before, or if n's own faction
--- wrote one of these orders for it.
+-- After the writers of some orders are put into a map, the map has unit n exactly if it had n before, or if n's own
+-- faction wrote one of these orders for n.
 writes_own : (c : CampaignValue) (os : List Task) (n : ℕ) (u : Unit) → get c.units n ≡ Some u → (m : FinMap nat_cmp ℕ)
     → is_some (get (with_entries m (flat_map (own_unit c) os)) n) ≡ (has_own_order os n u || is_some (get m n))
 writes_own c [] n u is m = refl
@@ -252,6 +254,7 @@ is_writer c os n u is =
     writes_own c os n u is empty ∙ ap (λ o. has_own_order os n u || is_some o) (get-empty nat_cmp n)
     ∙ or-false (has_own_order os n u)
 
+-- `ts` are the written orders: units with one of their own faction get no order of WORK
 module _ (c : CampaignValue) (ts : List Task) where
   abbrev of_idle : List (ℕ × Unit) → List Task
   of_idle es = map (λ e. idle_task e.0 e.1.faction) (filter (is_idle ts) es)

@@ -26,6 +26,7 @@ is_some-cond : {A : Type 0} (b : Bool) (a : A) (o : Option A) → is_some (cond 
 is_some-cond true a o = refl
 is_some-cond false a o = refl
 
+-- `t` is the order that follows the orders `ts`
 module _ (c : CampaignValue) (ts : List Task) (t : Task) where
   writers_more : (b : Bool) → is_of_faction t.faction (get c.units t.unit) ≡ b
       → own_writers c (ts ++ t ∷ []) ≡ with_entries (own_writers c ts) (cond b ((t.unit, t.faction) ∷ []) [])
@@ -35,8 +36,10 @@ module _ (c : CampaignValue) (ts : List Task) (t : Task) where
       ∙ appended_entries (own_writers c ts) (own_unit c t) []
       ∙ ap (λ b. with_entries (own_writers c ts) (cond b ((t.unit, t.faction) ∷ []) [])) is
 
+  -- the set `s` has just the units for which their own faction wrote one of the orders `ts` (`each`)
   module _ (s : set.FinSet nat_cmp) (each : (unit : ℕ) → set.contains s unit ≡ is_some (get (own_writers c ts) unit)) where
-    -- with the unit of one order more, if the order is of its faction, the set has the units of one order more
+    -- once the unit of `t` is put into `s`, if its own faction wrote `t` (`with_writer`), the set has just the units
+    -- for which their own faction wrote one of `ts` or `t`
     pub one_more : (unit : ℕ)
         → set.contains (with_writer c t.unit t.faction s) unit ≡ is_some (get (own_writers c (ts ++ t ∷ [])) unit)
     one_more unit = by_test (is_of_faction t.faction (get c.units t.unit)) refl
