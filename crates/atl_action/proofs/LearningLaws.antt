@@ -16,6 +16,7 @@ use Rattle.atl_phase.specs.Month.{MonthValue}
 use Rattle.atl_phase.specs.PhaseOrders.{Task}
 use Rattle.atl_action.specs.Learners.{IsLearning, Learning, UnitsLearnByOrders, learners, learns, skill_of, study_tasks, with_learner}
 
+-- `c` is the campaign as the phase of TEACH and STUDY begins
 module _ (w : WorldValue) (c : CampaignValue) where
   -- P holds of the unit and the skill of an order of STUDY, if the unit learns by the order
   abbrev IfLearns : (ℕ → ℕ → Type 0) → Task → Type 0

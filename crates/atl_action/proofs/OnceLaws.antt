@@ -15,6 +15,8 @@ use Rattle.atl_action.specs.Learners.{Learning}
 use Rattle.atl_action.specs.Limits.{pupils_per_teacher}
 use Rattle.atl_action.specs.Teach.{AreTaughtOnce, NobodyIsTaughtTwice, TaughtMen, after_lessons, first_mentions, is_below, is_pupil, is_teaching, lesson, listed_units, men_at, taught_in_lesson, teach, teach_fault, teach_order, untaught_men}
 
+-- Below, `taught` has by unit how many of its men were taught so far, and `places` is how many more men a teacher can
+-- teach. `ns` are the numbers of the pupils, in the order in which they are taught.
 module _ (c : CampaignValue) where
   -- a lesson teaches at most those men of a unit who weren't taught yet
   few_in_lesson : (taught : TaughtMen) (places : ℕ) (ns : List ℕ) (n : ℕ)

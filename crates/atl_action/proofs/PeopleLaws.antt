@@ -47,6 +47,8 @@ held_same u v same (Item i) = ap (λ items. amount_of items i) same.items
 equal_addends_cancel : (a b p q : ℕ) → a + p ≡ b + q → q ≡ p → a ≡ b
 equal_addends_cancel a b p q e f = omega arith
 
+-- `f` changes at most region, structure and guard flag of a unit. `m` has the units by their numbers, and `k` is the
+-- number of the unit that `f` changes, if it is there.
 module _ (f : Unit → Unit) (same : (u : Unit) → IsSameUnit u (f u)) (m : FinMap nat_cmp Unit) (k : ℕ) where
   changed_by : (o : Option Unit) → get m k ≡ o → AreSamePeople m (with_changed_option f m k o)
   changed_by None is = people_same m
@@ -58,19 +60,21 @@ module _ (f : Unit → Unit) (same : (u : Unit) → IsSameUnit u (f u)) (m : Fin
         equal_addends_cancel (sum_over stock (insert m k (f u))) (sum_over stock m) (stock u) (stock (f u)) (sum_over-insert_known stock m k u (f u) is) (held_same u (f u) (same u) t);
   }
 
-  -- if f changes at most region, structure and guard flag of a unit, the units with unit `k` changed by f are the same
-  -- people
+  -- the units are the same people once `f` has changed unit `k`
   pub people_changed : AreSamePeople m (with_changed_value f m k)
   people_changed = changed_by (get m k) refl
 
 -- ---- units that are put elsewhere, with their flags cleared
 
+-- the numbers of the structure (0 for none) and of the region that units are put into
 module _ (structure to : ℕ) where
-  -- the unit in region `to`, inside structure `structure`, with its guard flag cleared
+  -- A unit put into region `to` and structure `structure`, with its guard flag cleared. It went to another region or
+  -- structure; in docs/RULES.md "gone" is said of a faction without units.
   abbrev pub gone : Unit → Unit
   gone x = record x { region = to; structure = structure; holding = record x.holding { guard = false } }
 
-  -- the unit, put into region `to` with its flag cleared (`gone`) if b is true, and otherwise as it was
+  -- a unit put into another region or structure (`gone`, not the "gone" of a faction in docs/RULES.md) if `b` is true,
+  -- and otherwise as it was
   abbrev pub gone_if : Bool → Unit → Unit
   gone_if b x = if b then gone x else x
 
@@ -85,7 +89,8 @@ module _ (structure to : ℕ) where
       changed_twice (λ x. record x { region = to; structure = structure })
       (λ x. record x { holding = record x.holding { guard = false } }) c n
 
-  -- a unit keeps all but region, structure and guard flag, whether it is put elsewhere or not (`IsSameUnit`)
+  -- a unit keeps all but region, structure and guard flag (`IsSameUnit`), whether it is put into another region or
+  -- structure (`gone`, where `b` is true) or left as it was
   pub gone_same : (b : Bool) (x : Unit) → IsSameUnit x (gone_if b x)
   gone_same true x = record { faction = refl; name = refl; men = refl; money = refl; items = refl; days = refl }
   gone_same false x = record { faction = refl; name = refl; men = refl; money = refl; items = refl; days = refl }

@@ -83,6 +83,7 @@ all_listed P (n ∷ ns) h = (h n (inl refl), all_listed P ns (λ k l. h k (inr l
 
 -- ---- units that go along
 
+-- the numbers of the ship, a structure, and of the region that it sails to
 module _ (ship to : ℕ) where
   all_people : (m : FinMap nat_cmp Unit) (ns : List ℕ) → AreSamePeople m (fold (elsewhere ship to) m ns)
   all_people m [] = people_same m
@@ -148,6 +149,7 @@ carried_same : (v : Unit) → IsAtMostMoved v v
 carried_same v =
     record { faction = refl; structure = refl; region = λ none. refl; name = refl; guard = λ none. refl; no_flag = λ off. off; men = omega arith; money = omega arith; items = λ i. omega arith; days = λ s. omega arith }
 
+-- `ship` is the number of the structure `x` that sails, and `to` that of the region it sails to
 module _ (w : WorldValue) (c : CampaignValue) (ship to : ℕ) (steady : IsSteady w c) (x : Structure) (is : get c.structures ship ≡ Some x) where
   abbrev aboard_numbers : List ℕ
   aboard_numbers = numbers_inside ship c.units
@@ -241,6 +243,7 @@ module _ (w : WorldValue) (c : CampaignValue) (ship to : ℕ) (steady : IsSteady
           let (u, was, same) = mapped_from (f m) (get c.units m) v (sym (units_at m) ∙ at) in
           (steady.owners q y there).ownerless none m u was (sym (carried m u).structure ∙ ap (λ (z : Unit). z.structure) same ∙ inside)
 
+  -- the structure is a ship and complete, and region `to` is in the campaign
   module _ (floats : is_ship w x ≡ true) (whole : x.done ≡ size_of w x.kind) (there_to : HasValue c.regions to) where
     put : (k : ℕ) (v : Unit) → get c.units k ≡ Some v → IsPut w c units structures f g (f k v)
     put k v there =
@@ -426,6 +429,8 @@ same_outcome_unless : (c d x y : CampaignValue) (o : Option EventFault)
     → (unless c o (x, Done 0)).1 ≡ (unless d o (y, Done 0)).1
 same_outcome_unless c d x y o = grind rules
 
+-- `begun` is the campaign as the phase begins. `number` and `faction` are those of a unit, which the laws below show to
+-- be unchanged if its structure doesn't sail.
 module _ (w : WorldValue) (begun : CampaignValue) (number faction : ℕ) where
   -- the number of the structure that unit `number` is inside as the phase begins
   abbrev s : ℕ
@@ -440,6 +445,7 @@ module _ (w : WorldValue) (begun : CampaignValue) (number faction : ℕ) where
     pub units : (k : ℕ) → structure_of_unit begun k ≡ s → get c.units k ≡ get begun.units k
     pub list : numbers_inside s c.units ≡ numbers_inside s begun.units
 
+  -- `c` is the campaign after some orders of the phase
   module _ (c : CampaignValue) (same : IsAsBegun c) where
     sum_inside_same : (f : HoldingValue → ℕ) → sum_inside f c s ≡ sum_inside f begun s
     sum_inside_same f =

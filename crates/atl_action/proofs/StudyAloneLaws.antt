@@ -39,6 +39,7 @@ use Rattle.atl_action.proofs.UnmailedLearnLaws.{all_lessons_add_no_starved}
 
 -- ---- an order reads its own unit and the structures
 
+-- unit `n` is `u` in both campaigns, and studies skill `s`; `taught` is how many of its men were taught this month
 module _ (w : WorldValue) (taught n s : ℕ) (c d : CampaignValue) (u : Unit) (in_c : get c.units n ≡ Some u) (in_d : get d.units n ≡ Some u) (structures : d.structures ≡ c.structures) where
   abbrev cost : ℕ
   cost = fee_of w s * u.holding.men
@@ -86,6 +87,7 @@ both_own : (t o : Task) → share_slot t o ≡ false → Studies t → Studies o
 both_own t o never t_studies o_studies unit faction =
     grind (rules, never, ap (λ j. j == o.unit) unit ∙ equal_itself o.unit, ap (λ j. j == o.faction) faction ∙ equal_itself o.faction, is_study t.order_value.verb t_studies, is_study o.order_value.verb o_studies)
 
+-- `taught` has by unit how many of its men were taught this month. `u` is unit `n` as the phase begins.
 module _ (w : WorldValue) (taught : TaughtMen) (n : ℕ) (u : Unit) where
   abbrev step : CampaignValue × MonthValue → Task → CampaignValue × MonthValue
   step = one_order (study_step taught) w
@@ -114,6 +116,7 @@ module _ (w : WorldValue) (taught : TaughtMen) (n : ℕ) (u : Unit) where
   all_stay (t ∷ ts) p v there own others =
       all_stay ts (step p t) v (one_stays p.0 p.1 t v there own others.0) own others.1
 
+  -- `order` is the own order of unit `n`: its faction wrote it, and it says to study `skill`
   module _ (skill : ℕ) (order : Task) (for_unit : order.unit ≡ n) (own : order.faction ≡ u.faction) (says : order.order_value ≡ order_of verbs.Study (operands.Skill skill)) where
     studies : Studies order
     studies = ap (λ (o : OrderValue). is_studying o.verb) says
@@ -139,6 +142,7 @@ module _ (w : WorldValue) (taught : TaughtMen) (n : ℕ) (u : Unit) where
         ∙ ap (λ f. (faction_effect effect d f n).0) own
         ∙ ap (λ o. (effect_on effect d o).0) (ap (of_faction u.faction) there ∙ ap (λ b. if b then Some u else None) (equal_itself u.faction))
 
+    -- `c` is the campaign as the phase begins
     module _ (c : CampaignValue) (begun : get c.units n ≡ Some u) where
       after_it : (v : Unit) × (get (effect c u).0.units n ≡ Some v) × (v.faction ≡ u.faction)
       after_it =

@@ -74,6 +74,7 @@ study_takes taught w a t of_phase fit = by_verb t.order_value.verb t.order_value
     by_verb verbs.Study o of_phase fits = cc
     by_verb v o of_phase fits = cc
 
+-- `learning` has by unit the skill that it learns
 module _ (c : CampaignValue) (learning : Learning) (m : MonthValue) where
   -- the orders of TEACH keep the mailings
   lessons_keep_readings : (after_lessons c learning m).1.readings ≡ m.readings

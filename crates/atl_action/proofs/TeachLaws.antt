@@ -32,6 +32,7 @@ filtered_out_is_not_listed n ns =
     recursion_from_All (IsOther n) (filter (λ k. not (k == n)) ns)
     (λ k d l. equality_is_symmetric n _ ∙ not-true _ (filter_passes (λ k. not (k == n)) ns k d l))
 
+-- the first mentions of some numbers have no number twice
 pub mentions_distinct : (ns : List ℕ) → IsDistinct nat_eq (first_mentions ns)
 unfolding IsDistinct
 mentions_distinct [] = tt
@@ -40,6 +41,7 @@ mentions_distinct (n ∷ ns) =
 
 -- ---- men of the first unit are taught, and then men of the others
 
+-- `taught` and `after` have by unit how many of its men were taught, before and after `given` men of unit `n` were
 module _ (c : CampaignValue) (taught after : TaughtMen) (n given : ℕ) (here : after n ≡ taught n + given) (away : (k : ℕ) → k ≢ n → after k ≡ taught k) where
   -- once `given` more men of unit n were taught, units other than n have as many untaught men together as before
   pub same_sum : (ns : List ℕ) → AreOthers n ns → sum_by (untaught_men c after) ns ≡ sum_by (untaught_men c taught) ns
@@ -62,6 +64,8 @@ module _ (c : CampaignValue) (taught after : TaughtMen) (n given : ℕ) (here : 
   not_taught places [] all = refl
   not_taught places (k ∷ ns) all = rw all.0 (not_taught (places - untaught_men c after k) ns all.1)
 
+  -- A lesson has places for `places` men. Unit `n` is first in turn and gets `given` of the places; `ns` are the units
+  -- after unit `n`.
   module _ (places : ℕ) (ns : List ℕ) (is : given ≡ min places (untaught_men c taught n)) (others : AreOthers n ns) where
     -- unit n's part and then a lesson to the others, for the places left, leave as many men of each unit taught as the
     -- whole lesson
@@ -76,7 +80,7 @@ module _ (c : CampaignValue) (taught after : TaughtMen) (n given : ℕ) (here : 
     ]
 
 -- The men taught so far and those that the places left allow make the same `total` before and after the first unit's
--- turn. It has `want` untaught men, and gets `given` of the `left` places.
+-- turn. The first unit has `want` untaught men, the others `rest`. It gets `given` of the `left` places.
 pub men_so_far : (places left given want rest total : ℕ) → left ≤ places → given ≡ min left want
     → (places - left) + min (want + rest) left ≡ total
     → (places - (left - given)) + min rest (left - given) ≡ total

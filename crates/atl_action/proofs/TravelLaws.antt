@@ -31,6 +31,8 @@ pub record IsSameStructure (before after : Structure) : Type 0 where
   pub done : after.done ≡ before.done
   pub name : after.name ≡ before.name
 
+-- `units` and `structures` are those after the changes. `f` and `g` make them, by number, of the units and structures
+-- of campaign `c` (`AreTravelled`).
 module _ (w : WorldValue) (c : CampaignValue) (units : FinMap nat_cmp Unit) (structures : FinMap nat_cmp Structure) (f : ℕ → Unit → Unit) (g : ℕ → Structure → Structure) where
   -- campaign c with `units` and `structures` in the place of its own
   abbrev pub travelled : CampaignValue

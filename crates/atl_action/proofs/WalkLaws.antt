@@ -54,6 +54,7 @@ land_is_there w r land = by_plan (get w.regions r) refl land
     by_plan None is dry = false_true dry
     by_plan (Some p) is dry = (p, is)
 
+-- unit `n` is `u` in campaign `c`, before its walk; `to` is the number of the region that it walks to, which is land
 module _ (w : WorldValue) (c : CampaignValue) (n : ℕ) (u : Unit) (to : ℕ) (is : get c.units n ≡ Some u) (steady : IsSteady w c) (land : is_land_at w to ≡ true) where
   abbrev old_place : ℕ
   old_place = u.structure
@@ -96,6 +97,7 @@ module _ (w : WorldValue) (c : CampaignValue) (n : ℕ) (u : Unit) (to : ℕ) (i
   not_first : (q : ℕ) (y : Structure) → get c.structures q ≡ Some y → q ≢ 0
   not_first q y there zero = none_some y (sym steady.next.structures.first ∙ ap (get c.structures) (sym zero) ∙ there)
 
+  -- the structures after the walk, by their numbers
   module _ (structures : FinMap nat_cmp Structure) where
     -- the campaign with the given structures after the walk: unit n is in region `to`, inside no structure, with its
     -- guard flag cleared
@@ -112,7 +114,8 @@ module _ (w : WorldValue) (c : CampaignValue) (n : ℕ) (u : Unit) (to : ℕ) (i
     left_owned : old_place ≢ 0 → (y : Structure) → IsOwned after old_place (owned_by next y)
     left_owned some = heir_owns c after n away old_place some low (λ v at inside. some (sym inside ∙ outside v at))
 
-    -- g gives the structures, which stay in their regions
+    -- `g` makes the structures after the walk, by number, of those before. Each keeps all but its owner, and then has
+    -- its right owner.
     module _ (g : ℕ → Structure → Structure) (at : (k : ℕ) → get structures k ≡ option_map (g k) (get c.structures k)) (count : len structures ≡ len c.structures)
         (same : Every (λ k y. IsSameStructure y (g k y) × ((g k y).region ≡ y.region)) c.structures) (owned : Every (λ k y. IsOwned after k (g k y)) c.structures) where
       forth : (k : ℕ) (y : Structure) → get c.structures k ≡ Some y → get structures k ≡ Some (g k y)
@@ -238,8 +241,8 @@ module _ (w : WorldValue) (c : CampaignValue) (n : ℕ) (u : Unit) (to : ℕ) (i
       subst (λ d. StepsWell IsSteady nothing_remaining w c (with_guard d n false)) (sym off_is)
       (subst (λ (d : CampaignValue). StepsWell IsSteady nothing_remaining w c (record d { structures = gone_off.structures })) (sym (elsewhere_is 0 to c n)) (inside_well (is_unequal old_place 0 t)))
 
-  -- If a unit walks to a region with land, a steady campaign stays steady, with the same month, reports and set of
-  -- factions, and with balanced books still balanced (`StepsWell`).
+  -- If unit `n` walks to region `to`, which is land, a steady campaign stays steady, with the same month, reports and
+  -- set of factions, and with balanced books still balanced (`StepsWell`).
   pub walked_well : StepsWell IsSteady nothing_remaining w c (with_unit_moved 0 to c n)
   unfolding with_place
   walked_well =

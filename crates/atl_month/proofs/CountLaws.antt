@@ -8,6 +8,7 @@ use Rattle.atl_records.specs.Every.{HasValue}
 use Rattle.atl_records.proofs.EveryLaws.{first, none_some}
 use Rattle.atl_records.proofs.RemovedLaws.{get-remove_other, still}
 
+-- the values of a map may be of any type `V`; only its numbers matter
 module _ {V : Type 0} where
   abbrev HasAllNumbers : FinMap nat_cmp V → FinMap nat_cmp V → Type 0
   HasAllNumbers a b = (n : ℕ) → HasValue b n → HasValue a n

@@ -7,6 +7,7 @@ use Rattle.std.specs.FinMap.{FinMap, empty, get, get-insert, insert}
 use Rattle.atl_world.specs.Groups.{group_of}
 use Rattle.atl_world.proofs.GeneralLaws.{is_equal, key_equality_is_symmetric}
 
+-- `m` has a group by number, and a group has a value by number. Value `a` is set under number `f` of group `r`.
 module _ {V : Type 0} (m : FinMap nat_cmp (FinMap nat_cmp V)) (r f : ℕ) (a : V) where
   -- Once `a` is set under number `f` of group `r`, a look-up there finds `a`, and any other look-up what it found
   -- before.

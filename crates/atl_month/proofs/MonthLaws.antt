@@ -36,6 +36,7 @@ use Rattle.atl_phase.proofs.PhaseSpecLaws.{closed_together, each_also, leave_tog
 use Rattle.atl_month.proofs.PhaseLaws.{KeepsPhaseLaws, early_are, last_leave, later_are}
 use Rattle.atl_month.specs.Unmailed.{SentNone, UnmailedAreLeft}
 
+-- `d` is the campaign after the phases, before the month is counted and the mail removed (`after_month`)
 module _ (w : WorldValue) (d : CampaignValue) where
   finished_steady : d.month < last_month → IsSteady w d → IsSteady w (after_month d)
   finished_steady early old =
@@ -45,6 +46,8 @@ module _ (w : WorldValue) (d : CampaignValue) where
   unfolding total
   finished_balances old t = old t
 
+-- `d` is campaign `c` after the phases, which move each amount of the books by at most `book_bound`, itself at most
+-- 2*10^14 (`moves_in_month`). The month that `c` closed last is below the last month that there may be.
 module _ (w : WorldValue) (c d : CampaignValue) (book_bound : BookBound) (little : IsBoundWithin book_bound moves_in_month) (early : c.month < last_month) (well : LeavesWell IsSwept book_bound w c d) where
   abbrev same : IsSameMonth c d
   same = well.same_month
@@ -87,6 +90,8 @@ module _ (w : WorldValue) (c d : CampaignValue) (book_bound : BookBound) (little
 
 -- ---- what a month leaves of the books and of the factions
 
+-- `d` is campaign `c` after the phases, which move each amount of the books by at most `phases_bound`; `leaves` is what
+-- else holds of `d`
 module _ {leaves : Condition} (w : WorldValue) (c d : CampaignValue) (well : LeavesWell leaves phases_bound w c d) where
   -- the phases of a month move each amount of the books by at most 10^14 - 1 for each phase that may move it
   -- (`month_moves`)

@@ -172,6 +172,7 @@ one_added verbs.Guard o x y t u = by_flag (sets_guard o) y
 one_added v o x true t u = refl
 one_added v o x false t u = refl
 
+-- `readings` has by faction its mailing as read, and `words` are the words of the dice for the month
 module _ (w : WorldValue) (c : CampaignValue) (readings : FinMap nat_cmp Reading) (words : List ℕ) (fit : AreFit w readings) where
   -- the month as its first phase begins
   abbrev before : MonthValue
@@ -185,6 +186,7 @@ module _ (w : WorldValue) (c : CampaignValue) (readings : FinMap nat_cmp Reading
   abbrev after : MonthValue
   after = (month_meaning w c before).1
 
+  -- `t` is an order of a mailing, whose unit is found by the aliases `by`
   module _ (t : Task) {by : Aliases} (there : IsInMailing by readings t) where
     -- the order with its unit by some aliases
     abbrev read_by : Aliases → Task

@@ -76,6 +76,7 @@ pub record PassesOn (w : WorldValue) (n : ℕ) (owing : Thing → ℕ) (book_bou
   pub forth : Every (λ m u. (v : Unit) × (get d.units m ≡ Some v) × IsKept u v) c.units
   pub back : Every (λ m v. (u : Unit) × (get c.units m ≡ Some u) × IsKept u v) d.units
 
+-- a steady campaign left as it is passes on nothing, and its books don't move
 pub passes-refl : (w : WorldValue) (n : ℕ) (c : CampaignValue) → IsSteady w c → PassesOn w n (λ s. 0) (λ e s. 0) c c
 passes-refl w n c steady = record {
   steady = steady;
@@ -115,6 +116,7 @@ owed_all : (b : Bool) (lost x all : ℕ) (books : ℤ) → pos all ≡ books +�
     → pos all ≡ (books +ℤ cond b (neg_ℤ (pos lost)) (pos 0)) +ℤ pos (x + cond b lost 0)
 owed_all b lost x all books h = grind (arith, ints, h)
 
+-- `t` is a thing of the world, of which an amount of unit `n` is passed on
 module _ (w : WorldValue) (c : CampaignValue) (n : ℕ) (t : Thing) (inside : thing_index t < thing_count w) (steady : IsSteady w c) where
   -- booking an amount as lost, which no unit gets, is passing it on (`PassesOn`)
   pub all_lost : (amount : ℕ)
@@ -133,7 +135,8 @@ module _ (w : WorldValue) (c : CampaignValue) (n : ℕ) (t : Thing) (inside : th
     back = λ m v is. (v, is, kept-refl v);
   }
 
-  -- an amount of which a unit takes a part
+  -- Unit `k`, which isn't `n`, is `v` before, and has holding `h` after it took `taken` of thing `t` (`more`). The rest
+  -- of the amount is `lost`.
   module _ (k : ℕ) (v : Unit) (h : HoldingValue) (is : get c.units k ≡ Some v) (apart : n ≢ k) (may : MayHaveWithoutNewGuard w v h)
       (kept : IsKept v (record v { holding = h })) (taken lost : ℕ)
       (more : (s : Thing) → unit_amount s h ≡ unit_amount s v.holding + amount_as_thing s t taken) where
@@ -197,6 +200,7 @@ accepted_and_rest amount have = omega arith
 accepted_fits : (amount have : ℕ) → have ≤ holding_limit → have + accepted_of amount have ≤ holding_limit
 accepted_fits amount have l = omega arith
 
+-- unit `n` passes things on to number `k`, which isn't `n`; without a unit there all is booked as lost
 module _ (w : WorldValue) (c : CampaignValue) (n k : ℕ) (apart : n ≢ k) (steady : IsSteady w c) where
   -- campaign `d` is one in which an amount of a thing of unit `n` was passed on (`PassesOn`), which moves Lost alone
   abbrev Passed : Thing → ℕ → CampaignValue → Type 0

@@ -29,6 +29,7 @@ use Rattle.atl_world.proofs.EntryOrderLaws.{less_by_comparison}
 
 -- ---- the first number whose value passes a test
 
+-- `p` is a test of the values of a map, whose keys are numbers
 module _ {V : Type 0} (p : V → Bool) where
   -- For `below_listed`: P follows from `k` being listed in `ns`, with `n` in front (if `b`) or without, if it follows
   -- from `k` being `n`, and from `k` being listed in `ns`.
@@ -94,6 +95,7 @@ module _ {V : Type 0} (p : V → Bool) where
 
 -- ---- while units are swept
 
+-- `n` is the number of the unit that is swept
 module _ (w : WorldValue) (c : CampaignValue) (n : ℕ) (steady : IsSteady w c) where
   passes_still : (region faction : ℕ) (u v : Unit) → IsKept u v → receives region faction u ≡ receives region faction v
   passes_still region faction u v kept = cc (kept.no_worse.region, kept.no_worse.faction, kept.men)
@@ -113,6 +115,8 @@ module _ (w : WorldValue) (c : CampaignValue) (n : ℕ) (steady : IsSteady w c) 
 
 -- ---- receivers put into the map, unit by unit
 
+-- `m` has the receivers noted so far. Unit `n`, which is `u`, is noted next, and `es` are the units after it, by
+-- number.
 module _ (m : ReceiverMap) (n : ℕ) (u : Unit) (es : List (ℕ × Unit)) (low : 1 ≤ n) where
   -- the receiver of a faction in a region among the units that come after unit `n`; 0 where there is none
   abbrev after : (region faction : ℕ) → ℕ

@@ -83,6 +83,7 @@ stocks_little (x ∷ xs) rising e t =
 
 -- ---- a market that gets new goods
 
+-- `m` is the market of region `n` for item `i`; `r` is that region in campaign `c`, before the new goods
 module _ (w : WorldValue) (c : CampaignValue) (n i : ℕ) (m : Market) (r : Region) (here : get c.regions n ≡ Some r) (market : market_of w n i ≡ Some m) (known : IsMarket (length w.items) i m) (steady : IsSteady w c) where
   abbrev stock : ℕ
   stock = amount_of r.stocks i
@@ -156,6 +157,7 @@ module _ (w : WorldValue) (c : CampaignValue) (n i : ℕ) (m : Market) (r : Regi
 abbrev pub IsMarketOf : WorldValue → (n i : ℕ) → Market → Type 0
 IsMarketOf w n i m = (market_of w n i ≡ Some m) × IsMarket (length w.items) i m
 
+-- `n` is the number of a region of the world
 module _ (w : WorldValue) (n : ℕ) (there : HasValue w.regions n) where
   -- New goods of a market, given as `x.1` with its item `x.0`, keep a steady campaign steady and its books balanced,
   -- and book at most 999,999,999 of the item.
@@ -174,6 +176,7 @@ module _ (w : WorldValue) (n : ℕ) (there : HasValue w.regions n) where
 pub none_there : entries (empty {X = Market} {R = nat_cmp}) ≡ []
 none_there = entries-empty
 
+-- `n` is the number of a region, which the world may have or not
 module _ (w : WorldValue) (world : IsWorld w) (n : ℕ) where
   -- the markets of a region that the world has are those of its plan
   pub markets_there : (p : RegionPlan) → get w.regions n ≡ Some p → markets_of w n ≡ p.markets
@@ -217,6 +220,7 @@ restocked_keeps n c (x ∷ xs) = restocked_keeps n (after_market_restock n c x) 
 
 -- ---- what the code books and marks
 
+-- the new goods of a market are at most 999,999,999, if its limit is
 pub restock_small : (m : Market) (stock : ℕ) → m.limit ≤ most_amount → restock m stock ≤ most_amount
 restock_small m stock l = omega (arith, l)
 

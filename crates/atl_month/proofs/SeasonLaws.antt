@@ -54,6 +54,7 @@ income_fits per_peasant limit peasants money l m = omega (arith, l, m)
 
 -- ---- the books of a region's season
 
+-- region `n` is `r` before its season; `born` peasants are born there, and its peasants earn `earned` money
 module _ (w : WorldValue) (c : CampaignValue) (n : ℕ) (r : Region) (born earned : ℕ) (is : get c.regions n ≡ Some r) where
   -- the campaign with the births, not booked yet, and without the income
   abbrev peopled : CampaignValue

@@ -36,6 +36,7 @@ use Rattle.std.proofs.lemmas.List.Sums.{count_by-le-length, length-filter}
 
 -- ---- one unit
 
+-- `n` is the number of the unit that is swept
 module _ (c : CampaignValue) (n : ℕ) where
   -- P holds of the campaign after sweeping unit `n`, if it holds in each case. Where no unit `n` without men is there,
   -- nothing changes; else unit `n` passes on what it has and is removed.
@@ -57,6 +58,7 @@ module _ (c : CampaignValue) (n : ℕ) where
       by_unit None is = stays (λ v there. none_some v (sym is ∙ there))
       by_unit (Some u) is = by_men u is (u.holding.men == 0) refl
 
+-- `n` is the number of the unit that is swept, and `c` is the campaign before that
 module _ (w : WorldValue) (c : CampaignValue) (n : ℕ) (steady : IsSteady w c) where
   -- sweeping unit `n` keeps a steady campaign steady and its books balanced, and books as lost at most 999,999,999 of
   -- money and of each item
@@ -98,6 +100,7 @@ listed_later : (m n : ℕ) (ns : List ℕ) → m ≢ n → IsListed m (n ∷ ns)
 listed_later m n ns apart (inl same) = absurd (apart same)
 listed_later m n ns apart (inr rest) = rest
 
+-- below, `ns` are the numbers of the units that are swept, in turn, and `c` is the campaign before that
 module _ (w : WorldValue) where
   -- once the listed units were swept, among them all units without men, each unit has men
   pub all_have_men : (ns : List ℕ) (c : CampaignValue) → IsSteady w c → AreMenlessListed ns c
@@ -129,6 +132,7 @@ module _ (w : WorldValue) where
 
 -- ---- factions
 
+-- `n` is the number of the faction that is swept
 module _ (c : CampaignValue) (n : ℕ) where
   -- P holds of the campaign after sweeping faction `n`, if it holds in each case. Where the faction isn't there or has
   -- a unit, nothing changes; else the faction is gone.
@@ -209,6 +213,7 @@ few_menless w c steady =
     let es = entries c.units in
     omega (arith, length-map (filter menless es) (λ (e : ℕ × Unit). e.0), length-filter menless es, count_by-le-length menless es, len-entries c.units, steady.numbers.few_units)
 
+-- `c` is the campaign as the phase begins
 module _ (w : WorldValue) (c : CampaignValue) (steady : IsSteady w c) where
   abbrev units_swept : CampaignValue
   units_swept = fold after_sweeping_unit c (menless_units c)

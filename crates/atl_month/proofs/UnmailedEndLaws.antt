@@ -39,6 +39,8 @@ fewer_by s u few =
 abbrev starved_of_n : ℕ → UpkeepResult → ℕ
 starved_of_n n s = if s.unit == n then s.starved else 0
 
+-- `m` is the maintenance of each man, `all` are the units of the campaign, as upkeep reads them, and `n` is the number
+-- of one unit
 module _ (m : ℕ) (all : List UpkeepInput) (n : ℕ) where
   -- how many men of unit `n` starve by the upkeep of some units, where `all` are the units of the campaign
   abbrev starving : List (ℕ × Unit) → ℕ

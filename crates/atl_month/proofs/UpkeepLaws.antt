@@ -59,6 +59,7 @@ use Rattle.atl_month.proofs.UpkeepSharingLaws.{can_spare}
 abbrev AreSkillDays : WorldValue → (men skill days : ℕ) → Type 0
 AreSkillDays w men skill days = (skill < length w.skills) × (1 ≤ days) × (days ≤ most_days * men)
 
+-- `left` is how many of `men` men are left once some starved
 module _ (w : WorldValue) (left men : ℕ) (fewer : left ≤ men) where
   days_fit_men_left : (days : ℕ) → days ≤ most_days * men → days * left / men ≤ most_days * left
   days_fit_men_left days most =
@@ -71,7 +72,7 @@ module _ (w : WorldValue) (left men : ℕ) (fewer : left ≤ men) where
 abbrev pub days_left : ℕ → HoldingValue → FinMap nat_cmp ℕ
 days_left left h = amounts_for (going_of left h) (keys h.days)
 
--- a holding with fewer men has their part of the days, and all else as it was
+-- `left` is how many of the men of holding `h` are left once some starved; the days of each skill of `h` are in bounds
 module _ (w : WorldValue) (h : HoldingValue) (left : ℕ) (fewer : left ≤ h.men) (days : Every (AreSkillDays w h.men) h.days) where
   studied_left : Every (AreSkillDays w left) (days_left left h)
   studied_left k d is =
@@ -111,6 +112,7 @@ upkeep_in c s o = option_map_or (λ u.
     let paid = with_booking held Upkeep Money (neg_ℤ (pos s.paid)) in
     with_booking paid Starved People (neg_ℤ (pos s.starved))) o c
 
+-- `s` is what upkeep takes from one unit. Before, this unit is `u`, and has the money and the men that `s` takes.
 module _ (w : WorldValue) (c : CampaignValue) (s : UpkeepResult) (u : Unit) (is : get c.units s.unit ≡ Some u) (spare : CanSpare s u.holding.men u.holding.money)
     (steady : IsSteady w c) where
   abbrev old : HoldingValue
@@ -194,9 +196,11 @@ module _ (w : WorldValue) (c : CampaignValue) (s : UpkeepResult) (u : Unit) (is 
       (sym (booked-after_booking c.books Upkeep Money (neg_ℤ (pos s.paid)) t))
       ∙ sym (booked-after_booking one_booked Starved People (neg_ℤ (pos s.starved)) t)
 
+  -- a unit pays at most 999,999,999, since no unit of a steady campaign has more money
   pub few_paid : s.paid ≤ most_amount
   few_paid = omega (arith, spare.paid, (steady.numbers.units s.unit u is).1.money)
 
+  -- at most 999,999,999 of a unit's men starve, since no unit of a steady campaign has more men
   pub few_starved : s.starved ≤ most_amount
   few_starved = omega (arith, spare.starved, (steady.numbers.units s.unit u is).1.men)
 
@@ -251,7 +255,7 @@ each_still c s [] above there = tt
 each_still c s (e ∷ es) above there =
     (other_unit c s e.0 (λ same. omega (arith, above.0, same)) ∙ there.0, each_still c s es above.1 there.1)
 
--- what upkeep takes from one unit, where `all` are the units of the campaign
+-- what upkeep takes from one unit, where `all` are the units of the campaign, at this maintenance for each man
 abbrev pub upkeep_result_one : ℕ → (all : List UpkeepInput) → UpkeepInput → UpkeepResult
 upkeep_result_one m all p = upkeep_result_among m (peers_of p.region p.faction all) p
 
@@ -259,6 +263,7 @@ upkeep_result_one m all p = upkeep_result_among m (peers_of p.region p.faction a
 abbrev pub upkeep_result_each : ℕ → (all : List UpkeepInput) → List (ℕ × Unit) → List UpkeepResult
 upkeep_result_each m all es = map (upkeep_result_one m all) (map upkeep_input_of es)
 
+-- `all` are the units of the campaign, as upkeep reads them
 module _ (w : WorldValue) (all : List UpkeepInput) where
   abbrev step_moves : BookBound
   step_moves = takes_up_to most_amount
@@ -290,7 +295,7 @@ module _ (w : WorldValue) (all : List UpkeepInput) where
             (later_room step_moves w c (upkeep_at c s) s rest well room),
       )
 
--- what upkeep reads of units is sorted by their numbers, if they are
+-- what upkeep reads of listed units, in the order of their numbers
 module _ (c : CampaignValue) where
   in_order : (es : List (ℕ × Unit)) → Rise es → AreInOrder (map upkeep_input_of es)
   in_order [] rise = λ i j d h l. absurd (omega (arith, l))
@@ -298,9 +303,11 @@ module _ (c : CampaignValue) where
       AllPairs-cons (λ (p q : UpkeepInput). p.unit < q.unit) (upkeep_input_of e) (map upkeep_input_of es)
       (All-map (λ (q : UpkeepInput). e.0 < q.unit) upkeep_input_of es (All-from_recursion (λ (f : ℕ × Unit). e.0 < f.0) es rise.0)) (in_order es rise.1)
 
+  -- what upkeep reads of the units of a campaign is sorted by their numbers
   pub inputs_in_order : AreInOrder (upkeep_inputs_of c)
   inputs_in_order = in_order (entries c.units) (entries_rise c.units)
 
+-- `c` is the campaign as upkeep begins, whose books have room for less than 10^14 of money and of people
 module _ (w : WorldValue) (c : CampaignValue) (steady : IsSteady w c) (room : HaveRoom (takes_up_to most_moved) c) where
   abbrev list : List UpkeepResult
   list = upkeep_results w c
@@ -332,7 +339,8 @@ module _ (w : WorldValue) (c : CampaignValue) (steady : IsSteady w c) (room : Ha
 men_stay : (h : HoldingValue) (left : ℕ) → left ≡ h.men → with_men_left left h ≡ h
 men_stay h left is = grind (arith, nat_tests, is)
 
--- if no man of a unit starves, upkeep takes the money that it pays from its holding, and leaves all else as it was
+-- if no man of a unit starves, upkeep takes from its holding the money that the unit pays, and leaves all else of the
+-- holding as it was
 pub paid_alone : (s : UpkeepResult) (h : HoldingValue) → s.starved ≡ 0
     → after_upkeep s h ≡ record h { money = h.money - s.paid }
 paid_alone s h fed =
@@ -407,6 +415,7 @@ own_unit c s u is =
     ap (λ (d : CampaignValue). get d.units s.unit) (upkeep_at_is c s u is)
     ∙ get-insert_same c.units s.unit (unit_after_upkeep s u)
 
+-- `m` is the maintenance of each man, and `all` are the units of the campaign, as upkeep reads them
 module _ (m : ℕ) (all : List UpkeepInput) where
   others_stay : (es : List (ℕ × Unit)) (c : CampaignValue) (n : ℕ) → AllByRecursion (λ e. n < e.0) es
       → get (fold upkeep_at c (upkeep_result_each m all es)).units n ≡ get c.units n
@@ -432,7 +441,8 @@ module _ (m : ℕ) (all : List UpkeepInput) where
         each_upkeep_result es next rise.1 (each_still c s es rise.0 there.1),
       )
 
--- after upkeep each unit has what its upkeep among the units of its faction in its region leaves it
+-- after upkeep each unit has what upkeep leaves it, as the definition says by the units of the same faction in the same
+-- region alone
 pub upkeep_is_of_peers : (w : WorldValue) (c : CampaignValue)
     → Every (HasUpkeepResult w.rules.maintenance (upkeep_inputs_of c) (upkeep c (upkeep_results w c))) c.units
 upkeep_is_of_peers w c =

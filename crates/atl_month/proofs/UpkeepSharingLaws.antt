@@ -28,6 +28,7 @@ use Rattle.atl_month.proofs.GroupedLaws.{get-grouped}
 is_own_input : (p : UpkeepInput) → is_input_of p.region p.faction p ≡ true
 is_own_input p = rw (same_number p.region, same_number p.faction) refl
 
+-- `amount` gives of each unit the amount that is summed; unit `p` is added to the units `xs`
 module _ (amount : UpkeepInput → ℕ) (xs : List UpkeepInput) (p : UpkeepInput) where
   more_among : (s g : ℕ)
       → sum_by amount (peers_of s g (xs ++ p ∷ []))
@@ -79,7 +80,8 @@ each_account P m p a here others s g = by_test (is_input_of s g p) refl
         rw (account_found true is, ← region, ← faction) here
     by_test false is = rw (account_found false is) (others s g is)
 
--- the same where an account whose units aren't short is left out of the map
+-- P holds of each account by region and faction, once `a` is set under those of unit `p`, if it holds of `a` and of all
+-- other accounts. If the units of `a` aren't short, the map stays, and P has to hold of the account found there.
 each_if_short : (P : ℕ → ℕ → Account → Type 0) (m : FactionAccounts) (p : UpkeepInput) (a : Account)
     → ((a.short == 0) ≡ true → P p.region p.faction (account_at m p.region p.faction))
     → ((a.short == 0) ≡ false → P p.region p.faction a)
@@ -129,8 +131,11 @@ no_accounts m s g = rw (get-empty nat_cmp s, get-empty nat_cmp g) refl
 pub none_short : (m s g : ℕ) → (account_at empty s g).short ≤ most_per_head * men_limit * 0
 none_short m s g = rw (no_accounts m s g) (omega arith)
 
+-- `m` is the maintenance of each man. The units `before` are counted in `accounts`, and unit `p` is the next one.
+-- Account `a` is that of the faction of `p` in the region of `p`, with `p` counted.
 module _ (m : ℕ) (before : List UpkeepInput) (p : UpkeepInput) (accounts : FactionAccounts) (a : Account) where
-  -- with one more unit, each account has what the units so far are short of
+  -- if each account has what the units `before` are short of, then with unit `p` counted each has what they and `p` are
+  -- short of
   pub short_more : ((s g : ℕ) → account_at accounts s g ≡ opened m before [] s g)
       → a ≡ record (account_at accounts p.region p.faction) { short = (account_at accounts p.region p.faction).short + short_of m p }
       → (s g : ℕ) → account_at (with_if_short accounts p.region p.faction a) s g ≡ opened m (before ++ p ∷ []) [] s g
@@ -151,11 +156,12 @@ module _ (m : ℕ) (before : List UpkeepInput) (p : UpkeepInput) (accounts : Fac
           → short_among m p.region p.faction before ≡ short_among m p.region p.faction (before ++ p ∷ [])
       no_more none = omega (arith, none, ap (λ (b : Account). b.short) this, more_own (short_of m) before p)
 
-  -- what all units of the faction in the unit's region are short of
+  -- what the units `all` that are of the faction of `p` in its region are short of
   abbrev all_short : (all : List UpkeepInput) → ℕ
   all_short all = short_among m p.region p.faction all
 
-  -- with one more unit, each account whose units are short has what the units so far have left
+  -- If each account has what the units `all` are short of and what `before` have left, then with unit `p` counted each
+  -- has what `before` and `p` have left. An account whose units aren't short counts nothing as left (`counted_left`).
   pub left_more : (all : List UpkeepInput) → ((s g : ℕ) → account_at accounts s g ≡ opened m all before s g)
       → a ≡ record (account_at accounts p.region p.faction) { left = (account_at accounts p.region p.faction).left + left_of m p }
       → (s g : ℕ) → account_at (with_if_short accounts p.region p.faction a) s g ≡ opened m all (before ++ p ∷ []) s g
@@ -191,7 +197,8 @@ few_short m n accounts p a short each is =
     each_if_short (λ s g b. b.short ≤ most_per_head * men_limit * (n + 1)) accounts p a
     (λ none. omega (arith, old)) (λ some. rw is (omega (arith, old, short))) (λ s g apart. omega (arith, each s g))
 
--- the same of the money that is left
+-- if the money left of each account is within that of `n` units, it is, with one more unit counted, within that of
+-- `n + 1`
 pub few_left : (m n : ℕ) (accounts : FactionAccounts) (p : UpkeepInput) (a : Account) → left_of m p ≤ holding_limit
     → ((s g : ℕ) → (account_at accounts s g).left ≤ holding_limit * n)
     → a ≡ record (account_at accounts p.region p.faction) { left = (account_at accounts p.region p.faction).left + left_of m p }
@@ -207,6 +214,7 @@ all_counted m all s g = account_is _ _ _ _ _ _ _ _ refl refl (omega arith) (omeg
 
 -- ---- the units of lower numbers
 
+-- `t` and `q` are tests of the elements of a list
 module _ {A : Type 0} where
   filters_swap : (t q : A → Bool) (xs : List A) → filter q (filter t xs) ≡ filter t (filter q xs)
   filters_swap t q [] = refl
@@ -247,6 +255,8 @@ is_dealt : (before want amount give : ℕ) → give ≡ amount
     → min (give - min before amount) want ≡ min (before + want) amount - min before amount
 is_dealt before want amount give is = omega (arith, is)
 
+-- `m` is the maintenance of each man, and `all` are all units. The units `before` had their turn, unit `p` has it next,
+-- and `accounts` has each account as it is then.
 module _ (m : ℕ) (all before : List UpkeepInput) (p : UpkeepInput) (accounts : FactionAccounts)
     (each : (s g : ℕ) → account_at accounts s g ≡ account_of m all before s g) where
   -- the account of the unit's faction in its region, as its turn comes
