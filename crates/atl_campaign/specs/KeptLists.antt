@@ -61,7 +61,7 @@ ListsUnit n l old new =
     → AreUnitLists units old → AreUnitLists (insert units n u) new
 
 -- `new` lists the same units as `old`, of units without a number n: if `old` has the lists of such units, so has `new`.
--- This is what holds when unit n can't be added for want of memory.
+-- This is what holds when adding unit n runs out of memory.
 abbrev pub KeepsLists : ℕ → UnitLists → UnitLists → Type 0
 KeepsLists n old new = (units : FinMap nat_cmp Unit) → get units n ≡ None → AreUnitLists units old → AreUnitLists units new
 
@@ -72,8 +72,8 @@ UnlistsUnit n l old new =
     (units : FinMap nat_cmp Unit) (u : Unit) → list_keys_of u ≡ l → get units n ≡ Some u
     → AreUnitLists units old → AreUnitLists (remove units n) new
 
--- `new` lists the same units as `old`: if `old` has the lists of some units, so has `new`. This is what holds when a
--- unit can't be moved for want of memory.
+-- `new` lists the same units as `old`: if `old` has the lists of some units, so has `new`. This is what holds when
+-- moving a unit runs out of memory.
 abbrev pub KeepsAll : UnitLists → UnitLists → Type 0
 KeepsAll old new = (units : FinMap nat_cmp Unit) → AreUnitLists units old → AreUnitLists units new
 

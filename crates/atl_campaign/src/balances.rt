@@ -12,8 +12,6 @@ use crate::Campaign;
 use atl_records::Thing;
 use atl_world::World;
 
-/// Whether the total of a thing over all units and regions equals the sum booked of it under all
-/// entries.
 fn is_balanced(campaign: &Campaign, thing: Thing) -> bool
     requires few { IsCountable campaign.now.value }
     requires there { thing_index thing < campaign.now.value.books.things }
@@ -23,7 +21,6 @@ fn is_balanced(campaign: &Campaign, thing: Thing) -> bool
     i128::from(campaign.total(thing)) == campaign.books().sum(thing)
 }
 
-/// Whether the books balance for each item of the world.
 fn are_items_balanced(world: &World, campaign: &Campaign) -> bool
     requires few { IsCountable campaign.now.value }
     requires things { campaign.now.value.books.things ≡ thing_count world.now }
@@ -40,7 +37,6 @@ fn are_items_balanced(world: &World, campaign: &Campaign) -> bool
     true
 }
 
-/// Whether the books balance for money, and for men and peasants together.
 fn are_people_balanced(campaign: &Campaign) -> bool
     requires few { IsCountable campaign.now.value }
     requires there { 1 < campaign.now.value.books.things }

@@ -25,8 +25,7 @@ impl<T> Model for GapVec<T> {
     ghost invariant = { λ a. a.free + a.free ≤ length a.items.items };
 }
 
-/// Adds unused elements in front of a vector that has none and isn't empty. Returns how many it
-/// added: half as many as its elements, and one. Without memory nothing changes.
+/// Returns the number of elements added: half as many as there were, rounded down, and one.
 fn make_room<T: Copy + Drop>(items: &mut Vec<T>) -> Result<usize, AllocError>
     requires { 0 < length items.old.items }
     ensures some { IfOk result (λ free. 0 < free) }
@@ -41,9 +40,6 @@ fn make_room<T: Copy + Drop>(items: &mut Vec<T>) -> Result<usize, AllocError>
     Ok(free)
 }
 
-/// Inserts `thing` at index `position` of the list that follows `free` unused elements, of which
-/// there is at least one. Moves the elements before the index one place to the front, into the last
-/// unused place.
 fn put_before<T: Copy + Drop>(items: &mut Vec<T>, free: usize, position: usize, thing: T)
     requires some { 0 < free }
     requires within { free + position ≤ length items.old.items }
@@ -56,9 +52,6 @@ fn put_before<T: Copy + Drop>(items: &mut Vec<T>, free: usize, position: usize, 
     items[first + position] = thing;
 }
 
-/// Inserts `thing` at index `position` of the list that follows `free` unused elements, at most
-/// half of all. Returns how many are unused then. The elements on the nearer side move, or all if
-/// room is made. Without memory nothing changes.
 fn insert_at<T: Copy + Drop>(
     items: &mut Vec<T>,
     free: usize,
@@ -81,8 +74,6 @@ fn insert_at<T: Copy + Drop>(
     Ok(free - 1)
 }
 
-/// Removes the element at index `position` of the list that follows `free` unused elements, and
-/// returns how many are unused then. The elements on the nearer side move.
 fn remove_at<T: Copy + Drop>(items: &mut Vec<T>, free: usize, position: usize) -> usize
     requires { free + position < length items.old.items }
     ensures part { drop result items.new.items ≡ remove (drop free items.old.items) position }
@@ -97,8 +88,6 @@ fn remove_at<T: Copy + Drop>(items: &mut Vec<T>, free: usize, position: usize) -
     free
 }
 
-/// Moves the list that follows `free` unused elements to the front of the vector, if these are more
-/// than half of all. Returns how many are unused then.
 fn compact<T: Copy + Drop>(items: &mut Vec<T>, free: usize) -> usize
     requires { free ≤ length items.old.items }
     ensures part { drop result items.new.items ≡ drop free items.old.items }

@@ -120,8 +120,7 @@ impl Index {
     }
 }
 
-/// The index of a number's entry, if no number between the first entry's and this one is missing;
-/// else, or if the number has no entry, None. The index is the number less the first entry's.
+/// The guess is the number less the first entry's. It fails if a number between the two is missing.
 fn guess_position(entries: &[IndexEntry], number: u32) -> Option<usize>
     ensures { IfSome result (λ position. IsAt (index_numbers entries.now) number position) }
 {
@@ -133,7 +132,6 @@ fn guess_position(entries: &[IndexEntry], number: u32) -> Option<usize>
     }
 }
 
-/// Whether a number is above the numbers of all entries, which are sorted; true if there are none.
 fn is_above(entries: &[IndexEntry], number: u32) -> bool
     requires { IsStrictlySortedBy nat_cmp (index_numbers entries.now) }
     ensures { result ≡ true → BelongsAt (index_numbers entries.now) number (length entries.now) }
@@ -144,8 +142,6 @@ fn is_above(entries: &[IndexEntry], number: u32) -> bool
     }
 }
 
-/// The index of a number's entry in sorted entries, or as Err the index where it belongs. A binary
-/// search is made only where the number is not above all, and the guess of its index failed.
 fn position_of(entries: &[IndexEntry], number: u32) -> Result<usize, usize>
     requires { IsStrictlySortedBy nat_cmp (index_numbers entries.now) }
     ensures found { IfOk result (λ position. IsAt (index_numbers entries.now) number position) }

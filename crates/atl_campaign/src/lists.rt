@@ -124,8 +124,6 @@ impl UnitLists {
     }
 }
 
-/// Moves a number from the list of one structure into that of another; 0 has no list. Without
-/// memory for it nothing changes.
 fn relist_inside(
     alloc: Global,
     lists: &mut Numbered<Numbers>,
@@ -144,8 +142,6 @@ fn relist_inside(
     Ok(())
 }
 
-/// Puts a number into the list under `key`, unless `key` is `other`: the key whose list it is in
-/// already, or 0, which has no list. Without memory for it nothing changes.
 fn list_unless(
     alloc: Global,
     lists: &mut Numbered<Numbers>,
@@ -162,8 +158,6 @@ fn list_unless(
     list_number(alloc, lists, key, number)
 }
 
-/// Takes a number out of the list under `key`, unless `key` is `other`: the key in whose list it is
-/// to stay, or 0, which has no list. It takes no memory.
 fn unlist_unless(lists: &mut Numbered<Numbers>, number: u32, key: u32, other: u32)
     ensures { SameLists lists.new (unlisted_unless lists.old number key other) }
 {

@@ -24,7 +24,6 @@ impl Model for Numbers {
     ghost invariant = { λ a. IsSorted a.items };
 }
 
-/// The index of the first number of a sorted list that is not below `number`; the length if none.
 fn first_not_below(items: &[u32], number: u32) -> usize
     requires { IsSorted items.now }
     ensures position { result ≡ first_not_below number items.now }

@@ -151,7 +151,6 @@ impl Regions {
         self.items.iter()
     }
 
-    /// Lends a region, if there is one, and marks nothing.
     fn lend(&mut self, number: u32) -> Option<&mut Region>
         ensures* writes_back { sem 𝓛 (LendsRegion self.entry number result) }
         ensures value { option_copied_mut result ≡ map.get self.old.values number }
@@ -162,7 +161,6 @@ impl Regions {
         }
     }
 
-    /// How many peasants a region has; 0 where the region isn't there.
     fn peasants(&self, number: u32) -> u32
         ensures { result ≡ number_in (λ r. r.peasants) self.now.values number }
     {
@@ -172,7 +170,6 @@ impl Regions {
         }
     }
 
-    /// How much money a region has; 0 where the region isn't there.
     fn money(&self, number: u32) -> u32
         ensures { result ≡ number_in (λ r. r.money) self.now.values number }
     {
@@ -182,7 +179,6 @@ impl Regions {
         }
     }
 
-    /// Marks a region's row, if there is such a region and its row `differs`. It takes no memory.
     fn mark_row_if(&mut self, differs: bool, number: u32)
         ensures { self.new ≡ record self.old {
           rows = marked_with self.old.rows number
@@ -194,8 +190,7 @@ impl Regions {
         }
     }
 
-    /// Marks the stock of an item in a region, if there is such a region, or all its stocks where
-    /// there is no memory for that mark.
+    /// Marks all stocks of the region where there is no memory to mark the one.
     fn mark_item(&mut self, alloc: Global, number: u32, item: u32)
         ensures { (self.new ≡ with_item_marked self.old number item) ⊎ (self.new
             ≡ with_stocks_marked self.old number) }

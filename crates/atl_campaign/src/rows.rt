@@ -37,7 +37,7 @@ fn flag(set: bool) -> i64
     if set { 1 } else { 0 }
 }
 
-/// The row of the table `campaign` in a format, without its world text, which no campaign knows.
+/// The row lacks the world text, which no campaign knows.
 fn campaign_row(
     alloc: Global,
     format: Format,
@@ -72,7 +72,6 @@ fn faction_row(alloc: Global, number: u32, faction: &Faction) -> Result<StoredFa
     })
 }
 
-/// The row of a unit, without its items and days of study.
 fn unit_row(alloc: Global, number: u32, unit: &Unit) -> Result<StoredUnit, AllocError>
     ensures { IfOk result (λ row. row ≡ unit_row number unit.now) }
 {
@@ -107,7 +106,6 @@ fn structure_row(
     })
 }
 
-/// The only row of the table `campaign`.
 fn campaign_rows(
     alloc: Global,
     format: Format,
@@ -131,7 +129,6 @@ fn faction_rows(alloc: Global, campaign: &Campaign) -> Result<Sequence<StoredFac
     Ok(rows)
 }
 
-/// The rows of the table `region`, by the regions' numbers, without the stocks.
 fn region_rows(alloc: Global, campaign: &Campaign) -> Result<Sequence<StoredRegion>, AllocError>
     ensures { IfOk result (λ rows. rows
         ≡ rows_by region_row (map.entries campaign.now.value.regions)) }
@@ -147,7 +144,6 @@ fn region_rows(alloc: Global, campaign: &Campaign) -> Result<Sequence<StoredRegi
     Ok(rows)
 }
 
-/// The rows of the table `unit`, by the units' numbers, without items and days of study.
 fn unit_rows(alloc: Global, campaign: &Campaign) -> Result<Sequence<StoredUnit>, AllocError>
     ensures { IfOk result (λ rows. rows ≡ rows_by unit_row (map.entries campaign.now.value.units)) }
 {
@@ -172,7 +168,6 @@ fn structure_rows(
     Ok(rows)
 }
 
-/// The rows of the table `mail`, by the numbers of the factions that sent it.
 fn mail_rows(alloc: Global, campaign: &Campaign) -> Result<Sequence<StoredMail>, AllocError>
     ensures { IfOk result (λ rows. rows ≡ rows_by mail_row (map.entries campaign.now.value.mail)) }
 {
@@ -185,7 +180,6 @@ fn mail_rows(alloc: Global, campaign: &Campaign) -> Result<Sequence<StoredMail>,
     Ok(rows)
 }
 
-/// The rows of the table `report`, by the numbers of the factions that they are for.
 fn report_rows(alloc: Global, campaign: &Campaign) -> Result<Sequence<StoredReport>, AllocError>
     ensures { IfOk result (λ rows. rows
         ≡ rows_by report_row (map.entries campaign.now.value.reports)) }
@@ -210,7 +204,6 @@ fn has_row(number: u32, sort: u32, thing: u32, amount: u32) -> StoredHas
     }
 }
 
-/// Adds a row of `has` for each thing of a sort, items or skills, of which a unit has more than 0.
 fn add_sort_rows(
     rows: &mut Sequence<StoredHas>,
     number: u32,
@@ -227,7 +220,6 @@ fn add_sort_rows(
     Ok(())
 }
 
-/// Adds the rows of `has` for a unit's items, and then those for its days of study.
 fn add_held(
     rows: &mut Sequence<StoredHas>,
     number: u32,
@@ -259,7 +251,6 @@ fn market_row(region: u32, item: u32, stock: u32) -> StoredMarket
     }
 }
 
-/// Adds a row of `market` for each item of which a region has more than 0 in stock.
 fn add_stocks(
     rows: &mut Sequence<StoredMarket>,
     region: u32,
@@ -275,7 +266,6 @@ fn add_stocks(
     Ok(())
 }
 
-/// The rows of the table `market`, which only the second format has, by region and item.
 fn stocks_rows(alloc: Global, campaign: &Campaign) -> Result<Sequence<StoredMarket>, AllocError>
     ensures { IfOk result (λ rows. rows
         ≡ market_rows Second (map.entries campaign.now.value.regions)) }
@@ -287,7 +277,6 @@ fn stocks_rows(alloc: Global, campaign: &Campaign) -> Result<Sequence<StoredMark
     Ok(rows)
 }
 
-/// The rows of the table `market`: the stocks of all regions, and none in the first format.
 fn market_rows(
     alloc: Global,
     format: Format,
@@ -312,8 +301,6 @@ fn books_row(entry: BooksEntry, thing: Thing, amount: i64) -> StoredBooks
     }
 }
 
-/// Adds a row of `books` for each thing of which the amount under an entry is not 0, in the order
-/// of the things. `things` is how many things the books have.
 fn add_entry(
     rows: &mut Sequence<StoredBooks>,
     books: &Books,
@@ -335,8 +322,6 @@ fn add_entry(
     Ok(())
 }
 
-/// Adds a row of `books` for each amount, other than 0, under the given entries, one entry after
-/// another. `things` is how many things the books have.
 fn add_entries(
     rows: &mut Sequence<StoredBooks>,
     books: &Books,

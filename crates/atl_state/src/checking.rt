@@ -90,7 +90,6 @@ impl fmt::Display for CheckFault {
 
 impl Error for CheckFault {}
 
-/// Whether rows keep rule 1: one campaign row of the format, and in the first no market rows.
 fn keeps_one_row(format: Format, parts: &Parts) -> bool
     ensures { IsTrue result ↔
         (IsTrue (is_one_campaign_row format parts.now.campaign)
@@ -100,8 +99,6 @@ fn keeps_one_row(format: Format, parts: &Parts) -> bool
         && are_of_format(format, parts.markets.as_slice())
 }
 
-/// Checks rules 1 to 3 (one campaign row, ranges, names) on the rows, before a campaign is made of
-/// them: Err is the first that they break, or Memory.
 fn check_rows(alloc: Global, world: &World, parts: &Parts, format: Format) -> Result<(), CheckFault>
     ensures { ChecksBelow format world.now parts.now 4 result }
 {
@@ -120,7 +117,6 @@ fn check_rows(alloc: Global, world: &World, parts: &Parts, format: Format) -> Re
     }
 }
 
-/// Whether each row of `has` is of a unit that the campaign has.
 fn are_of_units(parts: &Parts, campaign: &Campaign) -> bool
     ensures { result ≡ list_all (is_of_unit campaign.now.value) parts.now.has }
 {
@@ -148,7 +144,6 @@ fn is_booked(format: Format, world: &World, row: &StoredBooks) -> bool
     1 <= entry && entry <= entries_in(format) && (as_u32(row.thing) as usize) < things
 }
 
-/// Whether each row of `books` is of an entry of the format and a thing of the world.
 fn are_booked(format: Format, world: &World, parts: &Parts) -> bool
     ensures { result ≡ list_all (is_booked format world.now) parts.now.books }
 {
@@ -159,8 +154,6 @@ fn are_booked(format: Format, world: &World, parts: &Parts) -> bool
         .all(|row| is_booked(format, world, row))
 }
 
-/// Whether each row of `has` is of a unit of the campaign, and each row of `market` of a market of
-/// the world.
 fn are_goods_known(world: &World, parts: &Parts, campaign: &Campaign) -> bool
     ensures { IsTrue result ↔
         (IsTrue (list_all (is_of_unit campaign.now.value) parts.now.has)
@@ -169,7 +162,6 @@ fn are_goods_known(world: &World, parts: &Parts, campaign: &Campaign) -> bool
     are_of_units(parts, campaign) && are_of_markets(world, parts.markets.as_slice())
 }
 
-/// Whether rows and the campaign that is read from them keep rule 4: all that they name exists.
 fn keeps_known(world: &World, parts: &Parts, campaign: &Campaign) -> bool
     ensures { IsTrue result ↔
         (AreKnown world.now campaign.now.value
@@ -179,9 +171,6 @@ fn keeps_known(world: &World, parts: &Parts, campaign: &Campaign) -> bool
     are_known(world, campaign) && are_goods_known(world, parts, campaign)
 }
 
-/// Whether rows that keep rules 1 to 10 keep rule 11: the books balance, and have only entries and
-/// things that exist. The campaign is the one read from the rows, and `parts` are what that left of
-/// them.
 fn keeps_books(format: Format, world: &World, parts: &Parts, campaign: &Campaign) -> bool
     ghost rows: { Parts }
     requires what { campaign.now.value ≡ campaign_of world.now rows }
@@ -192,8 +181,6 @@ fn keeps_books(format: Format, world: &World, parts: &Parts, campaign: &Campaign
     are_booked(format, world, parts) && are_balanced(world, campaign)
 }
 
-/// Whether a campaign keeps rule 12: each mail is a mailing of a faction that isn't gone, and each
-/// faction has a report.
 fn keeps_mail(campaign: &Campaign) -> bool
     ensures { IsTrue result ↔
         (HasValidMail campaign.now.value × AreReported campaign.now.value) }
@@ -201,9 +188,6 @@ fn keeps_mail(campaign: &Campaign) -> bool
     are_mailings(campaign) && are_reported(campaign)
 }
 
-/// Checks rules 4 to 7 (what rows name exists, next numbers, days of study, gone factions): Err is
-/// the first that is broken. The rows keep rules 1 to 3, the campaign is read from them, and
-/// `parts` are what that left of them.
 fn check_rules_4_to_7(
     world: &World,
     parts: &Parts,
@@ -231,8 +215,6 @@ fn check_rules_4_to_7(
     Ok(())
 }
 
-/// Checks rules 8 to 12 (owners, water, guards, books, mail): Err is the first that is broken. The
-/// rows keep rules 1 to 7, the campaign is read from them, and `parts` are what that left of them.
 fn check_rules_8_to_12(
     world: &World,
     parts: &Parts,
@@ -263,8 +245,6 @@ fn check_rules_8_to_12(
     Ok(())
 }
 
-/// Checks rules 1 to 12 one after another, and returns the campaign that is read from the rows, or
-/// the first rule that they break, or Memory.
 fn check_parts(
     alloc: Global,
     world: &World,

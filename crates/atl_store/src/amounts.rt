@@ -20,7 +20,6 @@ pub(crate) trait AmountWriter: Copy {
     // The row of an amount of a thing that the owner has.
     ghost line: { Self → ℕ → ℕ → SqlRow };
 
-    /// Inserts the row of an amount of a thing, or changes the row with the same key.
     fn put<S: Alter>(
         self,
         tx: &mut Transaction<'_, S>,
@@ -31,7 +30,6 @@ pub(crate) trait AmountWriter: Copy {
             tx.new.conn };
 }
 
-/// Puts the row of the amount that an owner has of a thing; nothing if the amount is 0.
 fn put_nonzero<O: AmountWriter, S: Alter>(
     tx: &mut Transaction<'_, S>,
     owner: O,

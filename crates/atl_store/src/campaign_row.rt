@@ -14,7 +14,6 @@ use atl_campaign::Campaign;
 use atl_sql::rows::campaign::{CampaignRow, put_campaign, put_upgraded};
 use sqlite::{Alter, Error, Transaction};
 
-/// What the campaign row says of a campaign: month, next numbers, and pass text.
 fn own_row(campaign: &Campaign) -> CampaignRow<'_>
     ensures { head_shown result ≡ campaign_row_of campaign.now.value }
 {

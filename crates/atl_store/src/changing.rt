@@ -20,7 +20,6 @@ use crate::write_parts::{OtherParts, WrittenPart};
 use atl_campaign::Campaign;
 use sqlite::{Alter, Connection, Error, Transaction};
 
-/// Rewrites all that is marked: the campaign row, and then the other parts, one after another.
 fn rewrite_parts<S: Alter>(tx: &mut Transaction<'_, S>, campaign: &Campaign) -> Result<(), Error>
     requires { campaign.now.value.books.things ≤ most_things }
     ensures { Writes S.Store (OfChange campaign.now.value)
@@ -30,7 +29,6 @@ fn rewrite_parts<S: Alter>(tx: &mut Transaction<'_, S>, campaign: &Campaign) -> 
     OtherParts::rewrite(tx, campaign)
 }
 
-/// Writes all that is marked in one transaction; the marks stay as they are.
 fn write_marked<S: Alter>(conn: &mut Connection<S>, campaign: &Campaign) -> Result<(), Error>
     requires idle { conn.old.in_transaction ≡ false }
     requires things { campaign.now.value.books.things ≤ most_things }

@@ -19,8 +19,6 @@ use atl_sql::tables::create_tables;
 use sqlite::{Alter, Connection, Error, Transaction};
 use sqlite_schema::schema::Schema;
 
-/// Makes the tables, and puts the campaign row with this world text and then all other rows of the
-/// campaign.
 fn put_founding<S: Alter>(
     tx: &mut Transaction<'_, S>,
     text: &str,
@@ -36,7 +34,6 @@ fn put_founding<S: Alter>(
     OtherParts::fill(tx, campaign)
 }
 
-/// Makes the tables and writes the whole campaign in one transaction; the marks stay as they are.
 fn write_founding<S: Alter>(
     conn: &mut Connection<S>,
     text: &str,
@@ -52,7 +49,6 @@ fn write_founding<S: Alter>(
     tx.commit()
 }
 
-/// Whether there is a table `campaign`: the database then holds a campaign already.
 fn has_campaign_table(schema: &Schema) -> bool
     ensures { result ≡ has_campaign schema.now }
 {
@@ -60,7 +56,6 @@ fn has_campaign_table(schema: &Schema) -> bool
     tables.any(|table| table.name.as_slice() == b"campaign".as_slice())
 }
 
-/// Whether the schema has no table, no index and no view.
 fn is_blank(schema: &Schema) -> bool
     ensures { IsTrue result ↔ (schema.now ≡ no_tables) }
 {
@@ -69,8 +64,6 @@ fn is_blank(schema: &Schema) -> bool
         && schema.views.as_slice().is_empty()
 }
 
-/// Whether `create` can begin: the database has no table, index or view, and the connection is in
-/// no transaction. If so, and it is open, nothing is uncommitted.
 fn is_ready<S: Alter>(conn: &Connection<S>) -> bool
     ensures ready { IsTrue result ↔ (IsReadyToCreate (state S.Store conn.now)) }
     ensures settled { IsTrue result → IsTrue (state S.Store conn.now).is_open

@@ -59,7 +59,6 @@ impl AmountWriter for UnitThings {
     }
 }
 
-/// Puts the rows of what a unit, which has this number, holds: its items, and then its skills.
 fn put_goods<S: Alter>(
     tx: &mut Transaction<'_, S>,
     unit: u32,

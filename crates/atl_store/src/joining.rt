@@ -36,8 +36,6 @@ struct Arrival<'a> {
     report: &'a Text,
 }
 
-/// What a join brought to the campaign: the faction of this number, its report, and the unit that
-/// came last.
 fn arrival_of(campaign: &Campaign, number: u32) -> Arrival<'_>
     requires { HasArrival campaign.now.value number }
     ensures found { HasArrivalWith campaign.now.value result.number result.faction.now
@@ -55,7 +53,7 @@ fn arrival_of(campaign: &Campaign, number: u32) -> Arrival<'_>
     }
 }
 
-/// Puts the campaign row, whose world text stays, and the rows of the faction and its unit.
+/// A campaign row that is there keeps its world text, so that an empty one is given here.
 fn put_newcomer<S: Alter>(
     tx: &mut Transaction<'_, S>,
     campaign: &Campaign,
@@ -75,7 +73,6 @@ fn put_newcomer<S: Alter>(
     arrival.unit.put(tx, arrival.unit_number)
 }
 
-/// Puts the row of the faction's report, and writes the money and the people booked under joining.
 fn put_report_and_amounts<S: Alter>(
     tx: &mut Transaction<'_, S>,
     campaign: &Campaign,
@@ -94,7 +91,6 @@ fn put_report_and_amounts<S: Alter>(
     write_amount(tx, campaign, BooksEntry::Joining, Thing::People)
 }
 
-/// Puts all rows of a join: campaign row, faction, unit, report, and two amounts of the books.
 fn put_joining<S: Alter>(
     tx: &mut Transaction<'_, S>,
     campaign: &Campaign,
@@ -110,7 +106,6 @@ fn put_joining<S: Alter>(
     put_report_and_amounts(tx, campaign, arrival)
 }
 
-/// Writes all rows of a join in one transaction.
 fn write_joining<S: Alter>(
     conn: &mut Connection<S>,
     campaign: &Campaign,

@@ -17,7 +17,6 @@ use atl_rows::parts::StoredBooks;
 use atl_sql::rows::{put, take_out};
 use sqlite::{Alter, Error, Transaction, params};
 
-/// Inserts the row of an amount into `books`, or changes the row of the entry and the thing.
 fn put_booked<S: Alter>(
     tx: &mut Transaction<'_, S>,
     entry: u32,
@@ -30,7 +29,6 @@ fn put_booked<S: Alter>(
     put::<StoredBooks, S>(tx, params![entry, thing, amount])
 }
 
-/// Puts the row of an amount of the books; nothing if it is 0.
 fn put_amount<S: Alter>(
     tx: &mut Transaction<'_, S>,
     campaign: &Campaign,
@@ -67,7 +65,6 @@ pub(crate) fn write_amount<S: Alter>(
     put_booked(tx, entry.number(), thing.number(), amount)
 }
 
-/// Puts the rows of the amounts of a thing under these entries that are not 0.
 fn put_entries<S: Alter>(
     tx: &mut Transaction<'_, S>,
     campaign: &Campaign,
@@ -101,7 +98,6 @@ pub(crate) fn put_all_books<S: Alter>(
     Ok(())
 }
 
-/// Writes an amount of the books if it is marked: puts its row, or deletes the row if it is 0.
 fn rewrite_amount<S: Alter>(
     tx: &mut Transaction<'_, S>,
     campaign: &Campaign,
@@ -119,7 +115,6 @@ fn rewrite_amount<S: Alter>(
     Ok(())
 }
 
-/// Writes the marked amounts of a thing under these entries, one after another.
 fn rewrite_entries<S: Alter>(
     tx: &mut Transaction<'_, S>,
     campaign: &Campaign,

@@ -21,8 +21,6 @@ use own::read_own;
 use sqlite::{Alter, Connection};
 use std::alloc::Global;
 
-/// Reads all tables of the format: the rows of all parts, without rowids, and the world of the
-/// world text. A value of another type in a table but `campaign` is Damaged by the second rule.
 fn gather<S: Alter>(
     alloc: Global,
     conn: &mut Connection<S>,
@@ -44,8 +42,6 @@ fn gather<S: Alter>(
     Ok((world, parts))
 }
 
-/// Loads the campaign in a format, over a connection that is in no transaction: reads the tables,
-/// tests the schema, and checks the rows.
 fn load_idle<S: Alter>(
     alloc: Global,
     conn: &mut Connection<S>,

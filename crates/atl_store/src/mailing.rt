@@ -30,7 +30,6 @@ pub(crate) fn put_mail<S: Alter>(
     put::<StoredMail, S>(tx, params![faction, text])
 }
 
-/// Writes the mail of a faction in one transaction, replacing an older one.
 fn write_mailing<S: Alter>(conn: &mut Connection<S>, faction: u32, text: &[u8]) -> Result<(), Error>
     requires { conn.old.in_transaction ≡ false }
     ensures { Transacts S.Store (OfMail faction text.now) HasTables (WritesMail faction text.now)

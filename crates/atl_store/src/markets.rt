@@ -20,7 +20,6 @@ use atl_sql::rows::{put, take_out};
 use atl_world::{Entries, MarkedNumbers, Numbered};
 use sqlite::{Alter, Error, Transaction, params};
 
-/// Inserts the row of a stock into `market`, or changes the row of the region and the item.
 fn put_stock<S: Alter>(
     tx: &mut Transaction<'_, S>,
     region: u32,
@@ -57,7 +56,6 @@ impl AmountWriter for RegionStocks {
     }
 }
 
-/// Puts the rows of all stocks of a region, which has this number, that are not 0.
 fn put_stocks<S: Alter>(
     tx: &mut Transaction<'_, S>,
     number: u32,

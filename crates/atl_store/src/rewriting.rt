@@ -10,8 +10,6 @@ use crate::numbered_rows::NumberedRow;
 use atl_campaign::Campaign;
 use sqlite::{Alter, Error, Transaction};
 
-/// Puts the row of the value that the campaign has under this number, or deletes the number's row
-/// if there is none.
 fn rewrite<V: NumberedRow + Drop, S: Alter>(
     tx: &mut Transaction<'_, S>,
     campaign: &Campaign,

@@ -30,11 +30,9 @@ pub(crate) trait SingleAmounts: Copy {
     // The single amounts that are marked, by the numbers of owner and thing.
     ghost marks: { Self → Marks → MarkedThings };
 
-    /// The single amounts that are marked, by the numbers of owner and thing, in rising order.
     fn marked_singles(self, campaign: &Campaign) -> Entries<'_, Numbered<()>>
         ensures { result ≡ entries (marks self campaign.now.marks) };
 
-    /// Puts the row of an amount of the campaign, or deletes the row if the amount is 0.
     fn rewrite_single<S: Alter>(
         self,
         tx: &mut Transaction<'_, S>,
@@ -47,7 +45,6 @@ pub(crate) trait SingleAmounts: Copy {
             (wanted campaign.now.value))) result tx.old.conn tx.new.conn };
 }
 
-/// Writes the amounts that an owner, a unit or a region, has of the things with these numbers.
 fn rewrite_amounts_of_owner<A: SingleAmounts, S: Alter>(
     tx: &mut Transaction<'_, S>,
     campaign: &Campaign,

@@ -17,7 +17,6 @@ use atl_sql::rows::take_out;
 use atl_world::{Entries, Numbered};
 use sqlite::{Alter, Error, Transaction, params};
 
-/// The pieces of an item, or the days of study of a skill, that a unit has; 0 without the unit.
 fn amount_of(campaign: &Campaign, unit: u32, sort: ThingKind, thing: u32) -> u32
     ensures { result ≡ amount_under campaign.now.value.units unit sort thing }
 {
@@ -30,7 +29,6 @@ fn amount_of(campaign: &Campaign, unit: u32, sort: ThingKind, thing: u32) -> u32
     }
 }
 
-/// Puts the row of an item or a skill of a unit, or deletes the row if the unit has 0 of it.
 fn rewrite_thing<S: Alter>(
     tx: &mut Transaction<'_, S>,
     campaign: &Campaign,

@@ -21,7 +21,6 @@ use atl_world::{Format, World};
 use sqlite::{Alter, Connection, Error, Transaction};
 use std::alloc::Global;
 
-/// Makes the table `market`, and gives the campaign row the second format and the new world text.
 fn put_upgrade<S: Alter>(
     tx: &mut Transaction<'_, S>,
     text: &str,
@@ -35,7 +34,6 @@ fn put_upgrade<S: Alter>(
     upgrade_campaign_row(tx, campaign, text)
 }
 
-/// Writes an upgrade in one transaction.
 fn write_upgrade<S: Alter>(
     conn: &mut Connection<S>,
     text: &str,
@@ -50,9 +48,6 @@ fn write_upgrade<S: Alter>(
     tx.commit()
 }
 
-/// Gives the world of the new text, and the campaign that the tables hold in the first format.
-/// Differs: the new world differs from the old one in more than markets. Other faults are those of
-/// loading the campaign and of reading the new text.
 fn world_and_campaign<S: Alter>(
     alloc: Global,
     conn: &mut Connection<S>,

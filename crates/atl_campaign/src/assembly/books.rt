@@ -9,7 +9,6 @@ use atl_records::{Books, BooksEntry, Thing};
 use atl_rows::parts::StoredBooks;
 use std::alloc::{AllocError, Global};
 
-/// Puts the amount of a row of `books` into the books, if they have the row's entry and thing.
 fn put_row(books: &mut Books, row: &StoredBooks)
     ensures { books.new ≡ with_books_row books.old row.now }
 {

@@ -15,8 +15,6 @@ use atl_rows::parts::{StoredHas, StoredMarket};
 use atl_world::Numbered;
 use std::alloc::AllocError;
 
-/// Puts the amount of a row of `has`, of an item or a skill, into its unit, if there is that unit.
-/// The amount has to be in its range.
 fn put_thing(units: &mut Arena<Unit>, row: &StoredHas) -> Result<(), AllocError>
     requires { has_in_range row.now ≡ true }
     ensures { OnOk result (units.new
@@ -44,7 +42,6 @@ pub(super) fn put_things(units: &mut Arena<Unit>, rows: &[StoredHas]) -> Result<
     Ok(())
 }
 
-/// Puts the stock of a row of `market` into its region, if there is such a region.
 fn put_stock(regions: &mut Numbered<Region>, row: &StoredMarket) -> Result<(), AllocError>
     ensures { OnOk result (regions.new
         ≡ with_changed_value (with_market_row row.now) regions.old (as_u32 row.now.region)) }

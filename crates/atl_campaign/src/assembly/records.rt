@@ -1,5 +1,5 @@
 //! Builds one faction, region or structure, and one name or pass text, from a row. Where memory
-//! runs out, the answer is AllocError.
+//! runs out, the answer is AllocError. `take_rows` takes all rows out of a list.
 ghost use Rattle.std.specs.Prelude.{◌≡◌, IfOk, [], true};
 ghost use Rattle.atl_world.specs.Names.{name_ok, pass_ok};
 ghost use Rattle.atl_campaign.specs.Assembling.{bare_region};

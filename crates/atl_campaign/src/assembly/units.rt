@@ -21,8 +21,6 @@ use atl_world::{Numbered, Sequence};
 use std::alloc::{AllocError, Global};
 use std::mem;
 
-/// The unit that a row of `unit` says, without items and days of study. Its name has to keep the
-/// name rule, and its numbers have to be in their ranges.
 fn bare_unit(alloc: Global, mut row: StoredUnit) -> Unit
     requires named { name_ok row.name ≡ true }
     requires range { unit_in_range row ≡ true }

@@ -11,8 +11,6 @@ use atl_records::{Structure, Unit};
 use std::alloc::AllocError;
 
 impl Campaign {
-    /// Adds a unit under a number that no unit has, and marks it, its row and all its goods.
-    /// Without memory for it nothing changes.
     fn add_unit(&mut self, number: u32, unit: Unit) -> Result<(), AllocError>
         requires { map.get self.old.value.units number ≡ None }
         ensures ok { OnOk result

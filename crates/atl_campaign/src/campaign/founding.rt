@@ -21,8 +21,6 @@ use atl_records::{Books, BooksEntry, ENTRY_COUNT, FIRST_ITEM, Region, Thing};
 use atl_world::{Marks, Numbered, RegionPlan, Text, World};
 use std::alloc::{AllocError, Global};
 
-/// The regions as they are founded, with nothing marked: for each region of the world its peasants
-/// and its money, and nothing in stock. AllocError without memory.
 fn make_regions(alloc: Global, plans: &Numbered<RegionPlan>) -> Result<Regions, AllocError>
     ensures { IfOk result (λ regions. regions
         ≡ unmarked_regions (map_values founded_region plans.now)) }
@@ -39,8 +37,6 @@ fn make_regions(alloc: Global, plans: &Numbered<RegionPlan>) -> Result<Regions, 
     Regions::unmarked_from(alloc, regions)
 }
 
-/// The books of `things` things, from 2 to 65,538, right after founding: the money and the people
-/// that the regions have, under the entry Founding. There may be at most MOST_REGIONS regions.
 fn founding_books(alloc: Global, things: usize, regions: &Regions) -> Result<Books, AllocError>
     requires few { length (map.entries regions.now.values) ≤ most_regions }
     requires some { 2 ≤ things }

@@ -24,7 +24,6 @@ use atl_records::{
 use atl_world::{MarkedMap, Numbered, Text, World};
 use std::alloc::{AllocError, Global};
 
-/// Whether one of the given factions, gone or not, joined under exactly this name.
 fn is_taken(factions: &MarkedMap<Faction>, name: &[u8]) -> bool
     ensures { result ≡ list_any (λ e. pointwise nat_eq e.1.joined_as name.now)
         (map.entries factions.now.values) }
@@ -37,8 +36,6 @@ fn is_taken(factions: &MarkedMap<Faction>, name: &[u8]) -> bool
     false
 }
 
-/// The number of the land region where a faction begins: of all land regions, counted from 0, the
-/// one at the word of the dice modulo their count.
 fn home(world: &World, word: u32) -> u32
     ensures { result ≡ home_of world.now word }
 {
@@ -46,8 +43,6 @@ fn home(world: &World, word: u32) -> u32
     land[word as usize % land.len()]
 }
 
-/// The first unit of a faction: one man with the given money, at most HOLDING_LIMIT, no goods, and
-/// the name `Unit` with the unit's number. The unit is in the given region, inside no structure.
 fn make_unit(
     alloc: Global,
     number: u32,
@@ -81,8 +76,6 @@ fn make_unit(
     })
 }
 
-/// A faction as it joins: not gone, and showing the name that it joins under. The name and the pass
-/// text have to be UTF-8.
 fn make_faction(alloc: Global, number: u32, name: &[u8], pass: &[u8]) -> Result<Faction, AllocError>
     requires name { IsUtf8 name.now }
     requires pass { IsUtf8 pass.now }
@@ -97,9 +90,6 @@ fn make_faction(alloc: Global, number: u32, name: &[u8], pass: &[u8]) -> Result<
     })
 }
 
-/// Books the money and the one man of a faction that joins, under the entry Joining. The books need
-/// money and people among their things, and what is booked of each so far has to be from -2^62 - 1
-/// to 2^62.
 fn book_joining(books: &mut Books, money: u32)
     requires things { 2 ≤ books.old.things }
     requires money { LeavesRoomForJoining (amount_in books.old Joining Money) }
@@ -112,15 +102,12 @@ fn book_joining(books: &mut Books, money: u32)
 }
 
 impl Campaign {
-    /// Whether a faction, gone or not, joined under exactly this name.
     fn is_name_taken(&self, name: &[u8]) -> bool
         ensures { result ≡ name_taken self.now.value name.now }
     {
         is_taken(&self.factions, name)
     }
 
-    /// Whether no faction can join: LAST_FACTION have joined, there are MOST_UNITS units, or the
-    /// next unit number is above LAST_UNIT.
     fn is_full(&self) -> bool
         ensures { result ≡ is_full self.now.value }
     {
@@ -163,9 +150,6 @@ impl Campaign {
         }
     }
 
-    /// Adds a faction with its unit under the next numbers, books what they bring, and returns both
-    /// numbers. The campaign has to be sound, the next unit number at most LAST_UNIT, and name and
-    /// pass text UTF-8. AllocError without memory, and then nothing changes.
     fn enroll(
         &mut self,
         world: &World,

@@ -40,7 +40,6 @@ impl Campaign {
         first_other(self.inside(structure), leaving)
     }
 
-    /// Whether there is such a structure, and this unit owns it; for 0, whether nobody owns it.
     fn is_owned_by(&self, structure: u32, unit: u32) -> bool
         ensures { result ≡ is_owned_by (map.get self.now.value.structures structure) unit }
     {
@@ -50,8 +49,6 @@ impl Campaign {
         }
     }
 
-    /// Hands a structure from owner `from` to `to`, and marks it; unless `from` owns it, nothing
-    /// changes.
     fn hand_over(&mut self, structure: u32, from: u32, to: u32)
         ensures { self.new ≡ handed_marked self.old structure from to }
     {
@@ -60,8 +57,6 @@ impl Campaign {
         }
     }
 
-    /// Puts a unit in a region and a structure, and marks its row; no owner changes. Where there is
-    /// no such unit, or no memory, nothing changes.
     fn put(&mut self, number: u32, region: u32, structure: u32) -> Result<(), AllocError>
         ensures ok { OnOk result (self.new ≡ put_marked self.old number region structure) }
         ensures err { OnErr result (self.new ≡ self.old) }
@@ -104,7 +99,6 @@ impl Campaign {
         Ok(())
     }
 
-    /// Removes a unit, if it is there, and marks it, its row and all its goods; no owner changes.
     fn take_unit(&mut self, number: u32)
         ensures { self.new ≡ taken_marked self.old number }
     {

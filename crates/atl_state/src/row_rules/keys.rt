@@ -16,7 +16,6 @@ use std::cmp::Ordering;
 trait Keyed {
     ghost key_of: { Self → Key };
 
-    /// The row's key as three numbers; those that its table's key doesn't have are 0.
     fn key(&self) -> (i64, i64, i64)
         ensures { result ≡ key_of self.now };
 }
@@ -93,7 +92,6 @@ impl Keyed for StoredMarket {
     }
 }
 
-/// The keys of rows, in the order of the rows.
 fn keys_of<R: Keyed>(alloc: Global, rows: &[R]) -> Result<Vec<(i64, i64, i64)>, AllocError>
     ensures { IfOk result (λ keys. keys.items ≡ map R.key_of rows.now) }
 {
@@ -104,7 +102,6 @@ fn keys_of<R: Keyed>(alloc: Global, rows: &[R]) -> Result<Vec<(i64, i64, i64)>, 
     Ok(keys)
 }
 
-/// Whether the values rise: each is above the one before it.
 fn are_sorted<K: Ord + Drop>(keys: &[K]) -> bool
     ensures { IsTrue result ↔ (IsStrictlySortedBy K.cmp keys.now) }
 {
@@ -117,7 +114,6 @@ fn are_sorted<K: Ord + Drop>(keys: &[K]) -> bool
     true
 }
 
-/// The values in their order, none above one after it.
 fn sorted<K: Ord + Copy + Drop>(alloc: Global, keys: &[K]) -> Result<Vec<K>, AllocError>
     ensures ordered { IfOk result (λ sorted. IsSorted K.cmp sorted.items) }
     ensures same { IfOk result (λ sorted. IsPermutation keys.now sorted.items) }
@@ -142,7 +138,6 @@ pub fn are_distinct<K: Ord + Copy + Drop>(alloc: Global, keys: &[K]) -> Result<b
     Ok(are_sorted(&sorted))
 }
 
-/// Whether no two of the rows of a table have the same key.
 fn have_distinct_keys<R: Keyed>(alloc: Global, rows: &[R]) -> Result<bool, AllocError>
     ensures { IfOk result (λ yes. IsTrue yes ↔ (HaveDistinctKeys R.key_of rows.now)) }
 {

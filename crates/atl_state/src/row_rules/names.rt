@@ -18,21 +18,18 @@ fn faction_named(row: &StoredFaction) -> bool
         && pass_ok(row.pass.as_slice())
 }
 
-/// Whether the names and the pass text of each row of `faction` keep their rules.
 fn factions_named(rows: &[StoredFaction]) -> bool
     ensures { result ≡ list_all faction_named rows.now }
 {
     rows.iter().all(|row| faction_named(row))
 }
 
-/// Whether the name in each row of `unit` keeps the rule of names.
 fn units_named(rows: &[StoredUnit]) -> bool
     ensures { result ≡ list_all (λ r. name_ok r.name) rows.now }
 {
     rows.iter().all(|row| name_ok(row.name.as_slice()))
 }
 
-/// Whether the name in each row of `structure` keeps the rule of names.
 fn structures_named(rows: &[StoredStructure]) -> bool
     ensures { result ≡ list_all (λ r. name_ok r.name) rows.now }
 {
@@ -49,7 +46,6 @@ fn are_named(parts: &Parts) -> bool
         && structures_named(parts.structures.as_slice())
 }
 
-/// The names that factions joined under, in the order of the rows.
 fn joined_names(alloc: Global, rows: &[StoredFaction]) -> Result<Vec<&[u8]>, AllocError>
     ensures { IfOk result (λ names. map (λ name. name.now) names.items
         ≡ map (λ r. r.joined_as) rows.now) }
@@ -61,7 +57,6 @@ fn joined_names(alloc: Global, rows: &[StoredFaction]) -> Result<Vec<&[u8]>, All
     Ok(names)
 }
 
-/// Whether no two factions joined under the same name.
 fn joined_names_differ(alloc: Global, rows: &[StoredFaction]) -> Result<bool, AllocError>
     ensures { IfOk result (λ yes. IsTrue yes ↔ (AreJoinedNamesDistinct rows.now)) }
 {

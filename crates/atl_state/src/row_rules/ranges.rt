@@ -20,8 +20,6 @@ use atl_world::World;
 use atl_world::limits::{MOST_AMOUNT, MOST_REGIONS};
 use std::alloc::{AllocError, Global};
 
-/// Whether the campaign row's month is 0 to LAST_MONTH, and each next number 1 to one above the
-/// last that may be given.
 fn campaign_row_in_range(head: &StoredCampaignRow) -> bool
     ensures { result ≡ campaign_row_in_range head.now }
 {
@@ -52,16 +50,12 @@ fn unit_in_range(row: &StoredUnit) -> bool
         && is_from(0, 1, row.guard)
 }
 
-/// Whether a row of `has` is of sort 1, or of sort 0 with an amount of 1 to HOLDING_LIMIT; days
-/// (sort 1) aren't checked here.
 fn has_in_range(row: &StoredHas) -> bool
     ensures { result ≡ has_in_range row.now }
 {
     is_from(1, 1, row.sort) || is_from(0, 0, row.sort) && is_from(1, HOLDING_LIMIT, row.amount)
 }
 
-/// Whether a structure's number is 1 to MOST_STRUCTURES, and how much of it is done 1 to its kind's
-/// size, or to MOST_SIZE where the world lacks the kind.
 fn structure_in_range(world: &World, row: &StoredStructure) -> bool
     ensures { result ≡ structure_in_range world.now row.now }
 {
@@ -75,7 +69,6 @@ fn books_in_range(bound: u128, row: &StoredBooks) -> bool
     is_set(row.amount) && is_within(bound, row.amount)
 }
 
-/// Whether a stock is from 1 to its market's limit, or to MOST_AMOUNT where there is no market.
 fn market_in_range(world: &World, row: &StoredMarket) -> bool
     ensures { result ≡ market_in_range world.now row.now }
 {
@@ -146,8 +139,6 @@ fn first_tables_in_range(parts: &Parts) -> bool
         && all_has_in_range(parts.has.as_slice())
 }
 
-/// How large an amount of the books may be, without its sign: MOST_IN_MONTH * (month + 1), plus
-/// MOST_IN_JOINING for each faction.
 fn books_bound(parts: &Parts) -> u128
     requires { length parts.now.campaign ≡ 1 }
     ensures { result ≡ books_bound parts.now }
@@ -156,8 +147,6 @@ fn books_bound(parts: &Parts) -> u128
     MOST_IN_MONTH * months + MOST_IN_JOINING * parts.factions.len() as u128
 }
 
-/// Whether the campaign row and all rows of the other tables, but for mail and reports, are in
-/// their ranges.
 fn numbers_in_range(world: &World, parts: &Parts) -> bool
     requires { length parts.now.campaign ≡ 1 }
     ensures { result ≡ numbers_in_range world.now parts.now }

@@ -7,7 +7,6 @@ ghost use Rattle.atl_records.specs.Limits.{most_days};
 use atl_campaign::Campaign;
 use atl_records::{Holding, MOST_DAYS};
 
-/// Whether each skill that a holding lists has at least 1 day, and at most MOST_DAYS for each man.
 fn has_days(holding: &Holding) -> bool
     ensures { IsTrue result ↔
         (Every (λ s days. (1 ≤ days) × (days ≤ most_days * holding.now.men)) holding.now.days) }

@@ -6,7 +6,6 @@ ghost use Rattle.atl_campaign.specs.Campaign.{numbers_of_faction};
 use atl_campaign::Campaign;
 use atl_records::Faction;
 
-/// Whether faction `number` is gone exactly if it has no unit.
 fn is_gone_iff_unitless(campaign: &Campaign, number: u32, faction: &Faction) -> bool
     ensures { IsTrue result ↔
         ((faction.now.gone ≡ true → numbers_of_faction number campaign.now.value.units ≡ [])

@@ -16,7 +16,6 @@ fn guard_of(campaign: &Campaign, number: u32) -> Option<u32>
     }
 }
 
-/// Whether the factions of two units that may guard don't conflict: they are equal, or one is None.
 fn agree(one: Option<u32>, other: Option<u32>) -> bool
     ensures { result ≡ agree one other }
 {
@@ -26,7 +25,6 @@ fn agree(one: Option<u32>, other: Option<u32>) -> bool
     }
 }
 
-/// Whether all units of a region that guard are of one faction; true if none guards.
 fn has_one_holder(campaign: &Campaign, region: u32) -> bool
     ensures { result ≡ one_holder (guard_of campaign.now.value) None
         (numbers_in_region region campaign.now.value.units) }

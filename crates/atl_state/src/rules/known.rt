@@ -28,14 +28,12 @@ fn is_unit(campaign: &Campaign, number: u32) -> bool
     campaign.unit(number).is_some()
 }
 
-/// Whether the world has a region of this number.
 fn is_of_world(world: &World, number: u32) -> bool
     ensures { IsTrue result ↔ (HasValue world.now.regions number) }
 {
     world.region(number).is_some()
 }
 
-/// Whether each region of the campaign is one of the world's.
 fn are_of_world(world: &World, campaign: &Campaign) -> bool
     ensures { IsTrue result ↔
         (Every (λ n r. HasValue world.now.regions n) campaign.now.value.regions) }
@@ -45,7 +43,6 @@ fn are_of_world(world: &World, campaign: &Campaign) -> bool
         .all(|(number, _)| is_of_world(world, number))
 }
 
-/// Whether the campaign has each region of the world.
 fn are_all_there(world: &World, campaign: &Campaign) -> bool
     ensures { IsTrue result ↔
         (Every (λ n p. HasValue campaign.now.value.regions n) world.now.regions) }
@@ -56,7 +53,6 @@ fn are_all_there(world: &World, campaign: &Campaign) -> bool
         .all(|(number, _)| is_region(campaign, number))
 }
 
-/// Whether the numbers of the campaign's regions are exactly those of the world's.
 fn are_regions_known(world: &World, campaign: &Campaign) -> bool
     ensures { IsTrue result ↔
         ((n : ℕ) → HasValue campaign.now.value.regions n ↔ HasValue world.now.regions n) }
@@ -64,7 +60,6 @@ fn are_regions_known(world: &World, campaign: &Campaign) -> bool
     are_of_world(world, campaign) && are_all_there(world, campaign)
 }
 
-/// Whether an item has a market in a region of the world.
 fn has_market(world: &World, region: u32, item: u32) -> bool
     ensures { IsTrue result ↔ (IsSome (market_of world.now region item)) }
 {
@@ -74,7 +69,6 @@ fn has_market(world: &World, region: u32, item: u32) -> bool
     }
 }
 
-/// Whether each item that region `number` has in stock has a market there in the world.
 fn has_known_markets(world: &World, number: u32, region: &Region) -> bool
     ensures { IsTrue result ↔ (AreOfMarkets world.now number region.now.stocks) }
 {
@@ -84,7 +78,6 @@ fn has_known_markets(world: &World, number: u32, region: &Region) -> bool
         .all(|(item, _)| has_market(world, number, item))
 }
 
-/// Whether each item in stock has a market in its region.
 fn have_known_markets(world: &World, campaign: &Campaign) -> bool
     ensures { IsTrue result ↔
         (Every (λ n r. AreOfMarkets world.now n r.stocks) campaign.now.value.regions) }
@@ -92,7 +85,6 @@ fn have_known_markets(world: &World, campaign: &Campaign) -> bool
     campaign.regions().all(|(number, region)| has_known_markets(world, number, region))
 }
 
-/// Whether the regions are exactly the world's, and each item in stock has a market there.
 fn are_stocks_known(world: &World, campaign: &Campaign) -> bool
     ensures { IsTrue result ↔
         (((n : ℕ) → HasValue campaign.now.value.regions n ↔ HasValue world.now.regions n)
@@ -101,15 +93,13 @@ fn are_stocks_known(world: &World, campaign: &Campaign) -> bool
     are_regions_known(world, campaign) && have_known_markets(world, campaign)
 }
 
-/// Whether the number of each entry is below `count`: items and skills are numbered from 0, so that
-/// all of them exist if the world has `count`.
+/// Items and skills are numbered from 0, so one exists if its number is below the world's `count`.
 fn are_below(mut entries: Entries<'_, u32>, count: usize) -> bool
     ensures { IsTrue result ↔ (EachEntry (λ n amount. n < count) entries.entry) }
 {
     entries.all(|(number, _)| (number as usize) < count)
 }
 
-/// Whether all items and skills that a holding lists exist in the world.
 fn holds_known(world: &World, holding: &Holding) -> bool
     ensures { IsTrue result ↔
         (Every (λ i amount. i < length world.now.items) holding.now.items
@@ -119,7 +109,6 @@ fn holds_known(world: &World, holding: &Holding) -> bool
         && are_below(holding.days(), world.skills().len())
 }
 
-/// Whether a unit is inside no structure (0), or inside one that exists in the unit's region.
 fn is_inside_here(campaign: &Campaign, unit: &Unit) -> bool
     ensures { IsTrue result ↔
         (unit.now.structure ≢ 0
@@ -144,8 +133,6 @@ fn has_known_faction_and_region(campaign: &Campaign, unit: &Unit) -> bool
     is_faction(campaign, unit.faction) && is_region(campaign, unit.region)
 }
 
-/// Whether a unit's items and skills exist, and its structure, unless 0 (none), exists in the
-/// unit's region.
 fn has_known_goods_and_structure(world: &World, campaign: &Campaign, unit: &Unit) -> bool
     ensures { IsTrue result ↔
         ((unit.now.structure ≢ 0
@@ -158,8 +145,6 @@ fn has_known_goods_and_structure(world: &World, campaign: &Campaign, unit: &Unit
     is_inside_here(campaign, unit) && holds_known(world, &unit.holding)
 }
 
-/// Whether all that a unit names by number exists: its faction, region, items and skills, and its
-/// structure, in the unit's region, unless that is 0 (none).
 fn is_placed(world: &World, campaign: &Campaign, unit: &Unit) -> bool
     ensures { IsTrue result ↔ (IsPlaced world.now campaign.now.value unit.now) }
 {
@@ -184,7 +169,6 @@ fn has_known_kind_and_region(world: &World, campaign: &Campaign, structure: &Str
     usize::from(structure.kind) < world.kinds().len() && is_region(campaign, structure.region)
 }
 
-/// Whether a structure's owner is 0 (nobody) or a unit that exists.
 fn is_owner_there(campaign: &Campaign, structure: &Structure) -> bool
     ensures { IsTrue result ↔
         (structure.now.owner ≢ 0 → HasValue campaign.now.value.units structure.now.owner) }
@@ -192,8 +176,6 @@ fn is_owner_there(campaign: &Campaign, structure: &Structure) -> bool
     structure.owner == 0 || is_unit(campaign, structure.owner)
 }
 
-/// Whether all that a structure names by number exists: its kind, its region, and its owner, unless
-/// that is 0 (nobody).
 fn has_known_kind_region_and_owner(
     world: &World,
     campaign: &Campaign,
@@ -213,7 +195,6 @@ fn are_structures_known(world: &World, campaign: &Campaign) -> bool
     ))
 }
 
-/// Whether each mail is of a faction that exists.
 fn are_mail_known(campaign: &Campaign) -> bool
     ensures { IsTrue result ↔
         (Every (λ n text. HasValue campaign.now.value.factions n) campaign.now.value.mail) }
@@ -223,7 +204,6 @@ fn are_mail_known(campaign: &Campaign) -> bool
         .all(|(number, _)| is_faction(campaign, number))
 }
 
-/// Whether each report is of a faction that exists.
 fn are_reports_known(campaign: &Campaign) -> bool
     ensures { IsTrue result ↔
         (Every (λ n text. HasValue campaign.now.value.factions n) campaign.now.value.reports) }

@@ -8,7 +8,6 @@ use atl_campaign::Campaign;
 use atl_orders::is_mailing_of;
 use atl_world::Sequence;
 
-/// Whether there is a faction of this number, and it isn't gone.
 fn is_active(campaign: &Campaign, number: u32) -> bool
     ensures { IsTrue result ↔ (IsActive campaign.now.value number) }
 {
@@ -18,7 +17,6 @@ fn is_active(campaign: &Campaign, number: u32) -> bool
     }
 }
 
-/// Whether a text is a mailing of faction `number`, and that faction is there and not gone.
 fn is_mailing_of_active(campaign: &Campaign, number: u32, text: &Sequence<u8>) -> bool
     ensures { IsTrue result ↔ (IsMailingOf number text.now × IsActive campaign.now.value number) }
 {

@@ -7,22 +7,19 @@ ghost use Rattle.atl_campaign.specs.Good.{AreNumbered, IsNumbered};
 use atl_campaign::Campaign;
 use atl_world::Entries;
 
-/// Whether the number of each entry is at least `least`, and below `next`.
 fn are_between<V>(mut entries: Entries<'_, V>, least: u32, next: u32) -> bool
     ensures { IsTrue result ↔ (EachEntry (λ n v. (least ≤ n) × (n < next)) entries.entry) }
 {
     entries.all(|(number, _)| least <= number && number < next)
 }
 
-/// Whether `next` is one above `count`.
 fn is_next_above(next: u32, count: usize) -> bool
     ensures { IsTrue result ↔ (next ≡ count + 1) }
 {
     1 <= next && (next - 1) as usize == count
 }
 
-/// Whether the factions' numbers are exactly those from 1 to one below the next faction number: all
-/// are among them, and there are as many.
+/// The numbers are distinct: if all are from 1 to below the next one, and as many, none is missing.
 fn are_factions_numbered(campaign: &Campaign) -> bool
     ensures { IsTrue result ↔
         (IsNumbered campaign.now.value.factions campaign.now.value.next_faction) }
@@ -31,8 +28,6 @@ fn are_factions_numbered(campaign: &Campaign) -> bool
     are_between(campaign.factions(), 1, next) && is_next_above(next, campaign.faction_count())
 }
 
-/// Whether the structures' numbers are exactly those from 1 to one below the next structure number:
-/// all are among them, and there are as many.
 fn are_structures_numbered(campaign: &Campaign) -> bool
     ensures { IsTrue result ↔
         (IsNumbered campaign.now.value.structures campaign.now.value.next_structure) }
@@ -41,7 +36,7 @@ fn are_structures_numbered(campaign: &Campaign) -> bool
     are_between(campaign.structures(), 1, next) && is_next_above(next, campaign.structure_count())
 }
 
-/// Whether the numbers of all units are below the next unit number; gaps are allowed.
+/// Gaps between the numbers are allowed.
 fn are_units_before(campaign: &Campaign) -> bool
     ensures { IsTrue result ↔
         ((n : ℕ) → campaign.now.value.next_unit ≤ n → map.get campaign.now.value.units n ≡ None) }

@@ -9,7 +9,6 @@ ghost use Rattle.atl_campaign.specs.Good.{AreOwned};
 use atl_campaign::Campaign;
 use atl_records::{Structure, Unit};
 
-/// Whether structure `number` has no owner (0), or is owned by a unit inside it.
 fn is_owner_inside(campaign: &Campaign, number: u32, structure: &Structure) -> bool
     ensures { IsTrue result ↔ (HasOwnerInside campaign.now.value number structure.now) }
 {
@@ -22,7 +21,6 @@ fn is_owner_inside(campaign: &Campaign, number: u32, structure: &Structure) -> b
     }
 }
 
-/// Whether each structure has no owner (0), or is owned by a unit inside it.
 fn are_owners_inside(campaign: &Campaign) -> bool
     ensures { IsTrue result ↔
         (Every (HasOwnerInside campaign.now.value) campaign.now.value.structures) }
@@ -30,7 +28,6 @@ fn are_owners_inside(campaign: &Campaign) -> bool
     campaign.structures().all(|(number, structure)| is_owner_inside(campaign, number, structure))
 }
 
-/// Whether the structure that a unit is inside, if there is one, has an owner.
 fn is_with_owner(campaign: &Campaign, unit: &Unit) -> bool
     ensures { IsTrue result ↔
         ((s : builds.Structure) → map.get campaign.now.value.structures unit.now.structure ≡ Some s
@@ -42,7 +39,6 @@ fn is_with_owner(campaign: &Campaign, unit: &Unit) -> bool
     }
 }
 
-/// Whether each structure with a unit inside has an owner.
 fn are_with_owners(campaign: &Campaign) -> bool
     ensures { IsTrue result ↔
         (Every (λ m u. (s : builds.Structure)

@@ -8,7 +8,6 @@ use atl_campaign::Campaign;
 use atl_records::{Structure, Unit};
 use atl_world::World;
 
-/// Whether a unit is inside a ship.
 fn is_aboard(world: &World, campaign: &Campaign, unit: &Unit) -> bool
     ensures { IsTrue result ↔ (IsAboard world.now campaign.now.value unit.now) }
 {
@@ -18,7 +17,6 @@ fn is_aboard(world: &World, campaign: &Campaign, unit: &Unit) -> bool
     }
 }
 
-/// Whether each unit in a region on water is inside a ship.
 fn are_units_afloat(world: &World, campaign: &Campaign) -> bool
     ensures { IsTrue result ↔
         (Every (λ n u. is_land_at world.now u.region ≡ false
@@ -28,7 +26,6 @@ fn are_units_afloat(world: &World, campaign: &Campaign) -> bool
         || is_aboard(world, campaign, unit))
 }
 
-/// Whether a structure is a ship, and all of it is done.
 fn is_complete_ship(world: &World, structure: &Structure) -> bool
     ensures { IsTrue result ↔
         ((is_ship world.now structure.now ≡ true)
@@ -37,7 +34,6 @@ fn is_complete_ship(world: &World, structure: &Structure) -> bool
     world.is_ship(structure.kind) && structure.done == world.size_of(structure.kind)
 }
 
-/// Whether each structure in a region on water is a complete ship.
 fn are_ships_afloat(world: &World, campaign: &Campaign) -> bool
     ensures { IsTrue result ↔
         (Every (λ n s. is_land_at world.now s.region ≡ false

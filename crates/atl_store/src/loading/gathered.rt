@@ -31,7 +31,6 @@ pub(crate) trait AllRows: Drop + Sized {
     // What was read, as SQL shows it.
     ghost rows: { Self → ReadRows };
 
-    /// Reads all rows of the tables; None if a value is of another type than its column.
     fn read_all<S: Alter>(
         alloc: Global,
         conn: &mut Connection<S>,
@@ -41,7 +40,7 @@ pub(crate) trait AllRows: Drop + Sized {
         ensures { ReadsSome S.Store conn.old selects
             (λ all. AreAllRows (state S.Store conn.old).now (rows all)) result conn.new };
 
-    /// Gives no rows of any of the tables, as for tables that a format doesn't have.
+    /// For tables that a format doesn't have.
     fn without_rows(alloc: Global) -> Self
         ensures { AreNone (rows result) };
 
@@ -49,8 +48,6 @@ pub(crate) trait AllRows: Drop + Sized {
     ghost of_parts: { (all : Self) → map (λ read. read.0) (rows all) ≡ parts };
 }
 
-/// Turns the result of reading one table into its rows, None if a value is of another type than its
-/// column, or the fault of loading.
 fn rows_or_none<T: Drop>(rows: Result<Vec<T>, ReadFault>) -> Result<Option<Vec<T>>, LoadFault>
     ensures { result ≡ rows_or_none rows }
 {
@@ -134,7 +131,6 @@ pub(crate) fn read_by<X: AllRows, Y: AllRows, S: Alter>(
     }
 }
 
-/// The rowids of rows, in the order of the rows.
 fn rowids_of<T>(alloc: Global, placed: &[RowWithId<T>]) -> Result<Vec<i64>, AllocError>
     ensures { IfOk result (λ rowids. rowids.items ≡ map (λ s. s.rowid) placed.now) }
 {
@@ -145,7 +141,7 @@ fn rowids_of<T>(alloc: Global, placed: &[RowWithId<T>]) -> Result<Vec<i64>, Allo
     Ok(rowids)
 }
 
-/// Whether no two of the rows have the same rowid; sound tables have only such rows.
+/// Sound tables have no two rows with the same rowid.
 fn have_distinct_rowids<T>(alloc: Global, placed: &[RowWithId<T>]) -> Result<bool, AllocError>
     ensures { IfOk result (λ yes. IsTrue yes ↔ (HaveDistinctRowids placed.now)) }
 {
@@ -153,7 +149,6 @@ fn have_distinct_rowids<T>(alloc: Global, placed: &[RowWithId<T>]) -> Result<boo
     are_distinct(alloc, &rowids)
 }
 
-/// The rows without their rowids, in their order.
 fn without_ids<T: Drop>(alloc: Global, placed: Vec<RowWithId<T>>) -> Result<Sequence<T>, AllocError>
     ensures { IfOk result (λ rows. rows ≡ map (λ s. s.row) placed.items) }
 {
@@ -164,7 +159,6 @@ fn without_ids<T: Drop>(alloc: Global, placed: Vec<RowWithId<T>>) -> Result<Sequ
     Ok(Sequence::from_vec(rows))
 }
 
-/// Ok if the rowids of a table are apart, no two alike, or else the fault Store.
 fn check_apart(are_apart: bool) -> Result<(), LoadFault>
     ensures { result ≡ (if are_apart then Ok tt else Err Store) }
 {

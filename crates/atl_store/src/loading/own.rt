@@ -21,8 +21,6 @@ use sqlite::types::ValueRef;
 use sqlite::{Alter, Connection, Row};
 use std::alloc::Global;
 
-/// The fault of loading for a fault of reading `campaign`: Refused becomes NotACampaign, OtherType
-/// becomes Damaged by the first rule, and Store and Memory stay.
 fn campaign_row_fault(fault: ReadFault) -> LoadFault
     ensures { result ≡ campaign_row_fault fault }
 {
@@ -34,7 +32,6 @@ fn campaign_row_fault(fault: ReadFault) -> LoadFault
     }
 }
 
-/// The row, if there is just one; None for no row or more.
 fn only_row(mut rows: Vec<StoredCampaign>) -> Option<StoredCampaign>
     ensures { result ≡ only_of rows.items }
 {
@@ -42,7 +39,6 @@ fn only_row(mut rows: Vec<StoredCampaign>) -> Option<StoredCampaign>
     if rows.is_empty() { last } else { None }
 }
 
-/// Whether a campaign row has the id 1 and the number of this format.
 fn has_id_and_format(head: &StoredCampaignRow, format: Format) -> bool
     ensures { IsTrue result ↔
         ((head.now.id ≡ pos 1) × (head.now.format ≡ pos (format_number format))) }
@@ -50,7 +46,7 @@ fn has_id_and_format(head: &StoredCampaignRow, format: Format) -> bool
     head.id == 1 && head.format == i64::from(format.number())
 }
 
-/// Reads a world text by the rules of the format: a world of the first has no markets.
+/// A world of the first format has no markets.
 fn world_by(alloc: Global, text: &str, format: Format) -> Result<World, WorldFault>
     ensures { Reads (λ w. w) result (world_of_text format text.now) }
 {
@@ -60,7 +56,6 @@ fn world_by(alloc: Global, text: &str, format: Format) -> Result<World, WorldFau
     }
 }
 
-/// Reads the world text of a campaign row; a text of no world breaks the first rule of the tables.
 fn world_from(alloc: Global, text: &str, format: Format) -> Result<World, LoadFault>
     ensures { ReadsWorld format text.now result }
 {
@@ -71,8 +66,6 @@ fn world_from(alloc: Global, text: &str, format: Format) -> Result<World, LoadFa
     }
 }
 
-/// The only row of `campaign`, with its world; Damaged by the first rule if there isn't just one
-/// row, with id 1, this format and the text of a world; or Memory.
 fn check_own_rows(
     alloc: Global,
     rows: Vec<StoredCampaign>,
@@ -90,8 +83,6 @@ fn check_own_rows(
     Ok((own, world))
 }
 
-/// Parses the rows that SQL shows of `campaign`, and judges them by the first rule of the tables. A
-/// value of another type breaks it.
 fn judge_rows(
     alloc: Global,
     rows: &[Row],
@@ -105,8 +96,6 @@ fn judge_rows(
     }
 }
 
-/// The other one of the two formats: if the only campaign row is of that format, the fault is
-/// OtherFormat, not Damaged.
 fn other_format(format: Format) -> Format
     ensures { result ≡ other_format format }
 {
@@ -116,7 +105,7 @@ fn other_format(format: Format) -> Format
     }
 }
 
-/// Whether the second column of a row of `campaign`, its format, is the number of this format.
+/// The format is column 1 of `campaign`, counted from 0.
 fn has_format(row: &Row, format: Format) -> bool
     ensures { IsTrue result ↔ (column row.now 1 ≡ int (format_number format)) }
 {
@@ -126,16 +115,12 @@ fn has_format(row: &Row, format: Format) -> bool
     }
 }
 
-/// Whether `rows` is just one row, and of the other format than this one, whatever else it says.
 fn are_of_other_format(rows: &[Row], format: Format) -> bool
     ensures { IsTrue result ↔ (AreOfOtherFormat format rows.now) }
 {
     rows.len() == 1 && has_format(&rows[0], other_format(format))
 }
 
-/// Gives the campaign row and its world, or OtherFormat if SQL shows just one row of `campaign`,
-/// and of the other format. Damaged by the first rule: other rows are shown, and they break the
-/// rule. Memory: memory runs out.
 fn judge_format(
     alloc: Global,
     rows: &[Row],
