@@ -20,6 +20,7 @@ pub(crate) trait AmountWriter: Copy {
     // The row of an amount of a thing that the owner has.
     ghost line: { Self → ℕ → ℕ → SqlRow };
 
+    /// Inserts the row of an amount of a thing, or changes the row with the same key.
     fn put<S: Alter>(
         self,
         tx: &mut Transaction<'_, S>,

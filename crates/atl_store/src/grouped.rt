@@ -48,13 +48,18 @@ pub(crate) trait Grouped: NumberedRow {
     ghost are_rows: { (own : SqlRow) (c : CampaignValue) (r : SqlRow) → wanted c r → rows_for own c
         part r };
 
+    /// The numbers of the units whose goods, or of the regions whose stocks, are all marked, in
+    /// rising order.
     fn marked_groups(campaign: &Campaign) -> MarkedNumbers<'_>
         ensures { IsAscendingListOf (marks campaign.now.marks) result };
 
+    /// Inserts the rows of this unit's goods, or of this region's stocks, or changes the rows with
+    /// the same keys.
     fn put_rows<S: Alter>(&self, tx: &mut Transaction<'_, S>, number: u32) -> Result<(), Error>
         ensures { WritesRows S.Store (table_of part) (suc more) (lines number self.now) result
             tx.old.conn tx.new.conn };
 
+    /// Deletes all rows of goods, or of stocks, whose key begins with the number.
     fn drop_rows<S: Alter>(tx: &mut Transaction<'_, S>, number: u32) -> Result<(), Error>
         ensures { TakesOut S.Store (table_of part) 1 (int number ∷ []) result tx.old.conn
             tx.new.conn };

@@ -54,16 +54,20 @@ pub(crate) trait NumberedRow: Sized {
     // A row of the part is marked exactly if its number is.
     ghost are_marked: { (m : Marks) (r : SqlRow) → is_marked m part r ≡ begins_marked (marks m) r };
 
+    /// The value with this number in a campaign, such as a faction; None if there is none.
     fn find_value(campaign: &Campaign, number: u32) -> Option<&Self>
         ensures { option_copied result ≡ get (values campaign.now.value) number };
 
+    /// The numbers of the values whose rows are marked in a campaign, in rising order.
     fn marked_numbers(campaign: &Campaign) -> MarkedNumbers<'_>
         ensures { IsAscendingListOf (marks campaign.now.marks) result };
 
+    /// Inserts the value's row under its number, or changes the row that has the number.
     fn put<S: Alter>(&self, tx: &mut Transaction<'_, S>, number: u32) -> Result<(), Error>
         ensures { WritesRow S.Store (table_of part) 1 (line number self.now) result tx.old.conn
             tx.new.conn };
 
+    /// Deletes the row with this number, if there is one.
     fn take_out<S: Alter>(tx: &mut Transaction<'_, S>, number: u32) -> Result<(), Error>
         ensures { TakesOut S.Store (table_of part) 1 (int number ∷ []) result tx.old.conn
             tx.new.conn };
@@ -71,6 +75,7 @@ pub(crate) trait NumberedRow: Sized {
 
 /// A type with numbered rows (`NumberedRow`) whose values a campaign holds in a map, by number.
 pub(crate) trait Mapped: NumberedRow {
+    /// All values of the type that a campaign has, in rising order of their numbers.
     fn all(campaign: &Campaign) -> Entries<'_, Self>
         ensures { result ≡ entries (Self.values campaign.now.value) };
 }

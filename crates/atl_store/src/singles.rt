@@ -30,9 +30,11 @@ pub(crate) trait SingleAmounts: Copy {
     // The single amounts that are marked, by the numbers of owner and thing.
     ghost marks: { Self → Marks → MarkedThings };
 
+    /// The single amounts that are marked, by the numbers of owner and thing, in rising order.
     fn marked_singles(self, campaign: &Campaign) -> Entries<'_, Numbered<()>>
         ensures { result ≡ entries (marks self campaign.now.marks) };
 
+    /// Puts the row of an amount of the campaign, or deletes the row if the amount is 0.
     fn rewrite_single<S: Alter>(
         self,
         tx: &mut Transaction<'_, S>,

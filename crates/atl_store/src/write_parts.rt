@@ -53,12 +53,15 @@ pub(crate) trait WrittenPart {
     // The parts that are written, in their order.
     ghost parts: { List Part };
 
+    /// Puts all rows of the type's parts into their tables, which have no row.
     fn fill<S: Alter>(tx: &mut Transaction<'_, S>, campaign: &Campaign) -> Result<(), Error>
         requires { campaign.now.value.books.things ≤ most_things }
         ensures { Writes S.Store (OfRow campaign.now.value)
             (DoesInside HasTables (InTurn (FillsPart campaign.now.value) parts)) result tx.old.conn
             tx.new.conn };
 
+    /// Puts the marked rows of the type's parts, and deletes the marked rows that the campaign
+    /// lacks.
     fn rewrite<S: Alter>(tx: &mut Transaction<'_, S>, campaign: &Campaign) -> Result<(), Error>
         requires { campaign.now.value.books.things ≤ most_things }
         ensures { Writes S.Store (OfChange campaign.now.value)

@@ -16,6 +16,7 @@ use std::cmp::Ordering;
 trait Keyed {
     ghost key_of: { Self → Key };
 
+    /// The row's key as three numbers; those that its table's key doesn't have are 0.
     fn key(&self) -> (i64, i64, i64)
         ensures { result ≡ key_of self.now };
 }

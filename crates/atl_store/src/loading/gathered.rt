@@ -31,6 +31,7 @@ pub(crate) trait AllRows: Drop + Sized {
     // What was read, as SQL shows it.
     ghost rows: { Self → ReadRows };
 
+    /// Reads all rows of the tables; None if a value is of another type than its column.
     fn read_all<S: Alter>(
         alloc: Global,
         conn: &mut Connection<S>,
@@ -40,7 +41,7 @@ pub(crate) trait AllRows: Drop + Sized {
         ensures { ReadsSome S.Store conn.old selects
             (λ all. AreAllRows (state S.Store conn.old).now (rows all)) result conn.new };
 
-    /// For tables that a format doesn't have.
+    /// Gives no rows of any of the tables, as for tables that a format doesn't have.
     fn without_rows(alloc: Global) -> Self
         ensures { AreNone (rows result) };
 
