@@ -49,8 +49,6 @@ fn can_learn(world: &World, skill: u16, holding: &Holding) -> bool
     0 < men && cost_of(world, skill, men) <= u64::from(holding.money())
 }
 
-/// Enters the unit of an order of STUDY in `learning` with the skill that it names, if the unit
-/// learns by it. AllocError without memory.
 fn add_learner(
     world: &World,
     campaign: &Campaign,

@@ -30,8 +30,6 @@ fn is_complete_ship(world: &World, structure: Option<&Structure>) -> bool
         if world.is_ship(ship.kind) && ship.done == world.size_of(ship.kind))
 }
 
-/// The crew that a structure's kind needs, and the load that it can take; both 0 where the
-/// structure or its kind isn't there.
 fn crew_and_capacity(world: &World, structure: Option<&Structure>) -> (u32, u32)
     ensures crew { result.0 ≡ crew_needed world.now (option_copied structure.entry) }
     ensures capacity { result.1 ≡ capacity world.now (option_copied structure.entry) }
@@ -57,8 +55,6 @@ fn crew_of(world: &World, holding: &Holding) -> u64
     u64::from(holding.men()) * u64::from(level_in_any(holding, world.rules().sailing))
 }
 
-/// What the men of all units inside a structure are worth as a crew, and the loads of these units,
-/// each added up.
 fn crew_and_load(world: &World, campaign: &Campaign, structure: u32) -> (u128, u128)
     ensures crew { result.0 ≡ sum_inside (crew_of world.now) campaign.now.value structure }
     ensures load { result.1 ≡ sum_inside (load_of world.now) campaign.now.value structure }
@@ -115,7 +111,6 @@ fn sail_fault(
     }
 }
 
-/// Puts a ship, and all units inside it, into another region; clears the units' guard flags.
 fn move_ship(alloc: Global, campaign: &mut Campaign, ship: u32, to: u32) -> Result<(), AllocError>
     ensures what { OnOk result (campaign.new.value ≡ after_sailing campaign.old.value ship to) }
     ensures marks { OnOk result (MarksChanges campaign.old campaign.new) }
@@ -128,8 +123,6 @@ fn move_ship(alloc: Global, campaign: &mut Campaign, ship: u32, to: u32) -> Resu
     Ok(())
 }
 
-/// Carries out an order of SAIL: the ship goes in the direction with all units inside; with a fault
-/// nothing changes. AllocError without memory; the campaign may then be changed in part.
 #[tactic(auto, unfolding(crate::specs::Sail::sail))]
 fn sail(
     alloc: Global,
@@ -175,7 +168,6 @@ impl OrderPhase for SailPhase {
 
     ghost unaffected = { IsAtMostMoved };
 
-    /// Carries out SAIL in a direction.
     fn carry_out(
         &self,
         alloc: Global,
@@ -192,8 +184,6 @@ impl OrderPhase for SailPhase {
         }
     }
 
-    /// The law that an order of SAIL keeps the campaign steady, books nothing, and at most takes
-    /// units along with their structure (`IsOrderly`). Does nothing.
     fn is_orderly(&self) {}
 }
 

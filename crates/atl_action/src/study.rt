@@ -70,7 +70,6 @@ fn study_fault(holding: &Holding, cost: u64) -> Option<EventFault>
     }
 }
 
-/// Takes the cost from a unit's money and sets its days of a skill, if the unit is there.
 fn pay_and_set_days(
     campaign: &mut Campaign,
     unit: u32,
@@ -91,8 +90,6 @@ fn pay_and_set_days(
     campaign.set_days(unit, u32::from(skill), days)
 }
 
-/// Takes the cost of study from a unit's money, books it as study, and sets the unit's days of the
-/// skill. AllocError without memory; the campaign may then be changed in part.
 fn put_study(
     world: &World,
     campaign: &mut Campaign,
@@ -115,9 +112,6 @@ fn put_study(
     Ok(())
 }
 
-/// Carries out an order of STUDY for a unit of which `taught` men were taught: it pays the fee and
-/// gains days; with a fault nothing changes. AllocError without memory; the campaign may then be
-/// changed in part.
 #[tactic(auto, unfolding(crate::specs::Study::study))]
 fn study(
     world: &World,
@@ -170,7 +164,6 @@ impl OrderPhase for StudyPhase {
 
     ghost unaffected = { IsUnchanged };
 
-    /// Carries out STUDY of a skill.
     fn carry_out(
         &self,
         _: Global,
@@ -188,7 +181,5 @@ impl OrderPhase for StudyPhase {
         }
     }
 
-    /// The law that an order of STUDY keeps the campaign steady, books the fee alone, and leaves
-    /// each unit but its own unchanged (`IsOrderly`). Does nothing.
     fn is_orderly(&self) {}
 }

@@ -86,8 +86,6 @@ fn pupils_of(
     Ok(list)
 }
 
-/// Those of `pupils` whose level in the skill that they learn is lower than the teacher's, in their
-/// order.
 fn pupils_below(
     alloc: Global,
     campaign: &Campaign,
@@ -107,8 +105,7 @@ fn pupils_below(
     Ok(list)
 }
 
-/// The listed numbers without repetitions, each where it is first listed. Takes n log n steps for n
-/// numbers.
+/// It takes n log n steps for n numbers.
 fn first_mentions(alloc: Global, numbers: &[u32]) -> Result<Vec<u32>, AllocError>
     ensures { IfOk result (λ list. list.items ≡ first_mentions numbers.now) }
 {
@@ -147,8 +144,6 @@ fn untaught_men(campaign: &Campaign, taught: &Numbered<u32>, unit: u32) -> u32
     men_at(campaign, unit).saturating_sub(taught_at(taught, unit))
 }
 
-/// Teaches men of the given units, in the units' order, at most `places` men and none twice; each
-/// unit is listed once. Enters the men in `taught`, and returns how many they are.
 fn teach_men(
     campaign: &Campaign,
     taught: &mut Numbered<u32>,
@@ -170,8 +165,6 @@ fn teach_men(
     Ok(places - left)
 }
 
-/// Teaches men of the given units, each unit where it is first listed, at most `places` men and
-/// none twice. Returns the outcome: how many men were taught.
 fn give_lesson(
     alloc: Global,
     campaign: &Campaign,
@@ -188,8 +181,6 @@ fn give_lesson(
     Ok(Outcome::Done(u64::from(men)))
 }
 
-/// Why the unit of an order can't teach: NotYours, NoMen, NotLearning or CannotTeach; None where it
-/// can. Of its `pupils` those in `below` have a lower level than the unit.
 fn teach_fault(
     campaign: &Campaign,
     order: PhaseOrder<'_>,
@@ -211,8 +202,6 @@ fn teach_fault(
     }
 }
 
-/// Carries out an order of TEACH: enters in `taught` how many men of which units it teaches, or
-/// changes nothing where it has a fault. Returns the outcome.
 #[tactic(auto, unfolding(crate::specs::Teach::teach))]
 fn teach(
     alloc: Global,

@@ -55,9 +55,6 @@ pub(crate) fn put_unit(
     Ok(())
 }
 
-/// Carries out an order of MOVE: the unit goes to the region in the direction, out of any
-/// structure; with a fault nothing changes. AllocError without memory; the campaign may then be
-/// changed in part.
 #[tactic(auto, unfolding(crate::specs::Walk::walk))]
 fn walk(
     world: &World,
@@ -96,7 +93,6 @@ impl OrderPhase for MovePhase {
 
     ghost holds = { IsSteady };
 
-    /// Carries out MOVE in a direction.
     fn carry_out(
         &self,
         _: Global,

@@ -62,8 +62,6 @@ fn new_unit(
     })
 }
 
-/// Adds a new unit of a faction to the campaign, in the region and the structure of its parent, the
-/// unit that forms it. Returns the new unit's number, which must be free and at most `LAST_UNIT`.
 fn add_formed_unit(
     alloc: Global,
     campaign: &mut Campaign,
@@ -118,8 +116,6 @@ fn forming_of(order: PhaseOrder<'_>) -> Forming
     }
 }
 
-/// Copies of all orders of FORM of a month, by faction and then by line. The orders are such as can
-/// be read with some world.
 fn formings(alloc: Global, month: &Month) -> Result<Vec<Forming>, AllocError>
     requires { (w : WorldValue) × AreFit w month.now.readings }
     ensures { IfOk result (λ list. list.items
@@ -133,8 +129,6 @@ fn formings(alloc: Global, month: &Month) -> Result<Vec<Forming>, AllocError>
     Ok(list)
 }
 
-/// Carries out an order of FORM: adds the new unit, and notes it under its alias, or changes
-/// nothing where the order has a fault. Returns the outcome. The next unit number must be free.
 fn form(
     alloc: Global,
     campaign: &mut Campaign,
@@ -160,8 +154,6 @@ fn form(
     }
 }
 
-/// Carries out an order of FORM (`form`), and adds its event to the month. The next unit number
-/// must be free.
 fn form_one(
     alloc: Global,
     campaign: &mut Campaign,

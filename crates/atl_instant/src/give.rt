@@ -63,8 +63,6 @@ fn give_fault(
     (!itself && total > u64::from(HOLDING_LIMIT)).then_some(EventFault::NoRoom)
 }
 
-/// Sets how much money, or pieces of the item that is given, a unit holds, at most 999,999,999;
-/// nothing changes where the unit isn't there.
 fn set_held(campaign: &mut Campaign, number: u32, gift: Gift, amount: u32) -> Result<(), AllocError>
     requires { amount ≤ holding_limit }
     ensures { OnOk result (ChangesHolding campaign.old campaign.new number
@@ -79,8 +77,6 @@ fn set_held(campaign: &mut Campaign, number: u32, gift: Gift, amount: u32) -> Re
     }
 }
 
-/// Moves this amount of money or of an item from one unit to another, if both are there. The giver
-/// must hold the amount, and the receiver have room for it.
 fn hand_over(
     campaign: &mut Campaign,
     from: u32,
@@ -150,7 +146,6 @@ impl OrderPhase for GivePhase {
 
     ghost holds = { IsEarly };
 
-    /// Returns the outcome of an order of GIVE or PAY.
     fn carry_out(
         &self,
         _: Global,

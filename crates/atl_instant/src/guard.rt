@@ -38,8 +38,6 @@ fn guard_fault(holders: &RegionGuards, unit: &Unit) -> Option<EventFault>
     None
 }
 
-/// Carries out GUARD 1: sets the guard flag of the unit, or changes nothing where a fault applies.
-/// The map of guards must be that of the campaign.
 #[tactic(auto, unfolding(crate::specs::Guard::guard))]
 fn guard(
     campaign: &mut Campaign,
@@ -65,8 +63,6 @@ fn guard(
     Ok(Outcome::Done(0))
 }
 
-/// Carries out an order of GUARD 1, and returns its outcome, or None for GUARD 0, which is passed
-/// over. The order must have a flag, and the map of guards must be that of the campaign.
 fn carry_out(
     campaign: &mut Campaign,
     holders: &mut RegionGuards,
@@ -88,8 +84,6 @@ fn carry_out(
     }
 }
 
-/// Carries out an order of GUARD (`carry_out`), and adds its event, if it has one, to the events of
-/// earlier orders. The order must have a flag, and the map of guards must be that of the campaign.
 fn guard_one(
     campaign: &mut Campaign,
     holders: &mut RegionGuards,

@@ -21,8 +21,6 @@ use std::alloc::{AllocError, Global};
 #[derive(Drop, Clone, Copy)]
 pub struct NamePhase;
 
-/// The name that an order gives, copied from its mailing's text. The name must keep the rule of
-/// names.
 fn name_of(alloc: Global, mailing: &Mailing, span: Span) -> Result<Text, AllocError>
     requires { IsTrue (name_ok (name_in mailing.now.text span)) }
     ensures { IfOk result (λ name. name ≡ name_in mailing.now.text span) }
@@ -32,8 +30,6 @@ fn name_of(alloc: Global, mailing: &Mailing, span: Span) -> Result<Text, AllocEr
     Ok(Text::from_string(letters))
 }
 
-/// Whether a structure is of the sort asked for: a ship where `ship` is true, and a building
-/// otherwise.
 fn is_of_kind(world: &World, ship: bool, structure: &Structure) -> bool
     ensures { result ≡ is_structure_of_kind world.now ship structure.now }
 {
@@ -41,9 +37,6 @@ fn is_of_kind(world: &World, ship: bool, structure: &Structure) -> bool
     kind.is_some_and(|kind| kind.ship) == ship
 }
 
-/// Why a unit can't name the ship (where `ship` is true) or the building that it is inside; None
-/// where it can. It is NotInside where the structure `inside` isn't there or is of the other sort,
-/// and NotOwner where the unit doesn't own it.
 fn structure_fault(
     world: &World,
     campaign: &Campaign,
@@ -62,9 +55,6 @@ fn structure_fault(
     }
 }
 
-/// Gives a name to the structure `inside`, which the unit is inside (0: none): a ship where `ship`
-/// is true, and a building otherwise. Returns Done, or a fault (`structure_fault`) and changes
-/// nothing.
 fn name_structure(
     world: &World,
     campaign: &mut Campaign,
@@ -86,8 +76,6 @@ fn name_structure(
     }
 }
 
-/// Carries out GUARD 0: clears the guard flag of the order's unit, if that is the faction's own, or
-/// changes nothing, with NotYours.
 fn leave_guard(campaign: &mut Campaign, order: PhaseOrder<'_>) -> Outcome
     ensures what { (campaign.new.value, result)
         ≡ faction_effect (leave_guard order.entry.unit) campaign.old.value order.entry.faction
@@ -101,8 +89,6 @@ fn leave_guard(campaign: &mut Campaign, order: PhaseOrder<'_>) -> Outcome
     Outcome::Done(0)
 }
 
-/// Names a unit, its faction or the structure that it is inside, by the kind of NAME. Returns the
-/// outcome: Done, or for a structure NotInside or NotOwner, and then nothing changes.
 fn name(
     world: &World,
     campaign: &mut Campaign,
@@ -125,8 +111,6 @@ fn name(
     Outcome::Done(0)
 }
 
-/// Carries out NAME: the order's unit gives the name, if it is the faction's own, or nothing
-/// changes, with NotYours. The name must keep the rule of names.
 fn give_name(
     alloc: Global,
     world: &World,
@@ -169,7 +153,6 @@ impl OrderPhase for NamePhase {
 
     ghost affects = { name_affects };
 
-    /// Returns the outcome of an order of NAME or GUARD 0, or None for GUARD 1.
     fn carry_out(
         &self,
         alloc: Global,

@@ -23,7 +23,6 @@ use std::alloc::{AllocError, Global};
 #[derive(Drop, Clone, Copy)]
 pub struct PlacePhase;
 
-/// Whether a structure is there, and is in a given region.
 fn is_in(campaign: &Campaign, structure: u32, region: u32) -> bool
     ensures { result ≡ is_structure_in region (map.get campaign.now.value.structures structure) }
 {
@@ -139,7 +138,6 @@ impl OrderPhase for PlacePhase {
 
     ghost holds = { IsEarly };
 
-    /// Returns the outcome of LEAVE, ENTER or PROMOTE.
     fn carry_out(
         &self,
         _alloc: Global,

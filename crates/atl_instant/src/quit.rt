@@ -38,8 +38,6 @@ fn loss_entry(thing: Thing) -> BooksEntry
     }
 }
 
-/// Books an amount of a thing as gone: men as left, money and items as lost. The books must have
-/// the thing and room for the amount.
 fn book_loss(campaign: &mut Campaign, thing: Thing, amount: u32)
     requires there { thing_index thing < campaign.old.value.books.things }
     requires room { HasRoom amount (amount_in campaign.old.value.books (loss_entry thing) thing) }
@@ -49,8 +47,6 @@ fn book_loss(campaign: &mut Campaign, thing: Thing, amount: u32)
     book_taken(campaign, loss_entry(thing), thing, amount);
 }
 
-/// Books the amount of each item of a list as lost. The world must have the items, and the books
-/// must have room for all amounts together.
 fn book_items(world: &World, campaign: &mut Campaign, items: &[(u16, u32)])
     requires things { campaign.old.value.books.things ≡ thing_count world.now }
     requires known { EachEntry (λ i amount. i < length world.now.items) items.now }
@@ -63,8 +59,6 @@ fn book_items(world: &World, campaign: &mut Campaign, items: &[(u16, u32)])
     }
 }
 
-/// Books all that a unit has as gone: its men as left, its money and its items as lost. The world
-/// must have the items, and the books must have room for all of this.
 fn book_off(world: &World, campaign: &mut Campaign, men: u32, money: u32, items: &[(u16, u32)])
     requires things { campaign.old.value.books.things ≡ thing_count world.now }
     requires known { EachEntry (λ i amount. i < length world.now.items) items.now }
@@ -81,9 +75,6 @@ fn book_off(world: &World, campaign: &mut Campaign, men: u32, money: u32, items:
     book_items(world, campaign, items);
 }
 
-/// Removes a unit, and books all that it has as gone; a structure that it owned gets its next
-/// owner. Nothing changes where it isn't there. The campaign must be steady, and its books must
-/// have room for what all units have.
 #[tactic(auto, unfolding(crate::specs::Quit::after_leaving))]
 fn leave(
     alloc: Global,
@@ -107,9 +98,6 @@ fn leave(
     Ok(())
 }
 
-/// Removes the units of a list, in its order, and books all that they have as gone; a unit that
-/// isn't there is passed over. The campaign must be steady, and its books have room for what all
-/// units have.
 fn leave_all(
     alloc: Global,
     world: &World,
@@ -128,9 +116,6 @@ fn leave_all(
     Ok(())
 }
 
-/// Carries out QUIT: all units of the faction leave, or nothing changes where a fault applies:
-/// NotYours, or WrongNumber where the order has not the number of the unit's faction. The campaign
-/// must be steady, and its books must have room for what all units have.
 #[tactic(auto, unfolding(crate::specs::Quit::quit))]
 fn quit(
     alloc: Global,
@@ -177,7 +162,6 @@ impl OrderPhase for QuitPhase {
 
     ghost affects = { quit_affects };
 
-    /// Returns the outcome of an order of QUIT.
     fn carry_out(
         &self,
         alloc: Global,
@@ -192,9 +176,6 @@ impl OrderPhase for QuitPhase {
         }
     }
 
-    /// The law that an order of QUIT keeps the campaign steady, books no more than what the leaving
-    /// units had, and leaves units of factions that don't quit no worse off (`IsOrderly`). Does
-    /// nothing.
     fn is_orderly(&self) {}
 }
 

@@ -45,7 +45,6 @@ impl RegionGuards {
         Ok(holders)
     }
 
-    /// Enters the faction of a unit in the map under its region, if the unit guards.
     fn note(&mut self, unit: &Unit) -> Result<(), AllocError>
         ensures { OnOk result (self.new ≡ with_guard_of self.old unit.now) }
     {

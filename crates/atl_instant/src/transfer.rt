@@ -26,8 +26,6 @@ use std::alloc::{AllocError, Global};
 #[derive(Drop, Clone, Copy)]
 pub struct TransferPhase;
 
-/// The part of the `days` of a unit's `men` men in a skill that goes with `going` of them, rounded
-/// down. There must be at least one man, and at least `going` men.
 fn days_going(going: u32, men: u32, days: u32) -> u32
     requires some { 1 ≤ men }
     requires fewer { going ≤ men }
@@ -37,7 +35,6 @@ fn days_going(going: u32, men: u32, days: u32) -> u32
     (u64::from(days) * u64::from(going) / u64::from(men)) as u32
 }
 
-/// Each skill of a unit, with the days that stay with it as `going` of its men go.
 fn days_left(alloc: Global, going: u32, holding: &Holding) -> Result<Vec<(u32, u32)>, AllocError>
     requires fewer { going ≤ holding.now.men }
     requires days { Every (λ s days. (1 ≤ days) × (days ≤ most_days * holding.now.men))
@@ -52,7 +49,6 @@ fn days_left(alloc: Global, going: u32, holding: &Holding) -> Result<Vec<(u32, u
     Ok(list)
 }
 
-/// Each of the sender's skills, with the days that the receiver has of it once `going` men came.
 fn days_raised(
     alloc: Global,
     going: u32,
@@ -77,8 +73,6 @@ fn days_raised(
     Ok(list)
 }
 
-/// Moves `going` men with their days from one unit to another, if both are there. The sender must
-/// have these men, and the receiver room for them.
 fn send(
     alloc: Global,
     campaign: &mut Campaign,
@@ -174,7 +168,6 @@ impl OrderPhase for TransferPhase {
 
     ghost holds = { IsEarly };
 
-    /// Returns the outcome of an order of TRANSFER.
     fn carry_out(
         &self,
         alloc: Global,

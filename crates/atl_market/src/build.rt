@@ -32,15 +32,12 @@ use std::alloc::{AllocError, Global};
 #[derive(Drop, Clone, Copy)]
 pub struct BuildPhase;
 
-/// The kind of the world under a number; None where the world has no such kind.
 fn kind_of(world: &World, number: u16) -> Option<&Kind>
     ensures { option_copied result ≡ slice_get world.now.kinds number }
 {
     world.kinds().get(usize::from(number))
 }
 
-/// How much a unit adds to a structure: the least of its men times level, the material that it
-/// holds, and what is missing to the kind's size. So far `done` of the structure is done.
 fn size_added(kind: &Kind, holding: &Holding, done: u32) -> u32
     ensures { result ≡ size_added kind.now holding.now done }
 {
@@ -49,8 +46,7 @@ fn size_added(kind: &Kind, holding: &Holding, done: u32) -> u32
     work.min(material).min(kind.size.saturating_sub(done))
 }
 
-/// Whether no further structure may be begun. The structures are numbered from 1 without a gap, so
-/// the next number says how many there are.
+/// The structures are numbered from 1 without a gap, so the next number says how many there are.
 fn is_structure_limit(campaign: &Campaign) -> bool
     requires { IsNumbered campaign.now.value.structures campaign.now.value.next_structure }
     ensures { result ≡ is_structure_limit campaign.now.value }
@@ -103,7 +99,6 @@ fn inside_fault(unit: &Unit, structure: &Structure, kind: &Kind) -> Option<Event
     }
 }
 
-/// The name that a new structure gets, by its kind and number: `Ship 7` or `Building 7`.
 fn name_of(alloc: Global, kind: &Kind, number: u32) -> Result<Text, AllocError>
     requires { number ≤ last_unit }
     ensures { IfOk result (λ name. name ≡ name_prefix kind.now ++ decimal number) }
@@ -116,9 +111,6 @@ fn name_of(alloc: Global, kind: &Kind, number: u32) -> Result<Text, AllocError>
     Ok(Text::from_string(letters))
 }
 
-/// Begins a structure of the kind `kind`, which has the number `number`, in the unit's `region`.
-/// The unit uses `size` of the kind's material, leaves its old structure and enters the new one.
-/// AllocError without memory; the campaign may then be changed in part.
 fn start_structure(
     alloc: Global,
     world: &World,
@@ -150,9 +142,6 @@ fn start_structure(
     Ok(())
 }
 
-/// Carries out `BUILD kind` for the order's unit: it begins a structure of the kind `kind`, which
-/// has the number `number`. With a fault nothing changes, and the outcome is the fault. AllocError
-/// without memory; the campaign may then be changed in part.
 #[tactic(auto, unfolding(crate::specs::Build::begin))]
 fn begin(
     alloc: Global,
@@ -185,8 +174,6 @@ fn begin(
     Ok(Outcome::Done(u64::from(size)))
 }
 
-/// Carries out BUILD without a kind: the order's unit continues the structure that it is inside.
-/// With a fault nothing changes, and the outcome is the fault. AllocError without memory.
 #[tactic(auto, unfolding(crate::specs::Build::go_on))]
 fn go_on(
     world: &World,
@@ -239,7 +226,6 @@ impl OrderPhase for BuildPhase {
 
     ghost book_bound = { build_moves };
 
-    /// Carries out `BUILD kind` or BUILD.
     fn carry_out(
         &self,
         alloc: Global,

@@ -36,8 +36,6 @@ fn is_raw_missing(holding: &Holding, count: u32, raw: Option<u16>) -> bool
     }
 }
 
-/// How many pieces of an item a unit's raw items allow, at `count` for each piece, but at most
-/// `most`; `most` where no raw item goes in.
 fn up_to_raw(holding: &Holding, count: u32, raw: Option<u16>, most: u32) -> u32
     requires { 1 ≤ count }
     ensures value { result ≡ up_to_raw holding.now count raw most }
@@ -92,8 +90,6 @@ pub(crate) fn most_makeable(world: &World, holding: &Holding, asked: Option<u16>
     }
 }
 
-/// Takes from unit `number` the raw items for `made` pieces of an item, if raw items go into it,
-/// and books them as used.
 fn use_raw(
     world: &World,
     campaign: &mut Campaign,

@@ -21,8 +21,6 @@ struct Outputs<'a> {
     asked: &'a Numbered<u16>,
 }
 
-/// Whether a raw item goes into the item that an order names; true where that is no item of the
-/// world.
 fn takes_raw(world: &World, asked: Option<u16>) -> bool
     ensures { result ≡ takes_raw world.now asked }
 {

@@ -132,8 +132,6 @@ fn unit_for<'c, P: PotPhase>(
     }
 }
 
-/// Puts into `wants` what the order's unit wants, and into `items` the item that the order names,
-/// both under the unit's number. An order with a fault puts nothing in.
 #[tactic(auto, using(crate::proofs::WantLaws::one_want))]
 fn note_order<P: PotPhase>(
     phase: &P,
@@ -163,8 +161,6 @@ fn note_order<P: PotPhase>(
     Ok(())
 }
 
-/// What each unit wants by its order in `orders`, and the item that the order names, each by unit.
-/// An order with a fault wants nothing and names no item.
 #[tactic(auto, using(crate::proofs::WantLaws::optional_entry_first))]
 fn wants_and_items<P: PotPhase>(
     alloc: Global,
@@ -208,7 +204,6 @@ fn event_of<P: PotPhase>(
     order.event(outcome)
 }
 
-/// One event for each order, in the order of `orders`; `given` has by unit how much each gets.
 fn events_of<P: PotPhase>(
     alloc: Global,
     phase: &P,
@@ -228,8 +223,6 @@ fn events_of<P: PotPhase>(
     Ok(events)
 }
 
-/// Gives each unit its share of its pot, in the order of the units' numbers. `items` has the item
-/// that its order names, and `given` its share, both by unit.
 fn pay_all<P: PotPhase>(
     phase: &P,
     world: &World,

@@ -60,8 +60,6 @@ impl<'a> AskedPots for UnitRegions<'a> {
 /// The wants of units: for each pot a map from each unit that asks for it to its want.
 pub(crate) type WantGroups = Numbered<Numbered<u32>>;
 
-/// Puts a unit's want into the group of the pot that the unit asks for. Where it asks for none
-/// nothing changes.
 fn note_want<A: AskedPots>(
     alloc: Global,
     asked: &A,
@@ -102,8 +100,6 @@ fn amounts_of(alloc: Global, wants: &Numbered<u32>) -> Result<Vec<u64>, AllocErr
     Ok(amounts)
 }
 
-/// Puts for each unit that has a want its share, which is at the want's place in `shares`, into the
-/// map `given`, by unit.
 fn put_shares(
     wants: &Numbered<u32>,
     shares: &[u64],
@@ -121,8 +117,6 @@ fn put_shares(
     Ok(())
 }
 
-/// Shares one pot of at most 999,999,999 among all units that have a want, by their wants, and puts
-/// the shares into the map `given`, by unit.
 #[tactic(auto, using(crate::proofs::PotLaws::amounts_are_low))]
 fn share_pot(
     alloc: Global,
@@ -139,8 +133,6 @@ fn share_pot(
     put_shares(wants, &shares, given)
 }
 
-/// Shares one region's pot among its units that have a want in `wants`, and puts the shares into
-/// the map `given`, by unit. Without the region it does nothing.
 fn share_region<P: Pots>(
     alloc: Global,
     campaign: &Campaign,

@@ -51,7 +51,6 @@ pub(crate) struct TradeResult {
 }
 
 impl Trade {
-    /// The entry of the books for the money of a trade: Sold or Bought.
     fn entry(self) -> BooksEntry
         ensures { result ≡ trade_entry self }
     {
@@ -136,9 +135,6 @@ fn trade_result_of(
     }
 }
 
-/// Sets the money of unit `number`, its amount of an item and its region's stock of the item to
-/// what a trade leaves of them (`deal`). Books the money under `entry`. AllocError without memory;
-/// the campaign may then be changed in part.
 fn book_trade(
     campaign: &mut Campaign,
     number: u32,

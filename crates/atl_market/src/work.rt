@@ -34,8 +34,6 @@ use std::alloc::{AllocError, Global};
 #[derive(Drop, Clone, Copy)]
 pub struct WorkPhase;
 
-/// Adds the unit of an order to the set `writers`, which has room for it, if the unit is of the
-/// `faction` that wrote the order.
 fn add_writer(campaign: &Campaign, unit: u32, faction: u32, writers: &mut Marks)
     requires { set.len writers.old.numbers < writers.old.room }
     ensures { writers.new ≡ record writers.old
@@ -46,7 +44,6 @@ fn add_writer(campaign: &Campaign, unit: u32, faction: u32, writers: &mut Marks)
     }
 }
 
-/// The units for which their own faction wrote one of the orders.
 fn own_writers(
     alloc: Global,
     campaign: &Campaign,
@@ -77,9 +74,7 @@ fn written_work<'m>(
     Ok(list)
 }
 
-/// Appends an order of WORK, on line 0, for each unit with men for which its own faction wrote none
-/// of `orders`, the month-long ones. Each appended order refers to the mailing `mailing` and the
-/// order `work`.
+/// Each appended order refers to the mailing `mailing` and the order `work`.
 fn add_idle_orders<'m>(
     alloc: Global,
     campaign: &Campaign,
@@ -109,7 +104,6 @@ fn add_idle_orders<'m>(
     Ok(())
 }
 
-/// Sorts orders by unit, line and faction, and last by their index in the mailing (`index`).
 fn sort_by_unit(list: &mut Vec<PhaseOrder<'_>>)
     ensures moved { IsPermutation list.old.items list.new.items }
     ensures sorted { IsSortedByKey (λ o. key_of ByUnit (task_of o)) (slice_cmp nat_cmp)
@@ -129,9 +123,6 @@ fn sort_by_unit(list: &mut Vec<PhaseOrder<'_>>)
     );
 }
 
-/// The orders of the phase WORK: those of the mailings, and an added one for each unit with men
-/// without a month-long order, sorted by unit, line and faction. Each added order refers to the
-/// mailing `mailing` and the order `work`.
 fn work_orders<'m>(
     alloc: Global,
     campaign: &Campaign,

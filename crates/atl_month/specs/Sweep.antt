@@ -123,7 +123,8 @@ pub record IsSweptUnit (after : CampaignValue) (number : ℕ) (u : Unit) : Type 
   -- a unit without men is removed
   pub removed : u.holding.men ≡ 0 → get after.units number ≡ None
 
--- what the sweep leaves alone: each unit with men; those without are removed
+-- What the sweep leaves alone: each unit with men is still there and no worse off. Its men and their days are as they
+-- were. Each unit without men is removed.
 abbrev pub sweep_keeps : Frame
 sweep_keeps w m before after = Every (IsSweptUnit after) before.units
 

@@ -36,8 +36,6 @@ pub(crate) fn account_of(accounts: &Accounts, input: &UpkeepInput) -> Account
     })
 }
 
-/// Sets the account of the faction of a unit (`input`) in the unit's region. After an AllocError
-/// the accounts are no longer valid.
 fn put_account(
     alloc: Global,
     accounts: &mut Accounts,

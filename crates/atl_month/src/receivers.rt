@@ -19,8 +19,6 @@ pub(crate) fn receiver_in(receivers: &Receivers, region: u32, faction: u32) -> u
     receivers.get_under(region, faction).copied().unwrap_or(0)
 }
 
-/// Enters a unit as its faction's receiver in its region, if it has men and none is entered there
-/// yet.
 fn note_receiver(
     alloc: Global,
     receivers: &mut Receivers,

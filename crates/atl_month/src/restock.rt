@@ -23,7 +23,6 @@ fn restock(market: &Market, stock: u32) -> u32
     market.restock.min(market.limit.saturating_sub(stock))
 }
 
-/// Gives the market of a region for one item its new goods, and books them as stocked.
 #[tactic(auto, unfolding(crate::specs::Restock::after_market_restock))]
 fn restock_market(
     world: &World,

@@ -37,8 +37,6 @@ fn income(per_peasant: u32, limit: u32, peasants: u32, money: u32) -> u32
     earned.min(u64::from(limit.saturating_sub(money))) as u32
 }
 
-/// Adds those born to the peasants of a region and what is earned to its money, and books both.
-/// `peasants` and `money` are what the region had before.
 fn add_births_and_income(
     campaign: &mut Campaign,
     number: u32,
@@ -61,8 +59,6 @@ fn add_births_and_income(
     campaign.book(BooksEntry::Income, Thing::Money, i64::from(earned));
 }
 
-/// Gives one region its births, its income and the new goods of its markets; nothing where the
-/// region isn't there. AllocError without memory; the campaign may then be changed in part.
 #[tactic(auto, unfolding(crate::specs::Season::season_at))]
 fn carry_out_season(
     world: &World,
@@ -90,8 +86,6 @@ fn carry_out_season(
     restock_region(world, campaign, number)
 }
 
-/// Carries out the season of the regions in the order of their numbers, as far as there are words
-/// of the dice.
 fn carry_out_seasons(
     world: &World,
     campaign: &mut Campaign,

@@ -27,14 +27,12 @@ use std::alloc::{AllocError, Global};
 #[derive(Drop, Clone, Copy)]
 pub struct SweepPhase;
 
-/// How much of an amount a unit that has `have` of a thing accepts: all that it has room for.
 fn accepted_of(amount: u32, have: u32) -> u32
     ensures { result ≡ min amount (holding_limit - have) }
 {
     amount.min(HOLDING_LIMIT.saturating_sub(have))
 }
 
-/// Gives money to a unit, up to its room; the rest is lost, all of it where the unit isn't there.
 #[tactic(auto, unfolding(crate::specs::Sweep::after_passing_money))]
 fn pass_money(campaign: &mut Campaign, to: u32, amount: u32)
     requires things { 2 ≤ campaign.old.value.books.things }
@@ -53,8 +51,6 @@ fn pass_money(campaign: &mut Campaign, to: u32, amount: u32)
     }
 }
 
-/// Gives an amount of an item to a unit, up to its room; the rest is lost, all of it where the unit
-/// isn't there. AllocError without memory; the campaign may then be changed in part.
 #[tactic(auto, unfolding(crate::specs::Sweep::after_passing_item))]
 fn pass_item(
     world: &World,
@@ -88,7 +84,6 @@ fn pass_item(
     Ok(())
 }
 
-/// Gives each listed item, with its amount, to a unit, one after another as `pass_item` does.
 fn pass_items(
     world: &World,
     campaign: &mut Campaign,
@@ -108,8 +103,6 @@ fn pass_items(
     Ok(())
 }
 
-/// Removes unit `number`, if it is there without men, after its money and items went to its
-/// receiver. AllocError without memory; the campaign may then be changed in part.
 #[tactic(auto, unfolding(crate::specs::Sweep::after_sweeping_unit))]
 fn sweep_unit(
     alloc: Global,
@@ -152,8 +145,7 @@ fn menless_units(alloc: Global, campaign: &Campaign) -> Result<Vec<u32>, AllocEr
     Ok(list)
 }
 
-/// Removes those of the listed units that have no men, one after another (`sweep_unit`). The
-/// receivers found before stay the right ones throughout.
+/// The receivers found before stay the right ones throughout.
 fn sweep_units(
     alloc: Global,
     world: &World,
@@ -175,8 +167,6 @@ fn sweep_units(
     Ok(())
 }
 
-/// Removes the units without men. Who receives what they leave is looked for only where there are
-/// such units.
 fn sweep_menless(alloc: Global, world: &World, campaign: &mut Campaign) -> Result<(), AllocError>
     requires steady { IsSteady world.now campaign.old.value }
     requires room { HaveRoom (moved_times (length (menless_units campaign.old.value))
@@ -193,7 +183,6 @@ fn sweep_menless(alloc: Global, world: &World, campaign: &mut Campaign) -> Resul
     sweep_units(alloc, world, &receivers, campaign, &numbers)
 }
 
-/// Sets a faction to gone if it has no unit.
 fn sweep_faction(campaign: &mut Campaign, number: u32)
     ensures what { campaign.new.value ≡ after_sweeping_faction campaign.old.value number }
     ensures marks { MarksChanges campaign.old campaign.new }
@@ -203,7 +192,6 @@ fn sweep_faction(campaign: &mut Campaign, number: u32)
     }
 }
 
-/// Sets those of the listed factions to gone that have no unit.
 fn sweep_factions(campaign: &mut Campaign, numbers: &[u32])
     ensures what { campaign.new.value ≡ fold after_sweeping_faction campaign.old.value numbers.now }
     ensures marks { MarksChanges campaign.old campaign.new }

@@ -37,8 +37,6 @@ fn upkeep_inputs_of(alloc: Global, campaign: &Campaign) -> Result<Vec<UpkeepInpu
     Ok(inputs)
 }
 
-/// For each skill of a unit, by its number, the days of study that stay when `left` of the unit's
-/// men are left.
 fn days_with(alloc: Global, left: u32, holding: &Holding) -> Result<Vec<(u32, u32)>, AllocError>
     requires some { 1 ≤ holding.now.men }
     requires fewer { left ≤ holding.now.men }
@@ -53,8 +51,6 @@ fn days_with(alloc: Global, left: u32, holding: &Holding) -> Result<Vec<(u32, u3
     Ok(list)
 }
 
-/// Takes from a unit the money that it pays and the men who starve, with their days. No item is
-/// marked.
 fn starve(
     alloc: Global,
     campaign: &mut Campaign,
@@ -77,8 +73,6 @@ fn starve(
     set_people(campaign, upkeep_result.unit, left, &days)
 }
 
-/// Takes from a unit the money that it pays for upkeep and the men who starve, without booking
-/// them. No item is marked, and where nobody starves no days of a skill.
 fn take_upkeep(
     alloc: Global,
     campaign: &mut Campaign,
@@ -105,8 +99,6 @@ fn take_upkeep(
     Ok(())
 }
 
-/// Takes from a unit the money that it pays for upkeep and the men who starve, and books both. No
-/// item is marked, and where nobody starves no days of a skill.
 fn charge_upkeep(
     alloc: Global,
     campaign: &mut Campaign,
@@ -136,8 +128,6 @@ fn charge_upkeep(
     Ok(())
 }
 
-/// Takes the upkeep of the listed units and books it, one after another; each can pay when its turn
-/// comes. AllocError without memory; the campaign may then be changed in part.
 fn charge_all(
     alloc: Global,
     campaign: &mut Campaign,
@@ -153,7 +143,6 @@ fn charge_all(
     Ok(())
 }
 
-/// Adds to the month's events a Starved for each listed unit whose men starve, in the list's order.
 fn report_starved(month: &mut Month, list: &[UpkeepResult]) -> Result<(), AllocError>
     ensures { OnOk result (month.new
         ≡ record month.old {

@@ -29,8 +29,7 @@ pub struct UpkeepResult {
     pub starved: u32,
 }
 
-/// The money that a unit has left after it paid for its own men, and the money that it is short of
-/// for them, at this maintenance for each man. One of the two is 0.
+/// One of the two is 0.
 fn left_and_short(maintenance: u32, input: &UpkeepInput) -> (u64, u64)
     requires most { maintenance ≤ most_per_head }
     requires input { IsUpkeepInput input.now }
@@ -41,8 +40,6 @@ fn left_and_short(maintenance: u32, input: &UpkeepInput) -> (u64, u64)
     (money.saturating_sub(due), due.saturating_sub(money))
 }
 
-/// What the units `inputs` are short of, by region and faction. Where none is short there is no
-/// account.
 fn short_accounts(
     alloc: Global,
     maintenance: u32,
@@ -64,7 +61,6 @@ fn short_accounts(
     Ok(accounts)
 }
 
-/// Adds to the accounts what the units `inputs` have left, where others are short.
 fn add_left(
     alloc: Global,
     maintenance: u32,
@@ -89,8 +85,7 @@ fn add_left(
     Ok(())
 }
 
-/// The accounts of the units `inputs` by region and faction, with nothing given or covered yet.
-/// There is none where no unit is short, so what these have left isn't added up.
+/// There is no account where no unit is short, so what these units have left isn't added up.
 fn open_accounts(
     alloc: Global,
     maintenance: u32,
@@ -107,9 +102,6 @@ fn open_accounts(
     Ok(accounts)
 }
 
-/// What upkeep takes from a unit, by the account of its faction in its region: the money that it
-/// pays and the men who starve. What the unit gives to others or gets from them is added to the
-/// account.
 fn payment_of(maintenance: u32, account: &mut Account, input: &UpkeepInput) -> UpkeepResult
     requires some { 1 ≤ maintenance }
     requires most { maintenance ≤ most_per_head }

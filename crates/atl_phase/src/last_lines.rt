@@ -10,7 +10,6 @@ use atl_orders::{Mailing, Slot, UnitRef};
 use atl_world::Numbered;
 use std::alloc::{AllocError, Global};
 
-/// The number of a slot; no two slots have one number.
 fn number_of(slot: Slot) -> u32
     ensures { result ≡ slot_number slot }
 {
@@ -54,7 +53,6 @@ fn line_in(lines: &LastLines, slot: Slot, unit: u32) -> u32
     lines.get_under(number_of(slot), unit).copied().unwrap_or(0)
 }
 
-/// Notes a line of a slot and a unit, unless a greater one is noted for them already.
 fn note(
     alloc: Global,
     lines: &mut LastLines,

@@ -30,8 +30,6 @@ pub(crate) struct OrderIndex {
 }
 
 impl OrderIndex {
-    /// The numbers that the order is sorted by in an arrangement, from the most to the least
-    /// significant; the last is its index in its mailing.
     fn key(&self, arrangement: Arrangement) -> [usize; 4]
         ensures { result ≡ key_by arrangement self.now }
     {
@@ -45,8 +43,7 @@ impl OrderIndex {
     }
 }
 
-/// Whether an order of a mailing counts and has a verb of the phase. `lines` has the greatest line
-/// of each slot and unit in that mailing.
+/// `lines` has the greatest line of each slot and unit in the order's mailing.
 fn counts<P: PhaseVerbs>(phase: &P, lines: &LastLines, unit: u32, entry: &Entry) -> bool
     ensures { result ≡ (P.is_of entry.now.order.verb
         && counts_by_lines lines.now unit entry.now.line (row_of entry.now.order.verb).slot) }
@@ -55,8 +52,6 @@ fn counts<P: PhaseVerbs>(phase: &P, lines: &LastLines, unit: u32, entry: &Entry)
     phase.has(verb) && order_counts(lines, unit, entry.line, verb.row().slot)
 }
 
-/// Adds to the list the indices of a mailing's orders that count and have a verb of the phase.
-/// `lines` has the greatest line of each slot and unit in that mailing.
 fn add_counting<P: PhaseVerbs>(
     phase: &P,
     aliases: &Numbered<Numbered<u32>>,
@@ -88,7 +83,6 @@ fn add_counting<P: PhaseVerbs>(
     Ok(())
 }
 
-/// Whether a mailing has an order with a verb of the phase.
 fn has_order<P: PhaseVerbs>(phase: &P, mailing: &Mailing) -> bool
     ensures { result ≡ list_any (λ e. P.is_of e.order.verb) mailing.now.entries }
 {
@@ -101,8 +95,7 @@ fn has_order<P: PhaseVerbs>(phase: &P, mailing: &Mailing) -> bool
     false
 }
 
-/// Adds to the list the indices of a mailing's orders that count and have a verb of the phase. It
-/// takes no memory where the mailing has no such order.
+/// It takes no memory where the mailing has no order with a verb of the phase.
 fn add_mailing<P: PhaseVerbs>(
     alloc: Global,
     phase: &P,
@@ -122,7 +115,6 @@ fn add_mailing<P: PhaseVerbs>(
     add_counting(phase, aliases, mailings, at, &lines, list)
 }
 
-/// The indices of all orders that count and have a verb of the phase, mailing by mailing.
 fn indices_by_mailing<P: PhaseVerbs>(
     alloc: Global,
     phase: &P,
@@ -159,7 +151,6 @@ pub(crate) fn order_indices<P: PhaseVerbs>(
     Ok(list)
 }
 
-/// Sorts the indices in place by the numbers that their orders are sorted by in the arrangement.
 fn sort(list: &mut Vec<OrderIndex>, arrangement: Arrangement)
     ensures moved { IsPermutation list.old.items list.new.items }
     ensures sorted { IsSortedByKey (key_by arrangement) (slice_cmp nat_cmp) list.new.items }

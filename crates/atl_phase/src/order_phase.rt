@@ -96,8 +96,6 @@ pub fn own_unit<'c>(campaign: &'c Campaign, order: PhaseOrder<'_>) -> Option<&'c
     }
 }
 
-/// Carries out an order under the premises of `carry_out`, and adds its event, if it has one, to
-/// the events of earlier orders.
 fn carry_one<P: OrderPhase>(
     alloc: Global,
     phase: &P,

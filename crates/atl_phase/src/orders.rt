@@ -41,13 +41,11 @@ pub(crate) struct EveryVerb;
 impl PhaseVerbs for EveryVerb {
     ghost is_of = { every_verb };
 
-    /// True for each verb.
     fn has(&self, _verb: Verb) -> bool {
         true
     }
 }
 
-/// The order that an index names, as a phase gets it; mailing and order must be there.
 fn order_at<'m>(mailings: &'m [Mailing], placed: &OrderIndex) -> PhaseOrder<'m>
     requires { IsThere mailings.now placed.now }
     ensures { task_of result ≡ task_at mailings.now placed.now }

@@ -21,7 +21,6 @@ fn entry_name(entry: BooksEntry) -> &'static str
     )
 }
 
-/// Writes what the text of the books calls a thing: `money`, `people`, or as in `item "wood"`.
 fn write_thing(out: &mut String, world: &World, thing: Thing) -> Result<(), AllocError>
     ensures { OnOk result (string_bytes out.new
         ≡ string_bytes out.old ++ thing_name world.now thing) }
@@ -33,7 +32,6 @@ fn write_thing(out: &mut String, world: &World, thing: Thing) -> Result<(), Allo
     }
 }
 
-/// Writes the word `item` and an item's name in quotes; nothing for an item not in the world.
 fn write_item(out: &mut String, world: &World, item: u16) -> Result<(), AllocError>
     ensures { OnOk result (string_bytes out.new
         ≡ string_bytes out.old ++ item_name (slice_get world.now.items item)) }
@@ -47,7 +45,6 @@ fn write_item(out: &mut String, world: &World, item: u16) -> Result<(), AllocErr
     }
 }
 
-/// Writes the end of an entry's line, after the thing, as in ` income 30` with a line feed.
 fn write_amount(out: &mut String, entry: BooksEntry, amount: i64) -> Result<(), AllocError>
     ensures { OnOk result (string_bytes out.new
         ≡ string_bytes out.old ++ amount_text entry amount) }
@@ -56,7 +53,6 @@ fn write_amount(out: &mut String, entry: BooksEntry, amount: i64) -> Result<(), 
     write!(out, " {name} {amount}\n")
 }
 
-/// Writes the line of a thing under an entry, as in `money wages 120`; nothing if the amount is 0.
 #[tactic(auto, unfolding(crate::specs::Books::amount_line))]
 fn write_entry(
     out: &mut String,
@@ -76,8 +72,6 @@ fn write_entry(
     Ok(())
 }
 
-/// Writes the lines of a thing under these entries, in their order, without those whose amount is
-/// 0.
 fn write_entries(
     out: &mut String,
     world: &World,
@@ -97,8 +91,6 @@ fn write_entries(
     Ok(())
 }
 
-/// Writes the line with how much of a thing all units and regions, at most 1,000,000 together, hold
-/// with the stocks of markets.
 #[tactic(auto, unfolding(crate::specs::Books::total_line))]
 fn write_total(
     out: &mut String,
@@ -116,7 +108,6 @@ fn write_total(
     Ok(())
 }
 
-/// Writes all lines of a thing: those of its entries, and then its total.
 #[tactic(auto, unfolding(crate::specs::Books::thing_part))]
 fn write_thing_part(
     out: &mut String,
@@ -134,8 +125,6 @@ fn write_thing_part(
     Ok(())
 }
 
-/// Writes all lines of each item of the world, in its order. The things of the books are money,
-/// people and these items.
 fn write_items(out: &mut String, world: &World, campaign: &Campaign) -> Result<(), AllocError>
     requires things { campaign.now.value.books.things ≡ thing_count world.now }
     requires countable { IsCountable campaign.now.value }

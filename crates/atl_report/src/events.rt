@@ -9,7 +9,6 @@ use atl_orders::FaultyLine;
 use std::alloc::AllocError;
 use std::fmt::Write;
 
-/// Writes the line for a line of the mailing that was not read, with its fault's number and name.
 #[tactic(auto, unfolding(crate::specs::Events::faulty_line))]
 fn write_faulty_line(out: &mut String, faulty: &FaultyLine) -> Result<(), AllocError>
     ensures { OnOk result (string_bytes out.new ≡ string_bytes out.old ++ faulty_line faulty.now) }
@@ -20,7 +19,6 @@ fn write_faulty_line(out: &mut String, faulty: &FaultyLine) -> Result<(), AllocE
     write!(out, "Line {line}: {number} {name}.\n")
 }
 
-/// Writes the lines for all faulty lines of the mailing, in their order.
 fn write_faulty_lines(out: &mut String, faults: &[FaultyLine]) -> Result<(), AllocError>
     ensures { OnOk result (string_bytes out.new ≡ string_bytes out.old ++ faulty_lines faults.now) }
 {
@@ -39,7 +37,6 @@ fn name_of_number(number: u8) -> &'static str
     }
 }
 
-/// Writes the line of an event: an order or work that was done, its fault, or men that starved.
 #[tactic(auto, unfolding(crate::specs::Events::event_line))]
 fn write_event(out: &mut String, event: &Event) -> Result<(), AllocError>
     ensures { OnOk result (string_bytes out.new ≡ string_bytes out.old ++ event_line event.now) }
@@ -60,7 +57,6 @@ fn write_event(out: &mut String, event: &Event) -> Result<(), AllocError>
     }
 }
 
-/// Writes the lines of those events that are the faction's own, in their order.
 fn write_events(out: &mut String, faction: u32, events: &[Event]) -> Result<(), AllocError>
     ensures { OnOk result (string_bytes out.new
         ≡ string_bytes out.old ++ event_lines (own_events faction events.now)) }
@@ -73,15 +69,12 @@ fn write_events(out: &mut String, faction: u32, events: &[Event]) -> Result<(), 
     Ok(())
 }
 
-/// Whether one of the events is the faction's.
 fn has_own_event(faction: u32, events: &[Event]) -> bool
     ensures { result ≡ list_any (λ e. e.faction == faction) events.now }
 {
     events.iter().any(|event| event.faction == faction)
 }
 
-/// Whether the part on orders has no line: no line of the mailing is faulty, and no event is the
-/// faction's.
 fn has_no_results(faction: u32, faults: &[FaultyLine], events: &[Event]) -> bool
     ensures { result ≡ (length faults.now == 0 && not
         (list_any (λ e. e.faction == faction) events.now)) }
@@ -89,8 +82,6 @@ fn has_no_results(faction: u32, faults: &[FaultyLine], events: &[Event]) -> bool
     faults.is_empty() && !has_own_event(faction, events)
 }
 
-/// Writes the lines of faulty lines and then of the faction's own events, or `None.` if there are
-/// neither.
 #[tactic(auto, using(crate::proofs::EventLaws::results_none))]
 fn write_results(
     out: &mut String,

@@ -69,7 +69,7 @@ pub(crate) fn own_by_region(
     Ok(own)
 }
 
-/// Adds numbers to a set. After an AllocError some are added.
+/// After an AllocError some of the numbers are added.
 fn add_numbers(seen: &mut Numbered<()>, numbers: &[u32]) -> Result<(), AllocError>
     ensures { OnOk result (seen.new ≡ with_numbers seen.old numbers.now) }
 {

@@ -28,7 +28,6 @@ trait InReport {
             ≡ string_bytes out.old ++ text world.now self.now) };
 }
 
-/// Writes the texts of parts of one type, one after another.
 fn write_each<T: InReport>(out: &mut String, world: &World, list: &[T]) -> Result<(), AllocError>
     ensures { OnOk result (string_bytes out.new
         ≡ string_bytes out.old ++ each_text (T.text world.now) list.now) }
@@ -39,7 +38,6 @@ fn write_each<T: InReport>(out: &mut String, world: &World, list: &[T]) -> Resul
     Ok(())
 }
 
-/// Writes the first line of a report: the month last closed, and the faction's number and name.
 #[tactic(auto, unfolding(crate::specs::Report::header_line))]
 fn write_header(out: &mut String, view: &View) -> Result<(), AllocError>
     ensures { OnOk result (string_bytes out.new ≡ string_bytes out.old ++ header_line view.now) }
@@ -53,8 +51,6 @@ fn write_header(out: &mut String, view: &View) -> Result<(), AllocError>
     )
 }
 
-/// Writes the start of a unit's line: `*` and its money if it is the faction's own, or `-` and its
-/// faction if it is another's.
 fn write_head(out: &mut String, unit: &UnitView) -> Result<(), AllocError>
     ensures { OnOk result (string_bytes out.new
         ≡ string_bytes out.old ++ unit_head unit.now unit.now.side) }
@@ -82,7 +78,6 @@ fn write_head(out: &mut String, unit: &UnitView) -> Result<(), AllocError>
     }
 }
 
-/// Writes `, guard` in the line of a unit that guards; else nothing.
 fn write_guard(out: &mut String, guard: bool) -> Result<(), AllocError>
     ensures { OnOk result (string_bytes out.new ≡ string_bytes out.old ++ guard_text guard) }
 {
@@ -92,8 +87,6 @@ fn write_guard(out: &mut String, guard: bool) -> Result<(), AllocError>
     Ok(())
 }
 
-/// Writes the number of the structure that a unit is inside, as in `, in 7`; nothing where it is
-/// inside none.
 fn write_inside(out: &mut String, structure: u32) -> Result<(), AllocError>
     ensures { OnOk result (string_bytes out.new ≡ string_bytes out.old ++ inside_text structure) }
 {
@@ -136,7 +129,6 @@ impl InReport for SkillView {
     }
 }
 
-/// Writes the items and then the skills of the faction's own unit; nothing for another's.
 fn write_goods(out: &mut String, world: &World, side: &Side) -> Result<(), AllocError>
     ensures { OnOk result (string_bytes out.new
         ≡ string_bytes out.old ++ goods_text world.now side.now) }
@@ -173,8 +165,6 @@ impl InReport for UnitView {
     }
 }
 
-/// Writes the line of a structure, whose kind in the world is `kind`: how much of the kind's size
-/// is done, and the unit that owns it, or 0.
 fn write_structure_text(
     out: &mut String,
     structure: &StructureView,
@@ -208,8 +198,6 @@ impl InReport for StructureView {
     }
 }
 
-/// Writes the first line of a region, with its name and terrain from the world; nothing for a
-/// region that the world doesn't have.
 #[tactic(auto, unfolding(crate::specs::Report::region_line))]
 fn write_region(out: &mut String, world: &World, region: &RegionView) -> Result<(), AllocError>
     ensures { OnOk result (string_bytes out.new
@@ -232,7 +220,6 @@ fn write_region(out: &mut String, world: &World, region: &RegionView) -> Result<
     )
 }
 
-/// Writes one exit of a region, if it is there, after a comma if it isn't the first.
 fn write_exit(
     out: &mut String,
     is_first: bool,
@@ -255,7 +242,6 @@ fn write_exit(
     }
 }
 
-/// Writes the exits of a region, as in `north 2, east 5`; nothing if it has none.
 fn write_directions(out: &mut String, plan: &RegionPlan) -> Result<(), AllocError>
     ensures { OnOk result (string_bytes out.new
         ≡ string_bytes out.old ++ separated_texts (codes ", ") (exit_texts plan.now)) }
@@ -270,7 +256,6 @@ fn write_directions(out: &mut String, plan: &RegionPlan) -> Result<(), AllocErro
     Ok(())
 }
 
-/// Whether a region has no exit in any of the four directions.
 fn has_no_exit(plan: &RegionPlan) -> bool
     ensures { result
         ≡ (((is_none plan.now.north && is_none plan.now.south) && is_none plan.now.east)
@@ -279,7 +264,6 @@ fn has_no_exit(plan: &RegionPlan) -> bool
     plan.north.is_none() && plan.south.is_none() && plan.east.is_none() && plan.west.is_none()
 }
 
-/// Writes the line of a region's exits, or `Exits: none.`.
 fn write_known_exits(out: &mut String, plan: &RegionPlan) -> Result<(), AllocError>
     ensures { OnOk result (string_bytes out.new ≡ string_bytes out.old ++ exits_text plan.now) }
 {
@@ -293,7 +277,6 @@ fn write_known_exits(out: &mut String, plan: &RegionPlan) -> Result<(), AllocErr
     Ok(())
 }
 
-/// Writes the line of a region's exits; nothing for a region that the world doesn't have.
 #[tactic(auto, unfolding(crate::specs::Report::exits_line))]
 fn write_exits(out: &mut String, world: &World, region: &RegionView) -> Result<(), AllocError>
     ensures { OnOk result (string_bytes out.new
@@ -305,8 +288,6 @@ fn write_exits(out: &mut String, world: &World, region: &RegionView) -> Result<(
     }
 }
 
-/// Writes the line of a market: what it has in stock at its price, and how many pieces it wants at
-/// what it pays.
 fn write_market_text(
     out: &mut String,
     seen: MarketView,
@@ -327,8 +308,6 @@ fn write_market_text(
     )
 }
 
-/// Writes the line of the market of an item in this region; nothing if the world has no such
-/// market.
 #[tactic(auto, unfolding(crate::specs::Report::market_line))]
 fn write_market(
     out: &mut String,
@@ -348,7 +327,6 @@ fn write_market(
     }
 }
 
-/// Writes the lines of markets of one region, in their order.
 fn write_markets(
     out: &mut String,
     world: &World,

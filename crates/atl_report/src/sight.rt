@@ -93,8 +93,6 @@ fn unit_view(
     })
 }
 
-/// The views of the units that the watching faction sees in the watched region, in the order of
-/// their numbers; `own` has the numbers of the faction's own units there.
 fn unit_views(
     alloc: Global,
     world: &World,
@@ -147,7 +145,6 @@ fn structure_view(
     })
 }
 
-/// The views of the structures of the watched region, whose numbers are `numbers`, in their order.
 fn structure_views_of(
     alloc: Global,
     world: &World,
@@ -168,7 +165,6 @@ fn structure_views_of(
     Ok(structures)
 }
 
-/// The views of all structures of the watched region, in the order of their numbers.
 fn structure_views(
     alloc: Global,
     world: &World,
@@ -232,8 +228,6 @@ fn region_market_views(
     }
 }
 
-/// The view of a region: peasants, money, markets, all structures, and the units that are seen;
-/// `own` has the numbers of the faction's units there.
 fn region_view(
     alloc: Global,
     world: &World,
@@ -258,7 +252,6 @@ fn region_view(
     })
 }
 
-/// Adds the number of a region to the set `seen`, if the campaign has the region.
 fn add_region_seen(
     seen: &mut Numbered<()>,
     campaign: &Campaign,
@@ -273,7 +266,6 @@ fn add_region_seen(
     Ok(())
 }
 
-/// The set of the numbers of the regions that a faction sees: those where it has a unit with men.
 fn regions_seen(
     alloc: Global,
     campaign: &Campaign,
@@ -294,7 +286,6 @@ fn regions_seen(
     Ok(seen)
 }
 
-/// The views of the regions that a faction sees, in the order of their numbers.
 fn region_views(
     alloc: Global,
     world: &World,

@@ -52,8 +52,7 @@ pub(crate) fn add_listed(
     }
 }
 
-/// The numbers of each region's structures, sorted, from one pass over the campaign. They stay
-/// right until a structure is begun or moved. AllocError without memory.
+/// The lists stay right until a structure is begun or moved.
 fn sites_of(alloc: Global, campaign: &Campaign) -> Result<Sites, AllocError>
     ensures { IfOk result (AreSites campaign.now.value.structures) }
 {

@@ -30,7 +30,6 @@ pub(crate) fn is_guard(unit: &Unit) -> bool
     unit.holding.guard() && unit.holding.men() > 0
 }
 
-/// The best observation level of the units with the given numbers, 0 of none.
 fn best_observation(world: &World, campaign: &Campaign, numbers: &[u32]) -> u32
     ensures { result ≡ best_observation world.now campaign.now.value numbers.now }
 {
@@ -74,7 +73,6 @@ pub(crate) fn hiding_level(world: &World, unit: &Unit) -> u32
     }
 }
 
-/// Whether a unit's stealth level is at most the best observation level of the watching faction.
 fn is_identified(world: &World, watch: Watch, unit: &Unit) -> bool
     ensures { result ≡ nat_le (level_in_any unit.now.holding world.now.rules.stealth)
         watch.observation }
@@ -82,8 +80,6 @@ fn is_identified(world: &World, watch: Watch, unit: &Unit) -> bool
     level_in_any(&unit.holding, world.rules().stealth) <= watch.observation
 }
 
-/// Whether a unit in the watched region is seen: it is the watching faction's own, guards, or its
-/// stealth level is at most the faction's best observation level there.
 fn is_seen(world: &World, watch: Watch, unit: &Unit) -> bool
     ensures { result ≡ is_seen world.now watch unit.now }
 {
