@@ -20,7 +20,6 @@ pub trait Work {
     /// Then up to `MOST_PAGES` pages are kept in memory, however small the file is.
     const LASTS: bool = false;
 
-    /// Does the work on an open service, and returns its result or a failure.
     fn run<S: Alter>(&self, service: &mut Service<S>) -> Result<Self::Done, Failure>;
 }
 
@@ -48,7 +47,6 @@ pub enum Opening<'a> {
 /// The number of bytes in the header of a database. A shorter file is no database.
 const HEADER_BYTES: u64 = 100;
 
-/// Whether a file or a folder is at the path; Store, or Memory, if the system can't tell.
 fn is_there(rt: &HostRuntime, path: &str) -> Result<bool, Failure> {
     match fs::exists(rt, path) {
         Ok(is_there) => Ok(is_there),
@@ -56,8 +54,7 @@ fn is_there(rt: &HostRuntime, path: &str) -> Result<bool, Failure> {
     }
 }
 
-/// Whether the folder that the path names exists. A path without a `/` is in the folder that the
-/// program runs in.
+/// A path without a `/` is in the folder that the program runs in.
 fn has_folder(rt: &HostRuntime, path: &str) -> Result<bool, Failure> {
     match path.rsplit_once('/') {
         Some((folder, _)) if !folder.is_empty() => is_there(rt, folder),
@@ -65,8 +62,6 @@ fn has_folder(rt: &HostRuntime, path: &str) -> Result<bool, Failure> {
     }
 }
 
-/// Why a path without a file is refused: NotACampaign, or Store where the folder isn't there
-/// either.
 fn missing_file_failure(rt: &HostRuntime, path: &str) -> Failure {
     match has_folder(rt, path) {
         Ok(true) => Failure::NotACampaign,
@@ -75,8 +70,8 @@ fn missing_file_failure(rt: &HostRuntime, path: &str) -> Failure {
     }
 }
 
-/// Refuses a path without a file, and a file that is too short for a database. Opening would create
-/// the first and overwrite the second. It accepts a folder, which then can't be opened.
+/// Opening would create a file that is missing, and overwrite one that is too short for a database.
+/// A folder is accepted, and then can't be opened.
 fn confirm_file(rt: &HostRuntime, path: &str) -> Result<(), Failure> {
     let metadata = match fs::metadata(rt, path) {
         Ok(metadata) => metadata,
@@ -103,8 +98,7 @@ const PAGE_BYTES: u64 = 4_096;
 /// How many pages are kept in memory beyond those of the file, since a command adds some.
 const SPARE_PAGES: u64 = 64;
 
-/// How many pages of a file of this length are kept in memory: all, and a quarter more for what a
-/// command adds. The memory for them is cleared at each start, so more would cost time.
+/// The memory for the pages is cleared at each start, so more pages would cost time.
 fn pages_for(bytes: u64) -> u64 {
     let pages = bytes / PAGE_BYTES;
     if MOST_PAGES <= pages {
@@ -113,7 +107,6 @@ fn pages_for(bytes: u64) -> u64 {
     (pages + pages / 4 + SPARE_PAGES).min(MOST_PAGES)
 }
 
-/// The length of the file in bytes; 0 where there is none.
 fn length_of(rt: &HostRuntime, path: &str) -> Result<u64, Failure> {
     match fs::metadata(rt, path) {
         Ok(metadata) => Ok(metadata.len()),
@@ -122,8 +115,7 @@ fn length_of(rt: &HostRuntime, path: &str) -> Result<u64, Failure> {
     }
 }
 
-/// How the kit keeps pages in memory, with a number drawn at random for its log. Store if none can
-/// be drawn.
+/// The log needs a number drawn at random.
 fn options_for(rt: &HostRuntime, pages: u64) -> Result<Options, Failure> {
     let state = match RandomState::new(rt) {
         Ok(state) => state,
@@ -134,9 +126,7 @@ fn options_for(rt: &HostRuntime, pages: u64) -> Result<Options, Failure> {
     Ok(options)
 }
 
-/// Opens the database file and its log, and makes those that are missing. A path that SQLite would
-/// read in another way is refused. With Ok both files are usable, which
-/// `Connection::open_files_with` requires.
+/// Makes the files that are missing. A path that SQLite would read in another way is refused.
 fn open_files<S: Start>(
     rt: &HostRuntime,
     path: &str,
@@ -156,9 +146,8 @@ fn open_files<S: Start>(
     }
 }
 
-/// Opens the file as a database, or makes it, with at most `pages` pages in memory. A file that is
-/// made has no checksums on its pages, since a `sqlite3` without the extension for checksums would
-/// spoil them.
+/// A file that is made has no checksums on its pages, since a `sqlite3` without the extension for
+/// checksums would spoil them.
 fn connect<S: Start>(
     rt: &HostRuntime,
     path: &str,
@@ -173,7 +162,6 @@ fn connect<S: Start>(
     }
 }
 
-/// Founds, opens or upgrades the campaign of the connection, as `opening` says.
 fn open_service<S: Alter>(
     alloc: Global,
     conn: Connection<S>,
@@ -186,8 +174,7 @@ fn open_service<S: Alter>(
     }
 }
 
-/// Does the work on the campaign of the connection, and returns its result, or why there is no
-/// campaign to work on. Either way it returns the connection, so that the file can be shut.
+/// Returns the connection either way, so that the file can be shut.
 fn run_work<S: Alter + Drop, W: Work>(
     alloc: Global,
     conn: Connection<S>,
@@ -203,7 +190,7 @@ fn run_work<S: Alter + Drop, W: Work>(
     }
 }
 
-/// Copies the log into the database file and shuts both, so that the file alone holds all changes.
+/// The log is copied into the database file, so that this file alone holds all changes.
 fn shut<D: Disk + Drop>(conn: Connection<FileStore<D>>) -> Result<(), Failure> {
     match conn.close() {
         Ok(()) => Ok(()),
@@ -211,7 +198,6 @@ fn shut<D: Disk + Drop>(conn: Connection<FileStore<D>>) -> Result<(), Failure> {
     }
 }
 
-/// The result of the work, or the first failure: that of the work, then that of shutting the file.
 fn both_results<T: Drop>(
     done: Result<T, Failure>,
     shutting: Result<(), Failure>,

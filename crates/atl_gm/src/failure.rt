@@ -128,8 +128,7 @@ impl<'a> fmt::Display for OneLine<'a> {
     }
 }
 
-/// Prints the line of a fault of a world file: its number, name and path; the line of Memory for a
-/// fault without a number.
+/// Only the fault Memory has no number.
 fn print_world_fault<R: Eprint>(rt: &R, fault: &WorldFault) -> io::Result<()> {
     let Some(number) = fault.number() else {
         return eprintln!(rt; "fault: Memory");

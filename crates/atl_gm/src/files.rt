@@ -4,8 +4,6 @@ use std::alloc::Global;
 use std::io::Read;
 use std::{fs, io};
 
-/// The failure for an error of reading a file or standard input: Memory if memory ran out, else
-/// File.
 fn read_failure(error: io::Error) -> Failure {
     Failure::of_system(error, Failure::File)
 }

@@ -13,7 +13,6 @@ use std::alloc::{AllocError, Global};
 /// is refused as TooLong.
 const READ_BYTES: u64 = MOST_BYTES as u64 + 1;
 
-/// The command Mail that the options ask for, with the bytes of the mailing's file as its text.
 fn mail_command(
     rt: &HostRuntime,
     options: &ArgMatches<'_>,

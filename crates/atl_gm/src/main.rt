@@ -49,7 +49,6 @@ type All = (
     ),
 );
 
-/// The parser of the command line, with one level of subcommands.
 fn command_line<'a>(alloc: Global) -> Result<Command<'a>, AllocError> {
     let line = Command::new(alloc, "atl_gm")
         .about("Moderates a campaign of Atlantis 1.0, the peaceful profile")
@@ -57,7 +56,6 @@ fn command_line<'a>(alloc: Global) -> Result<Command<'a>, AllocError> {
     All::add_to(alloc, line)
 }
 
-/// Runs the subcommand that the parsed command line names.
 fn dispatch(rt: &HostRuntime, matches: &ArgMatches<'_>) -> Result<(), Failure> {
     match matches.subcommand() {
         Some((name, options)) => All::run(rt, name, options),
@@ -65,7 +63,6 @@ fn dispatch(rt: &HostRuntime, matches: &ArgMatches<'_>) -> Result<(), Failure> {
     }
 }
 
-/// The failure for an error of the parser: Memory if it ran out of memory, else the error itself.
 fn refused_line(error: Error) -> Failure {
     if error.kind() == ErrorKind::OutOfMemory {
         return Failure::Memory;
@@ -73,8 +70,8 @@ fn refused_line(error: Error) -> Failure {
     Failure::CommandLine(error)
 }
 
-/// The failure for words that the parser refuses. Its text has line ends of its own, so it is asked
-/// for again, for the words with their control characters escaped.
+/// The parser's text has line ends of its own, so it is asked for again, for the words with their
+/// control characters escaped.
 fn refused_words(alloc: Global, words: &[String], error: Error) -> Result<Failure, AllocError> {
     let escaped = escaped_words(alloc, words)?;
     match command_line(alloc)?.try_get_matches_from(escaped.as_slice()) {
@@ -83,7 +80,6 @@ fn refused_words(alloc: Global, words: &[String], error: Error) -> Result<Failur
     }
 }
 
-/// The words with each control character as its escape, so that each is on one line.
 fn escaped_words(alloc: Global, words: &[String]) -> Result<Vec<String>, AllocError> {
     let mut escaped = Vec::new(alloc);
     for word in words {
@@ -96,7 +92,7 @@ fn escaped_words(alloc: Global, words: &[String]) -> Result<Vec<String>, AllocEr
 /// The most bytes of a word of the command line, by the system's limit.
 const WORD_BYTES: usize = 131_072;
 
-/// Whether the command line has a word at this place, and it is UTF-8.
+/// False also where there is no word.
 fn is_text(rt: &HostRuntime, place: usize) -> Result<bool, AllocError> {
     let mut word = vec![in rt.alloc(); 0; WORD_BYTES]?;
     match rt.arg(place, word.as_mut_slice()) {
@@ -108,7 +104,7 @@ fn is_text(rt: &HostRuntime, place: usize) -> Result<bool, AllocError> {
     }
 }
 
-/// The place of the first word that is not UTF-8. The program's name is at 0.
+/// The program's name is at place 0.
 fn place_of_no_text(rt: &HostRuntime) -> Result<usize, AllocError> {
     for place in 0..usize::MAX {
         if !is_text(rt, place)? {
@@ -118,7 +114,6 @@ fn place_of_no_text(rt: &HostRuntime) -> Result<usize, AllocError> {
     Ok(usize::MAX)
 }
 
-/// The failure for a command line of which a word is not UTF-8; it names the word's place.
 fn no_text(rt: &HostRuntime, command: &mut Command<'_>) -> Result<Failure, AllocError> {
     let place = place_of_no_text(rt)?;
     let message = format!(in rt.alloc(); "word {place} is not UTF-8")?;
@@ -126,7 +121,6 @@ fn no_text(rt: &HostRuntime, command: &mut Command<'_>) -> Result<Failure, Alloc
     Ok(refused_line(error))
 }
 
-/// The words of the command line, with the program's name first.
 fn words(rt: &HostRuntime, command: &mut Command<'_>) -> Result<Vec<String>, Failure> {
     match env::args(rt) {
         Ok(args) => Ok(args.collect(rt.alloc())?),
@@ -135,7 +129,6 @@ fn words(rt: &HostRuntime, command: &mut Command<'_>) -> Result<Vec<String>, Fai
     }
 }
 
-/// Checks the stack, parses the command line, and runs the subcommand that it names.
 fn run(rt: &HostRuntime) -> Result<(), Failure> {
     if !stack::has_room(rt.alloc()) {
         return Err(Failure::Memory);

@@ -15,7 +15,6 @@ pub fn check_printed(written: io::Result<()>) -> Result<(), Failure> {
     }
 }
 
-/// Prints a faulty line of a mailing: the line's number, and the fault's number and name.
 fn print_line<R: Print>(rt: &R, faulty: &FaultyLine) -> io::Result<()> {
     let line = faulty.line;
     let number = faulty.fault.number();
@@ -23,7 +22,6 @@ fn print_line<R: Print>(rt: &R, faulty: &FaultyLine) -> io::Result<()> {
     println!(rt; "line {line}: {number} {name}")
 }
 
-/// Prints how many orders and faulty lines a mailing has, and then each faulty line.
 fn print_mailing<R: Print>(rt: &R, orders: usize, faults: &[FaultyLine]) -> io::Result<()> {
     let count = faults.len();
     println!(rt; "{orders} orders, {count} faults")?;

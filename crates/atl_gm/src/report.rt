@@ -7,7 +7,6 @@ use atl_world::Sequence;
 use clap::{Arg, ArgMatches};
 use std::alloc::{AllocError, Global};
 
-/// The command Report that the options ask for.
 fn report_command(
     rt: &HostRuntime,
     options: &ArgMatches<'_>,

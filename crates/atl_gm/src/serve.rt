@@ -22,12 +22,10 @@ struct Serving<'a> {
     dice: Dice,
 }
 
-/// The failure for a port that can't be bound: Memory if memory ran out, else Net.
 fn bind_failure(error: io::Error) -> Failure {
     Failure::of_system(error, Failure::Net)
 }
 
-/// Prints on standard error the port that the system chose for port 0.
 fn print_port(rt: &HostRuntime, listener: &TcpListener) -> Result<(), Failure> {
     match listener.local_addr() {
         Ok(address) => {

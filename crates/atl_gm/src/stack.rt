@@ -23,7 +23,6 @@ const RLIMIT_AS: i32 = 9;
 /// The limit that stands for none.
 const NO_LIMIT: u64 = u64::MAX;
 
-/// The process's limit on a resource; 0 where the system doesn't tell it.
 fn limit_on(resource: i32) -> u64 {
     let mut limit = rlimit {
         rlim_cur: 0,
@@ -35,14 +34,13 @@ fn limit_on(resource: i32) -> u64 {
     limit.rlim_cur
 }
 
-/// Asks for as much memory as the stack may take, and gives it back. The system refuses this by an
-/// error, but ends a program whose stack it refuses to grow.
+/// The system refuses this by an error, but ends a program whose stack it refuses to grow.
 fn ask_for_room(alloc: Global) -> Result<(), AllocError> {
     let _room: Vec<u8> = Vec::with_capacity(alloc, ROOM_BYTES)?;
     Ok(())
 }
 
-/// Whether all bytes are 0. The test keeps a compiler from leaving out the buffer.
+/// The test keeps a compiler from leaving out the buffer.
 #[inline(never)]
 fn is_clear(room: &[u8]) -> bool {
     for each in room {
@@ -53,8 +51,8 @@ fn is_clear(room: &[u8]) -> bool {
     true
 }
 
-/// Has the stack grow by a number of steps, and returns true. The test of the bytes comes last, so
-/// that a compiler leaves out no buffer, and has all of them at one time.
+/// The test of the bytes comes last, so that a compiler leaves out no buffer, and has all of them
+/// at one time.
 #[inline(never)]
 fn grow(steps: usize) -> bool {
     if steps == 0 {

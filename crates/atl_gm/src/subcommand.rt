@@ -16,7 +16,6 @@ pub trait Subcommand {
         Ok(Vec::new(alloc))
     }
 
-    /// Does what the subcommand is for, with the values of its options.
     fn run(rt: &HostRuntime, options: &ArgMatches<'_>) -> Result<(), Failure>;
 }
 
@@ -29,7 +28,6 @@ pub trait Subcommands {
     fn run(rt: &HostRuntime, name: &str, options: &ArgMatches<'_>) -> Result<(), Failure>;
 }
 
-/// The parser of one subcommand, by its name, its help and its options.
 fn command_of<'a, S: Subcommand>(alloc: Global) -> Result<Command<'a>, AllocError> {
     let name: &'a str = S::NAME;
     let about: &'a str = S::ABOUT;

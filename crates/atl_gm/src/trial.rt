@@ -10,7 +10,6 @@ use clap::ArgMatches;
 use sqlite::{Connection, MemStore};
 use std::alloc::{AllocError, Global};
 
-/// The join of the trial: `Avalon` with pass text `pw` and word 0.
 fn join(alloc: Global) -> Result<atl_service::Command, Failure> {
     Ok(atl_service::Command::Join {
         name: Sequence::from_slice(alloc, b"Avalon")?,
@@ -19,7 +18,7 @@ fn join(alloc: Global) -> Result<atl_service::Command, Failure> {
     })
 }
 
-/// The report of faction 1, the first that joins.
+/// Faction 1 is the first that joins.
 fn report(alloc: Global) -> Result<atl_service::Command, Failure> {
     Ok(atl_service::Command::Report {
         faction: 1,
@@ -27,7 +26,6 @@ fn report(alloc: Global) -> Result<atl_service::Command, Failure> {
     })
 }
 
-/// Runs the join and then the report; returns the answer to the report, or to a join that failed.
 fn report_after_join(
     service: &mut Service<MemStore>,
     join: &atl_service::Command,
@@ -39,7 +37,6 @@ fn report_after_join(
     }
 }
 
-/// Founds the campaign on the connection with pass text `gm`, and runs the join and the report.
 fn first_report(
     alloc: Global,
     conn: Connection<MemStore>,
@@ -53,7 +50,6 @@ fn first_report(
     }
 }
 
-/// The answer of the trial in a new campaign in memory, with the world of this text.
 fn report_answer(alloc: Global, world_text: &str) -> Result<Answer, Failure> {
     let join = join(alloc)?;
     let report = report(alloc)?;

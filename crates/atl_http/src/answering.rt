@@ -11,7 +11,6 @@ use http::StatusCode;
 use std::alloc::{AllocError, Global};
 use std::fmt::Write;
 
-/// The body for a join: `{"faction":F,"unit":U}`.
 #[tactic(auto, unfolding(crate::specs::Answered::joined_body))]
 fn joined_body(alloc: Global, faction: u32, unit: u32) -> Result<String, AllocError>
     ensures { IfOk result (λ body. string_bytes body ≡ joined_body faction unit) }
@@ -19,7 +18,6 @@ fn joined_body(alloc: Global, faction: u32, unit: u32) -> Result<String, AllocEr
     format!(in alloc; "{{\"faction\":{faction},\"unit\":{unit}}}")
 }
 
-/// Writes a faulty line as `[L,K]`: the line's number in the mailing and the number of its fault.
 #[tactic(auto, unfolding(crate::specs::Answered::pair))]
 fn write_pair(out: &mut String, faulty: &FaultyLine) -> Result<(), AllocError>
     ensures { OnOk result (string_bytes out.new ≡ string_bytes out.old ++ pair faulty.now) }
@@ -29,7 +27,6 @@ fn write_pair(out: &mut String, faulty: &FaultyLine) -> Result<(), AllocError>
     write!(out, "[{line},{number}]")
 }
 
-/// Writes the faulty lines after the first, each with a comma in front.
 fn write_more_pairs(out: &mut String, faults: &[FaultyLine]) -> Result<(), AllocError>
     ensures { OnOk result (string_bytes out.new ≡ string_bytes out.old ++ more_pairs faults.now) }
 {
@@ -40,7 +37,6 @@ fn write_more_pairs(out: &mut String, faults: &[FaultyLine]) -> Result<(), Alloc
     Ok(())
 }
 
-/// Writes all faulty lines as pairs `[L,K]`, with commas between them.
 fn write_pairs(out: &mut String, faults: &[FaultyLine]) -> Result<(), AllocError>
     ensures { OnOk result (string_bytes out.new ≡ string_bytes out.old ++ pairs faults.now) }
 {
@@ -53,7 +49,6 @@ fn write_pairs(out: &mut String, faults: &[FaultyLine]) -> Result<(), AllocError
     }
 }
 
-/// The body for a mailing: `{"faults":[..],"orders":N}`.
 #[tactic(auto, unfolding(crate::specs::Answered::mailed_body))]
 fn mailed_body(alloc: Global, orders: usize, faults: &[FaultyLine]) -> Result<String, AllocError>
     ensures { IfOk result (λ body. string_bytes body ≡ mailed_body orders faults.now) }
@@ -64,7 +59,6 @@ fn mailed_body(alloc: Global, orders: usize, faults: &[FaultyLine]) -> Result<St
     Ok(body)
 }
 
-/// The body for a closed month: `{"month":M}`.
 #[tactic(auto, unfolding(crate::specs::Answered::month_body))]
 fn month_body(alloc: Global, month: u32) -> Result<String, AllocError>
     ensures { IfOk result (λ body. string_bytes body ≡ month_body month) }
@@ -92,7 +86,6 @@ fn refusal_status(refusal: Refusal) -> StatusCode
     }
 }
 
-/// The reply to a refused command: the refusal's status, and its name and number as JSON.
 fn refusal_message(alloc: Global, refusal: Refusal) -> Result<Message, AllocError>
     ensures { IfOk result (MatchesReply (answer_reply (Answer.Refused refusal))) }
 {
@@ -105,8 +98,6 @@ fn refusal_message(alloc: Global, refusal: Refusal) -> Result<Message, AllocErro
     )
 }
 
-/// The reply to a command that could not be carried out: status 500, the fault's name, and 0 as
-/// its number.
 fn fault_message(alloc: Global, fault: Fault) -> Result<Message, AllocError>
     ensures { IfOk result (MatchesReply (answer_reply (Answer.Fault fault))) }
 {
@@ -119,7 +110,6 @@ fn fault_message(alloc: Global, fault: Fault) -> Result<Message, AllocError>
     )
 }
 
-/// The reply of status 200 with a body in JSON.
 fn success_message(alloc: Global, body: &str) -> Result<Message, AllocError>
     ensures { IfOk result (MatchesReply (success json body.now)) }
 {

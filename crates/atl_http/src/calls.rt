@@ -49,14 +49,12 @@ pub struct WriteCalls {
     last: WriteOutcome,
 }
 
-/// Whether an error says that the call was interrupted, so that it can be done again.
 fn is_interrupted(error: &Error) -> bool
     ensures { IsTrue result ↔ (error_kind error.now ≡ ErrorKind.Interrupted) }
 {
     error.kind() == ErrorKind::Interrupted
 }
 
-/// The outcome of one read by what it returned: 0 bytes are the end of the input.
 fn read_outcome(returned: io::Result<usize>) -> ReadOutcome
     ensures { IsReadOutcome returned result }
 {
@@ -68,7 +66,6 @@ fn read_outcome(returned: io::Result<usize>) -> ReadOutcome
     }
 }
 
-/// The outcome of one write by what it returned: 0 bytes are a failure.
 fn write_outcome(returned: io::Result<usize>) -> WriteOutcome
     ensures { IsWriteOutcome returned result }
 {

@@ -26,8 +26,6 @@ const CONTENT_LENGTH: &[u8] = b"Content-Length";
 
 const PASS: &[u8] = b"Atlantis-Pass";
 
-/// Whether a request of HTTP/1.1 has exactly one field Host; one of HTTP/1.0 (`minor` is 0) needs
-/// none. The first check. The fields are given as spans that lie within `bytes`.
 #[tactic(auto, unfolding(crate::specs::Checks::has_host))]
 fn has_host(minor: u8, bytes: &[u8], fields: &[HeaderSpan]) -> bool
     requires { All (IsHeaderWithin (length bytes.now)) fields.now }
@@ -36,8 +34,6 @@ fn has_host(minor: u8, bytes: &[u8], fields: &[HeaderSpan]) -> bool
     minor == 0 || only_value(bytes, fields, HOST).is_some()
 }
 
-/// The route of a request, by the first two checks: BadRequest, NoRoute or BadMethod if one fails,
-/// Memory without memory for the routes.
 #[tactic(auto, unfolding(crate::specs::Checks::requested_route))]
 fn requested_route(
     alloc: Global,
@@ -61,15 +57,12 @@ fn requested_route(
     }
 }
 
-/// Whether the bytes are the name of the one method that the route takes.
 fn is_method(method: &[u8], route: Route) -> bool
     ensures { result ≡ bytes_eq method.now (method_of route) }
 {
     method == route.method().as_str().as_bytes()
 }
 
-/// The length of a body by a value of Content-Length: BadRequest if it is no number, BodyTooLong if
-/// it is greater than a mailing may be.
 fn size_within(text: &[u8]) -> Result<usize, CheckError>
     ensures { GivesAsDefined (λ size. size) result (size_within (number_of text.now)) }
 {
@@ -80,8 +73,6 @@ fn size_within(text: &[u8]) -> Result<usize, CheckError>
     }
 }
 
-/// The length of a POST's body in bytes, by Content-Length and Transfer-Encoding; else NoLength,
-/// BadRequest or BodyTooLong. Content-Length may be missing if `is_optional`. The third check.
 #[tactic(auto, unfolding(crate::specs::Checks::posted_size))]
 fn posted_size(is_optional: bool, bytes: &[u8], fields: &[HeaderSpan]) -> Result<usize, CheckError>
     requires { All (IsHeaderWithin (length bytes.now)) fields.now }
@@ -102,7 +93,6 @@ fn posted_size(is_optional: bool, bytes: &[u8], fields: &[HeaderSpan]) -> Result
     }
 }
 
-/// The number of body bytes that are read for a route: 0 for a GET, else the declared length.
 fn size_of(route: Route, bytes: &[u8], fields: &[HeaderSpan]) -> Result<usize, CheckError>
     requires { All (IsHeaderWithin (length bytes.now)) fields.now }
     ensures { GivesAsDefined (λ size. size) result
@@ -115,7 +105,6 @@ fn size_of(route: Route, bytes: &[u8], fields: &[HeaderSpan]) -> Result<usize, C
     }
 }
 
-/// The value of Atlantis-Pass, if there is exactly one; else NoPass.
 #[tactic(auto, unfolding(crate::specs::Checks::pass_field))]
 fn pass_field<'a>(bytes: &'a [u8], fields: &[HeaderSpan]) -> Result<&'a [u8], CheckError>
     requires { All (IsHeaderWithin (length bytes.now)) fields.now }
@@ -128,8 +117,6 @@ fn pass_field<'a>(bytes: &'a [u8], fields: &[HeaderSpan]) -> Result<&'a [u8], Ch
     }
 }
 
-/// The pass text of the head, else NoPass; empty for a join, which needs none there. The fourth
-/// check.
 fn pass_of<'a>(route: Route, bytes: &'a [u8], fields: &[HeaderSpan]) -> Result<&'a [u8], CheckError>
     requires { All (IsHeaderWithin (length bytes.now)) fields.now }
     ensures { GivesAsDefined (λ pass. pass.now) result
@@ -193,7 +180,6 @@ fn text_at<'a>(said: &'a Value, key: &str) -> Result<&'a str, CheckError>
     }
 }
 
-/// The join that a JSON body asks for, with name and pass text; else BadJson. The fifth check.
 #[tactic(auto, unfolding(crate::specs::Checks::joining))]
 fn joining(alloc: Global, body: &[u8]) -> Result<Request, CheckError>
     ensures { GivesAsDefined (λ request. request) result (joining body.now) }

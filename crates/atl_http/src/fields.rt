@@ -15,7 +15,6 @@ pub enum FieldLookup {
     Several,
 }
 
-/// Whether two names of fields are the same, ignoring ASCII case.
 fn is_same(name: &[u8], other: &[u8]) -> bool
     ensures { result ≡ str_eq_ignore_ascii_case name.now other.now }
 {

@@ -71,9 +71,7 @@ impl From<AllocError> for HttpFault {
     }
 }
 
-/// Reads once into the buffer `room`, appends the bytes to `seen`, and returns their number: 0 if
-/// the read was interrupted. Cut at the end of the input, ReadFault where the read fails or
-/// 1,000,000 were done before, Memory without memory for the bytes.
+/// Returns 0 if the read was interrupted.
 fn read_more<R: Read>(
     reader: &mut R,
     reads: &mut ReadCalls,
@@ -124,7 +122,6 @@ pub fn send<W: Write>(
     Ok(())
 }
 
-/// A buffer for one read, of 8,192 bytes.
 fn read_buffer(alloc: Global) -> Result<Vec<u8>, AllocError>
     ensures { IfOk result (λ room. length room.items ≡ most_at_once) }
 {
@@ -133,9 +130,8 @@ fn read_buffer(alloc: Global) -> Result<Vec<u8>, AllocError>
     Ok(room)
 }
 
-/// The verdict on the bytes received so far, or how many more are missing. They are parsed only if
-/// `missing`, the number of bytes known to be missing, is 0: before these have come no parsing
-/// could end the request.
+/// Nothing is parsed while `missing` bytes are known to be missing: before these have come no
+/// parsing could end the request.
 fn progress_if_due(alloc: Global, seen: &[u8], missing: usize) -> Result<Progress, AllocError>
     requires { IsShortBy seen.now missing }
     ensures { IfOk result (ComesTo seen.now) }
@@ -146,8 +142,6 @@ fn progress_if_due(alloc: Global, seen: &[u8], missing: usize) -> Result<Progres
     progress_of(alloc, seen)
 }
 
-/// Reads until the request is whole or refused, as `receive` does, with `room` as the buffer
-/// of 8,192 bytes for each read.
 fn receive_in<R: Read>(
     alloc: Global,
     reader: &mut R,

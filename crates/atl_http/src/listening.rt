@@ -25,8 +25,7 @@ pub enum ListenFault {
     Memory,
 }
 
-/// Serves the one request of a connection, and gives up if the peer sends or receives too slowly. A
-/// connection without a whole request or reply counts as served. The only error is Memory.
+/// A connection whose peer ends it or is too slow counts as served.
 fn serve_stream<C: Clock, S: Alter>(
     alloc: Global,
     clock: &C,
@@ -44,8 +43,7 @@ fn serve_stream<C: Clock, S: Alter>(
     }
 }
 
-/// The next connection of a listener that the system accepts. It passes over connections that their
-/// peers ended before. None if no connection can be accepted, or 1,000,000 in a row were ended so.
+/// Passes over connections that their peers ended before they were accepted.
 fn next_stream(listener: &TcpListener) -> Option<TcpStream> {
     for _ in 0..MOST_ABORTED {
         match listener.accept() {

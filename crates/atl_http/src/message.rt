@@ -32,7 +32,6 @@ impl Drop for Message {
     }
 }
 
-/// The phrase that the crate `http` gives to a status; empty if it has none.
 fn phrase_of(status: StatusCode) -> &'static str
     ensures { result.now ≡ unwrap_or (reason_phrase status) [] }
 {
@@ -42,8 +41,6 @@ fn phrase_of(status: StatusCode) -> &'static str
     }
 }
 
-/// Writes the status line and the three fields that every reply begins with, by status, content
-/// type and body.
 #[tactic(auto, unfolding(crate::specs::Replies::head_of))]
 fn write_head(
     out: &mut String,
@@ -63,7 +60,6 @@ fn write_head(
     )
 }
 
-/// Writes the line `Allow` with the method of the route, or nothing for None.
 fn write_allowed(out: &mut String, allow: Option<Route>) -> Result<(), AllocError>
     ensures { OnOk result (string_bytes out.new ≡ string_bytes out.old ++ allow_line allow) }
 {

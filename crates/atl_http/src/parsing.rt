@@ -19,9 +19,6 @@ const MOST_HEAD: usize = 8_192;
 /// The most fields of a head.
 const MOST_FIELDS: usize = 32;
 
-/// The verdict on a whole head and the bytes after it (`rest`), or how many bytes of the body are
-/// missing. The head's fields are given as spans of `bytes`. AllocError without memory for the
-/// routes or the request.
 fn progress_with_body(
     alloc: Global,
     minor: u8,
@@ -54,7 +51,6 @@ fn progress_with_body(
     }
 }
 
-/// The first 8,192 bytes, in which the head has to end, or all if there are fewer.
 #[tactic(auto, using(std::proofs::lemmas::List::take_min, crate::proofs::HeadLaws::front_within))]
 fn front_of(seen: &[u8]) -> &[u8]
     ensures front { result.now ≡ take most_head seen.now }
@@ -73,7 +69,6 @@ pub enum HeadParse {
     Refused,
 }
 
-/// Parses the first bytes as a head, and puts the spans of its fields into the front of `fields`.
 fn parse_head(front: &[u8], fields: &mut [HeaderSpan]) -> HeadParse
     requires { length fields.old ≡ most_fields }
     ensures finds { ParsesHead front.now fields.new result }
@@ -86,7 +81,6 @@ fn parse_head(front: &[u8], fields: &mut [HeaderSpan]) -> HeadParse
     }
 }
 
-/// The first `count` fields, which are those that the head has.
 fn first_fields(fields: &[HeaderSpan], count: usize) -> &[HeaderSpan]
     requires { count ≤ length fields.now }
     ensures { result.now ≡ take count fields.now }
@@ -102,8 +96,6 @@ pub fn rest_after(seen: &[u8], len: usize) -> &[u8]
     &seen[len..]
 }
 
-/// The verdict on the bytes `seen`, or how many more are missing, where `front`, the first 8,192 of
-/// them at most, begins with a whole head at these spans.
 fn progress_past_head(
     alloc: Global,
     seen: &[u8],
@@ -125,8 +117,6 @@ fn progress_past_head(
     progress_with_body(alloc, head.version, method, target, front, fields, rest)
 }
 
-/// The verdict on the bytes received so far, or how many more are missing, as `progress_of` gives
-/// it; `fields` has room for the spans of 32 fields.
 fn progress_in(
     alloc: Global,
     seen: &[u8],

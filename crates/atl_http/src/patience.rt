@@ -44,8 +44,7 @@ impl<'a, C: Clock> Patience<'a, C> {
         }
     }
 
-    /// The time limit of the read or write that begins now, and the time now. TimedOut once no time
-    /// is left.
+    /// The result is the time limit of the read or write that begins now, and the time now.
     fn begin(&self) -> io::Result<(Duration, Instant)>
         ensures waits { IfOk result (λ begun. WaitsWithin self.now.left begun.0) }
         ensures over { as_nanos self.now.left ≡ 0
@@ -61,7 +60,6 @@ impl<'a, C: Clock> Patience<'a, C> {
         Instant::now(self.clock)
     }
 
-    /// Subtracts from the time left what passed from `begun` to `ended`; 0 is left if more passed.
     fn spend(&mut self, begun: Instant, ended: Instant)
         ensures { IsSpent self.old.left begun ended self.new.left }
     {
@@ -69,7 +67,6 @@ impl<'a, C: Clock> Patience<'a, C> {
     }
 }
 
-/// How long a call waits while this time is left: for all of it, but at most for `CALL_SECONDS`.
 fn wait_within(left: Duration) -> Duration
     ensures { as_nanos result ≡ min (as_nanos left) most_of_call }
 {
@@ -113,7 +110,6 @@ impl<'a, C: Clock> Peer<'a, C> {
 /// Reads from the peer, for at most 10 seconds, and subtracts the time that this took from the time
 /// left for the connection.
 impl<'a, C: Clock> Read for Peer<'a, C> {
-    /// Reads once, and returns the number of bytes; TimedOut once no time is left.
     fn read(&mut self, buf: &mut [u8]) -> io::Result<usize>
         ensures bound { ReadsAtMost result buf.new }
         ensures bytes { ReadConsumes None None result buf.new }
@@ -134,7 +130,6 @@ impl<'a, C: Clock> Read for Peer<'a, C> {
 /// Writes to the peer, for at most 10 seconds, and subtracts the time that this took from the time
 /// left for the connection.
 impl<'a, C: Clock> Write for Peer<'a, C> {
-    /// Writes once, and returns the number of bytes taken; TimedOut once no time is left.
     fn write(&mut self, buf: &[u8]) -> io::Result<usize>
         ensures bound { WritesAtMost result buf.now }
         ensures bytes { WriteAppends None None result buf.now }
@@ -151,7 +146,7 @@ impl<'a, C: Clock> Write for Peer<'a, C> {
         written
     }
 
-    /// Flushes the stream; this takes nothing from the time left.
+    /// This takes nothing from the time left.
     fn flush(&mut self) -> io::Result<()> {
         let mut stream = self.stream;
         stream.flush()

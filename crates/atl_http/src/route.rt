@@ -65,14 +65,12 @@ pub fn number_of(bytes: &[u8]) -> Option<u32>
     Some(value as u32)
 }
 
-/// The index of the first question mark; None without one.
 fn first_question(bytes: &[u8]) -> Option<usize>
     ensures { result ≡ position is_question bytes.now }
 {
     bytes.iter().position(|byte| *byte == b'?')
 }
 
-/// The index at which the path of a target ends: its first question mark, or its end.
 #[tactic(auto, using(atl_orders::proofs::WordLaws::found_or_len, atl_orders::proofs::WordLaws::found_within))]
 fn end_of_path(target: &[u8]) -> usize
     ensures value { result ≡ position_or_len is_question target.now }
@@ -89,8 +87,7 @@ pub fn path_of(target: &[u8]) -> &[u8]
     &target[..end]
 }
 
-/// Adds a route, whose text has `{number}` in place of a number, with its key. Any error is taken
-/// for lack of memory: the four routes don't conflict.
+/// Any error means that memory ran out: the four routes don't conflict.
 fn add(router: &mut Router<RouteKey>, route: &str, key: RouteKey) -> Result<(), AllocError>
     ensures { OnOk result (InsertsRead (parse_route route.now) key router.old router.new
         (Ok tt)) }
@@ -101,7 +98,6 @@ fn add(router: &mut Router<RouteKey>, route: &str, key: RouteKey) -> Result<(), 
     }
 }
 
-/// The router with the four routes. AllocError without memory for them.
 fn router(alloc: Global) -> Result<Router<RouteKey>, AllocError>
     ensures { IfOk result (λ router. router ≡ route_rows) }
 {
@@ -113,8 +109,6 @@ fn router(alloc: Global) -> Result<Router<RouteKey>, AllocError>
     Ok(router)
 }
 
-/// The route of the key `key`, with the number that the text `parameter` writes; None if the
-/// route needs a number and `parameter` writes none.
 fn route_in(key: RouteKey, parameter: Option<&str>) -> Option<Route>
     ensures { result ≡ route_in key (option_map (λ text. text.now) parameter.entry) }
 {
@@ -127,7 +121,6 @@ fn route_in(key: RouteKey, parameter: Option<&str>) -> Option<Route>
     }
 }
 
-/// The route of a path, by the router with the four routes; None if it has none.
 fn route_by(router: &Router<RouteKey>, path: &str) -> Option<Route>
     requires { router.now ≡ route_rows }
     ensures { result ≡ route_of path.now }

@@ -41,8 +41,6 @@ pub fn run_request<S: Alter>(
     Ok(service.run(&command))
 }
 
-/// Runs the command of a request, or refuses the request, and returns the reply. AllocError without
-/// memory for it, when the command may have been run.
 fn reply_to<S: Alter>(
     alloc: Global,
     service: &mut Service<S>,

@@ -121,8 +121,7 @@ fn commands_of(alloc: Global, call: Call) -> Result<Vec<Command>, AllocError> {
     }
 }
 
-/// The wanted answer to the command at index `at`, from 0, of a call's commands; None if any answer
-/// is right, as for the month's report.
+/// None if any answer is right, as for the month's report.
 fn wanted(call: Call, at: usize) -> Option<&'static str> {
     match (call, at) {
         (Call::Join | Call::Books | Call::RunAll, 0) => Some(JOINED),
@@ -142,8 +141,6 @@ fn reports(campaign: &Campaign, faction: u32, lines: &[&str]) -> bool {
     }
 }
 
-/// Whether month 1 had the wanted outcome: both reports have their lines, unit 12 exists, and units
-/// 11 and 13 were removed.
 fn is_month_right(campaign: Option<&Campaign>) -> bool {
     match campaign {
         Some(campaign) => {
@@ -190,8 +187,8 @@ impl Case {
         are_wanted && (self.call != Call::Close || is_month_right(campaign))
     }
 
-    /// The case of a call, recorded with ample memory in the database of `conn`; None if a step
-    /// fails or an outcome isn't the wanted one.
+    /// The case is recorded with ample memory. None if a step fails or an outcome isn't the wanted
+    /// one.
     fn played<S: Alter + Drop>(alloc: Global, call: Call, conn: Connection<S>) -> Option<Case> {
         let mut case = Case::new(alloc, call).ok()?;
         let mut service = match call {

@@ -22,8 +22,7 @@ use std::{env, io};
 /// more room than any tried call needs.
 const STACK_CALLS: u32 = 8_192;
 
-/// Makes the stack grow by `times` nested calls, each of which holds a block; true if no block was
-/// refused.
+/// The nested calls make the stack grow, and each holds a block. True if no block was refused.
 fn deepen(alloc: Global, times: u32) -> bool {
     if times == 0 {
         return true;
@@ -33,8 +32,7 @@ fn deepen(alloc: Global, times: u32) -> bool {
     held.is_ok() && is_deep
 }
 
-/// Tries a call with 0, 1, 2, .. free blocks until it succeeds, and prints the result; with fewer
-/// blocks it must answer Memory.
+/// With fewer blocks than it needs the call must answer Memory.
 fn with_blocks(rt: &HostRuntime, case: &Case, shortage: &mut Shortage) -> io::Result<()> {
     let call = case.call;
     for blocks in 0..2_000u32 {
@@ -50,9 +48,8 @@ fn with_blocks(rt: &HostRuntime, case: &Case, shortage: &mut Shortage) -> io::Re
     println!(rt; "{call:?}: never done")
 }
 
-/// Tries a call again and again, each time with one growth (a request for memory) refused, and
-/// prints the result. The number of the refused growth rises by `step` each time, until none is
-/// refused.
+/// One growth (a request for memory) is refused each time; its number rises by `step`, until none
+/// is refused.
 fn with_refusals(
     rt: &HostRuntime,
     case: &Case,
@@ -91,7 +88,6 @@ fn try_call(
     }
 }
 
-/// The step between refused growths: the number on the command line, or 1.
 fn step(rt: &HostRuntime) -> io::Result<u32> {
     match env::args(rt)?.nth(1) {
         Some(word) => Ok(word.as_str().parse::<u32>().unwrap_or(1).max(1)),
@@ -99,7 +95,6 @@ fn step(rt: &HostRuntime) -> io::Result<u32> {
     }
 }
 
-/// Tries each call with few blocks left and then, if the heap counts growths, with each refused.
 fn main(rt: HostRuntime) -> io::Result<()> {
     let step = step(&rt)?;
     let Some(mut shortage) = Shortage::new(rt.alloc()) else {

@@ -86,8 +86,6 @@ pub fn founded<S: Alter + Drop>(alloc: Global, conn: Connection<S>) -> Option<Se
     }
 }
 
-/// The service of the island's campaign with the factions, units and boat of `MONTH_ROWS`, without
-/// mail; None if a step fails.
 fn filled<S: Alter + Drop>(alloc: Global, conn: Connection<S>) -> Option<Service<S>> {
     let mut conn = founded(alloc, conn)?.end();
     conn.execute_batch(MONTH_ROWS).ok()?;

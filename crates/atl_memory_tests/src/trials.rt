@@ -48,8 +48,6 @@ fn judged(was_refused: Option<bool>, behaviour: Behaviour) -> TrialResult {
     }
 }
 
-/// What a call that answered Memory did: `Memory` if it left what it had to leave (`is_as_before`),
-/// else `Wrong`.
 fn after_memory(is_as_before: bool) -> Behaviour {
     if is_as_before {
         Behaviour::Memory
@@ -71,8 +69,6 @@ fn has_rows<S: Alter + Drop>(alloc: Global, service: Service<S>, wanted: &str) -
         && is_text(rows_of(alloc, service.end()), wanted)
 }
 
-/// Whether a service is closed: it has no campaign and no books, still lends its world, and answers
-/// Closed to each kind of command.
 fn is_closed<S: Alter>(service: &mut Service<S>, case: &Case) -> bool {
     let mut is_closed = service.campaign().is_none()
         && service.books().is_none()
@@ -135,8 +131,7 @@ fn judge_answers<S: Alter + Drop>(
     }
 }
 
-/// Whether a service has the rows from before the call, and the case's commands, run now, have the
-/// outcome of ample memory.
+/// The case's commands, run now, must have the outcome of ample memory.
 fn works_as_before<S: Alter + Drop>(alloc: Global, mut service: Service<S>, case: &Case) -> bool {
     let is_as_before = is_text(rows(alloc, service.campaign()), case.rows_after(0));
     match service.run_all(&case.commands) {
@@ -146,8 +141,7 @@ fn works_as_before<S: Alter + Drop>(alloc: Global, mut service: Service<S>, case
     }
 }
 
-/// Founds a campaign with memory short, and judges the result; after Memory the database must have
-/// no tables.
+/// After Memory the database must have no tables.
 fn founds<S: Alter + Drop>(
     alloc: Global,
     conn: Connection<S>,
@@ -169,8 +163,7 @@ fn founds<S: Alter + Drop>(
     }
 }
 
-/// Opens a service's database with memory short, and judges the result; after Memory the database
-/// must have the rows that it had.
+/// After Memory the database must have the rows that it had.
 fn opens<S: Alter + Drop>(
     alloc: Global,
     service: Service<S>,
@@ -208,8 +201,7 @@ fn is_still_old<S: Alter + Drop>(alloc: Global, conn: Connection<S>, case: &Case
     }
 }
 
-/// Upgrades a file of the first format with memory short, and judges the result; after Memory the
-/// file must still be of the first format, and an upgrade must then succeed.
+/// After Memory the file must still be of the first format, and an upgrade must then succeed.
 fn upgrades<S: Alter + Drop>(
     alloc: Global,
     service: Service<S>,
@@ -353,8 +345,6 @@ fn try_on_service<S: Alter + Drop>(
     }
 }
 
-/// Tries the call of a case with memory short in an empty database, which is filled before any call
-/// but a founding.
 fn try_in_database<S: Alter + Drop>(
     alloc: Global,
     conn: Connection<S>,

@@ -34,8 +34,6 @@ static ENTRIES: [(&str, BooksEntry); ENTRY_COUNT] = [
     ("stocked", BooksEntry::Stocked),
 ];
 
-/// The amount booked of a thing under an entry, or 0 if the books have no such thing. `index` is
-/// the thing's index.
 fn booked(campaign: &Campaign, entry: BooksEntry, index: usize, thing: Thing) -> i64
     requires { thing_index thing ≡ index }
 {
@@ -46,8 +44,7 @@ fn booked(campaign: &Campaign, entry: BooksEntry, index: usize, thing: Thing) ->
     }
 }
 
-/// Appends a line for each entry of the books under which the amount of a thing changed: by how
-/// much it rose, negative where it fell.
+/// Each line says by how much an amount rose, negative where it fell.
 fn write_thing(
     alloc: Global,
     of: &str,

@@ -13,7 +13,6 @@ use std::alloc::{AllocError, Global};
 use std::fs;
 use std::str::Lines;
 
-/// Appends a line for an event: its unit, line, faction and keyword, and its outcome.
 fn write_event(alloc: Global, event: &Event, report: &mut String) -> Result<(), AllocError> {
     let (word, number) = match event.outcome {
         Outcome::Done(number) => ("done", number),
@@ -75,8 +74,6 @@ impl Drop for FilePlayer {
 }
 
 impl FilePlayer {
-    /// The state in which a file of cases begins: a campaign of two factions without units, the run
-    /// `orders`, and no case yet.
     fn new(alloc: Global, world: World) -> FilePlayer {
         FilePlayer {
             world,
@@ -88,8 +85,6 @@ impl FilePlayer {
         }
     }
 
-    /// Plays a case, and appends its result to the report if it differs from the lines that the
-    /// file expects.
     fn play(&mut self, alloc: Global, case: &Case) -> Result<(), Failed> {
         let report = result_of(alloc, &self.world, &self.setting, self.run, case)?;
         self.played = self.played.wrapping_add(1);
@@ -120,7 +115,6 @@ impl FilePlayer {
         self.add_to_campaign(count.parse::<u32>().ok()?, line)
     }
 
-    /// Adds a line to the current case, or to the campaign if no case has begun.
     fn add_line(&mut self, alloc: Global, line: &str) -> Option<()> {
         let (word, rest) = line.split_once(' ').unwrap_or((line, ""));
         match &mut self.case {
@@ -130,14 +124,12 @@ impl FilePlayer {
         }
     }
 
-    /// Plays the last case, and starts a campaign without units for the cases after it.
     fn begin_campaign(&mut self, alloc: Global) -> Result<(), Failed> {
         self.finish(alloc)?;
         self.setting = Setting::new(alloc);
         Ok(())
     }
 
-    /// Plays the last case, and sets which phases the cases after it play.
     fn begin_run(&mut self, alloc: Global, name: &str) -> Result<(), Failed> {
         self.finish(alloc)?;
         self.run = Run::of_name(name).ok_or(Failed("no phases"))?;
@@ -150,8 +142,6 @@ impl FilePlayer {
         Ok(())
     }
 
-    /// Carries out a line of the file: passes over a comment, begins a campaign, a run or a case,
-    /// or adds the line to the current case or campaign.
     fn read(&mut self, alloc: Global, line: &str) -> Result<(), Failed> {
         if line.is_empty() || line.starts_with("--") {
             Ok(())
@@ -166,8 +156,6 @@ impl FilePlayer {
         }
     }
 
-    /// Appends to the report that a line can't be read, or its case not be played; `index` is its
-    /// index after the first line.
     fn report_failed(
         &mut self,
         alloc: Global,

@@ -6,7 +6,6 @@ use atl_campaign::{Campaign, Faction, Region, Structure, Unit};
 use atl_world::World;
 use std::alloc::{AllocError, Global};
 
-/// A unit's faction, region, structure, men, money and guard flag; zeros if there is no unit.
 fn numbers_of(unit: Option<&Unit>) -> [i64; 6] {
     match unit {
         Some(found) => [
@@ -103,8 +102,6 @@ fn write_unit(
     write_skills(alloc, world, of, before, after, output)
 }
 
-/// Appends the changes of the units that were there before; of one that isn't there now, only that
-/// it is gone.
 fn write_units(
     alloc: Global,
     world: &World,
@@ -125,8 +122,6 @@ fn write_units(
     Ok(())
 }
 
-/// Appends, for each unit that wasn't there before, its name and each of its numbers, items and
-/// skills that isn't 0.
 fn write_new_units(
     alloc: Global,
     world: &World,
@@ -143,7 +138,6 @@ fn write_new_units(
     Ok(())
 }
 
-/// A structure's region, how much is built, and its owner; zeros if there is no structure.
 fn structure_numbers(structure: Option<&Structure>) -> [i64; 3] {
     match structure {
         Some(found) => [

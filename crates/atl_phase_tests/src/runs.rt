@@ -53,7 +53,7 @@ impl Run {
     }
 }
 
-/// Plays all phases that carry out orders, except WORK.
+/// WORK isn't among these phases.
 fn carry_out(
     alloc: Global,
     world: &World,
@@ -132,8 +132,7 @@ fn sweep(
     SweepPhase.run(alloc, world, campaign, month)
 }
 
-/// Plays the phases of `run`; the result is the campaign and the month after them. A whole month is
-/// left to `close`: here it changes nothing.
+/// A whole month is left to `close`: here it changes nothing.
 fn run_phases(
     alloc: Global,
     world: &World,

@@ -28,7 +28,6 @@ impl Case {
         })
     }
 
-    /// Adds a line to the last mailing, if there is one.
     fn add_mail(&mut self, line: &str) -> Result<(), AllocError> {
         if let Some(mailing) = self.mailings.last_mut() {
             mailing.push_str(line)?;
@@ -43,7 +42,6 @@ impl Case {
     }
 }
 
-/// The N whole numbers of a text, separated by blanks; None if the text is anything else.
 fn numbers<const N: usize>(text: &str) -> Option<[i64; N]> {
     let mut all = [0; N];
     let mut words = text.split_whitespace();
@@ -56,8 +54,6 @@ fn numbers<const N: usize>(text: &str) -> Option<[i64; N]> {
     Some(all)
 }
 
-/// Reads a unit from `FACTION REGION STRUCTURE MEN MONEY`, followed by `guard` if its guard flag is
-/// set.
 fn unit(text: &str) -> Option<UnitSetting> {
     let (text, guard) = match text.strip_suffix(" guard") {
         Some(front) => (front, true),
@@ -74,7 +70,6 @@ fn unit(text: &str) -> Option<UnitSetting> {
     })
 }
 
-/// Reads what a unit has from `UNIT THING AMOUNT`; the thing is an item or a skill of the world.
 fn good_setting(world: &World, text: &str) -> Option<GoodSetting> {
     let (unit, rest) = text.split_once(' ')?;
     let (name, amount) = rest.split_once(' ')?;
@@ -91,7 +86,6 @@ fn good_setting(world: &World, text: &str) -> Option<GoodSetting> {
     })
 }
 
-/// Reads a structure from `KIND REGION DONE OWNER`; the kind is one of the world.
 fn structure(world: &World, text: &str) -> Option<StructureSetting> {
     let (name, rest) = text.split_once(' ')?;
     let [region, done, owner] = numbers::<3>(rest)?;
@@ -103,7 +97,6 @@ fn structure(world: &World, text: &str) -> Option<StructureSetting> {
     })
 }
 
-/// Reads the stock of a region from `REGION ITEM AMOUNT`; the item is one of the world.
 fn read_stock(world: &World, text: &str) -> Option<StockSetting> {
     let (region, rest) = text.split_once(' ')?;
     let (name, amount) = rest.split_once(' ')?;
@@ -130,7 +123,6 @@ fn add_structure(world: &World, setting: &mut Setting, text: &str) -> Option<()>
     setting.structures.push(structure(world, text)?).ok()
 }
 
-/// Adds the unit of a `menless` line, which loses its men, to a setting.
 fn add_menless(setting: &mut Setting, text: &str) -> Option<()> {
     setting.menless.push(text.parse::<u32>().ok()?).ok()
 }

@@ -81,8 +81,6 @@ impl Setting {
         }
     }
 
-    /// The number of the unit that is formed next: one above the last unit's, and at least the
-    /// field `next_unit`.
     fn next_unit(&self) -> i64 {
         (self.units.len() as i64)
             .wrapping_add(1)
@@ -122,7 +120,6 @@ fn head(alloc: Global, setting: &Setting) -> Result<Sequence<StoredCampaignRow>,
     Ok(all)
 }
 
-/// The row of a faction, which is gone if it has no unit.
 fn faction(
     alloc: Global,
     number: i64,
@@ -239,7 +236,6 @@ fn structures_of(
     Ok(all)
 }
 
-/// Adds a row of the books for an amount of a thing under Joining, unless it is 0.
 fn book(books: &mut Sequence<StoredBooks>, thing: i64, amount: i64) -> Result<(), AllocError> {
     if amount != 0 {
         books.push(StoredBooks {
@@ -281,7 +277,7 @@ fn money_and_men(units: &[UnitSetting]) -> (i64, i64) {
     (money, men)
 }
 
-/// Books all that the units have and all that is in stock under Joining, so that the books balance.
+/// All is booked under Joining, so that the books balance.
 fn book_all(
     world: &World,
     setting: &Setting,
@@ -300,8 +296,6 @@ fn book_all(
     Ok(())
 }
 
-/// Puts the rows of a setting in place of those of a campaign just founded, and adds to its books
-/// all that the setting has.
 fn fill(
     alloc: Global,
     world: &World,
@@ -341,7 +335,6 @@ pub(crate) fn good_campaign(
     }
 }
 
-/// Takes all men and all days of study from a unit.
 fn empty_unit(alloc: Global, world: &World, campaign: &mut Campaign, number: u32)
     requires early { IsEarly world.now campaign.old.value }
     ensures early { IsEarly world.now campaign.new.value }

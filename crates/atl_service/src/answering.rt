@@ -18,8 +18,7 @@ use atl_world::{Sequence, Text, World, name_ok, pass_ok};
 use sqlite::{Alter, Connection};
 use std::alloc::{AllocError, Global};
 
-/// Carries out or refuses a command Join, and returns the answer: a faction joins with its first
-/// report. The commit is the last call that can fail.
+/// The commit is the last call that can fail.
 fn join<S: Alter>(
     alloc: Global,
     world: &World,
@@ -51,7 +50,6 @@ fn join<S: Alter>(
     Ok(Answer::Joined { faction, unit })
 }
 
-/// The faction with this number, if the pass text is its own; else NoFaction or WrongPass.
 fn faction_with_pass<'a>(
     campaign: &'a Campaign,
     faction: u32,
@@ -102,9 +100,6 @@ impl From<MailFault> for MailError {
     }
 }
 
-/// Reads the mailing of a command Mail before it is stored. With Ok the faction isn't gone, the
-/// mailing is its own, and `step` stores it. The error is the first refusal, or Memory. Nothing
-/// changes.
 #[tactic(auto, unfolding(crate::specs::Step::step))]
 fn mailing_to_keep(
     alloc: Global,
@@ -138,8 +133,7 @@ fn mailing_to_keep(
     Ok(mailing)
 }
 
-/// Carries out or refuses a command Mail, and returns the answer: the mailing is stored. The commit
-/// is the last call that can fail.
+/// The commit is the last call that can fail.
 fn mail<S: Alter>(
     alloc: Global,
     world: &World,
@@ -166,8 +160,6 @@ fn mail<S: Alter>(
     Ok(Answer::Mailed { orders, faults })
 }
 
-/// The answer to a command Report: a copy of the stored report, empty if there is none, or a
-/// refusal.
 #[tactic(auto, unfolding(crate::specs::Step::step))]
 fn report(
     alloc: Global,

@@ -31,7 +31,7 @@ pub(crate) struct ReadMail {
     pub(crate) faults: Numbered<Sequence<FaultyLine>>,
 }
 
-/// Turns the fault Memory, the only one that reading a stored mailing can give, into AllocError.
+/// Memory is the only fault that reading a stored mailing can give.
 fn out_of_memory(fault: MailFault) -> AllocError
     requires { fault ≡ Memory }
 {
@@ -39,8 +39,7 @@ fn out_of_memory(fault: MailFault) -> AllocError
     AllocError
 }
 
-/// Reads a stored mailing, which fails only if memory runs out: the mailing was read before it
-/// was stored.
+/// The mailing was read before it was stored, so only memory can run out.
 fn read_stored(alloc: Global, world: &World, text: &[u8]) -> Result<Mailing, AllocError>
     requires { (faction : ℕ) × IsMailingOf faction text.now }
     ensures kept { IfOk result (λ m. m.text ≡ text.now) }
@@ -52,7 +51,6 @@ fn read_stored(alloc: Global, world: &World, text: &[u8]) -> Result<Mailing, All
     }
 }
 
-/// Reads all stored mailings of a good campaign, in the order of the factions' numbers.
 fn read_mail(alloc: Global, world: &World, campaign: &Campaign) -> Result<ReadMail, AllocError>
     requires { IsGood world.now campaign.now.value }
     ensures { IfOk result (HasRead world.now campaign.now.value) }
@@ -68,9 +66,7 @@ fn read_mail(alloc: Global, world: &World, campaign: &Campaign) -> Result<ReadMa
     Ok(ReadMail { mailings, faults })
 }
 
-/// Runs the month's phases, counts the month, removes the mail, and returns what the reports need:
-/// once they are stored, the campaign is that of `closed`. No mark is lost, and all that changed is
-/// marked. If memory runs out, the campaign in memory may be lost, with a blank one in its place.
+/// If memory runs out, the campaign in memory may be lost, with a blank one in its place.
 fn turn_month(
     alloc: Global,
     world: &World,
@@ -101,8 +97,6 @@ fn turn_month(
     })
 }
 
-/// Checks pass text, month and number of dice words of a command Close, in the order of `step`; the
-/// error is the first refusal.
 #[tactic(auto, unfolding(crate::specs::Step::step))]
 fn check_close(
     world: &World,

@@ -31,9 +31,6 @@ impl Drop for MonthResult {
     }
 }
 
-/// Stores a new report for a faction: what it sees (`seen`), the faulty lines `faults` of its
-/// mailing, and its own events among `events`. The report is marked. If memory runs out, the
-/// campaign stays as it is.
 fn store_report_with(
     alloc: Global,
     world: &World,
@@ -72,9 +69,6 @@ pub(crate) fn store_first_report(
     store_report_with(alloc, world, campaign, &seen, faction, &[], &[])
 }
 
-/// Stores a report of the month for one faction, by the structures and the units of each region
-/// (`lists`) and the events of each faction (`sorted`). They must be right for the campaign and the
-/// month's events. No mark is lost, and what changed is marked.
 fn report_to(
     alloc: Global,
     world: &World,
@@ -98,9 +92,7 @@ fn report_to(
     store_report_with(alloc, world, campaign, &seen, faction, faults, events)
 }
 
-/// Stores the reports of the month one after another, for each faction that gets one. They are made
-/// by the structures and the units of each region (`lists`) and the events of each faction
-/// (`sorted`). No report makes these lists wrong.
+/// No report makes the lists of regions wrong.
 fn report_to_each(
     alloc: Global,
     world: &World,

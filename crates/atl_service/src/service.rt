@@ -65,8 +65,6 @@ impl<S: Alter> Service<S> {
     ghost use Rattle.atl_service.specs.Service.{IsService, text_in};
     ghost use Rattle.atl_service.specs.Runs.{Runs, RunsAll, HeadlineAt};
 
-    /// Makes an open service of a world and a campaign whose rows are in the connection's
-    /// tables, with nothing of the campaign marked.
     fn opened(alloc: Global, conn: Connection<S>, world: World, campaign: Campaign) -> Service<S>
         requires { IsService S.Store conn world campaign true }
         ensures { result ≡ record { conn = conn; world = world; campaign = Some campaign.value } }

@@ -7,8 +7,7 @@ use atl_campaign::Event;
 use atl_world::{Numbered, Sequence};
 use std::alloc::{AllocError, Global};
 
-/// Adds an event at the end of its faction's list. If memory runs out, the lists are no longer
-/// usable.
+/// If memory runs out, the lists are no longer usable.
 fn add_event(
     alloc: Global,
     sorted: &mut Numbered<Sequence<Event>>,

@@ -69,7 +69,7 @@ fn assert_numbers(rt: &impl Abort, faults: &[(HttpFault, Option<u8>)]) {
     }
 }
 
-/// Each fault of a request has the number that docs/FORMATS.md, "For developers", lists.
+/// The numbers are those of docs/FORMATS.md, "For developers".
 #[test]
 fn faults_have_their_numbers(rt: HostRuntime) {
     assert_numbers(&rt, &NUMBERS);

@@ -27,8 +27,6 @@ static TOO_MANY_READS: [(usize, usize); 4] = [
     (1, usize::MAX),
 ];
 
-/// Serves a join from a reader, and asserts the reply or the fault (`words`), and how many reads
-/// there were.
 fn assert_join_read(
     rt: &impl Abort,
     alloc: Global,
@@ -57,8 +55,7 @@ fn reads_within_the_bound(rt: HostRuntime) -> Result<(), Fail> {
     assert_reads_are_enough(&rt, rt.alloc())
 }
 
-/// Asserts for each row of `TOO_MANY_READS` that 1,000,000 reads end in ReadFault. No command is
-/// run: the faction that joins next is the first.
+/// No command is run: the faction that joins next is the first.
 fn assert_reads_are_too_many(rt: &impl Abort, alloc: Global, service: &mut impl HttpService) {
     for (piece, interruptions) in TOO_MANY_READS.iter() {
         let mut reader = Pieces::of(JOIN.as_bytes(), *piece);

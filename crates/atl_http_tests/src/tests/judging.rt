@@ -20,7 +20,6 @@ static BYTES: [(&str, &str); 5] = [
     ("GET /nowhere HTTP/1.0\r\n\r\nmore", "NoRoute"),
 ];
 
-/// The name of a verdict, as `BYTES` has it: `more`, `asks`, or the name of the problem.
 fn name_of(verdict: &Verdict) -> &'static str {
     match verdict {
         Verdict::More => "more",

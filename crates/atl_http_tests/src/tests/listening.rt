@@ -26,7 +26,6 @@ static PEERS: [(&str, bool, &str); 4] = [
     (REPORT, false, REPORTED),
 ];
 
-/// A connection of a peer that has sent a request, and has ended its side if `ends`.
 fn peer<R: Net<Stream = TcpStream>>(
     net: &R,
     to: SocketAddr,
@@ -53,7 +52,6 @@ fn peers<R: Net<Stream = TcpStream>>(
     Ok(streams)
 }
 
-/// Asserts that `wanted` is all that a peer receives until its connection ends.
 fn assert_received(
     rt: &impl Abort,
     alloc: Global,
@@ -100,8 +98,8 @@ fn over_a_socket(rt: HostRuntime) -> Result<(), Fail> {
     }
 }
 
-/// Asserts that serving ends in the fault Net if the listener doesn't wait and has no connection.
-/// No command was run: the faction that joins next is the first.
+/// The listener doesn't wait and has no connection. No command is run: the faction that joins next
+/// is the first.
 fn assert_net_fault<R: Clock + Abort>(
     rt: &R,
     alloc: Global,

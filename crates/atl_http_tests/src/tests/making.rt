@@ -32,8 +32,7 @@ fn status_in(reply: &str) -> Option<u16> {
     status.parse::<u16>().ok()
 }
 
-/// The text of a reply, if its first line has the status `status`, which serving returned; else
-/// words that no case wants.
+/// Serving returned `status`. A reply with another one gives words that no case wants.
 fn reply_of(status: u16, written: &[u8]) -> &str {
     match str::from_utf8(written) {
         Ok(reply) if status_in(reply) == Some(status) => reply,

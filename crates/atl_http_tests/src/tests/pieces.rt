@@ -112,7 +112,7 @@ const LONGEST_HEAD: &str =
 const MAILED: &str =
     "HTTP/1.1 200 OK\r\nContent-Type: application/json\r\nContent-Length: 24\r\nConnection: close\r\n\r\n{\"faults\":[],\"orders\":0}";
 
-/// The request with the longest mailing: a header of 11 bytes, and line feeds.
+/// The mailing is a header of 11 bytes, and line feeds.
 fn longest_request(alloc: Global) -> Result<Vec<u8>, Fail> {
     let mut request = Vec::from_slice(alloc, LONGEST_HEAD.as_bytes())?;
     request.extend_from_slice(b"#ATLANTIS 1")?;
@@ -133,8 +133,7 @@ fn assert_mailing_byte_by_byte(
     Ok(())
 }
 
-/// The head of a request for a report, with a field whose value has `long` bytes, and `fields`
-/// short fields.
+/// One field has a value of `long` bytes, and `fields` short ones follow.
 fn head(alloc: Global, long: usize, fields: usize) -> Result<Vec<u8>, Fail> {
     let mut head = Vec::from_slice(alloc, b"GET /report/1 HTTP/1.0\r\nAtlantis-Pass: pw\r\nA:")?;
     head.extend_from_slice(&b"x".repeat(alloc, long)?)?;

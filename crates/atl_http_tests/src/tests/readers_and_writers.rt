@@ -102,7 +102,7 @@ impl Write for NarrowWriter {
         }
     }
 
-    /// Does nothing: each byte is taken at once.
+    /// Each byte is taken at once.
     fn flush(&mut self) -> io::Result<()> {
         Ok(())
     }

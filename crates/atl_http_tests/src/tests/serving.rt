@@ -29,7 +29,7 @@ pub(crate) trait HttpService {
         count: u32,
     ) -> Result<(), ListenFault>;
 
-    /// The number of the faction that joins next; 0 if the service is closed.
+    /// 0 if the service is closed.
     fn next_faction(&self) -> u32;
 
     fn books(&self) -> Option<Result<String, AllocError>>;

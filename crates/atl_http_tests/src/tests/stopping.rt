@@ -19,7 +19,7 @@ const CLOSED: &str =
 /// A join at which the disk stops, and two requests after it.
 static STOPPED: [Case; 3] = [(JOIN, STORE), (JOIN, CLOSED), (REPORT, CLOSED)];
 
-/// A database connection to files; None if the disk stops before it is open.
+/// None if the disk stops before it is open.
 fn open<D: Disk + Drop>(alloc: Global, files: Files<D>) -> Option<Connection<FileStore<D>>> {
     if !files.may_be_used() {
         return None;
@@ -27,8 +27,7 @@ fn open<D: Disk + Drop>(alloc: Global, files: Files<D>) -> Option<Connection<Fil
     Connection::open_files(alloc, files, Options::new(1)).ok()
 }
 
-/// Founds a campaign on files, and asserts the replies of `STOPPED`; false if the disk stopped
-/// before the campaign was founded.
+/// False if the disk stopped before the campaign was founded.
 fn stops<D: Disk + Drop>(rt: &impl Abort, alloc: Global, files: Files<D>) -> bool {
     let Some(conn) = open(alloc, files) else {
         return false;
@@ -41,7 +40,6 @@ fn stops<D: Disk + Drop>(rt: &impl Abort, alloc: Global, files: Files<D>) -> boo
     true
 }
 
-/// Empty files; the disk of the log stops after `calls` calls.
 fn stopping_files(alloc: Global, calls: u64) -> Files<Fuse<Memory>> {
     Files {
         log: Fuse::new(Memory::new(alloc), calls),

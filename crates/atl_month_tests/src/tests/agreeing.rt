@@ -19,8 +19,6 @@ use std::alloc::{AllocError, Global};
 use std::process::Abort;
 use std::test::Fail;
 
-/// Asserts that a list is the wanted one. The message names what is listed (`what`), and the index
-/// of the first difference if both lists are equally long.
 fn assert_equal_lists<T: PartialEq>(rt: &impl Abort, what: &str, actual: &[T], wanted: &[T]) {
     assert!(rt; actual.len() == wanted.len(), "so many {what}");
     for (place, (actual, wanted)) in actual.iter().zip(wanted.iter()).enumerate() {
@@ -190,8 +188,6 @@ fn run_sharing(
     }
 }
 
-/// Plays a phase of `COMPARED_PHASES` as the program does; the result is the campaign and the month
-/// after it. The campaign must be good, and the month's mailings read with its world.
 fn run_phase(
     alloc: Global,
     world: &World,
@@ -273,8 +269,6 @@ static WANTS: [&[u64]; 6] = [
 
 const MOST_SHARED: u64 = 300;
 
-/// Asserts that `share` splits one pot among the wants `wants` as the reference does; a pot above
-/// `MOST_SHARED` and a want above 999,999,999 are a failure.
 fn assert_pot(rt: &impl Abort, alloc: Global, pot: u64, wants: &[u64]) -> Result<(), Fail> {
     if pot > MOST_SHARED || !are_small(wants) {
         return Err(Fail::new("a pot and wants that are small enough"));

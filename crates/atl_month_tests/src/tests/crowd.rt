@@ -236,7 +236,6 @@ const PEOPLE_THING: i64 = 1;
 
 const FIRST_ITEM_THING: i64 = 2;
 
-/// The value that `number` picks from a table: the one at the index `number`, modulo its length.
 fn picked<T: Copy + Drop>(table: &[T], number: u32) -> T
     requires { 1 ≤ length table.now }
 {
@@ -292,12 +291,11 @@ fn faction_of(number: u32) -> u32 {
     number % FACTIONS + 1
 }
 
-/// The region of the unit with this number; up to `IN_A_ROW` consecutive numbers are in one region.
 fn region_of(number: u32) -> u32 {
     number / IN_A_ROW % REGIONS + 1
 }
 
-/// Whether a unit guards: in a region only units of one faction do, and not all of them.
+/// In a region only units of one faction guard, and not all of them.
 fn guards(number: u32) -> bool {
     region_of(number) % FACTIONS + 1 == faction_of(number) && number % 5 != 0
 }
@@ -331,8 +329,7 @@ fn units(alloc: Global) -> Result<Sequence<StoredUnit>, AllocError> {
     Ok(units)
 }
 
-/// Adds to the rows of `has` how much a unit has of an item (`sort` 0), or its days of a skill (1),
-/// unless that is 0.
+/// `sort` is 0 for an item, and 1 for a skill.
 fn add_good(
     number: u32,
     sort: i64,
@@ -461,7 +458,6 @@ fn reports(alloc: Global) -> Result<Sequence<StoredReport>, AllocError> {
     Ok(all)
 }
 
-/// Adds a row of the books for an amount of a thing under Joining, unless the amount is 0.
 fn book(thing: i64, amount: i64, books: &mut Sequence<StoredBooks>) -> Result<(), AllocError> {
     if amount == 0 {
         return Ok(());
@@ -506,8 +502,6 @@ fn book_all(
     Ok(())
 }
 
-/// Puts the crowd's factions, units, goods, stocks and reports into the rows of a campaign just
-/// founded. The books get rows under Joining for all that the units have and all that is in stock.
 fn fill(alloc: Global, parts: &mut Parts) -> Result<(), AllocError> {
     parts.markets = stocks(alloc)?;
     book_all(&parts.markets, &mut parts.books)?;
@@ -540,8 +534,6 @@ pub(crate) fn crowd(alloc: Global, world: &World) -> Result<Campaign, Fail>
     checked(alloc, world, rows)
 }
 
-/// The unit for which the orders that `number` picks are written: the unit with this number, or the
-/// next one if the number is a multiple of `MISDIRECTED_DIVISOR`.
 fn ordered_unit(number: u32) -> u32 {
     if number % MISDIRECTED_DIVISOR == 0 {
         number.wrapping_add(1)

@@ -53,8 +53,7 @@ fn two_factions(alloc: Global, world: &World) -> Result<Campaign, Fail>
 /// A mailing in which unit 1 changes its name, pays unit 2, and recruits a man.
 static PAYING: [&str; 1] = ["#ATLANTIS 1\nUNIT 1\nNAME UNIT Watch\nPAY 2 10\nRECRUIT 1\n"];
 
-/// The campaign after a first month with the mailings `texts` is closed; `words` has a word of the
-/// dice for each region.
+/// `words` has a word of the dice for each region.
 fn after_month(
     alloc: Global,
     world: &World,
@@ -101,7 +100,6 @@ const WOOD: i64 = 20;
 
 const CARPENTRY: i64 = 30;
 
-/// Adds rows by which unit 1 has wood and days of carpentry; the wood is booked under Joining.
 fn equip(rows: &mut Parts) -> Result<(), AllocError> {
     rows.has.push(StoredHas {
         unit: 1,
@@ -122,8 +120,7 @@ fn equip(rows: &mut Parts) -> Result<(), AllocError> {
     })
 }
 
-/// The campaign of `two_factions` with the goods of `equip`; nothing of it is marked. The world is
-/// the island with a market of wood.
+/// Nothing of the campaign is marked. The world is the island with a market of wood.
 fn equipped(alloc: Global, world: &World) -> Result<Campaign, Fail>
     ensures { IfOk result (λ campaign. IsGood world.now campaign.value) }
 {
@@ -138,7 +135,6 @@ fn island_after_month(alloc: Global, world: &World, mailing: &str) -> Result<Cam
     after_month(alloc, world, campaign, &[mailing], &[0, 0, 0, 0])
 }
 
-/// Appends the numbers of marked units to a text, each with a blank after it, and then `|`.
 fn write_numbers(
     alloc: Global,
     numbers: MarkedNumbers<'_>,
@@ -150,8 +146,6 @@ fn write_numbers(
     output.push_str("|")
 }
 
-/// Appends to a text the items, or the skills, of one unit that are marked one by one. Each is
-/// written as `unit:thing` with a blank after it.
 fn write_things_of(
     alloc: Global,
     unit: u32,
@@ -164,8 +158,6 @@ fn write_things_of(
     Ok(())
 }
 
-/// Appends to a text the items, or the skills, of all units that are marked one by one. Each is
-/// written as `unit:thing` with a blank after it; `|` ends the list.
 fn write_things(
     alloc: Global,
     units: Entries<'_, Numbered<()>>,
@@ -177,9 +169,8 @@ fn write_things(
     output.push_str("|")
 }
 
-/// What a campaign has marked of units, as five lists in a text, each ended by `|`. They are the
-/// marked units, those with marked rows, those with all their goods marked, single items, and
-/// single skills.
+/// The five lists are the marked units, those with marked rows, those with all their goods marked,
+/// single items, and single skills.
 fn marks_of(alloc: Global, campaign: &Campaign) -> Result<String, AllocError> {
     let mut output = String::new(alloc);
     write_numbers(alloc, campaign.marked_units(), &mut output)?;

@@ -13,8 +13,6 @@ use std::alloc::Global;
 use std::process::Abort;
 use std::test::Fail;
 
-/// Appends the orders that a phase gets in a month to a text, each as unit, line, faction and
-/// keyword, and then `|`.
 fn write_orders<P: PhaseVerbs>(
     alloc: Global,
     month: &Month,
@@ -36,8 +34,6 @@ fn write_orders<P: PhaseVerbs>(
     Ok(())
 }
 
-/// The orders that the phases of FORM, GIVE, RECRUIT, STUDY and WORK get, as text, each phase ended
-/// by `|`.
 fn orders_text(alloc: Global, month: &Month) -> Result<String, Fail> {
     let mut output = String::new(alloc);
     write_orders(
@@ -142,8 +138,7 @@ fn orders_of_phases(rt: HostRuntime) -> Result<(), Fail> {
     assert_all_orders(&rt, rt.alloc(), &world)
 }
 
-/// A month of two mailings, in which FORM 1 of faction 1 made unit 7, and FORM 2 of faction 2 made
-/// unit 6.
+/// FORM 1 of faction 1 made unit 7, and FORM 2 of faction 2 made unit 6.
 fn formed(alloc: Global, world: &World) -> Result<Month, Fail> {
     let first = "#ATLANTIS 1\nUNIT 4\nFORM 1\nWORK\nEND\nFORM 2\nWORK";
     let second = "#ATLANTIS 2\nUNIT 5\nFORM 1\nSTUDY sailing\nEND\nFORM 2\nWORK";
@@ -189,7 +184,6 @@ fn month_long_orders(rt: HostRuntime) -> Result<(), Fail> {
     )
 }
 
-/// Asserts which units four aliases mean in the month of `formed`: two of them have no unit.
 fn assert_aliases(rt: &impl Abort, month: &Month) {
     assert!(rt; month.alias(1, 1) == Some(7));
     assert!(rt; month.alias(1, 2).is_none());
@@ -224,7 +218,6 @@ const EVENT: Event = Event {
     outcome: Outcome::Done(7),
 };
 
-/// Asserts that the verb of an order is the wanted one; None means that there is no such order.
 fn assert_verb(rt: &impl Abort, output: Option<Verb>, wanted: Option<Verb>) {
     assert!(rt; output == wanted);
 }

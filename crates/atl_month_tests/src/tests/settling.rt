@@ -61,8 +61,6 @@ fn upkeep_inputs_of(
     Ok(purses)
 }
 
-/// What upkeep takes from each unit of a case, as text: the money that it pays, and how many of its
-/// men starve.
 fn units_text(alloc: Global, units: &[(u8, u8, u16, u16)]) -> Result<String, Fail> {
     let purses = upkeep_inputs_of(alloc, units)?;
     let mut output = String::new(alloc);

@@ -60,8 +60,6 @@ fn a_pot_is_shared(rt: HostRuntime) -> Result<(), Fail> {
     assert_splits(&rt, rt.alloc())
 }
 
-/// How much `share` gives of a pot of 999,999,999 to all takers together; `wants` has what each
-/// wants.
 fn given_to_crowd(alloc: Global, wants: &[u64]) -> Result<u64, Fail> {
     if !are_small(wants) {
         return Err(Fail::new("wants that are small enough"));

@@ -16,7 +16,6 @@ use std::alloc::Global;
 use std::process::Abort;
 use std::test::Fail;
 
-/// The text of the small world above the first occurrence of `header`.
 fn small_world_above(header: &str) -> &'static str {
     match SMALL_WORLD.split_once(header) {
         Some((before, _)) => before,
@@ -24,8 +23,7 @@ fn small_world_above(header: &str) -> &'static str {
     }
 }
 
-/// The fault that the first format reports where the second reports `fault`: the same, but `none`
-/// for a fault of a market, since the first format ignores markets.
+/// The first format ignores markets, so it reports no fault of a market.
 fn old_fault(fault: &str) -> &str {
     if fault.contains(".market") {
         "none"
@@ -34,8 +32,6 @@ fn old_fault(fault: &str) -> &str {
     }
 }
 
-/// Asserts the first fault of `text`: `second` if it is read in the second format, and `first` if
-/// in the first. The message of a failure names `row`.
 fn assert_faults(
     rt: &impl Abort,
     alloc: Global,
@@ -356,7 +352,6 @@ fn assert_regions(rt: &impl Abort, alloc: Global, count: u32, wanted: &str) -> R
     Ok(())
 }
 
-/// A world may have 10,000 regions, and not one more.
 #[test]
 fn many_regions(rt: HostRuntime) -> Result<(), Fail> {
     assert_regions(&rt, rt.alloc(), 10_000, "none")?;
@@ -376,8 +371,7 @@ static FAULTS: [(u8, &str, &str); 9] = [
     (8, "NoLand", "none"),
 ];
 
-/// The world fault with a number of docs/FORMATS.md, "Faults of a world file", at `path` if it has
-/// a path; `Memory` for any other number.
+/// The numbers are those of docs/FORMATS.md, "Faults of a world file".
 fn fault_of(number: u8, path: Text) -> WorldFault {
     match number {
         1 => WorldFault::NotToml,

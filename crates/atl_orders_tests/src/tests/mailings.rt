@@ -33,8 +33,6 @@ fn mailing_text(alloc: Global, mailing: &Mailing) -> Result<String, Fail> {
     Ok(output)
 }
 
-/// What a text is read as: its orders and faults as text, or `refused` with the number of the mail
-/// fault.
 fn reading_text(alloc: Global, world: &World, text: &[u8]) -> Result<String, Fail> {
     match read_mailing(alloc, world, text) {
         Ok(mailing) => {
@@ -208,8 +206,7 @@ static BAD_WORK: [(&str, &str); 20] = [
     ("UNIT 2 \"\x7f", "6 BadByte"),
 ];
 
-/// Asserts how each line is read as line 3 of a mailing, after `UNIT 7`; `front` is put before the
-/// text that a row wants.
+/// `front` is put before the text that a row wants.
 fn assert_lines(
     rt: &impl Abort,
     alloc: Global,

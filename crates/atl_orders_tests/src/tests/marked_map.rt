@@ -141,7 +141,6 @@ fn changes_are_marked(rt: HostRuntime) -> Result<(), Fail> {
     assert_changed_values(&rt, rt.alloc(), &map)
 }
 
-/// Makes the calls of `ROUND` 200 times, and then those of `MARKS`.
 fn repeat_round(rt: &impl Abort, alloc: Global, map: &mut MarkedMap<u32>) -> Result<(), Fail> {
     for _ in 0..200 {
         assert_steps(rt, alloc, map, &ROUND)?;
@@ -149,7 +148,7 @@ fn repeat_round(rt: &impl Abort, alloc: Global, map: &mut MarkedMap<u32>) -> Res
     assert_steps(rt, alloc, map, &MARKS)
 }
 
-/// A removed number stays marked, and `mark` marks only numbers that have a value or are marked.
+/// `mark` marks only numbers that have a value or are marked.
 #[test]
 fn removed_numbers_stay_marked(rt: HostRuntime) -> Result<(), Fail> {
     let mut map = MarkedMap::from_values(rt.alloc(), map_of_three(rt.alloc())?)?;
@@ -159,8 +158,8 @@ fn removed_numbers_stay_marked(rt: HostRuntime) -> Result<(), Fail> {
 /// How many numbers the map of the test `marks_in_any_order` has: one less than the prime 1009.
 const MANY: u32 = 1008;
 
-/// Marks each number from 1 to `MANY` once: in descending order if `falling`, otherwise in a
-/// scattered order.
+/// The order is descending if `falling`, otherwise scattered: each number comes once, since
+/// `MANY` + 1 is prime.
 fn marks_each(map: &mut MarkedMap<u32>, falling: bool) {
     for step in 1..MANY + 1 {
         if falling {
@@ -177,7 +176,6 @@ fn takes_thirds(map: &mut MarkedMap<u32>) {
     }
 }
 
-/// Inserts each third number again, the highest first, which marks it.
 fn puts_thirds(map: &mut MarkedMap<u32>) -> Result<(), Fail> {
     for step in 0..MANY / 3 {
         inserts(map, MANY - step * 3, step)?;
@@ -185,8 +183,7 @@ fn puts_thirds(map: &mut MarkedMap<u32>) -> Result<(), Fail> {
     Ok(())
 }
 
-/// Asserts that `count` numbers are marked, and that they come in ascending order from 1: all
-/// numbers if `thirds`, otherwise those that 3 doesn't divide.
+/// All numbers are marked if `thirds`, otherwise those that 3 doesn't divide.
 fn assert_ascending(rt: &impl Abort, map: &MarkedMap<u32>, thirds: bool, count: usize) {
     assert_number(rt, map.marked_count(), count);
     let mut wanted = 1;

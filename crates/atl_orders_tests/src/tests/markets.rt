@@ -8,7 +8,6 @@ use std::alloc::Global;
 use std::process::Abort;
 use std::test::Fail;
 
-/// Asserts which markets a world has in region 1 for the items 0 and 1, and in region 2 for item 0.
 fn assert_markets(
     rt: &impl Abort,
     alloc: Global,
@@ -79,8 +78,7 @@ static CHANGES: [(&str, &str, bool); 24] = [
     ),
 ];
 
-/// Asserts that `world` and the world of `text`, each asked about the other, are equal but for
-/// their markets exactly if `alone` says so.
+/// `alone` says whether the two worlds are equal but for their markets.
 fn assert_difference(
     rt: &impl Abort,
     alloc: Global,

@@ -62,7 +62,6 @@ static OPTIONAL: [Range; 4] = [
     ("kind[0].crew", "level = 1", 0, 999_999),
 ];
 
-/// The key at the end of a path, as `wage` of `terrain[0].wage`.
 fn key_of(path: &str) -> &str {
     match path.rsplit_once(".") {
         Some((_, key)) => key,
@@ -95,8 +94,6 @@ fn assert_fault_at_key(
     assert_change(rt, alloc, text, line, to, wanted.as_str())
 }
 
-/// Asserts that the reader takes `number` at a row's key if it is in the row's range, and reports
-/// OutOfRange otherwise.
 fn assert_number_at_key(
     rt: &impl Abort,
     alloc: Global,
@@ -130,8 +127,6 @@ fn assert_range(
     Ok(())
 }
 
-/// Asserts the range of each row's key and, if these keys are `needed`, that a missing one is a
-/// fault.
 fn assert_ranges(
     rt: &impl Abort,
     alloc: Global,

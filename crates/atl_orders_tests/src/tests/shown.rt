@@ -95,8 +95,6 @@ fn assert_lists(rt: &impl Abort, alloc: Global, world: &World, wanted: &Shown) -
     assert_shown(rt, alloc, "kinds", world.kinds(), wanted.kinds)
 }
 
-/// A region as text: its number, name, terrain, peasants and money, and its neighbours to the
-/// north, south, east and west.
 fn plan_text(alloc: Global, plan: &RegionPlan) -> Result<String, Fail> {
     let exits = [plan.north, plan.south, plan.east, plan.west];
     Ok(format!(in alloc;

@@ -31,9 +31,8 @@ impl Drop for Plan {
     }
 }
 
-/// The service in memory in which the commands of a course are to be run. The campaign's rows are
-/// appended to `stages` after the founding and, if the course has rows of its own, after these are
-/// added.
+/// The campaign's rows are appended to `stages` after the founding and, if the course has rows of
+/// its own, after these are added.
 fn set_up(
     alloc: Global,
     course: &Course,
@@ -88,8 +87,8 @@ fn is_done(answer: &Answer) -> bool {
     matches!(answer_text(answer), "joined" | "mailed" | "month done")
 }
 
-/// Runs the commands, and returns how many were done. The command at which the disk stops must be
-/// answered Store, and all later ones Closed; then there is no campaign, and there are no books.
+/// The command at which the disk stops must be answered Store, and all later ones Closed; then
+/// there is no campaign, and there are no books.
 fn run_each(rt: &impl Abort, service: &mut impl AnyService, commands: &[Command]) -> usize {
     let mut done = 0usize;
     let mut stopped = false;
@@ -109,8 +108,7 @@ fn run_each(rt: &impl Abort, service: &mut impl AnyService, commands: &[Command]
     done
 }
 
-/// The service that a founding or an opening (`tried`) gave, or the connection if the disk stopped;
-/// asserts that the cause is then Store.
+/// If the disk stopped, the cause must be Store.
 fn service_or_connection<S: Alter>(
     rt: &impl Abort,
     tried: Result<Service<S>, Refused<S>>,
@@ -124,8 +122,7 @@ fn service_or_connection<S: Alter>(
     }
 }
 
-/// Runs the commands of a plan; the result is how many writes were done, counting the `writings`
-/// before the commands, and the connection.
+/// The number of writes done includes the `writings` before the commands.
 fn runs<S: Alter>(
     rt: &impl Abort,
     service: Service<S>,
@@ -166,8 +163,7 @@ fn found_and_run<S: Alter + Drop>(
     }
 }
 
-/// Options by which the log is copied into the database before each write, so that both disks are
-/// called.
+/// The log is copied into the database before each write, so that both disks are called.
 fn options() -> Options {
     let mut options = Options::new(2);
     options.checkpoint_frames = 1;
@@ -188,7 +184,6 @@ fn is_stage(plan: &Plan, writings: usize, rows: &str) -> bool {
     }
 }
 
-/// All rows of the campaign in a database, or an empty text if it holds none.
 fn rows_left<S: Alter + Drop>(
     rt: &impl Abort,
     alloc: Global,
@@ -203,8 +198,8 @@ fn rows_left<S: Alter + Drop>(
     }
 }
 
-/// Plays a plan in files, and asserts that a crash leaves the campaign after the writes done, or
-/// after one more. The result is how many writes were done, none if the files can't be opened.
+/// A crash must leave the campaign after the writes done, or after one more. The result is how many
+/// writes were done.
 fn stopped<D: Crash + Drop>(
     rt: &impl Abort,
     alloc: Global,
@@ -249,8 +244,7 @@ fn stopping(alloc: Global, which: WhichDisk, calls: u64) -> Files<Fuse<Memory>> 
 /// More calls than a disk gets in any course.
 const MANY_CALLS: u64 = 1_000;
 
-/// Stops one disk at each of its calls in turn, and asserts each time what a crash then leaves
-/// (`stopped`). The last run is the one in which all writes of the plan are done.
+/// The last run is the one in which all writes of the plan are done.
 fn stop_at_each_call(
     rt: &impl Abort,
     alloc: Global,

@@ -113,8 +113,6 @@ fn joined(rt: &impl Abort, alloc: Global) -> Result<Connection<MemStore>, Fail> 
     Ok(service.end())
 }
 
-/// Runs the SQL of `MORE_UNITS` or `MORE_FACTIONS` for each of `DOUBLINGS`, until there are rows up
-/// to the number `last`.
 fn doubled(conn: &mut Connection<MemStore>, sql: &str, last: i64) -> Result<(), Fail> {
     for step in DOUBLINGS.iter() {
         conn.execute(sql, params![*step, last])?;

@@ -26,7 +26,7 @@ pub(crate) fn mail(alloc: Global, faction: u32, pass: &str, text: &str) -> Resul
     })
 }
 
-/// A mailing's header of 11 bytes, followed by `feeds` line feeds.
+/// The header has 11 bytes.
 fn header_and_feeds(alloc: Global, feeds: usize) -> Result<Sequence<u8>, Fail> {
     let mut text = Vec::from_slice(alloc, b"#ATLANTIS 1")?;
     text.extend_from_slice(&b"\n".repeat(alloc, feeds)?)?;

@@ -93,8 +93,6 @@ pub(crate) fn assert_rows(
     Ok(())
 }
 
-/// The service of a database's campaign, which is founded from the world text `world`, or opened if
-/// that is None.
 fn service_of<S: Alter + Drop>(
     alloc: Global,
     conn: Connection<S>,
@@ -106,8 +104,7 @@ fn service_of<S: Alter + Drop>(
     }
 }
 
-/// Plays a session on a database, whose campaign must have the rows of the session before. The
-/// result is its rows at the end, and the connection.
+/// The campaign must have the rows of the session before (`rows`).
 fn played<S: Alter + Drop>(
     rt: &impl Abort,
     alloc: Global,
@@ -127,8 +124,6 @@ fn played<S: Alter + Drop>(
     Ok((rows, conn))
 }
 
-/// Plays sessions on one connection, each with the rows that the one before left; the result is the
-/// rows at the end, and the connection.
 fn play_on_connection(
     rt: &impl Abort,
     alloc: Global,

@@ -57,7 +57,7 @@ static NUMBERS: [(Refusal, u8); 14] = [
     (Refusal::WrongDice, 14),
 ];
 
-/// Each refusal has the number of docs/FORMATS.md, "Refusals".
+/// The numbers are those of docs/FORMATS.md, "Refusals".
 #[test]
 fn refusals_have_their_numbers(rt: HostRuntime) {
     for (refusal, number) in NUMBERS.iter() {

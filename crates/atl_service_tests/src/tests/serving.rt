@@ -12,10 +12,10 @@ pub(crate) trait AnyService {
 
     fn run_all(&mut self, commands: &[Command]) -> Result<Vec<Answer>, AllocError>;
 
-    /// The campaign; None if the service is closed.
+    /// None if the service is closed.
     fn campaign(&self) -> Option<&Campaign>;
 
-    /// The text of the books; None if the service is closed.
+    /// None if the service is closed.
     fn books(&self) -> Option<Result<String, AllocError>>;
 }
 
@@ -40,10 +40,8 @@ impl<S: Alter> AnyService for Service<S> {
 
 /// A database that answers queries with a number, and runs SQL statements.
 pub(crate) trait Tables {
-    /// The number that a query returns, if it returns one.
     fn number(&mut self, sql: &str) -> Option<i64>;
 
-    /// Runs SQL statements.
     fn change(&mut self, sql: &str) -> Result<(), Fail>;
 }
 

@@ -45,8 +45,7 @@ fn old_file_of(
     written_old(alloc, &service, story.by_hand)
 }
 
-/// The rows that the upgraded campaign of a story must have: those that its first steps and its SQL
-/// make in the second format.
+/// The rows are those that the story's first steps and its SQL make in the second format.
 fn rows_wanted(rt: &impl Abort, alloc: Global, story: &Story) -> Result<String, Fail> {
     let mut service = found_in_memory(alloc, ISLE)?;
     follow(rt, alloc, &mut service, story.before)?;

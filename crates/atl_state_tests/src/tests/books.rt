@@ -9,7 +9,6 @@ use std::test::Fail;
 /// How many things the books count: money, people, wood and carts.
 const THINGS: usize = 4;
 
-/// Books -7 money as wages in empty books of `THINGS` things.
 fn book_wages(books: &mut Books) -> Result<(), Fail> {
     if books.len() != THINGS || books.amount(BooksEntry::Wages, Thing::Money) != 0 {
         return Err(Fail::new("empty books"));
@@ -66,8 +65,7 @@ fn book_all_carts(campaign: &mut Campaign) -> Result<(), Fail> {
     Ok(())
 }
 
-/// Asserts three of the amounts that `book_all_carts` booked and three that it doesn't book, and
-/// that five amounts are marked.
+/// `book_all_carts` books the first three amounts, and not the last three.
 fn assert_booked_carts(rt: &impl Abort, campaign: &Campaign) -> Result<(), Fail> {
     if campaign.things() != THINGS {
         return Err(Fail::new("four things"));

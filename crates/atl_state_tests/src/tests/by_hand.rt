@@ -79,7 +79,6 @@ fn add_head(
     Ok(())
 }
 
-/// Adds a row of `region` for each triple: number, peasants and money.
 fn add_regions(regions: &mut Sequence<StoredRegion>, rows: &[[i64; 3]]) -> Result<(), Fail> {
     for [number, peasants, money] in rows.iter() {
         regions.push(StoredRegion {
@@ -91,7 +90,6 @@ fn add_regions(regions: &mut Sequence<StoredRegion>, rows: &[[i64; 3]]) -> Resul
     Ok(())
 }
 
-/// Adds a row of `books` for each triple: entry, thing and amount.
 fn add_books(books: &mut Sequence<StoredBooks>, rows: &[[i64; 3]]) -> Result<(), Fail> {
     for [entry, thing, amount] in rows.iter() {
         books.push(StoredBooks {
@@ -113,7 +111,7 @@ fn faction(alloc: Global, number: i64, name: &str, gone: i64) -> Result<StoredFa
     })
 }
 
-/// Adds the rows of both factions, the second first: tables may come in any order.
+/// The second comes first: tables may come in any order.
 fn add_factions(
     alloc: Global,
     factions: &mut Sequence<StoredFaction>,
@@ -124,8 +122,7 @@ fn add_factions(
     Ok(())
 }
 
-/// Adds the rows of both units, the second first: tables may come in any order. Of unit 1's row
-/// tests vary `guard` alone.
+/// The second comes first: tables may come in any order. Of unit 1's row tests vary `guard` alone.
 fn add_units(alloc: Global, units: &mut Sequence<StoredUnit>, rows: &Rows) -> Result<(), Fail> {
     units.push(StoredUnit {
         number: 2,
@@ -194,7 +191,7 @@ fn add_reports(
     Ok(())
 }
 
-/// Adds the market's row `rows.times` times, so that a test can have it twice or not at all.
+/// A test can have the market's row twice or not at all.
 fn add_markets(markets: &mut Sequence<StoredMarket>, rows: &Rows) -> Result<(), Fail> {
     for _ in 0..rows.times {
         markets.push(StoredMarket {
@@ -206,8 +203,6 @@ fn add_markets(markets: &mut Sequence<StoredMarket>, rows: &Rows) -> Result<(), 
     Ok(())
 }
 
-/// Adds to `books` the row for the wood in stock, if the market's row is there, and the row for the
-/// money booked as bought, if there is any.
 fn add_trade(books: &mut Sequence<StoredBooks>, rows: &Rows) -> Result<(), Fail> {
     if rows.times != 0 {
         add_books(books, &[[rows.stocked, 2, 20]])?;

@@ -127,7 +127,6 @@ static MARKET_CASES: [(Rows, u64); 14] = [
     ),
 ];
 
-/// The number of the broken rule that a check reports, 0 if it accepts, and 99 if memory ran out.
 fn rule_of(checked: Result<Campaign, CheckFault>) -> u64 {
     match checked {
         Ok(_) => 0,
@@ -168,8 +167,7 @@ fn assert_island(rt: &impl Abort, campaign: &Campaign) {
 
 const STOCK: &str = "[StoredMarket { region: 1, item: 0, stock: 20 }]";
 
-/// Asserts that `check` makes of the rows of a campaign (`first`) a campaign as `assert_island`
-/// wants it. The rows have its stock in the second format, and none in the first.
+/// The rows have the stock in the second format, and none in the first.
 fn assert_rows_come_back(
     rt: &impl Abort,
     alloc: Global,

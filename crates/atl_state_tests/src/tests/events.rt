@@ -40,7 +40,6 @@ fn assert_name(rt: &impl Abort, row: usize, number: u8, name: &str) {
     }
 }
 
-/// Tests that each number gives its event fault, with its name, and that 0, 25 and 255 give none.
 #[test]
 fn event_faults(rt: HostRuntime) {
     for (row, (number, name)) in FAULTS.iter().enumerate() {

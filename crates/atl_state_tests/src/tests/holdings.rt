@@ -99,7 +99,6 @@ fn sets(alloc: Global, holding: &mut Holding, part: Set) -> Result<(), Fail> {
     Ok(())
 }
 
-/// A list of items or days, flattened: each number, followed by its amount.
 fn listed(alloc: Global, goods: Entries<'_, u32>) -> Result<Vec<u32>, Fail> {
     let mut numbers = Vec::new(alloc);
     for (number, amount) in goods {
@@ -109,7 +108,6 @@ fn listed(alloc: Global, goods: Entries<'_, u32>) -> Result<Vec<u32>, Fail> {
     Ok(numbers)
 }
 
-/// A holding as text: name, men, money, guard flag, items and days.
 fn text_of(alloc: Global, holding: &Holding) -> Result<String, Fail> {
     let (name, guard) = (holding.name().as_str(), holding.guard());
     let (men, money) = (holding.men(), holding.money());

@@ -135,7 +135,6 @@ static CASES: [Case; 13] = [
     },
 ];
 
-/// The owner of a structure, or 99 if there is no such structure.
 fn owner(campaign: &Campaign, structure: u32) -> u64 {
     match campaign.structure(structure) {
         Some(found) => u64::from(found.owner),

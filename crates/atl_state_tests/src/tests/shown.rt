@@ -32,7 +32,6 @@ pub(crate) enum Question {
     Total(Thing),
 }
 
-/// The answer `none`, for a number that no faction, region, unit or structure has.
 fn none(alloc: Global) -> Result<String, Fail> {
     Ok(String::from_str(alloc, "none")?)
 }
@@ -48,7 +47,6 @@ fn counts_text(alloc: Global, campaign: &Campaign) -> Result<String, Fail> {
     Ok(format!(in alloc; "{counts:?}, next {next:?}")?)
 }
 
-/// A faction's names and pass text, and whether it is gone; `none` if there is no such faction.
 fn faction_text(alloc: Global, campaign: &Campaign, number: u32) -> Result<String, Fail> {
     match campaign.faction(number) {
         Some(faction) => {
@@ -88,7 +86,6 @@ fn region_text(alloc: Global, campaign: &Campaign, number: u32) -> Result<String
     }
 }
 
-/// A region's stock of an item, and how many stocks it lists; `nowhere` if there is no such region.
 fn stock_text(alloc: Global, campaign: &Campaign, number: u32, item: u32) -> Result<String, Fail> {
     let stock = campaign.stock(number, item);
     match campaign.region(number) {
@@ -109,8 +106,6 @@ fn units_text(alloc: Global, campaign: &Campaign) -> Result<String, Fail> {
     Ok(format!(in alloc; "{numbers:?}")?)
 }
 
-/// A unit's name, men, money, guard flag, faction, region and structure; `none` if there is no such
-/// unit.
 fn unit_text(alloc: Global, campaign: &Campaign, number: u32) -> Result<String, Fail> {
     let Some(unit) = campaign.unit(number) else {
         return none(alloc);
@@ -138,8 +133,6 @@ fn goods_text(
     }
 }
 
-/// A structure's name, kind, region, how much is built, and its owner; `none` if there is no such
-/// structure.
 fn structure_text(alloc: Global, campaign: &Campaign, number: u32) -> Result<String, Fail> {
     let Some(structure) = campaign.structure(number) else {
         return none(alloc);

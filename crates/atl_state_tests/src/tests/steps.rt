@@ -93,8 +93,6 @@ fn change_region(campaign: &mut Campaign, region: u32, change: RegionChange) -> 
     Ok(())
 }
 
-/// Changes the holding that `unit_mut` lent (a mutable reference), as `change` says; does nothing
-/// if no unit was there.
 fn changes_lent(lent: Option<&mut Holding>, change: UnitChange) -> Result<(), Fail> {
     let Some(holding) = lent else {
         return Ok(());
@@ -109,8 +107,6 @@ fn changes_lent(lent: Option<&mut Holding>, change: UnitChange) -> Result<(), Fa
     Ok(())
 }
 
-/// Makes the call that changes a unit as `change` says, or changes the holding that `unit_mut`
-/// lends.
 fn change_unit(
     alloc: Global,
     campaign: &mut Campaign,
@@ -150,7 +146,6 @@ fn change_structure(
     Ok(())
 }
 
-/// Fails unless a unit or structure that was added got the number that its step names.
 fn got_number(actual: u32, number: u32) -> Result<(), Fail> {
     if actual == number {
         Ok(())

@@ -79,8 +79,6 @@ static MARKS: [Row; 6] = [
 /// and without a mark.
 static MADE_AGAIN: [Row; 1] = [(Step::Nothing, Question::Units, "[1, 12, 14, 15]", "0")];
 
-/// Asserts `MADE_AGAIN` on the campaign made from the rows of `first`, and that four units are in
-/// region Far.
 fn assert_made_again(
     rt: &impl Abort,
     alloc: Global,

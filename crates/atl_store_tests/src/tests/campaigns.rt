@@ -34,7 +34,6 @@ pub(crate) fn founded_by(alloc: Global, text: &str) -> Result<Campaign, Fail> {
     founded_in(alloc, &world)
 }
 
-/// Has Avalon join a campaign as faction 1, and gives it its first report.
 fn welcome(alloc: Global, world: &World, campaign: &mut Campaign) -> Result<(), Fail>
     requires { IsGood world.now campaign.old.value }
 {

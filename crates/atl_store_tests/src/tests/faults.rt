@@ -28,7 +28,7 @@ fn assert_opening_fault(
     Ok(())
 }
 
-/// Each fault of `load` has its number in docs/FORMATS.md, "For developers", and its text.
+/// The numbers are those of docs/FORMATS.md, "For developers".
 #[test]
 fn faults_of_an_opening_have_their_numbers(rt: HostRuntime) -> Result<(), Fail> {
     for case in OPENINGS.iter() {
@@ -47,7 +47,7 @@ static UPGRADES: [(Option<u8>, &str); 7] = [
     (None, "Memory"),
 ];
 
-/// The fault of `upgrade` that has this number in docs/FORMATS.md, "For developers".
+/// The numbers are those of docs/FORMATS.md, "For developers".
 fn upgrade_fault(number: Option<u8>) -> UpgradeFault {
     match number {
         Some(1) => UpgradeFault::Store,

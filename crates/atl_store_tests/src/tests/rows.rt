@@ -12,7 +12,6 @@ use sqlite::{Alter, Connection};
 use std::alloc::{AllocError, Global};
 use std::test::Fail;
 
-/// A text in quotation marks, or the bytes if they aren't UTF-8.
 fn quote(alloc: Global, bytes: &[u8]) -> Result<String, AllocError> {
     match str::from_utf8(bytes) {
         Ok(text) => format!(in alloc; "{text:?}"),
@@ -123,7 +122,6 @@ impl<T: PrintableRow> PrintableRow for RowWithId<T> {
     }
 }
 
-/// All rows of a list as text, separated by commas, or `nothing` if there is none.
 fn rows_text<T: PrintableRow>(alloc: Global, rows: &[T]) -> Result<String, AllocError> {
     if rows.is_empty() {
         return String::from_str(alloc, "nothing");
@@ -138,7 +136,6 @@ fn rows_text<T: PrintableRow>(alloc: Global, rows: &[T]) -> Result<String, Alloc
     Ok(text)
 }
 
-/// The text of all rows of a table, or of the fault of reading them; fails in a transaction.
 fn rows_of<T: PrintableRow + Stored, S: Alter>(
     alloc: Global,
     conn: &mut Connection<S>,

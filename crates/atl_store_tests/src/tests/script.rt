@@ -20,8 +20,6 @@ use std::alloc::Global;
 use std::process::Abort;
 use std::test::Fail;
 
-/// Carries out a step that changes the campaign in memory. The step is given as its first word
-/// (`word`) and what follows that (`rest`).
 fn change(alloc: Global, campaign: &mut Campaign, word: &str, rest: &str) -> Result<(), Fail> {
     match word {
         "set" => set(campaign, rest),

@@ -16,8 +16,8 @@ pub(crate) fn numbers(text: &str) -> Result<[u32; 3], Fail> {
     Ok(all)
 }
 
-/// Sets a unit's money, its amount of an item, or its days of a skill: `money 1 8` sets unit 1's
-/// money to 8, `item 1 2 5` its item 2 to 5, and `days 1 4 90` its days of skill 4 to 90.
+/// `money 1 8` sets unit 1's money to 8, `item 1 2 5` its item 2 to 5, and `days 1 4 90` its days
+/// of skill 4 to 90.
 fn set_amount(
     campaign: &mut Campaign,
     what: &str,

@@ -20,8 +20,7 @@ fn contents_left<S: Alter>(
     Ok(format!(in alloc; "{} {}", answer.as_str(), contents.as_str())?)
 }
 
-/// Plays the steps of a script up to one that answers Store; the result is how many answered Done.
-/// Any other answer is a failure.
+/// The result is how many steps answered Done before one answered Store.
 fn steps_done<S: Alter>(
     alloc: Global,
     conn: &mut Connection<S>,
@@ -78,8 +77,6 @@ pub(crate) fn open<D: Disk + Drop>(
     Connection::open_files(alloc, files, Options::new(1)).ok()
 }
 
-/// Plays a script on files; the result is how many steps were done, and the files. If they can't be
-/// opened, none is done.
 fn play_on_files<D: Disk + Drop>(
     alloc: Global,
     files: Files<D>,
@@ -125,8 +122,8 @@ pub(crate) fn new_files(alloc: Global) -> Files<Memory> {
     }
 }
 
-/// The files that the script `earlier` makes; without one they are new and empty, so that the disk
-/// may also stop while they are opened.
+/// Without a script the files are new and empty, so that the disk may also stop while they are
+/// opened.
 fn files_of(alloc: Global, game: &mut Game, earlier: &str) -> Result<Files<Memory>, Fail> {
     if earlier.is_empty() {
         return Ok(new_files(alloc));
@@ -160,8 +157,7 @@ fn is_stage(text: &str, stages: &[String], number: usize) -> bool {
         .is_some_and(|stage| stage.as_str() == text)
 }
 
-/// Asserts that what a crash left (`left`) is what the database holds after `done` steps, or after
-/// one more.
+/// A crash must leave what the database holds after `done` steps, or after one more.
 fn assert_whole_steps(rt: &impl Abort, done: usize, left: &str, stages: &[String]) {
     let next = done.wrapping_add(1);
     assert!(rt;
@@ -188,9 +184,7 @@ fn play_stopped(
     stop_and_reopen(alloc, files, game, stop.script)
 }
 
-/// Plays a script again and again, and stops the disk one call later each time, up to a run in
-/// which it doesn't stop. Asserts each time that a crash leaves what the steps done make, or one
-/// step more.
+/// The disk stops one call later each time, up to a run in which it doesn't stop.
 fn stop_at_each_call(
     rt: &impl Abort,
     alloc: Global,

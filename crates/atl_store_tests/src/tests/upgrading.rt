@@ -124,9 +124,8 @@ static CASES: [Case; 18] = [
     ),
 ];
 
-/// The last lines of a case's script, which test what the upgrade left. If the upgrade is to be
-/// done, they are a load that is Done. Otherwise they compare the tables with those kept before,
-/// and load with the same answer as before.
+/// If the upgrade is to be done, the lines are a load. Otherwise they compare the tables
+/// with those kept before, and load with the same answer as before.
 fn last_lines_of(alloc: Global, load: &str, upgrade: &str) -> Result<String, Fail> {
     if upgrade == "Done" {
         Ok(String::from_str(alloc, "load")?)

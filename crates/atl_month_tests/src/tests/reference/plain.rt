@@ -158,7 +158,6 @@ fn books_of(alloc: Global, campaign: &Campaign) -> Result<Vec<PlainBooking>, All
     Ok(books)
 }
 
-/// By how much an amount rises from `before` to `after`; negative if it falls.
 fn rise(before: u64, after: u64) -> i64 {
     let before = i64::try_from(before).unwrap_or(0);
     let after = i64::try_from(after).unwrap_or(0);

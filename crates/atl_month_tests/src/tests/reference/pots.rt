@@ -45,7 +45,7 @@ pub(crate) fn own_unit(plain: &PlainCampaign, order: PhaseOrder<'_>) -> Option<P
     }
 }
 
-/// How much a unit wants of a thing by its last order that asks for it; None if no order does.
+/// The unit's last order that asks for the thing counts.
 fn want_of(claims: &[Claimed<'_>], unit: u32, thing: u32) -> Option<u64> {
     let mut wanted = None;
     for claimed in claims {
@@ -59,8 +59,6 @@ fn want_of(claims: &[Claimed<'_>], unit: u32, thing: u32) -> Option<u64> {
     wanted
 }
 
-/// Appends a unit to `takers` and its want to `wants`, if it is in the pot's region and wants the
-/// pot's thing.
 fn note_taker(
     claims: &[Claimed<'_>],
     pot: Pot,

@@ -17,7 +17,7 @@ const MOST_LEVEL: u64 = 5;
 /// each man.
 const LEVEL_DAYS: u64 = 15;
 
-/// The highest level of a skill that `men` men have with `days` days together; 0 without men.
+/// `days` are those of all men together.
 fn level(days: u64, men: u64) -> u64 {
     let mut level = 0;
     for next in 1..=MOST_LEVEL {
@@ -29,7 +29,6 @@ fn level(days: u64, men: u64) -> u64 {
     level
 }
 
-/// The level of a unit in the skill that an item needs; 0 if no skill makes it.
 fn level_of(plain: &PlainCampaign, person: PlainUnit, item: &Item) -> u64 {
     match item.skill {
         Some(skill) => level(
@@ -40,14 +39,12 @@ fn level_of(plain: &PlainCampaign, person: PlainUnit, item: &Item) -> u64 {
     }
 }
 
-/// For how many of an item the unit's raw items suffice; None if the item needs no raw items.
 fn raw_for(plain: &PlainCampaign, person: PlainUnit, item: &Item) -> Option<u64> {
     let raw = item.raw?;
     let held = plain.amount(person.number, false, u32::from(raw));
     held.checked_div(u64::from(item.raw_count))
 }
 
-/// The number of the item that an order names; 0 if it names none.
 fn item_of(order: PhaseOrder<'_>) -> u32 {
     match &order.order.operands {
         Operands::Item(item) => u32::from(*item),
@@ -55,7 +52,6 @@ fn item_of(order: PhaseOrder<'_>) -> u32 {
     }
 }
 
-/// How many of an item a unit wants: its men times its level, as far as raw items and room allow.
 fn want(plain: &PlainCampaign, person: PlainUnit, number: u32, item: &Item) -> u64 {
     let skilled = person.men.wrapping_mul(level_of(plain, person, item));
     let room = MOST_PIECES.saturating_sub(plain.amount(person.number, false, number));

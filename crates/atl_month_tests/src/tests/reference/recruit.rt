@@ -17,7 +17,6 @@ fn price(world: &World) -> u64 {
     u64::from(world.rules().recruit_price)
 }
 
-/// How many men a RECRUIT order asks for in its text, whatever the unit can pay.
 fn asked(order: PhaseOrder<'_>) -> u64 {
     match &order.order.operands {
         Operands::Number(men) => u64::from(*men),

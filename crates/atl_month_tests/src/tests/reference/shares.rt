@@ -9,8 +9,7 @@ fn sum_of(wants: &[u64]) -> u128 {
     total
 }
 
-/// What the first `count` wants get together of a pot that is less than `total`, the sum of all
-/// wants.
+/// The pot is less than `total`, the sum of all wants.
 fn given_to_first(pot: u64, wants: &[u64], count: usize, total: u128) -> u128 {
     let wanted = sum_of(wants.get(..count).unwrap_or(wants));
     let due = u128::from(pot).wrapping_mul(wanted);

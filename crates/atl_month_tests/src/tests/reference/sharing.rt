@@ -19,7 +19,7 @@ pub(crate) enum SharingPhase {
     Work,
 }
 
-/// The orders of a phase, sorted by unit; `work` is the order that idle units get in WORK.
+/// `work` is the order that idle units get in WORK.
 fn orders<'m>(
     alloc: Global,
     sharing: SharingPhase,
@@ -111,8 +111,6 @@ fn pots(
     Ok(pots)
 }
 
-/// The number in the event of an order that was carried out: in WORK the money that its unit
-/// earned, in any other phase the unit's share.
 fn number_done(
     sharing: SharingPhase,
     world: &World,

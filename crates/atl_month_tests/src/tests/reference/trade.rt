@@ -24,8 +24,6 @@ fn asked(order: PhaseOrder<'_>) -> (u64, u16) {
     }
 }
 
-/// How many of a market's item a unit can sell: all that it has, or fewer if it has no room for the
-/// money of all.
 fn most_sold(plain: &PlainCampaign, person: PlainUnit, market: &Market) -> u64 {
     let held = plain.amount(person.number, false, u32::from(market.item));
     let room = MOST_MONEY.saturating_sub(person.money);
@@ -99,8 +97,6 @@ pub(crate) fn add_pots(
     Ok(())
 }
 
-/// What a unit and a market have of an item after `pieces` changed hands; before that they had
-/// `held` and `stock`.
 fn moved(trade: PlainTrade, held: u64, stock: u64, pieces: u64) -> (u64, u64) {
     match trade {
         PlainTrade::Sell => (held.wrapping_sub(pieces), stock.wrapping_add(pieces)),

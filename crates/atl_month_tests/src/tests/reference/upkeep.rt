@@ -33,9 +33,7 @@ fn short_of(maintenance: u64, person: PlainUnit) -> u64 {
     due.saturating_sub(person.money)
 }
 
-/// Adds what a unit has left, and what it is short of, to the sums of `sums`. If the unit's number
-/// is lower than that of the unit for which the sums are (`is_before`), the sums over lower numbers
-/// get these amounts as well.
+/// `is_before` says that the unit's number is lower than that of the unit for which the sums are.
 fn add_to_sums(
     maintenance: u64,
     sums: UpkeepSums,
@@ -67,8 +65,7 @@ fn sums_of(maintenance: u64, plain: &PlainCampaign, one: PlainUnit) -> UpkeepSum
     sums
 }
 
-/// How much a taker who wants `own` gets if `amount` is handed out in turn, after takers who
-/// want `before` together.
+/// The takers who come before want `before` together.
 fn share_in_turn(amount: u64, before: u64, own: u64) -> u64 {
     let with = before.wrapping_add(own);
     amount.min(with).wrapping_sub(amount.min(before))
@@ -102,7 +99,6 @@ fn all_taken(
     Ok(all)
 }
 
-/// Reduces a unit's days of each skill in proportion to its men who don't starve, rounded down.
 fn reduce_days(plain: &mut PlainCampaign, one: UpkeepTaken) {
     let men = one.person.men;
     let left = men.wrapping_sub(one.starved);

@@ -37,7 +37,6 @@ pub(crate) fn claim(world: &World, plain: &PlainCampaign, order: PhaseOrder<'_>)
     Claim::Want(PLACES, person.men.min(paid))
 }
 
-/// Whether a unit has men, and `orders` has no month-long order for it from its own faction.
 fn is_idle(person: PlainUnit, orders: &[PhaseOrder<'_>]) -> bool {
     for order in orders {
         if order.unit == person.number && order.faction == person.faction {
@@ -47,8 +46,6 @@ fn is_idle(person: PlainUnit, orders: &[PhaseOrder<'_>]) -> bool {
     person.men != 0
 }
 
-/// Appends the order `work` for each unit that has men and no month-long order from its own
-/// faction.
 fn add_idle<'m>(
     plain: &PlainCampaign,
     orders: &[PhaseOrder<'m>],

@@ -173,7 +173,6 @@ Unit 2: 3 starved.
     },
 ];
 
-/// What Avalon, faction 1, sees in month 3: no region.
 fn empty_view(alloc: Global) -> Result<View, Fail> {
     Ok(View {
         month: 3,

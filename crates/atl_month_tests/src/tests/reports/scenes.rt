@@ -116,7 +116,6 @@ fn heads(alloc: Global, scene: &Scene) -> Result<Sequence<StoredCampaignRow>, Fa
     Ok(all)
 }
 
-/// The row of a faction, which is marked as gone if it has no unit.
 fn faction(alloc: Global, number: i64, name: &str, scene: &Scene) -> Result<StoredFaction, Fail> {
     let there = scene.people.iter().any(|unit| unit.faction == number);
     Ok(StoredFaction {
@@ -259,8 +258,7 @@ fn held(person: &SceneUnit, item: i64) -> i64 {
     sum
 }
 
-/// How much all units have together of a thing of the books: 0 is money, 1 people, and 2 the first
-/// item.
+/// `thing` is 0 for money, 1 for people, and 2 for the first item.
 fn brought(people: &[SceneUnit], thing: i64) -> i64 {
     let mut sum: i64 = 0;
     for person in people {
@@ -274,7 +272,6 @@ fn brought(people: &[SceneUnit], thing: i64) -> i64 {
     sum
 }
 
-/// Books the money, men and first two items of all units under Joining.
 fn book_joining(people: &[SceneUnit], all: &mut Sequence<StoredBooks>) -> Result<(), Fail> {
     for thing in 0..=3i64 {
         let amount = brought(people, thing);
@@ -289,7 +286,7 @@ fn book_joining(people: &[SceneUnit], all: &mut Sequence<StoredBooks>) -> Result
     Ok(())
 }
 
-/// Books all stocks under Stocked; no two stocks may be of one item.
+/// No two stocks may be of one item.
 fn book_stocks(stocks: &[(i64, i64, i64)], all: &mut Sequence<StoredBooks>) -> Result<(), Fail> {
     for (_, item, stock) in stocks {
         all.push(StoredBooks {
