@@ -16,6 +16,7 @@ both_second None b p is = cc
 both_second (Some x) None p is = cc
 both_second (Some x) (Some y) p is = let e : ◌≡◌ {A = _} (x, y) p = cc in ap (λ q. Some q.1) e
 
+-- `one` writes the first field and `read_one` reads it; `more` and `read_more` do this with the other fields
 module _ {X Y : Type 0} (one : X → Value) (read_one : Value → Option X) (more : Y → Row) (read_more : Row → Option Y) where
   -- a row that reads as fields is what they are written as, if this is so of the first value and the others
   pub then_same : (row : Row) (x : X × Y) → ((v : Value) → read_one v ≡ Some x.0 → one x.0 ≡ v)
@@ -27,8 +28,8 @@ module _ {X Y : Type 0} (one : X → Value) (read_one : Value → Option X) (mor
       let later = q vs (both_second _ _ x is) in
       cc
 
--- a row that reads as fields has its columns' forms, if this is so of the first value and the others; and a row that
--- doesn't read hasn't
+-- A row that reads as fields has its columns' forms, if this is so of the first value and the others; and a row that
+-- doesn't read hasn't. The first field is read by `read_one`, and the others by `read_more`.
 module _ {X Y : Type 0} (read_one : Value → Option X) (read_more : Row → Option Y) (form : Form) (forms : List Form) where
   pub then_typed : (row : Row) (at : ℕ) (x : X × Y) → (read_one (column row at) ≡ Some x.0 → HasForm form (column row at))
       → (read_more (columns_from (at + 1) (length forms) row) ≡ Some x.1 → IsTypedFrom (at + 1) forms row)

@@ -48,7 +48,6 @@ impl Form for TextBytes {
 #[derive(Clone, Copy, Debug)]
 pub struct Utf8Text {}
 
-/// A copy of bytes as a text; None if they aren't UTF-8.
 fn utf8_text(alloc: Global, bytes: &[u8]) -> Result<Option<Text>, AllocError>
     ensures { IfOk result (λ read. read ≡ forms.if_utf8 bytes.now) }
 {

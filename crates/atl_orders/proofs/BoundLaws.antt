@@ -45,6 +45,7 @@ IsEffect world (says unit order_value) = IsUnitRef unit × IsOrderOf world order
 abbrev IsStep : WorldValue → LineStep → Type 0
 IsStep world s = IsEffect world s.effect × IsStateInBounds s.state
 
+-- `given` says which aliases earlier FORM lines gave
 module _ (world : WorldValue) (given : ℕ → Bool) where
   unit_sound : (r : Result NumberRead LineFault) → Holds (λ (x : NumberRead). IsNumber x.0) r
       → IsStep world (unit_step given r)

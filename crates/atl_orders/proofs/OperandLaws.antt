@@ -29,8 +29,6 @@ abbrev pub Holds : {X E : Type 0} → (X → Type 0) → Result X E → Type 0
 Holds P (Ok x) = P x
 Holds P (Err e) = Unit {0}
 
--- A condition Q holds of what two steps of reading give: the result r, and then f of its value. This supposes that P
--- holds of r's value, and Q of what f gives for each value with P.
 two_steps_hold : {A B : Type 0} (P : A → Type 0) (Q : B → Type 0) (r : Result A LineFault) (f : A → Result B LineFault)
     → Holds P r → ((x : A) → P x → Holds Q (f x)) → Holds Q (r >>= f)
 two_steps_hold P Q (Ok x) f h g = g x h
@@ -41,7 +39,7 @@ value_or_fault : {X : Type 0} (P : X → Type 0) (fault : LineFault) (o : Option
 value_or_fault P fault None g = tt
 value_or_fault P fault (Some x) g = g x refl
 
--- a condition that is always true (`Unit`) holds of every result: for a step of reading whose value has no bounds
+-- for a step of reading whose value has no bounds
 always_true_holds : {X : Type 0} (r : Result X LineFault) → Holds (λ _. Unit {0}) r
 always_true_holds (Ok x) = tt
 always_true_holds (Err e) = tt
@@ -153,7 +151,6 @@ abbrev pub IsOrderInBounds : WorldValue → Result OrderValue LineFault → Type
 IsOrderInBounds world r = Holds (IsOrderOf world) r
 
 module _ (world : WorldValue) where
-  -- if words are read as a flag, the operands are in bounds (`AreOperandsInBounds`), since a flag has no bound
   flag_sound : (ws : List WordText) → AreOperandsInBounds world (read_flag ws)
   flag_sound ws =
       two_steps_hold _ (AreOperandsOf world) (word_at ws) _ (always_true_holds (word_at ws)) (λ w _.
@@ -230,17 +227,14 @@ module _ (world : WorldValue) where
   abbrev HaveShape : Shape → Result OperandsValue LineFault → Type 0
   HaveShape shape r = Holds (λ os. shape_of os ≡ shape) r
 
-  -- a step of reading gives operands of a shape, if what comes after it does, whatever its value
   shaped_by : {X : Type 0} (shape : Shape) (r : Result X LineFault) (f : X → Result OperandsValue LineFault)
       → ((x : X) → HaveShape shape (f x)) → HaveShape shape (r >>= f)
   shaped_by shape r f h = two_steps_hold _ (λ os. shape_of os ≡ shape) r f (always_true_holds r) (λ x _. h x)
 
-  -- if words are read as a kind of structure or none, the operands have this shape
   kind_shaped : (ws : List WordText) → HaveShape shapes.Kind (read_kind world ws)
   kind_shaped [] = refl
   kind_shaped (w ∷ ws) = shaped_by shapes.Kind (kind_at world (w ∷ ws)) _ (λ kind. refl)
 
-  -- the operands that the words after a verb give have the shape by which they are read
   operands_shaped : (shape : Shape) (ws : List WordText) → HaveShape shape (read_operands world shape ws)
   operands_shaped shapes.Nothing ws = refl
   operands_shaped shapes.Alias ws = shaped_by shapes.Alias (alias_at ws) _ (λ n. refl)
@@ -267,7 +261,6 @@ module _ (world : WorldValue) where
   operands_shaped shapes.Skill ws = shaped_by shapes.Skill (skill_at world ws) _ (λ skill. refl)
   operands_shaped shapes.Item ws = shaped_by shapes.Item (item_at world ws) _ (λ item. refl)
 
-  -- the order of a verb and its operands says what it is, if the operands have the verb's shape, and are in bounds
   order_sound : (verb : Verb) (r : Result OperandsValue LineFault) → HaveShape (row_of verb).shape r
       → AreOperandsInBounds world r → IsOrderInBounds world (r >>= λ os. Ok (order_of verb os))
   order_sound verb (Ok os) h k = record { shape = h; operands = k }

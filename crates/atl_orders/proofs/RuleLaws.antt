@@ -25,6 +25,7 @@ NumberResult = Result (ℕ × List WordText) LineFault
 
 -- ---- the rules allow what the function gives
 
+-- w is the first word of a line, `ws` are the words after it, and `given` says which aliases earlier FORM lines gave
 module _ (world : WorldValue) (given : ℕ → Bool) (w : WordText) (ws : List WordText) where
   unit_fits : (state : ReaderState) (r : NumberResult) → keyword_of w ≡ Some keywords.Unit → number_at ws ≡ r
       → WordsSay world state given w ws (unit_step given r)
@@ -84,6 +85,7 @@ line_fits world state given line =
 
 -- ---- the rules allow nothing else
 
+-- `given` says which aliases earlier FORM lines gave
 module _ (given : ℕ → Bool) where
   closed : (state out : ReaderState) → state_after_block state ≡ Some out
       → step nothing out given ≡ end_step state given
@@ -132,7 +134,9 @@ line_only world state given line s (some_words a w ws b r) = rw (a, b) (words_on
 
 -- ---- all lines
 
--- the rules for lines (`BodySays`) allow the orders and faulty lines that the function `effects` gives
+-- The rules for lines (`BodySays`) allow what the function `effects` gives: `entries_from` has the orders,
+-- `faults_from` the faulty lines. The first of the lines has the number n, the reader is in `state` before it, and
+-- `given` says which aliases were given before it.
 pub body_fits : (world : WorldValue) (n : ℕ) (state : ReaderState) (given : ℕ → Bool) (lines : List (List ℕ))
     → BodySays world n state given lines (entries_from world n state given lines) (faults_from world n state given lines)
 unfolding effects
@@ -142,7 +146,8 @@ body_fits world n state given (line ∷ rest) =
     cond_both (begins (codes "#END") (words line)) _ _ (λ (es : List (ℕ × Effect)). BodySays world n state given (line ∷ rest) (flat_map entry_of es) (flat_map fault_of es)) (λ h. orders_ended n state given line rest h)
     (λ h. one_line n state given line rest h s (line_fits world state given line) _ _ (body_fits world (n + 1) s.state s.given rest))
 
--- orders and faulty lines that the rules for lines (`BodySays`) allow are those that `effects` gives
+-- Orders and faulty lines that the rules for lines (`BodySays`) allow are those that `effects` gives. The parameters
+-- are as in `body_fits`.
 pub body_only : (world : WorldValue) {n : ℕ} {state : ReaderState} {given : ℕ → Bool} {lines : List (List ℕ)} {entries : List EntryValue} {faults : List FaultyLine}
     → BodySays world n state given lines entries faults
     → (entries ≡ entries_from world n state given lines) × (faults ≡ faults_from world n state given lines)

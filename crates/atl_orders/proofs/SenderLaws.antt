@@ -11,6 +11,7 @@ use Rattle.atl_orders.specs.Mailing.{HeaderValue, header_from, Reading, after_he
 one_reading : (a b : Reading) → ◌≡◌ {A = Result Reading MailFault} (Ok a) (Ok b) → a ≡ b
 one_reading a b e = cc
 
+-- r is the mailing that the text is read as
 module _ (world : WorldValue) (text : List ℕ) (r : Reading) where
   sent : (header_value : Result HeaderValue MailFault) → header_from 1 (lines text) ≡ header_value
       → length text ≤ most_bytes → after_header world header_value ≡ Ok r → IsMailingOf r.faction text

@@ -28,7 +28,7 @@ data HasHeaderOrNone (n : ℕ) (all : List (List ℕ)) : Type 0 where
   one : (above : List (List ℕ)) (header : List ℕ) (below : List (List ℕ)) → HaveHeader all above header below
       → header_from n all ≡ header_line (length above + n) below (faction_of (words header)) → HasHeaderOrNone n all
 
--- k + (n + 1) is (k + 1) + n: k lines after line n + 1 is k + 1 lines after line n
+-- k lines after line n + 1 is k + 1 lines after line n
 lines_after_next : (n k : ℕ) → k + (n + 1) ≡ suc k + n
 lines_after_next n k = omega arith
 
@@ -71,7 +71,7 @@ first_one n (line ∷ above) header below a h =
 
 -- ---- a whole text
 
--- k + 1 + 1 is k + 2: the line after a header with k lines above it has the number k + 2
+-- the line after a header with k lines above it has the number k + 2
 line_after_header : (k : ℕ) → k + 1 + 1 ≡ k + 2
 line_after_header k = omega arith
 

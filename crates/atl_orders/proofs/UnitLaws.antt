@@ -33,8 +33,6 @@ ref_step : (o : Option ℕ) (f : LineFault) (c : ℕ → UnitRef) (ws : List Wor
 ref_step None f c ws = refl
 ref_step (Some n) f c ws = refl
 
--- For `units_step`: `then_units` makes of a choice between c and d the same choice between a and b, if it makes a of c,
--- and b of d. The choice is by whether t is true.
 then_units_of_choice : (t : Bool) (a b : Result (List UnitRef) LineFault) (c d : Result (UnitRef × List WordText) LineFault)
     → a ≡ c >>= then_units → b ≡ d >>= then_units → cond t a b ≡ cond t c d >>= then_units
 then_units_of_choice true a b c d p q = p

@@ -17,8 +17,6 @@ use Rattle.atl_orders.specs.Positions.{IsPartOf, EndsWith, EndsAt}
 
 -- ---- the index of the first element that passes a test, or the length
 
--- for `found_or_len`: an index n, at most the length m, is the value of Some n if it is below m, and the default m if
--- not
 index_or_length : (t : Bool) (n m : ℕ) → nat_lt n m ≡ t → n ≤ m → unwrap_or (cond t (Some n) None) m ≡ n
 index_or_length true n m h l = refl
 index_or_length false n m h l = grind (arith, nat_tests)

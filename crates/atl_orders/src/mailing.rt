@@ -83,8 +83,7 @@ impl Mailing {
         Ok(Sequence::from_vec(letters))
     }
 
-    /// Appends what a line gives to the orders or the faulty lines. After AllocError the mailing is
-    /// not to be used.
+    /// After AllocError the mailing is not to be used.
     fn note(&mut self, line: u32, outcome: LineResult) -> Result<(), AllocError>
         ensures text { OnOk result (self.new.text ≡ self.old.text) }
         ensures lines { OnOk result (reading_of self.new
@@ -103,7 +102,6 @@ impl Mailing {
     }
 }
 
-/// The bytes of a text from the index `start` up to the index `end`, as far as they are there.
 #[tactic(auto, using(std::proofs::lemmas::List::drop_min, std::proofs::lemmas::List::take_min, std::proofs::lemmas::List::take_rest))]
 fn part(text: &[u8], start: usize, end: usize) -> &[u8]
     ensures { result.now ≡ slice_range text.now start end }
@@ -112,8 +110,6 @@ fn part(text: &[u8], start: usize, end: usize) -> &[u8]
     &rest[..end.saturating_sub(start).min(rest.len())]
 }
 
-/// The number of the faction that a header line names, from 1 to `LAST_FACTION`; `None` if it names
-/// none.
 fn faction_of(line: &[u8]) -> Option<u32>
     ensures { result ≡ faction_of (words line.now) }
 {
@@ -134,8 +130,6 @@ struct Header<'a> {
     rest: Option<&'a [u8]>,
 }
 
-/// The first header of a text of at most `MOST_BYTES` bytes, else NoHeader, or BadHeader if the
-/// first header names no faction.
 #[tactic(auto, using(crate::proofs::WordLaws::ends_further, crate::proofs::WordLaws::ends_with_all), unfolding(crate::specs::Mailing::header_from))]
 fn find_header(text: &[u8]) -> Result<Header<'_>, MailFault>
     requires { length text.now ≤ most_bytes }
@@ -170,8 +164,6 @@ pub fn is_mailing_of(faction: u32, text: &[u8]) -> bool
     text.len() <= MOST_BYTES && find_header(text).is_ok_and(|header| header.faction == faction)
 }
 
-/// The mailing that a text gives after its header `header`, with a copy of the text. The orders end
-/// at `#END` or at the end of the text.
 #[tactic(auto, using(crate::proofs::LineLaws::line_ends_at, crate::proofs::WordLaws::ends_further, crate::proofs::LineLaws::starts_shorter, crate::proofs::WordLaws::ends_shorter), unfolding(crate::specs::Mailing::effects))]
 fn read_body(
     alloc: Global,

@@ -102,8 +102,7 @@ fn read_kind(world: &World, cursor: Cursor) -> Result<Operands, LineFault>
     Ok(Operands::Kind(Some(kind)))
 }
 
-/// Reads the words after a verb by the verb's shape in the order table, else gives their first
-/// fault. Only a list of units takes memory; after AllocError nothing is known of the words.
+/// Only a list of units takes memory.
 fn read_operands(
     alloc: Global,
     world: &World,

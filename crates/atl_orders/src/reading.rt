@@ -75,8 +75,6 @@ fn keyword_of(word: Word) -> Option<Keyword>
     }
 }
 
-/// What a UNIT line gives, and the reader's next state, by the words after UNIT: the unit is
-/// named, or after a fault none.
 fn unit_line(line: &[u8]) -> (LineResult, ReaderState)
     ensures { (given : _) (text : List ℕ)
         → unit_step given (number_at (words line.now)) ≡ step_of text result given }
@@ -97,8 +95,6 @@ fn end_line(state: ReaderState) -> (LineResult, ReaderState)
     }
 }
 
-/// What a FORM line gives, its order or a fault, and the reader's next state, by the words after
-/// FORM. A FORM without fault adds its alias to `aliases`.
 fn form_line(state: ReaderState, aliases: &mut Aliases, line: &[u8]) -> (LineResult, ReaderState)
     ensures { (text : List ℕ) → form_step state (alias_set aliases.old) (words line.now)
         ≡ step_of text result (alias_set aliases.new) }
@@ -136,8 +132,6 @@ fn target(state: ReaderState) -> Option<UnitRef>
     }
 }
 
-/// What the line of an order gives: the order for the unit that is named or formed, or a fault;
-/// NoUnit if no unit is named, or in a skipped block.
 fn order_line(
     alloc: Global,
     world: &World,

@@ -133,7 +133,6 @@ impl Verb {
         self.row().keyword
     }
 
-    /// The verb other than FORM whose keyword a word is, in any case; `None` for any other word.
     fn of_keyword(word: Word) -> Option<Verb>
         ensures { result ≡ find (λ verb. is_word (keyword verb) (word_text word.entry))
             listed_verbs }

@@ -21,7 +21,6 @@ thing_at_index Money = refl
 thing_at_index People = refl
 thing_at_index (Item i) = item_at (2 + i) i (omega arith)
   where
-    -- the thing with number i + 2 is item i
     item_at : (n i : ℕ) → n ≡ suc (suc i) → thing_at n ≡ Item i
     item_at n i is = ap thing_at is
 

@@ -71,6 +71,7 @@ are_ascending : List BooksEntry → Bool
 are_ascending [] = true
 are_ascending (e ∷ es) = list_all (λ d. nat_lt (entry_index e) (entry_index d)) es && are_ascending es
 
+-- the accounts are those of the things whose number is below `things`
 module _ (things : ℕ) where
   after_flat : (a : Account) (es : List BooksEntry) → list_all (λ d. nat_lt (entry_index a.0) (entry_index d)) es ≡ true
       → IsLessThanAll a (flat_map (accounts_under things) es)
@@ -98,12 +99,12 @@ amounts_sorted m = is_true _ (entries_sorted m)
 
 -- ---- amounts that are listed
 
--- `cond b o None` is None, whether b is true or not, if the option o is None: for an amount that is 0, and so isn't
--- listed
+-- for an amount that is 0, and so isn't listed
 none_either : (b : Bool) (o : Option ℤ) → o ≡ None → cond b o None ≡ None
 none_either true o h = h
 none_either false o h = refl
 
+-- `amount` gives the amount of each account
 module _ (amount : Account → ℤ) where
   after_listed : (a : Account) (chosen : List Account) → IsLessThanAll a chosen
       → below_all account_cmp a (listed_of amount chosen) ≡ true
@@ -185,6 +186,7 @@ later_found e es a z h is =
       | inr apart ↦ ap (λ b. cond b (Some e.1) (find account_cmp a es)) apart ∙ is
     ]
 
+-- P is a condition on an account and its amount
 module _ (P : Account → ℤ → Type 0) where
   each_of : (es : List (Account × ℤ)) → is_sorted account_cmp es ≡ true
       → ((a : Account) (z : ℤ) → find account_cmp a es ≡ Some z → P a z) → AllByRecursion (λ x. P x.0 x.1) es

@@ -46,6 +46,7 @@ listed_some z x is =
 
 -- ---- an amount set
 
+-- the amount of thing t under entry e is set to z
 module _ (books : BooksValue) (e : BooksEntry) (t : Thing) (z : ℤ) where
   pub get-with_amount : (a : Account)
       → get (with_amount books e t z).amounts a
@@ -100,7 +101,7 @@ booked_for t u n = cond (thing_index t == thing_index u) n (pos 0)
 abbrev added_under : BooksEntry → ℤ → BooksEntry → ℤ
 added_under e n f = cond (entry_index f == entry_index e) n (pos 0)
 
--- an amount plus 0 is the amount: for amounts to which a booking adds nothing
+-- for amounts to which a booking adds nothing
 pub plus_zero : (z : ℤ) → z ≡ z +ℤ pos 0
 plus_zero z = omega (arith, ints)
 
@@ -117,6 +118,7 @@ sum_of_one_booking : (e : BooksEntry) (n : ℤ) → sum_of (map (added_under e n
 sum_of_one_booking Founding n = omega (arith, ints)
 sum_of_one_booking _ n = omega (arith, ints)
 
+-- n is booked of thing u under entry e
 module _ (books : BooksValue) (e : BooksEntry) (u : Thing) (n : ℤ) where
   raised : (f : BooksEntry) → amount_in (after_booking books e u n) f u ≡ amount_in books f u +ℤ added_under e n f
   raised f =
@@ -190,6 +192,7 @@ AreBooks-no_amounts things =
 
 -- ---- what books list
 
+-- the books have as many things as `things`, and list only amounts of these that are not 0
 module _ (things : ℕ) (books : BooksValue) (are : AreBooks things books) where
   pub get-listed : (e : BooksEntry) (t : Thing) → get books.amounts (e, t) ≡ listing_of (amount_in books e t)
   get-listed e t =
@@ -219,15 +222,13 @@ same_books things a b are also same =
 
 -- ---- how great the amounts are
 
--- An amount y that is z + n is from -more to more (`IsWithin`), if z is from -bound to bound, and bound + n is at most
--- `more`. `IsWithin-after_booking` uses it for an amount that a booking raises.
+-- for `IsWithin-after_booking`: z is an amount that a booking raises by n to y
 raised_amount_is_within : (z y : ℤ) (bound n more : ℕ) → y ≡ z +ℤ pos n → IsWithin bound z → bound + n ≤ more
     → IsWithin more y
 raised_amount_is_within z y bound n more e h l =
     record { most = omega (arith, ints, h.most); least = omega (arith, ints, h.least) }
 
--- An amount y that is equal to z is from -more to more (`IsWithin`), if z is from -bound to bound, and bound + n is at
--- most `more`. `IsWithin-after_booking` uses it for an amount that a booking leaves as it is.
+-- for `IsWithin-after_booking`: z is an amount that a booking leaves as it is
 unchanged_amount_is_within : (z y : ℤ) (bound n more : ℕ) → y ≡ z → IsWithin bound z → bound + n ≤ more
     → IsWithin more y
 unchanged_amount_is_within z y bound n more e h l =

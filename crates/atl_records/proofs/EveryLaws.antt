@@ -132,6 +132,7 @@ module _ {V : Type 0} where
 
   -- ---- the numbers whose values pass a test
 
+  -- p is the test that a value passes
   module _ (p : V → Bool) where
     -- the numbers of the entries of a list whose values pass the test p, in the order of the list
     abbrev chosen : List (ℕ × V) → List ℕ
@@ -167,6 +168,7 @@ module _ {V : Type 0} where
 
 -- ---- a map with f at each value
 
+-- f maps the values of a map; the numbers stay
 module _ {V W : Type 0} (f : V → W) where
   under : (o : Option V) (x : W) → option_map f o ≡ Some x → (v : V) × (o ≡ Some v) × (f v ≡ x)
   under None x is = none_some x is

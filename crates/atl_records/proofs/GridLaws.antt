@@ -19,6 +19,7 @@ use Rattle.atl_records.proofs.EveryEntryLaws.{entry_in_place, entry_small}
 
 -- ---- accounts among those of the first things
 
+-- p is a test that some element of a list passes
 module _ {A : Type 0} (p : A → Bool) where
   any_first : (xs ys : List A) → list_any p xs ≡ true → list_any p (xs ++ ys) ≡ true
   any_first [] ys h = absurd (false≢true h)
@@ -143,6 +144,7 @@ as_books-replicate things =
 
 -- ---- another amount in a cell
 
+-- z is written into the cell of entry e and thing t, which has a row
 module _ (rows : List (List ℤ)) (grid : IsGrid rows) (e : BooksEntry) (t : Thing) (z : ℤ) (there : thing_index t < length rows) where
   abbrev row_with_amount : List ℤ
   row_with_amount = set (row_of rows t) (entry_index e) z

@@ -58,6 +58,7 @@ compared_equal_is_equal i j is = let same : (j == i) ≡ true = unsigned_ties j 
 
 -- ---- the amount that was set, and each other one
 
+-- the amount under i is set to `amount`
 module _ (items : FinMap nat_cmp ℕ) (i amount : ℕ) where
   pub set_same : amount_of (with_amount_of items i amount) i ≡ amount
   set_same = let same : (i == i) ≡ true = grind (arith, nat_tests) in amount_after_setting items i amount i ∙ ap (λ b. cond b amount (amount_of items i)) (sym (unsigned_ties i i) ∙ same)

@@ -11,6 +11,7 @@ use Rattle.atl_records.proofs.EveryLaws.{none_some}
 
 -- ---- a value that is taken out
 
+-- k is the number under which a value is taken out of m
 module _ {V : Type 0} (m : FinMap nat_cmp V) (k : ℕ) where
   pub get-remove_other : (n : ℕ) → n ≢ k → get (remove m k) n ≡ get m n
   get-remove_other n apart =
@@ -44,8 +45,7 @@ module _ {V : Type 0} (m : FinMap nat_cmp V) (k : ℕ) where
   pub fewer : len (remove m k) ≤ len m
   fewer = let is = len-remove nat_cmp_total m k in less (contains_key m k) (len (remove m k)) (len m) is
     where
-      -- x, which is y - 1 if b is true, and else y, is at most y: for `fewer`, where b says whether the map of y values
-      -- has the number that is removed
+      -- for `fewer`, where b says whether the map of y values has the number that is removed
       less : (b : Bool) (x y : ℕ) → x ≡ cond b (y - 1) y → x ≤ y
       less true x y h = omega arith
       less false x y h = omega arith

@@ -83,7 +83,6 @@ impl BooksEntry {
             .find(|entry| entry.number() == number)
     }
 
-    /// The index of the entry in each row of the books, from 0.
     fn column(self) -> usize
         ensures index { result ≡ entry_index self }
         ensures small { result < entry_count }
@@ -118,7 +117,6 @@ impl Thing {
         }
     }
 
-    /// The index of the thing's row in the books, from 0.
     fn row_index(self) -> usize
         ensures index { result ≡ thing_index self }
         ensures small { result < possible_things }

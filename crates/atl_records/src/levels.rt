@@ -9,8 +9,6 @@ use crate::limits::LEVEL_DAYS;
 use atl_world::World;
 use atl_world::limits::LAST_LEVEL;
 
-/// Whether the days of study of all men of a unit together are enough for a level, which is at most
-/// 5.
 fn is_reached(level: u32, days: u32, men: u32) -> bool
     requires { level ≤ last_level }
     ensures { result ≡ nat_le (days_for level men) days }
@@ -56,7 +54,6 @@ pub fn level_in_any(holding: &Holding, skill: Option<u16>) -> u32
     }
 }
 
-/// What one piece of an item weighs, 0 for an item that the world does not have.
 fn weight(world: &World, item: u32) -> u32
     ensures value { result ≡ weight_of world.now item }
     ensures small { result ≤ most_weight }
@@ -68,8 +65,6 @@ fn weight(world: &World, item: u32) -> u32
     }
 }
 
-/// The weight of goods that one piece of an item carries, 0 for an item that the world does not
-/// have.
 fn carriage(world: &World, item: u32) -> u32
     ensures value { result ≡ carry_of world.now item }
     ensures small { result ≤ most_weight }
@@ -81,7 +76,6 @@ fn carriage(world: &World, item: u32) -> u32
     }
 }
 
-/// Multiplies an amount by what each piece weighs or carries, which must be at most `MOST_WEIGHT`.
 fn times(amount: u32, each: u32) -> u64
     requires { each ≤ most_weight }
     ensures value { result ≡ amount * each }

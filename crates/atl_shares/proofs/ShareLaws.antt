@@ -30,8 +30,7 @@ part_le pot total before want p h =
     omega arith
 
 -- The shares of wants that come after others, and what those others got, add up to what all of these get together, if
--- `total` isn't 0.
--- The sum of the others' wants is `before`.
+-- `total` isn't 0. The sum of the others' wants is `before`.
 pub sum-shares_after : (pot total before : ℕ) → 0 < total → (wants : List ℕ)
     → sum (shares_after pot total before wants) + share_upto pot total before
     ≡ share_upto pot total (before + sum wants)

@@ -17,8 +17,7 @@ fn sum_of(wants: &[u64]) -> u128
     total
 }
 
-/// What each want gets of a pot, in the order of the wants: the want itself if the pot is enough
-/// for all. Else each share takes one division, with a running remainder.
+/// Where the pot is short, each share takes one division, with a running remainder.
 fn proportional_shares(alloc: Global, pot: u64, wants: &[u64]) -> Result<Vec<u64>, AllocError>
     requires pot { pot ≤ most_amount }
     requires wants { All (λ want. want ≤ most_amount) wants.now }

@@ -50,6 +50,7 @@ pub sound_under : (db : Database) (has : HasTables db)
     → IsSoundDatabase (all_tables_and_others has.begins.tables has.begins.indexes) db.trees
 sound_under db has = subst (λ s. IsSoundDatabase s db.trees) has.begins.made_of has.sound
 
+-- t is the table of a campaign that a write changes; `old` and `new` are the database before and after it
 module _ (t : Table) (old new : Database) (has : HasTables old) (ours : Has all_tables t) where
   -- the schema of `old`: the ten tables with their indexes, and then its other tables and indexes
   abbrev schema : Schema

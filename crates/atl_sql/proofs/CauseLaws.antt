@@ -25,6 +25,7 @@ more_before a b c before more = omega (arith, before, more)
 
 -- ---- one call
 
+-- one call leads from `old` to `new`
 module _ (old new : State) where
   abbrev Caused : Error → Type 0
   Caused e = IsBroken old new ⊎ IsRefused e old new
@@ -94,6 +95,7 @@ module _ {S : Type 0} (g : Ghosts S) (own more : Statements) (among : (sql : Lis
 
 -- ---- from one call to the whole transaction
 
+-- e is the error that a step returns
 module _ {S : Type 0} (g : Ghosts S) (own : Statements) (e : Error) where
   as_begun : (old : Held S) → IsTrue (state g old).in_transaction → record old { in_transaction = true } ≡ old
   as_begun old inside = ap (λ b. record old { in_transaction = b }) (sym inside)

@@ -112,6 +112,7 @@ module _ {X : Type 0} (text : X → List ℕ) (xs : List X) (all : map text xs �
 
 -- ---- in a transaction
 
+-- a call returns r, and leads from a to b
 module _ {S A : Type 0} (g : Ghosts S) {r : Result A Error} {a b : MutBor (Held S)} where
   pub creating : {Does : State → State → Type 0} {before after : Schema} (text : List ℕ)
       → MakesNextTable before after text → Writes g (OneStatement text []) Does r a b → Writes g Creations Does r a b

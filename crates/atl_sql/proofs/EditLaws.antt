@@ -53,6 +53,7 @@ pub record Swaps (schema : Schema) (table : Table) (p : Row → Bool) (new : Row
   pub keyed : AreKeyedByRowid (next table.tree)
   pub others : (t : Table) → Has schema.tables t → t.tree ≢ table.tree → next t.tree ≡ db t.tree
 
+-- an edit of the table leaves no work for a foreign key (`unlinked`)
 module _ (schema : Schema) (table : Table) (unlinked : (olds news : List Row) → works schema Enforced 0 table.tree olds news ≡ []) where
   loses : (p : Row → Bool) (db next : Trees) (found : List Row) → AreKeyedByRowid (db table.tree)
       → AreFound p (db table.tree) found
@@ -80,6 +81,7 @@ module _ (schema : Schema) (table : Table) (unlinked : (olds news : List Row) �
 
   -- ---- INSERT OR REPLACE of one row
 
+  -- `params` are the parameters of the statement
   module _ (limit : Option ℕ) (params : Row) where
     abbrev task : Task
     task = record { limit = limit; keys = Enforced; schema = schema; table = table; params = params }
@@ -162,6 +164,7 @@ has_permuted xs ys x h there =
     all_has (λ y. Has ys y) xs x
     (all-permutation (λ y. Has ys y) ys xs (IsPermutation-sym xs ys h) (all_from _ ys (λ y k. k))) there
 
+-- a query chooses the rows that pass the test p, and gives f r for each such row r
 module _ (p : Row → Bool) (f : Row → Env) where
   has_chosen : (rows : List Row) (r : Row) → Has rows r → p r ≡ true
       → Has (flat_map (λ r. cond (p r) (f r ∷ []) []) rows) (f r)

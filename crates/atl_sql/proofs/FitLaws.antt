@@ -84,10 +84,12 @@ pub record MakesRow (t : Table) (width number : ℕ) (values : Row) : Type 0 whe
   -- of what the UPDATE reads, the column after the number and the values is `x`, the rowid of the row to change
   pub aimed : (x : Value) (more : Row) → column ((int number ∷ values) ++ x ∷ more) (width + 1) ≡ x
 
+-- a table whose first column, of the name `key_name`, is the row's number; `columns` are the others
 module _ (tree : ℕ) (name key_name : List ℕ) (columns : List Column) (uniques : List (List ℕ)) where
   abbrev t : Table
   t = table tree name (integer_column key_name ∷ columns) (Some 0) (0 ∷ []) uniques []
 
+  -- n is the number of a row, and `values` are its other values
   module _ (n : ℕ) (values : Row) (fits : Fits columns values) where
     abbrev width : ℕ
     width = length values

@@ -118,12 +118,14 @@ pub record MakesValues (t : Table) (positions : List ℕ) (width : ℕ) (terms :
   pub changed : (more r : Row) → at_places positions r ≡ take (length positions) values
       → visible_row t (cast_row t (eval_all project ((values ++ more) ∷ r ∷ []))) ≡ values
 
--- the table of index `at` among the tables of a campaign, with a key of whole numbers
+-- the table of index `at` among the tables of a campaign, whose columns at the indexes `positions` are its key of whole
+-- numbers
 module _ (tree : ℕ) (name : List ℕ) (columns : List Column) (positions : List ℕ) (at : ℕ) where
   abbrev t : Table
   t = table tree name columns None positions (positions ∷ []) []
 
   module _ (key : HasKey t at positions) where
+    -- `more` and `indexes` are the tables and indexes that the schema has after those of a campaign
     module _ (more : List Table) (indexes : List Index) (db : Trees) (sound : IsSoundDatabase (all_tables_and_others more indexes) db) where
       abbrev schema : Schema
       schema = all_tables_and_others more indexes

@@ -32,6 +32,7 @@ pub write_does_command : (schema : Schema) (old new : State) (command : Command)
 write_does_command schema old new command text params count has w =
     subst (λ s. Does old.step_limit mode params (record old.now { schema = s }) text None command (Ok (w.tally, new.now))) has w.changed
 
+-- the schema has all tables of a campaign, and the key of table t is the first `key` columns that SQL shows
 module _ (schema : Schema) (among : (u : Table) → Has all_tables u → Has schema.tables u) (t : Table) (key : ℕ) where
   shown_again : (rows : List Row) (r : Row) → Has (map (visible_row t) rows) r
       → (x : Row) × Has rows x × (r ≡ visible_row t x)
@@ -116,6 +117,8 @@ module _ (schema : Schema) (among : (u : Table) → Has all_tables u → Has sch
     sound = stays_sound old new sound base is lose.keyed lose.others;
   }
 
+  -- The upsert of the row `new` leads from `old` to `next`, and v is the row that SQL shows afterwards. The other
+  -- parameters are those of the upsert in UpsertLaws.
   module _ (unlinked : (olds news : List Row) → works schema Enforced 0 t.tree olds news ≡ []) (limit : Option ℕ) (params : Row) (target : List ℕ) (position : ℕ) (project : List Term)
       (plain : (db : Trees) → overlay db [] t.tree ≡ db t.tree) (new v : Row) (old next : Database) where
     -- where a row has the key, the UPDATE of the upsert changes it to one that shows the values `v`

@@ -50,7 +50,6 @@ drops_part Books is = absurd is
 drops_part Markets is = absurd is
 drops_part part is = drops_numbered (table_of part).tree _ _ _ _ (place_in part) (part_is_numbered part is)
 
--- the key of a part whose key is the row's number is one column
 pub key_is_one : (part : Part) → IsNumberedPart part → key_width_of part ≡ 1
 key_is_one Own is = absurd is
 key_is_one Goods is = absurd is

@@ -27,6 +27,7 @@ pair_terms = lit Null ∷ col 0 0 ∷ col 0 1 ∷ col 0 2 ∷ []
 abbrev pub pair_update_terms : List Term
 pair_update_terms = col 1 0 ∷ col 1 1 ∷ col 1 2 ∷ col 0 2 ∷ []
 
+-- `first`, `second` and `amount` are the names of the columns
 module _ (tree : ℕ) (name first second amount : List ℕ) where
   -- a table, such as `books`, whose rows are a key of two numbers and one number more
   abbrev pub pair_table : Table

@@ -34,6 +34,7 @@ append_puts : (key : ℕ) (xs ys : List Row) (S : Set) (r : Row) → puts key ys
 append_puts key [] ys S r h = h
 append_puts key (x ∷ xs) ys S r h = append_puts key xs ys (put key x S) r h
 
+-- the key of the table is its first `key` columns
 module _ (table : Table) (key : ℕ) where
   towards_rows : (xs rest all : List Row) (old mid new : Database) → IsPartlyPut table key (xs ++ rest) all old mid
       → PutsRows table key xs mid new → IsPartlyPut table key rest all old new

@@ -20,6 +20,7 @@ pub record HasPutSome {S : Type 0} (g : Ghosts S) (table : Table) (key : ℕ) (r
   pub so_far : HasDone g (RowStatements (upsert table key) (Has all)) (DoesInside HasTables (IsPartlyPut table key rest all)) old now
   pub left : (row : Row) → Has rest row → Has all row
 
+-- the key of the table is its first `key` columns
 module _ {S : Type 0} (g : Ghosts S) (table : Table) (key : ℕ) where
   -- ---- lists of rows and their parts
 
@@ -37,6 +38,7 @@ module _ {S : Type 0} (g : Ghosts S) (table : Table) (key : ℕ) where
   one_written row rows is done =
       writes_among_more g (λ sql params only. (only.0, subst (λ (l : List Row). Has l params) (sym is) (inl only.1))) (weaker g (one_put table key row rows is) done)
 
+  -- the rows `xs` are put, and then the rows `ys`
   module _ (xs ys : List Row) where
     first_part : {Does : State → State → Type 0} {A : Type 0} {r : Result A Error} {a b : MutBor (Held S)}
         → Writes g (RowStatements (upsert table key) (Has xs)) Does r a b
@@ -60,6 +62,7 @@ module _ {S : Type 0} (g : Ghosts S) (table : Table) (key : ℕ) where
   putting_begins rest all same =
       record { so_far = begins g (none_yet table key rest all same); left = λ row there. subst (λ (l : List Row). Has l row) same there }
 
+  -- of the rows `all` those of `was` are still to put: first those of `xs`, and then those of `rest`
   module _ (xs rest was all : List Row) (is : was ≡ xs ++ rest) where
     next_part : {old now : MutBor (Held S)} {Does : State → State → Type 0} {A : Type 0} {r : Result A Error} {a b : MutBor (Held S)}
         → HasPutSome g table key was all old now → Writes g (RowStatements (upsert table key) (Has xs)) Does r a b

@@ -32,6 +32,8 @@ pub asked_rows : (f : Format) (sql : List ℕ) (in_table : Trees → List Row) (
 asked_rows f sql in_table count means old before during rows select_of shown has =
     subst (λ (d : Database). IsPermutation (in_table d.trees) (map (first_columns count) rows)) select_of.same (means before during rows shown (asked_has_tables f old before select_of has))
 
+-- A read by the SELECT `sql` returns r, and leads from `old` to `new`. The columns have these forms, and `shown` gives
+-- the row that a value is read of.
 module _ {S A Z : Type 0} (g : Ghosts S) (sql : List ℕ) (old new : Held S) (forms : List Form) (shown : A → Row) (r : Result (Vec A Z) ReadFault) where
   -- on a clean disk, under the tables of the format, a read by a SELECT of a whole table (`Reads`) gives all rows of
   -- the table, if the read succeeds (`GivesTable`)

@@ -137,6 +137,7 @@ our_trees tree_of xs same tree count =
 
 -- ---- the whole schema
 
+-- the schema is to begin with the first `count` tables and the first `keys` indexes of a campaign
 module _ (count keys : ℕ) (schema : Schema) where
   pub begins_made : AreTables count schema.tables → AreIndexes count keys schema.indexes → schema.views ≡ []
       → Begins count keys schema

@@ -17,6 +17,7 @@ use Rattle.atl_sql.specs.declared.fault.ReadFault.{ReadFault}
 use Rattle.atl_sql.specs.declared.fault.ReadFault.TheVariants.{Store, Refused, Memory, OtherType}
 use Rattle.atl_sql.proofs.KeepLaws.{survives_more, if_ok, if_err}
 
+-- a statement `sql` with these parameters leads from `old`, which is inside a transaction, to `new`
 module _ (old new : State) (inside : IsTrue old.in_transaction) (sql : List ℕ) (params : Row) where
   writes_keep : (what : Option Returning) (command : _) (text : List ℕ) (row : Row) (count : ℕ)
       → Writes old new what command text row count → KeepsCommit old new
@@ -50,6 +51,8 @@ module _ (old new : State) (inside : IsTrue old.in_transaction) (sql : List ℕ)
 pub no_fewer : (faults : ℕ) → faults ≤ faults
 no_fewer faults = omega arith
 
+-- The connection is `old` at first, `begun` once a transaction has begun, `mid` after the SELECT, and `end` after the
+-- rollback.
 module _ {S : Type 0} (g : Ghosts S) (sql : List ℕ) (old begun mid end : Held S) (begins : begun ≡ record old { in_transaction = true }) (ended : end.in_transaction ≡ false)
     (one : Survives (state g begun) (state g mid) (λ _. ⊥)) (back : HasCleanDisk (state g end) → IsRolledBack (state g mid) (state g end)) (two : Survives (state g mid) (state g end) (λ _. ⊥)) where
   begun_inside : IsTrue (state g begun).in_transaction
@@ -121,6 +124,8 @@ if_both : {A E : Type 0} (P Q : A → Type 0) (r : Result A E) → IfOk r P → 
 if_both P Q (Ok a) p q = (p, q)
 if_both P Q (Err e) p q = tt
 
+-- The SELECT `sql` is asked between `old` and `new`. The columns have these forms, and `shown` gives the row that a
+-- value is read of.
 module _ {S A Z : Type 0} (g : Ghosts S) (sql : List ℕ) (old new : Held S) (forms : List Form) (shown : A → Row) where
   pub unasked : {Y : Type 0} (fault : ReadFault) (r : Result (Vec A Z) ReadFault) → Asks g sql old {Z = Y} (Err fault) new → IsErrAnd r (λ says. says ≡ fault) → ReadsRows g sql old forms shown r new
   unasked fault (Ok all) asks is = absurd is

@@ -44,6 +44,7 @@ use Rattle.sqlite_schema.specs.declared.command.Conflict.TheVariants.{Abort}
 abbrev pub mode : Mode
 mode = record { keys = Enforced; in_doubt = false; may_wait = false }
 
+-- the table t has the index `at` in the schema, and an edit of it leaves no work for a foreign key (`unlinked`)
 module _ (schema : Schema) (tree : ℕ) (name : List ℕ) (columns : List Column) (key : Option ℕ) (primary : List ℕ) (uniques : List (List ℕ)) (checks : List Term)
     (at : ℕ) (position : slice_get schema.tables at ≡ Some (table tree name columns key primary uniques checks))
     (unlinked : (olds news : List Row) → works schema Enforced 0 tree olds news ≡ []) where
@@ -87,6 +88,8 @@ module _ (schema : Schema) (tree : ℕ) (name : List ℕ) (columns : List Column
   abbrev pub row_inserted_by : Trees → Row → Row
   row_inserted_by db src = with_rowid Chosen (db tree) (cast_row t src)
 
+  -- An upsert of the key in the columns `target`. Its UPDATE sets the terms `project` in the row whose rowid is at the
+  -- index `hole` of what it reads.
   module _ (limit : Option ℕ) (params : Row) (target : List ℕ) (hole : ℕ) (project : List Term) (plain : (db : Trees) → overlay db [] tree ≡ db tree) where
     abbrev q : Program
     q = record { lets = []; body = update_query tree hole project }

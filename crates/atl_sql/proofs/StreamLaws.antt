@@ -25,6 +25,7 @@ use Rattle.atl_sql.proofs.SelectingLaws.{never_other, no_fewer}
 pub rests_unchanged : (old new : State) → IsUnchanged old new → Rests old new
 rests_unchanged old new h = record { was_open = λ _. h.0.was_open; same = λ _. (inr h.0.now_is, h.0.committed_is) }
 
+-- a query `sql` without RETURNING that doesn't read the time leads from `old` to `new`
 module _ (sql : List ℕ) (old new : State) (plain : IsPlain (understood old.now.schema sql)) where
   pub fails_stay : (c : _) (row : Row) (e : Error) (what : Option Returning) → what ≡ None
       → FailsToShow old new sql c row e what → IsUnchanged old new
@@ -91,7 +92,9 @@ pub record IsGiving {S : Type 0} (g : Ghosts S) (sql : List ℕ) (old : Held S) 
   pub survives : Survives (state g old) (state g now) (λ _. ⊥)
   pub given_so : HasCleanDisk (state g now) → HasGiven g sql [] now given × IsUnchanged (state g old) (state g now)
 
+-- the query `sql` is asked on the connection `old`
 module _ {S : Type 0} (g : Ghosts S) (sql : List ℕ) (old : Held S) where
+  -- the columns have these forms, and `shown` gives the row that a value is read of
   module _ {A : Type 0} (forms : List Form) (shown : A → Row) where
     pub not_begun : {Z : Type 0} (now : Held S) (e : Error) (r : Result (Option (Vec A Z)) ReadFault)
         → IsPlain (understood old.schema sql) → IsErrAnd r (λ fault. fault ≡ read_fault e)
@@ -117,6 +120,7 @@ module _ {S : Type 0} (g : Ghosts S) (sql : List ℕ) (old : Held S) where
       idle = giving.idle;
     }
 
+  -- the query has given the rows `given` at `mid`, and one more step leads to `now`
   module _ (given : List Row) (mid now : Held S) (giving : IsGiving g sql old given mid) (survives : Survives (state g mid) (state g now) (λ _. ⊥)) (idle : mid.in_transaction ≡ false → now.in_transaction ≡ false) where
     clean_before : HasCleanDisk (state g now) → HasCleanDisk (state g mid)
     clean_before clean = omega (arith, survives.clean, clean)
@@ -182,6 +186,8 @@ module _ {S : Type 0} (g : Ghosts S) (sql : List ℕ) (old : Held S) where
 
 -- ---- what was streamed, as rows that are read
 
+-- The query `sql` is asked on the connection `old`. The columns have these forms, and `shown` gives the row that a
+-- value is read of.
 module _ {S A Z : Type 0} (g : Ghosts S) (sql : List ℕ) (old : Held S) (forms : List Form) (shown : A → Row) where
   pub streamed : (all : Vec A Z) (new : Held S) → Streams g sql old {Z = Z} forms shown (Ok (Some all)) new → ReadsRows g sql old {Z = Z} forms shown (Ok all) new
   streamed all new streams = record {

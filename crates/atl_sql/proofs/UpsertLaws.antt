@@ -107,6 +107,7 @@ abbrev pub update_query : ℕ → ℕ → List Term → Query
 update_query tree position project =
     record (delete_query tree (op2 (Compare Eq Binary) (col 1 0) (col 0 position) ∷ [])) { project = col 1 0 ∷ project }
 
+-- a query chooses the rows that pass the test p, and gives f r for each such row r
 module _ (p : Row → Bool) (f : Row → Env) where
   abbrev chosen : List Row → List Env
   chosen rows = flat_map (λ r. cond (p r) (f r ∷ []) []) rows
@@ -154,6 +155,9 @@ update_finds_its_row tree position project db db' given rows r keyed there aimed
 abbrev pub conflict_clause : List ℕ → Program → Upsert
 conflict_clause target q = record { target = Some target; update = Some q }
 
+-- An upsert of the key in the columns `target`. Its UPDATE sets the terms `project` in the row whose rowid is at the
+-- index `position` of what it reads. An edit of the table t leaves no work for a foreign key (`unlinked`), and the tree
+-- is one of the file, not that of a temporary table (`plain`).
 module _ (schema : Schema) (t : Table) (unlinked : (olds news : List Row) → works schema Enforced 0 t.tree olds news ≡ []) (limit : Option ℕ) (params : Row)
     (target : List ℕ) (position : ℕ) (project : List Term) (plain : (db : Trees) → overlay db [] t.tree ≡ db t.tree) where
   abbrev upsert_task : Task

@@ -39,9 +39,6 @@ fn are_tables(tables: &[Table], count: usize) -> bool
         && have_no_foreign_key(&tables[count..])
 }
 
-/// Whether the schema begins with the first `tables` tables and `keys` indexes of a campaign, and
-/// has no view. After them only tables without a foreign key may follow, and indexes that make
-/// nothing unique in the first tables.
 fn begins(schema: &Schema, tables: usize, keys: usize) -> bool
     requires tables { tables ≤ length all_tables }
     requires keys { keys ≤ length all_indexes }

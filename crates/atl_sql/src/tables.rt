@@ -50,7 +50,6 @@ pub(crate) fn described_tables() -> [Description; 10]
 
 // ---- whether a table of a schema is one of these
 
-/// Whether a table of a schema is the one at index `position` of the ten tables of a campaign.
 fn is_table(found: &Table, position: usize) -> bool
     ensures { IsTrue result ↔ (slice_get all_tables position ≡ Some found.now) }
 {
@@ -83,8 +82,6 @@ pub(crate) fn are_first_tables(tables: &[Table], count: usize) -> bool
 
 // ---- the tables are made
 
-/// Makes the ten tables by the texts of these descriptions, each table without a row, in a database
-/// that has no table.
 fn create_each<S: Alter>(tx: &mut Transaction<'_, S>, tables: &[Description]) -> Result<(), Error>
     requires { map (λ t. t.create.now) tables.now ≡ map creation_of all_parts }
     ensures { Writes S.Store Creations (DoesInside IsBlank AreEmpty) result tx.old.conn

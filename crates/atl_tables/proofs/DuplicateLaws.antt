@@ -40,12 +40,12 @@ element_has_no_fault conditions i (y ∷ ys) h (suc k) x e =
     let there : i + suc k ≡ i + 1 + k = omega arith in
     rw there (element_has_no_fault conditions (i + 1) ys (second_part_has_no_fault (conditions i y) (conditions_on_each conditions (i + 1) ys) h) k x e)
 
+-- `title` gives the name of an element
 module _ {A : Type 0} (title : A → List ℕ) where
   abbrev name_occurs_in : A → List A → Bool
   name_occurs_in x front = list_any (λ y. same_name (title y) (title x)) front
 
-  -- b is false, if a condition that has a fault exactly if b is true has none: for `no_duplicate`, where b says whether
-  -- an element before x has the name of x
+  -- for `no_duplicate`, where b says whether an element before x has the name of x
   test_is_false : (b : Bool) (f : WorldFault) → first_fault (cond b (Some f) None ∷ []) ≡ None → b ≡ false
   test_is_false true f h = absurd (cc)
   test_is_false false f h = refl

@@ -8,15 +8,15 @@ use Rattle.atl_tables.specs.Faults.{Conditions, first_fault}
 use Rattle.atl_tables.specs.Results.{IsFaultOrMemory}
 use Rattle.atl_tables.proofs.FaultLaws.{fault_is_of_second_list, error_of_first_list_is_of_joined}
 
+-- `conditions` gives the conditions on an element of a list and its index
 module _ {A : Type 0} (conditions : ℕ → A → Conditions) where
+  -- x is the element at index i, `xs` are the elements after it, and `total` is the first fault of all of them
   module _ (i : ℕ) (x : A) (xs : List A) (total : Option WorldFault) (so_far : first_fault (conditions_on_each conditions i (x ∷ xs)) ≡ total) where
     pub rest_has_same_fault : first_fault (conditions i x) ≡ None
         → first_fault (conditions_on_each conditions (i + 1) xs) ≡ total
     rest_has_same_fault one =
         sym (fault_is_of_second_list (conditions i x) (conditions_on_each conditions (i + 1) xs) one) ∙ so_far
 
-    -- an error e that is Memory or the first fault of the first element x is Memory or the first fault of all elements,
-    -- too (`IsFaultOrMemory`)
     pub first_error_is_error_of_all : (e : WorldFault) → IsFaultOrMemory e (first_fault (conditions i x))
         → IsFaultOrMemory e total
     first_error_is_error_of_all e one =

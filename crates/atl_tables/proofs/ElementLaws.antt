@@ -16,6 +16,8 @@ pub elements_from_index : (vs : List Value) (i : ℕ) (v : Value) → i < length
 elements_from_index vs i v h e =
     items_view-drop vs i v h ∙ ap (λ (x : Value). item (view x) (items_view (drop (i + 1) vs))) (sym e)
 
+-- d is the element at index i of the array at the path `key`, `ds` are the elements after it, and `total` is the first
+-- fault of all of them
 module _ (conditions : List ℕ → Members → Conditions) (key : List ℕ) (i : ℕ) (d : Data) (ds : Items) (total : Option WorldFault) where
   pub later_elements_have_same_fault : first_fault (elements_conditions conditions key i (item d ds)) ≡ total
       → first_fault (element_conditions conditions (element_path key i) d) ≡ None

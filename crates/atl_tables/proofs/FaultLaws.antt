@@ -38,15 +38,11 @@ pub joined_list_has_no_fault : (fs gs : Conditions) → first_fault fs ≡ None 
     → first_fault (fs ++ gs) ≡ None
 joined_list_has_no_fault fs gs h s = fault_is_of_second_list fs gs h ∙ s
 
--- What a call gives by the second of two lists of conditions, it gives by the joined list, if the first list has no
--- fault. It gives the value v, the first fault, or Memory (`Gives`).
 pub result_by_second_list_is_by_joined : {X Y : Type 0} (view : X → Y) (r : Result X WorldFault) (fs gs : Conditions) (v : Y)
     → first_fault fs ≡ None → Gives view r (first_fault gs) v → Gives view r (first_fault (fs ++ gs)) v
 result_by_second_list_is_by_joined view (Ok x) fs gs v h g = (fault_is_of_second_list fs gs h ∙ g.0, g.1)
 result_by_second_list_is_by_joined view (Err e) fs gs v h g = error_of_second_list_is_of_joined e fs gs h g
 
--- if a call gives the value v or the fault (`Gives`), it returns what the definition `fault_or_value fault v` gives
--- (`Reads`)
 pub gives_implies_reads : {X Y : Type 0} (view : X → Y) (r : Result X WorldFault) (fault : Option WorldFault) (v : Y)
     → Gives view r fault v → Reads view r (fault_or_value fault v)
 gives_implies_reads view (Ok x) fault v h = rw (h.0, h.1) refl

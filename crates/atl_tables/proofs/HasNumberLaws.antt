@@ -10,15 +10,16 @@ use Rattle.atl_world.proofs.GeneralLaws.{is_equal, insert_adds_at_most_one}
 pub len_none : {V : Type 0} (m : FinMap nat_cmp V) → m ≡ empty → len m ≡ 0
 len_none {V} m e = ap len e ∙ len-empty nat_cmp V
 
+-- `number` gives the number under which a value is put
 module _ {V : Type 0} (number : V → ℕ) where
   pub map_is_no_longer_than_list : (vs : List V) → len (by_number number vs) ≤ length vs
   map_is_no_longer_than_list [] = omega (arith, len-empty nat_cmp V)
   map_is_no_longer_than_list (v ∷ vs) =
       omega (arith, insert_adds_at_most_one (by_number number vs) (number v) v, map_is_no_longer_than_list vs)
 
+  -- P is a property of a value under its number
   module _ (P : ℕ → V → Type 0) where
-    -- P holds of v, what a map has under n after u is put in, if P holds of u at its own number, and held of what was
-    -- under n before (o). For `property_holds_in_map`, where b says whether n is the number of u.
+    -- for `property_holds_in_map`, where o is what the map had under n before, and b says whether n is the number of u
     property_holds_after_put : (b : Bool) (n : ℕ) (u v : V) (o : Option V) → (n == number u) ≡ b → P (number u) u
         → (o ≡ Some v → P n v) → cond b (Some u) o ≡ Some v → P n v
     property_holds_after_put true n u v o e here rest h =

@@ -20,7 +20,6 @@ use Rattle.atl_world.specs.declared.world.RegionPlan.{RegionPlan}
 use Rattle.atl_world.proofs.MappedLaws.{get-mapped}
 use Rattle.atl_tables.proofs.HasNumberLaws.{property_holds_in_map}
 
--- an option mapped by f stays as it is, if f doesn't change its value: for `mapped_same`, what a map has under a number
 option_is_unchanged : {V : Type 0} (f : V → V) (o : Option V) → ((v : V) → o ≡ Some v → f v ≡ v) → option_map f o ≡ o
 option_is_unchanged f None same = refl
 option_is_unchanged f (Some v) same = ap Some (same v refl)
@@ -31,6 +30,7 @@ mapped_same f m same =
     same_map nat_cmp_total nat_cmp-IsAntisymmetric _ _
     (λ n. get-mapped f m n ∙ option_is_unchanged f (get m n) (same n))
 
+-- `all` has all tables of a world file
 module _ (all : WorldDraft) where
   old_regions_have_no_markets : (rs : List OldRegion)
       → EachIndex (λ i p. without_market p ≡ p) (map (region_of all) (map as_draft rs))
@@ -46,8 +46,6 @@ module _ (all : WorldDraft) where
       let plans = subst (λ ds. EachIndex (λ i p. without_market p ≡ p) (map (region_of all) ds)) (sym read) (old_regions_have_no_markets rs) in
       ap (λ m. record (world_of_tables all) { regions = m }) (mapped_same without_market (regions_of all) (property_holds_in_map (λ (p : RegionPlan). p.number) (λ n p. without_market p ≡ p) (map (region_of all) all.regions) plans))
 
--- if the result `fault_or_value fault x`, the fault or else x, is Ok w, then the world x is w: for
--- `old_document_has_no_markets`
 ok_value_is_world : (fault : Option WorldFault) (x w : WorldValue) → fault_or_value fault x ≡ Ok w → x ≡ w
 ok_value_is_world None x w h = cc
 ok_value_is_world (Some f) x w h = absurd (cc)

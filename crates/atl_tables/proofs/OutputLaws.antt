@@ -29,6 +29,7 @@ unfolding in_byte_order IsStrictlySortedBy
 entries_in_order [] h = refl
 entries_in_order (e ∷ es) h = rw (entries_in_order es h.1) (put_first e.0 (view e.1) es (is_before-sorted e.0 es h.0))
 
+-- e is the next entry of the output at the path `at`, n is its amount, and `es` are the entries after it
 module _ (at : List ℕ) (e : List ℕ × Data) (es : List (List ℕ × Data)) (n : ℕ) (one : amount_at at e ≡ Ok n) where
   pub later_amounts_have_same_fault : (total : Option WorldFault) → first_fault (amounts_keys at (e ∷ es)) ≡ total
       → first_fault (amounts_keys at es) ≡ total

@@ -11,8 +11,7 @@ use Rattle.atl_tables.specs.Faults.{first_fault}
 use Rattle.atl_tables.specs.Keys.{path, element_path}
 use Rattle.atl_tables.specs.Regions.{some_region_has_number, duplicate_number_at}
 
--- The choice by b between Some v and o has a value exactly if o has one or b is true. For `seen_more`: o is what a map
--- has under a number, and b says whether v is put in there.
+-- for `seen_more`, where o is what a map has under a number, and b says whether v is put in there
 is_some-put : {V : Type 0} (v : V) (b : Bool) (o : Option V) → is_some (cond b (Some v) o) ≡ (is_some o || b)
 is_some-put v true None = refl
 is_some-put v true (Some w) = refl

@@ -11,8 +11,7 @@ use Rattle.std.specs.declared.string.String.{String}
 use Rattle.atl_world.specs.Names.{same_name}
 use Rattle.atl_tables.specs.SeenNames.{has_name, HasNames}
 
--- the choice by b between true and `there` is "`there` or b": for `has_more`, where b says whether a name is the one
--- put in, and `there` whether the set had it
+-- for `has_more`, where b says whether a name is the one put in, and `there` whether the set had it
 choice_is_or : (b there : Bool) → cond b true there ≡ (there || b)
 choice_is_or true true = refl
 choice_is_or true false = refl
@@ -28,6 +27,7 @@ unfolding same_name
 has_more seen grown lowered name put same other =
     rw same at (btree_set_updates_text (string_bytes lowered) seen grown true put (map to_ascii_lowercase other)) ∙ choice_is_or (same_name name other) (has_name seen other)
 
+-- x is the element at index i of the list `all`, and `seen` has the names of the elements before it
 module _ {A Z : Type 0} (title : A → List ℕ) (all : List A) (i : ℕ) (x : A) (seen : BTreeSet (String Z)) (so_far : HasNames title (take i all) seen) where
   pub came_before : (new : Bool) → new ≡ not (has_name seen (title x)) → new ≡ false
       → list_any (λ y. same_name (title y) (title x)) (take i all) ≡ true

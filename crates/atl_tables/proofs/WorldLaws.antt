@@ -24,8 +24,7 @@ pub holds_at_index : {A : Type 0} (P : A → Type 0) (xs : List A) → All P xs 
 holds_at_index P xs all i x h =
     subst P (get_or_from_slice_get xs i x x h) (All-get_or P xs i x (slice_get_within xs i x h) all)
 
--- Q holds at each index of a list mapped by f, if P holds of all elements of the list, and Q of f x wherever P holds of
--- x. For `is_world`, where f makes records in range (Q) of tables in range (P).
+-- for `is_world`, where f makes records in range (Q) of tables in range (P)
 mapped_indices : {A B : Type 0} (P : A → Type 0) (Q : B → Type 0) (f : A → B) → ((x : A) → P x → Q (f x))
     → (xs : List A) → All P xs → EachIndex (λ i y. Q y) (map f xs)
 mapped_indices P Q f then [] all i y h = absurd (cc)

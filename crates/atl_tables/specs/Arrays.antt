@@ -9,7 +9,8 @@ use Rattle.atl_tables.specs.declared.fault.WorldFault.{WorldFault}
 abbrev pub element_table : List ℕ → Data → Members
 element_table at d = value_or no_members (value_or_wrong_type at (as_table d))
 
--- the conditions on one element of an array: it is a table, else the fault WrongType; and its keys have no fault
+-- The conditions on one element of an array, where `at` is the element's path: it is a table, else the fault WrongType;
+-- and then those that `conditions` gives for the path and the table (`element_table`).
 abbrev pub element_conditions : (List ℕ → Members → Conditions) → List ℕ → Data → Conditions
 element_conditions conditions at d = fault_of (value_or_wrong_type at (as_table d)) ∷ conditions at (element_table at d)
 

@@ -27,8 +27,6 @@ pub(crate) trait FromTable: Drop {
     // are in their ranges.
     ghost is_sound: { Self → Type 0 };
 
-    /// Reads the value that a table at a path describes, or gives the first fault of its keys, or
-    /// `Memory` if memory runs out.
     fn read(alloc: Global, at: &str, table: &Table) -> Result<Self, WorldFault>
         ensures value { Gives (λ x. x) result
             (first_fault (conditions at.now (table_view table.now)))

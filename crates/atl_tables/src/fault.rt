@@ -111,7 +111,6 @@ impl From<AllocError> for WorldFault {
 impl<T: Drop> From<AllocFailed<T>> for WorldFault {
     ghost from_gives = { λ _ e. e ≡ Memory };
 
-    /// The fault `Memory`; the value that comes with the error is dropped.
     fn from(_error: AllocFailed<T>) -> WorldFault {
         WorldFault::Memory
     }

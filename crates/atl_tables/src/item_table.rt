@@ -108,8 +108,6 @@ impl Titled for ItemDraft {
     }
 }
 
-/// The number of the first item with the name `name`; `None` if no item has the name, or if the
-/// first that has it is the i-th, which isn't made of itself.
 #[tactic(auto, unfolding(crate::specs::Titles::number_of))]
 fn other_item(items: &[ItemDraft], i: usize, name: &Text) -> Option<u16>
     requires { length items.now ≤ most_numbered }
@@ -130,8 +128,6 @@ fn other_item(items: &[ItemDraft], i: usize, name: &Text) -> Option<u16>
     }
 }
 
-/// The number of the item that the i-th item is made of, `None` where the file names none. An error
-/// is the fault UnknownName: no item has the name, or the first that has it is the i-th itself.
 fn raw_item(
     alloc: Global,
     items: &[ItemDraft],

@@ -35,8 +35,6 @@ fn equals_number(number: u32, other: Option<u32>) -> bool
     }
 }
 
-/// Checks that the neighbour `other` of the region `number`, if there is one, has this region on
-/// its side `opposite`. An error is the fault BadNeighbour at `key` of the i-th region of the file.
 fn check_neighbour(
     alloc: Global,
     i: usize,

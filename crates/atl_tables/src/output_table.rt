@@ -31,8 +31,6 @@ pub struct Output {
     pub amount: u32,
 }
 
-/// The entries of a table `output`, in byte order of their keys, else the fault WrongType or
-/// OutOfRange at the first bad amount.
 fn output_entries(alloc: Global, at: &str, table: &Table) -> Result<Sequence<Output>, WorldFault>
     ensures value { Gives (λ v. v) result
         (first_fault (amounts_keys at.now (in_byte_order (table_view table.now))))
@@ -114,7 +112,6 @@ pub(crate) fn keys_name_items(
     Ok(())
 }
 
-/// How much of the item with a given name an output gives in a month, 0 if no key names the item.
 #[tactic(auto, unfolding(crate::specs::OutputTable::amount_of))]
 fn amount_of(outputs: &[Output], item: &Text) -> u32
     requires { All IsOutput outputs.now }

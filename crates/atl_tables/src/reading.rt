@@ -66,8 +66,6 @@ fn read_optional_tables(alloc: Global, document: &Table) -> Result<OptionalTable
     })
 }
 
-/// The regions of the document as a format reads them (the first ignores their markets), else the
-/// first fault of an array or a key.
 #[tactic(auto, unfolding(crate::specs::World::regions_conditions, crate::specs::World::regions_in))]
 fn read_regions(
     alloc: Global,
@@ -89,8 +87,6 @@ fn read_regions(
     }
 }
 
-/// All tables of the document as a format reads them, with names not looked up yet, else the first
-/// fault Missing, WrongType or OutOfRange.
 #[tactic(auto, unfolding(crate::specs::World::keys_conditions, crate::specs::World::tables_of))]
 fn tables(alloc: Global, format: Format, document: &Table) -> Result<WorldDraft, WorldFault>
     ensures value { Gives (λ t. t) result
@@ -122,8 +118,6 @@ fn titles_differ(alloc: Global, all: &WorldDraft) -> Result<(), WorldFault>
     no_duplicate_names(alloc, "kind", "name", all.kinds.as_slice())
 }
 
-/// Checks that names of terrains, items, skills and kinds, numbers of regions, keys of one output
-/// and market items of one region are unique, else gives the fault TwoNames.
 #[tactic(auto, unfolding(crate::specs::World::names_differ))]
 fn names_differ(alloc: Global, all: &WorldDraft) -> Result<(), WorldFault>
     ensures { Gives (λ u. u) result (first_fault (names_differ all.now)) (tt {0}) }
@@ -164,7 +158,6 @@ fn is_land(terrains: &[Terrain], plan: &RegionPlan) -> bool
     }
 }
 
-/// The numbers of the regions whose terrain is land, in ascending order.
 fn land_numbers(
     alloc: Global,
     terrains: &[Terrain],
@@ -205,8 +198,6 @@ fn world_with_land(
     Ok(World::from_parts(rules, terrains, items, skills, kinds, regions, land))
 }
 
-/// Makes the world of `parts` and the skills of `all`, if neighbours are mutual and the terrain of
-/// some region is land, else gives the fault BadNeighbour or NoLand.
 #[tactic(auto, unfolding(crate::specs::World::neighbours_are_mutual))]
 fn make_world(alloc: Global, all: WorldDraft, parts: WorldParts) -> Result<World, WorldFault>
     requires all { IsWorldDraft all }
@@ -230,8 +221,6 @@ fn make_world(alloc: Global, all: WorldDraft, parts: WorldParts) -> Result<World
     world_with_land(alloc, rules, terrains, items, skills, kinds, regions)
 }
 
-/// The world that the tables describe, or the first of the faults TwoNames, UnknownName,
-/// BadNeighbour and NoLand.
 fn from_tables(alloc: Global, all: WorldDraft) -> Result<World, WorldFault>
     requires { IsWorldDraft all }
     ensures { Gives (λ w. w) result (first_fault (table_conditions all)) (world_of_tables all) }

@@ -188,8 +188,6 @@ impl HasUniqueNames for RegionDraft {
     }
 }
 
-/// The number of the terrain that the i-th region of the file names, else the fault UnknownName at
-/// the path of its `terrain`.
 fn known_terrain(
     alloc: Global,
     terrains: &[TerrainDraft],

@@ -146,8 +146,6 @@ impl FromTable for MenRules {
     }
 }
 
-/// The names of the skills of observation, stealth and sailing in the table `[rules]`, else the
-/// fault WrongType at the first key that isn't a text.
 #[tactic(auto, unfolding(crate::specs::RulesTable::skill_names_at, crate::specs::Keys::optional_text_at))]
 fn skill_names(alloc: Global, at: &str, table: &Table) -> Result<SkillNames, WorldFault>
     ensures { Gives (λ s. s) result

@@ -86,8 +86,6 @@ pub(crate) trait HasUniqueNames: Drop {
     // The conditions that no two names in the i-th table of its array are equal.
     ghost no_duplicates: { ℕ → Self → Conditions };
 
-    /// Checks that the i-th table of its array holds no two equal names, else gives the fault
-    /// TwoNames at the second.
     fn no_duplicates_inside(&self, alloc: Global, i: usize) -> Result<(), WorldFault>
         ensures { Gives (λ u. u) result (first_fault (no_duplicates i self.now)) (tt {0}) };
 }

@@ -69,8 +69,6 @@ pub(crate) trait Draft: Drop {
     // refers only to things of the world.
     ghost is_sound: { WorldDraft → ℕ → Self.Record → Type 0 };
 
-    /// The record of the i-th table of its array, with numbers in place of names, else the fault
-    /// UnknownName at the first name that refers to nothing. `Memory` may come at any point.
     fn resolve(&self, alloc: Global, all: &WorldDraft, i: usize) -> Result<Self::Record, WorldFault>
         requires all { IsWorldDraft all.now }
         requires draft { is_draft self.now }

@@ -43,8 +43,6 @@ is_in_whole_set s n q e =
 len-less : (s : NumberSet) (n : ℕ) → set.len (set.remove s n) ≤ set.len s
 len-less s n = len-within (set.remove s n) s (is_in_whole_set s n)
 
--- "not e and a, or not e and b" is "not e, and also a or b". For `union-remove`: e says that a number is the one taken
--- out, and a and b that s and t have it.
 and_distributes_over_or : (e a b : Bool) → ((not e && a) || (not e && b)) ≡ (not e && (a || b))
 and_distributes_over_or true a b = refl
 and_distributes_over_or false a b = refl
@@ -60,8 +58,7 @@ union-remove s t n = sets_are_equal _ _ (λ q.
 
 -- ---- how many numbers two sets have
 
--- `len-apart` by recursion over a list `ks` that has all numbers of t: the union of s and t, which share no number, has
--- as many numbers as both together
+-- `len-apart` by recursion over a list `ks` that has all numbers of t
 len-apart_by : (ks : List ℕ) (s t : NumberSet)
     → ((q : ℕ) → set.contains t q ≡ true → list_any (eq_by_cmp nat_cmp q) ks ≡ true)
     → ((q : ℕ) → set.contains t q ≡ true → set.contains s q ≡ false) → set.len (set.union s t) ≡ set.len s + set.len t
@@ -83,7 +80,6 @@ len-apart_by (k ∷ ks) s t all apart =
       | false ↦ λ missing. ap (λ u. set.len (set.union s u)) (sym (remove_absent t k missing)) ∙ fewer ∙ ap (λ u. set.len s + set.len u) (remove_absent t k missing)
     ] refl
 
--- if a excludes b, and b is true, a is false: for `len-apart`, where a and b say whether s and t have a number
 excluded_is_false : (a b : Bool) → (a ≡ true → b ≡ false) → b ≡ true → a ≡ false
 excluded_is_false true b h e = absurd (false≢true (sym (h refl) ∙ e))
 excluded_is_false false b h e = refl
@@ -93,13 +89,10 @@ pub len-apart : (s t : NumberSet) → AreApart s t → set.len (set.union s t) �
 len-apart s t h =
     len-apart_by (set.items t) s t (λ q e. sym (set.contains-items t q) ∙ e) (λ q. excluded_is_false _ _ (h.apart q))
 
--- what follows from a and from b follows from "a or b": for `len-both_below`, where a and b say whether s and t have a
--- number
 or_cases : (a b : Bool) (P : Type 0) → (a ≡ true → P) → (b ≡ true → P) → (a || b) ≡ true → P
 or_cases true b P f g h = f refl
 or_cases false b P f g h = g h
 
--- the union of two sets of numbers below `most` has at most `most` numbers
 pub len-both_below : (most : ℕ) (s t : NumberSet) → ((k : ℕ) → set.contains s k ≡ true → k < most)
     → ((k : ℕ) → set.contains t k ≡ true → k < most) → set.len (set.union s t) ≤ most
 len-both_below most s t f g =

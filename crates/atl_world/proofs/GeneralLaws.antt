@@ -30,8 +30,6 @@ key_equality_is_symmetric q r = unsigned_tied q r ∙ equality_is_symmetric q r
 pub same_key : (q r : ℕ) → eq_by_cmp nat_cmp q r ≡ true → q ≡ r
 same_key q r test = is_equal q r (sym (unsigned_tied q r) ∙ test)
 
--- Whichever of n and n + 1 a truth value b chooses, it is at most n + 1. For `insert_adds_at_most_one`, where b says
--- whether the map of n entries has the key already.
 pub chosen_is_at_most_next : (b : Bool) (n : ℕ) → cond b n (n + 1) ≤ n + 1
 chosen_is_at_most_next true n = omega arith
 chosen_is_at_most_next false n = omega arith

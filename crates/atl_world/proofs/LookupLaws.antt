@@ -37,8 +37,6 @@ pub other_letter : (name : List ℕ) (quoted : Bool) (word : List ℕ) (i : ℕ)
 other_letter name quoted word i h k e =
     same_from_next name quoted word i h k ∙ ap (λ t. t && same_from name quoted word (i + 1)) e
 
--- a word means a name from an index on (`same_from`) if that is past the last byte of the word and of the name, since
--- no byte is left to differ
 pub end_of_both : (name : List ℕ) (quoted : Bool) (word : List ℕ) (i : ℕ) → length name ≤ i → length word ≤ i
     → same_from name quoted word i ≡ true
 end_of_both name quoted word i h k = rw (drop_all i name h, drop_all i word k) refl

@@ -11,6 +11,7 @@ use Rattle.std.proofs.lemmas.List.Sums.{sum_by-cons}
 use Rattle.atl_world.specs.Sums.{map_values, sum_over}
 use Rattle.atl_world.proofs.GeneralLaws.{is_true}
 
+-- f maps the values of a map or of a list of entries; the numbers stay
 module _ {V W : Type 0} (f : V → W) where
   abbrev entries_with_mapped_values : List (ℕ × V) → List (ℕ × W)
   entries_with_mapped_values es = map (λ e. (e.0, f e.1)) es

@@ -31,8 +31,6 @@ merged xs ys = sorted_merge nat_cmp true xs ys
 abbrev merge_with_first : ℕ → List ℕ → (List ℕ → List ℕ) → List ℕ → List ℕ
 merge_with_first x xs on ys = merge_step nat_cmp true x xs on ys
 
--- P holds of the list that the ordering k chooses, if P holds of xs where k is Less, of ys where k is Equal, and of zs
--- where k is Greater
 by_rank : (P : List ℕ → Type 0) (k : Ordering) (xs ys zs : List ℕ) → (k ≡ Less → P xs) → (k ≡ Equal → P ys)
     → (k ≡ Greater → P zs) → P (match_ordering k xs ys zs)
 by_rank P Less xs ys zs a b c = a refl
@@ -41,12 +39,11 @@ by_rank P Greater xs ys zs a b c = c refl
 
 -- ---- the numbers of two merged lists
 
--- If t is u, "t or (a or b)" is "(t or a) or (u or b)". For `has-step`, where two lists begin with one number, and t
--- and u say whether it is n.
 or_repeated : (t u a b : Bool) → t ≡ u → (t || (a || b)) ≡ ((t || a) || (u || b))
 or_repeated true u a b e = refl
 or_repeated false u a b e = ap (λ v. a || (v || b)) e
 
+-- n is the number that is looked for in the lists
 module _ (n : ℕ) where
   abbrev is_listed : List ℕ → Bool
   is_listed xs = list_any (eq_by_cmp nat_cmp n) xs
@@ -67,7 +64,6 @@ module _ (n : ℕ) where
   has-merged [] ys = refl
   has-merged (x ∷ xs) ys = has-step x xs (merged xs) (has-merged xs) ys
 
--- the set of two merged lists is the union of their sets
 pub from_list-merged : (xs ys : List ℕ)
     → numbers.from_list {R = nat_cmp} (merged xs ys) ≡ numbers.union (numbers.from_list xs) (numbers.from_list ys)
 from_list-merged xs ys = sets_are_equal _ _ (λ n.
@@ -76,6 +72,7 @@ from_list-merged xs ys = sets_are_equal _ _ (λ n.
 
 -- ---- two merged lists are sorted
 
+-- P is a condition that all numbers of both lists meet
 module _ (P : ℕ → Type 0) where
   all-step : (x : ℕ) (xs : List ℕ) (on : List ℕ → List ℕ) → P x → AllByRecursion P xs
       → ((ys : List ℕ) → AllByRecursion P ys → AllByRecursion P (on ys)) → (ys : List ℕ) → AllByRecursion P ys
@@ -107,7 +104,6 @@ sorted-step x xs s h (y ∷ ys) t = by_rank IsRising (nat_cmp x y) _ _ _
     let less : nat_cmp y x ≡ Less = nat_cmp_total.antisymm y x ∙ ap ordering_reverse e in
     (all-merged (λ z. nat_cmp y z ≡ Less) (x ∷ xs) ys (less, above_lower y x xs less s.0) t.0, sorted-step x xs s h ys t.1))
 
--- two sorted lists merged into one are sorted, without duplicates
 pub sorted-merged : (xs ys : List ℕ) → IsRising xs → IsRising ys → IsRising (merged xs ys)
 unfolding IsStrictlySortedBy
 sorted-merged [] ys s t = t
@@ -138,14 +134,13 @@ pub first_alone : (xs us ys : List ℕ) (r : Option ℕ) → length ys ≡ 0 →
 first_alone xs us (y ∷ ys) r e h = absurd (omega (arith, e))
 first_alone xs us [] r e h = rw (merged_alone xs, merged_alone us) h
 
--- A choice by the ordering k of three lists, each with ts appended (us, vs and ws), is the choice of the lists (xs, ys
--- and zs) with ts appended. For `own_last-step` and `other_last-step`.
 all_longer : (k : Ordering) (ts xs ys zs us vs ws : List ℕ) → us ≡ xs ++ ts → vs ≡ ys ++ ts → ws ≡ zs ++ ts
     → match_ordering k us vs ws ≡ match_ordering k xs ys zs ++ ts
 all_longer Less ts xs ys zs us vs ws a b c = a
 all_longer Equal ts xs ys zs us vs ws a b c = b
 all_longer Greater ts xs ys zs us vs ws a b c = c
 
+-- n is the last number of one of two lists, and greater than all numbers of the other
 module _ (n : ℕ) where
   -- n at the end of x ∷ xs is at the end of its merge with lesser numbers, given that this is so for xs. (`on` merges
   -- xs with a list, `more` merges xs with n at its end.)
@@ -195,8 +190,6 @@ under_last xs count n s l h = all_under (take count xs) n (λ k m.
     let rises : get_or xs k 0 ≤ get_or xs (count - 1) 0 = non_decreasing_from_sorted xs s k (count - 1) 0 (omega (arith, within)) (omega (arith, within, l)) in
     omega (arith, read, rises, h (omega (arith, within))))
 
--- after n is put at the index `index`, which is `from`, the list from this index on is n, followed by what it had after
--- this index
 put_there : (xs : List ℕ) (index from n : ℕ) → index ≡ from → index < length xs
     → drop from (set xs index n) ≡ n ∷ drop (from + 1) xs
 put_there xs index from n e l = subst (λ p. drop p (set xs index n) ≡ n ∷ drop (p + 1) xs) e (drop-set xs index n l)

@@ -10,6 +10,7 @@ use Rattle.atl_world.proofs.MappedLaws.{entries-mapped}
 abbrev pub entries_without_markets : List (ℕ × RegionPlan) → List (ℕ × RegionPlan)
 entries_without_markets es = map (λ e. (e.0, without_market e.1)) es
 
+-- m and n are the two maps that are compared
 module _ (m n : FinMap nat_cmp RegionPlan) where
   pub same_maps : entries_without_markets (entries m) ≡ entries_without_markets (entries n)
       → map_values without_market m ≡ map_values without_market n
@@ -19,6 +20,7 @@ module _ (m n : FinMap nat_cmp RegionPlan) where
       → entries_without_markets (entries m) ≡ entries_without_markets (entries n)
   same_entries same = sym (entries-mapped without_market m) ∙ ap entries same ∙ entries-mapped without_market n
 
+-- (k, p) and (n, q) are the first entries of two lists, and `es` and `fs` are the entries after them
 module _ (k n : ℕ) (p q : RegionPlan) (es fs : List (ℕ × RegionPlan)) where
   pub same_rest : entries_without_markets ((k, p) ∷ es) ≡ entries_without_markets ((n, q) ∷ fs)
       → entries_without_markets es ≡ entries_without_markets fs

@@ -48,24 +48,19 @@ len-some zero t k e h =
     (false≢true (sym (set.contains-empty nat_cmp k) ∙ ap (λ u. set.contains u k) (sym (set.empty_of_len t e)) ∙ h))
 len-some (suc n) t k e h = omega arith
 
--- if "not a, and b" holds, a is false: a number of a set from which k was taken out (b) is not k (a)
 pub not_and_is_false : (a b : Bool) → (not a && b) ≡ true → a ≡ false
 not_and_is_false true b h = absurd (false≢true h)
 not_and_is_false false b h = refl
 
--- if "a or b" holds, and a is false, b is true: a number of k ∷ ks that isn't k (a) is in ks (b)
 pub or_without_first_is_second : (a b : Bool) → a ≡ false → (a || b) ≡ true → b ≡ true
 or_without_first_is_second true b e h = absurd (false≢true (sym e))
 or_without_first_is_second false b e h = h
 
--- "not a, and b" holds, if a is false and b true: for `len-within_by`, where a says whether a number is k, and b
--- whether t has it
 not_and_holds : (a b : Bool) → a ≡ false → b ≡ true → (not a && b) ≡ true
 not_and_holds true b e h = absurd (false≢true (sym e))
 not_and_holds false b e h = h
 
--- m ≤ n, if a implies b, b implies 1 ≤ n, and m (less 1 if a is true) is at most n (less 1 if b is true). For
--- `len-within_by`, where a and b say whether sets of m and n numbers have k.
+-- for `len-within_by`, where a and b say whether sets of m and n numbers have k
 less_step : (a b : Bool) (m n : ℕ) → (a ≡ true → b ≡ true) → (b ≡ true → 1 ≤ n) → cond a (m - 1) m ≤ cond b (n - 1) n
     → m ≤ n
 less_step true true m n f g h = let l : 1 ≤ n = g refl in omega arith
@@ -73,8 +68,7 @@ less_step true false m n f g h = absurd (false≢true (f refl))
 less_step false true m n f g h = omega arith
 less_step false false m n f g h = h
 
--- `len-within` by recursion over a list `ks` that has all numbers of s: if t has all numbers of s, then s has no more
--- numbers than t
+-- `len-within` by recursion over a list `ks` that has all numbers of s
 len-within_by : (ks : List ℕ) (s t : set.FinSet nat_cmp)
     → ((q : ℕ) → set.contains s q ≡ true → list_any (eq_by_cmp nat_cmp q) ks ≡ true)
     → ((q : ℕ) → set.contains s q ≡ true → set.contains t q ≡ true) → set.len s ≤ set.len t
@@ -95,8 +89,6 @@ pub len-within : (s t : set.FinSet nat_cmp) → ((q : ℕ) → set.contains s q 
     → set.len s ≤ set.len t
 len-within s t h = len-within_by (set.items s) s t (λ q e. sym (set.contains-items s q) ∙ e) h
 
--- the first two of three may be swapped in "or": whether a number is in a set (a), is the one put in (b), or is in
--- another set (c)
 pub or_swaps_first_two : (a b c : Bool) → (a || (b || c)) ≡ (b || (a || c))
 or_swaps_first_two true true c = refl
 or_swaps_first_two true false c = refl
@@ -146,14 +138,12 @@ pub len-next : (s t : set.FinSet nat_cmp) (k : ℕ) (ks : List ℕ) → set.unio
 len-next s t k ks h =
     len-within (set.insert s k) t (λ q e. ap (λ u. set.contains u q) (sym (union-next s k ks ∙ h)) ∙ set.contains-union nat_cmp_total (set.insert s k) (set.from_list ks) q ∙ or_left _ _ e)
 
--- A count l is at most one more than r, which is l, or l less one if b is true. For `len-below`, where r counts a set
--- of l numbers without m, and b says whether it has m.
+-- for `len-below`, where r counts a set of l numbers without m, and b says whether it has m
 one_less : (b : Bool) (l r : ℕ) → r ≡ cond b (l - 1) l → l ≤ r + 1
 one_less true l r e = omega (arith, e)
 one_less false l r e = omega (arith, e)
 
--- a number k of a set that isn't m is below m, if the set's numbers are below m + 1 (`there` says whether k is in the
--- set): for `len-below`
+-- for `len-below`, where `there` says whether k is in the set
 rest_below : (m k : ℕ) (there : Bool) → (not (eq_by_cmp nat_cmp k m) && there) ≡ true → (there ≡ true → k < m + 1)
     → k < m
 rest_below m k there h below = elim (nat_cmp k m) as (λ r. nat_cmp k m ≡ r → (not (is_eq r) && there) ≡ true → k < m) [
@@ -162,7 +152,6 @@ rest_below m k there h below = elim (nat_cmp k m) as (λ r. nat_cmp k m ≡ r �
   | Greater ↦ λ e yes. let l = ranked k m Greater (sym e) in absurd (omega (arith, l, below yes))
 ] refl h
 
--- a set of numbers below `most` has at most `most` numbers
 pub len-below : (most : ℕ) (s : set.FinSet nat_cmp) → ((k : ℕ) → set.contains s k ≡ true → k < most) → set.len s ≤ most
 len-below zero s below =
     let none = len-within s set.empty (λ k there. absurd (omega (arith, below k there))) in

@@ -84,8 +84,6 @@ lesser_not_listed : (x : ℕ) (xs : List ℕ) → AllByRecursion (λ y. nat_cmp 
 lesser_not_listed x [] h = refl
 lesser_not_listed x (y ∷ xs) h = ap (λ r. is_eq r || list_any (eq_by_cmp nat_cmp x) xs) h.0 ∙ lesser_not_listed x xs h.1
 
--- The choice of m (for b true) or m + 1 (for b false) is n + 1, if b is false and m is n. For `len-sorted`, where b
--- says whether the set of m numbers has the next number already.
 chosen_is_one_more : (b : Bool) (m n : ℕ) → b ≡ false → m ≡ n → cond b m (m + 1) ≡ suc n
 chosen_is_one_more true m n e h = absurd (false≢true (sym e))
 chosen_is_one_more false m n e h = omega arith
@@ -117,7 +115,6 @@ pub contains-is_at : (xs : List ℕ) (n i : ℕ) → IsAt xs n i → set.contain
 contains-is_at xs n i h =
     ap (λ s. set.contains s n) (from_list-put_back xs n i h) ∙ contains_inserted (set.from_list (remove xs i)) n
 
--- if n belongs at an index of a sorted list, the list's set with n put in has one number more than the list
 pub len-belongs : (xs : List ℕ) (n i : ℕ) → IsRising xs → BelongsAt xs n i
     → set.len {R = nat_cmp} (set.insert (set.from_list xs) n) ≡ length xs + 1
 len-belongs xs n i s b =
@@ -152,7 +149,6 @@ sorted-empty = tt
 not_falling : (xs : List ℕ) → IsRising xs → (i j : ℕ) → i ≤ j → j < length xs → get_or xs i 0 ≤ get_or xs j 0
 not_falling xs s i j l m = non_decreasing_from_sorted xs s i j 0 l m
 
--- if a binary search in a sorted list finds n, then n is at the index that the search returns
 pub searched-found : (xs : List ℕ) (n : ℕ) (r : Result ℕ ℕ) → IsRising xs → IsBinarySearchResult (λ y. nat_cmp y n) xs r
     → IfOk r (λ i. IsAt xs n i)
 searched-found xs n (Ok i) s h = let found = searched xs n (Ok i) h (not_falling xs s) in record { within = found.0; number_there = found.1 }

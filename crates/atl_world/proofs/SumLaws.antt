@@ -13,22 +13,16 @@ use Rattle.atl_world.specs.Sums.{sum_over, numbers_where}
 addition_commutes : (a b : ℕ) → a + b ≡ b + a
 addition_commutes a b = omega arith
 
--- if b is c + d, then a + b is (a + c) + d: for `put_new`, where the new entry comes after one for which f gives a
 sum_after_first : (a b c d : ℕ) → b ≡ c + d → a + b ≡ (a + c) + d
 sum_after_first a b c d h = omega arith
 
--- (a + c) + b is (b + c) + a: for `put_either`, where a and b are what f gives for the two values
 addends_are_exchanged : (a b c : ℕ) → (a + c) + b ≡ (b + c) + a
 addends_are_exchanged a b c = omega arith
 
--- two equal sums stay equal if e is added to the first addend of each: for `put_either`, with an entry in front that
--- counts e
 equal_sums_in_front : (e a b c d : ℕ) → a + b ≡ c + d → (e + a) + b ≡ (e + c) + d
 equal_sums_in_front e a b c d h = omega arith
 
 module _ {X : Type 0} where
-  -- A choice by b between x, and what the same b chooses of y and z, is that between x and z. For `put_over`: what the
-  -- map has under a number, with and without its value removed first.
   inner_choice_is_unused : (b : Bool) (x y z : Option X) → cond b x z ≡ cond b x (cond b y z)
   inner_choice_is_unused true x y z = refl
   inner_choice_is_unused false x y z = refl
@@ -84,14 +78,12 @@ module _ {X : Type 0} where
         | Greater ↦ ap (λ n. n + f u) (more e (put nat_cmp k v es)) ∙ equal_sums_in_front (f e.1) _ (f u) _ (f v) (put_either f k u v es) ∙ ap (λ n. n + f v) (sym (more e (put nat_cmp k u es)))
       ]
 
-  -- a value v put in under a new number adds f v to the sum of f over a map
   pub sum_over-insert_new : (f : X → ℕ) (m : FinMap nat_cmp X) (k : ℕ) (v : X) → get m k ≡ None
       → sum_over f (insert m k v) ≡ sum_over f m + f v
   sum_over-insert_new f m k v h =
       ap (sum_by (λ e. f e.1)) (entries-insert nat_cmp_total m k v)
       ∙ put_new f k v (entries m) (sym (get-entries m k) ∙ h)
 
-  -- if v replaces u in a map, the new sum of f over the map, plus f u, is the old sum plus f v
   pub sum_over-insert_known : (f : X → ℕ) (m : FinMap nat_cmp X) (k : ℕ) (u v : X) → get m k ≡ Some u
       → sum_over f (insert m k v) + f u ≡ sum_over f m + f v
   sum_over-insert_known f m k u v h =

@@ -17,8 +17,7 @@ use Rattle.atl_world.proofs.SetLaws.{sets_are_equal, insert_twice, insert_undone
 use Rattle.atl_world.proofs.SumLaws.{remove_undoes_insert}
 use mathlib.Core.Bool.{or-false}
 
--- P holds of the result of the test whether q is n, if P holds of false, and of true where q is n. For laws of what a
--- set or a map that was changed at n has at q.
+-- for laws of what a set or a map that was changed at n has at q
 holds_of_key_test : (n q : ℕ) (P : Bool → Type 0) → (q ≡ n → P true) → P false → P (eq_by_cmp nat_cmp q n)
 holds_of_key_test n q P here other =
     elim (eq_by_cmp nat_cmp q n) as (λ b. eq_by_cmp nat_cmp q n ≡ b → P b)
@@ -27,7 +26,6 @@ holds_of_key_test n q P here other =
 module _ {V : Type 0} where
   -- ---- the numbers that have a value or a mark
 
-  -- `valued_or_marked v m` has exactly the numbers that have a value in the map v or a mark in m
   pub contains-held : (v : FinMap nat_cmp V) (m : set.FinSet nat_cmp) (q : ℕ)
       → set.contains (valued_or_marked v m) q ≡ (set.contains m q || is_some (get v q))
   contains-held v m q =

@@ -170,8 +170,6 @@ impl Marks {
     }
 }
 
-/// Whether one more number can be added to the recent ones without merging them first: they are
-/// fewer than their room and `RECENT_LIMIT`.
 fn has_recent_room(recent: &SortedNumbers) -> bool
     ensures { result ≡ true → set.len recent.now.numbers < recent.now.room }
 {

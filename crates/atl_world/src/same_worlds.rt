@@ -15,7 +15,6 @@ macro_rules! agree {
 
 /// A thing of a world that can be compared with another: a terrain, an item, a skill or a kind.
 trait Comparable: Drop {
-    /// Whether two things are equal in all their fields.
     fn is_same(&self, other: &Self) -> bool
         ensures { IsTrue result ↔ (self.now ≡ other.now) };
 }
@@ -68,7 +67,6 @@ fn are_same_rules(rules: &Rules, others: &Rules) -> bool
         && agree!(rules others: start_money man_weight man_carry observation stealth sailing)
 }
 
-/// Whether two regions are equal but for their markets.
 fn is_same_region(plan: &RegionPlan, other: &RegionPlan) -> bool
     ensures { IsTrue result ↔ (without_market plan.now ≡ without_market other.now) }
 {

@@ -147,8 +147,6 @@ impl SortedNumbers {
     }
 }
 
-/// The index of a number in a sorted list; if the list doesn't have the number, `Err` of the index
-/// at which it belongs.
 fn index_of(numbers: &[u32], number: u32) -> Result<usize, usize>
     requires { IsStrictlySortedBy nat_cmp numbers.now }
     ensures found { IfOk result (λ index. IsAt numbers.now number index) }
@@ -170,8 +168,8 @@ fn put_at(numbers: &mut Vec<u32>, index: usize, number: u32)
     let _ = numbers.insert(index, number);
 }
 
-/// The length of a list of numbers. Its clause `small` tells `SortedNumbers::len` that the number
-/// `last`, which has 32 bits, is below 2^32.
+/// The clause `small` tells `SortedNumbers::len` that the number `last`, which has 32 bits, is
+/// below 2^32.
 fn length_of_bounded(numbers: &[u32], last: u32) -> usize
     ensures value { result ≡ length numbers.now }
     ensures small { last < number_count }
@@ -198,7 +196,6 @@ fn append(numbers: &mut Vec<u32>, others: &[u32])
     }
 }
 
-/// Whether the last of a list's first `count` numbers is above `other`; false if `count` is 0.
 fn is_last_above(numbers: &[u32], count: usize, other: u32) -> bool
     requires { count ≤ length numbers.now }
     ensures { IsTrue result ↔ ((0 < count) × (other < slice_index numbers.now (count - 1))) }
@@ -206,9 +203,7 @@ fn is_last_above(numbers: &[u32], count: usize, other: u32) -> bool
     count > 0 && numbers[count - 1] > other
 }
 
-/// Merges the first `own` numbers of a list with all of another list, into the first list, which is
-/// as long as these together. The first `own` numbers and the other list are sorted, and have no
-/// number in common. The largest number is put in place first, so each is moved at most once.
+/// The largest number is put in place first, so each is moved at most once.
 fn merge(numbers: &mut [u32], own: usize, others: &[u32])
     requires size { length numbers.old ≡ own + length others.now }
     requires ascending { IsStrictlySortedBy nat_cmp (take own numbers.old) }

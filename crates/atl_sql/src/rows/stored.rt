@@ -130,7 +130,7 @@ pub(crate) fn select<S: Alter>(conn: &mut Connection<S>, sql: &str) -> Result<Ve
     Ok(rows)
 }
 
-/// Parses a row and adds it to the end of a list; false if it can't be parsed or kept.
+/// False if the row can't be parsed or kept.
 fn push_row<T: Stored>(alloc: Global, all: &mut Vec<T>, row: &Row) -> bool
     ensures { result ≡ true → AddsRow T.forms T.shown all.old.items row.now all.new.items }
 {
@@ -140,8 +140,7 @@ fn push_row<T: Stored>(alloc: Global, all: &mut Vec<T>, row: &Row) -> bool
     }
 }
 
-/// Gives all rows that a query shows, each parsed as it comes; None if one couldn't be parsed or
-/// kept. The error is the fault of the query's refusal. Nothing is changed.
+/// Each row is parsed as it comes; None if one couldn't be parsed or kept.
 fn stream<T: Stored, S: Alter>(
     alloc: Global,
     conn: &mut Connection<S>,
@@ -164,9 +163,7 @@ fn stream<T: Stored, S: Alter>(
     Ok(None)
 }
 
-/// Gives all rows that a SELECT shows, whatever the schema is, parsed after all of them have come.
-/// The error is the fault of the SELECT's refusal, OtherType for a value of another type, or
-/// Memory.
+/// The rows are parsed after all of them have come.
 fn read_inside<T: Stored, S: Alter>(
     alloc: Global,
     conn: &mut Connection<S>,

@@ -15,8 +15,6 @@ use sqlite_sql::ops::{BinaryOp, CompareOp};
 use sqlite_value::keys::Collation;
 use sqlite_value::value::Value;
 
-/// The two sides of an equation in a CHECK, as indexes of its nodes; None if the node is no
-/// equation.
 fn sides(node: Option<&Op>) -> Option<(usize, usize)>
     ensures equal { IfSome result
         (λ two. option_copied node.entry ≡ Some (variant.Binary (Compare Eq Binary) two.0 two.1)) }

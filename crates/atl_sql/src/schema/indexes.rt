@@ -31,7 +31,6 @@ fn is_index(found: &Index, name: &[u8], tree: u32, table: u32, columns: &[usize]
         && found.is_unique
 }
 
-/// Whether an index is that of the unique key of a record's table, besides the row's number.
 fn is_index_of<R: Record>(found: &Index) -> bool
     ensures { IsTrue result ↔ (index_of (table_of R.part) ≡ Some found.now) }
 {
@@ -48,8 +47,6 @@ fn is_index_of<R: Record>(found: &Index) -> bool
     }
 }
 
-/// Whether an index is the one at index `position` of the four that the database makes for the
-/// unique keys of the ten tables, in the order of the tables.
 fn is_key_index(found: &Index, position: usize) -> bool
     ensures { IsTrue result ↔ (slice_get all_indexes position ≡ Some found.now) }
 {

@@ -40,8 +40,6 @@ fn is_one_order(orders: &[Order]) -> bool
     }
 }
 
-/// Whether the columns at these indexes of a stored row are the only unique key besides the
-/// row's number.
 fn is_unique(found: &Table, positions: &[usize]) -> bool
     ensures { IsTrue result ↔
         ((found.now.uniques ≡ positions.now ∷ []) × (found.now.orders ≡ plain ∷ [])) }
@@ -49,7 +47,6 @@ fn is_unique(found: &Table, positions: &[usize]) -> bool
     is_one_key(found.uniques.as_slice(), positions) && is_one_order(found.orders.as_slice())
 }
 
-/// Whether the unique key besides the row's number, if there is one, is as described.
 fn has_unique(found: &Table, unique: Option<UniqueKey>) -> bool
     ensures { IsTrue result ↔
         ((found.now.uniques ≡ unique_columns unique)

@@ -13,14 +13,14 @@ use atl_descriptions::table::Table as Description;
 use sqlite_schema::code::Terms;
 use sqlite_schema::schema::{Column, Stamps, Table};
 
-/// Whether no column of the table has a default that reads the time.
+/// Stamps are the defaults that read the time.
 fn is_unstamped(stamps: &Stamps) -> bool
     ensures { IsTrue result ↔ (stamps.now ≡ record { places = []; terms = []; formats = [] }) }
 {
     stamps.places.is_empty() && stamps.terms.roots.is_empty() && stamps.formats.is_empty()
 }
 
-/// Whether the table has no foreign key, no default that is computed, and no AUTOINCREMENT.
+/// `computed` has the columns whose default is no literal, and `is_counted` means AUTOINCREMENT.
 fn has_nothing_more(found: &Table) -> bool
     ensures { IsTrue result ↔
         (found.now ≡ record found.now {
@@ -36,8 +36,6 @@ fn has_nothing_more(found: &Table) -> bool
         && !found.is_counted
 }
 
-/// Whether the checks are those of a table that has the check `id = 1` (`is_single`), or of one
-/// that has none.
 fn has_check(checks: &Terms, is_single: bool) -> bool
     ensures { IsTrue result ↔ (checks.now ≡ checks_of is_single) }
 {
@@ -48,7 +46,6 @@ fn has_check(checks: &Terms, is_single: bool) -> bool
     }
 }
 
-/// Whether the table is as described, whatever its columns are.
 fn is_described(found: &Table, made: &Description) -> bool
     ensures { IsTrue result ↔
         (found.now ≡ table made.now.tree made.now.name.now found.now.columns made.now.number
