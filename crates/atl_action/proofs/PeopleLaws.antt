@@ -68,19 +68,17 @@ module _ (f : Unit → Unit) (same : (u : Unit) → IsSameUnit u (f u)) (m : Fin
 
 -- the numbers of the structure (0 for none) and of the region that units are put into
 module _ (structure to : ℕ) where
-  -- A unit put into region `to` and structure `structure`, with its guard flag cleared. It went to another region or
-  -- structure; in docs/RULES.md "gone" is said of a faction without units.
-  abbrev pub gone : Unit → Unit
-  gone x = record x { region = to; structure = structure; holding = record x.holding { guard = false } }
+  -- a unit put into region `to` and structure `structure`, with its guard flag cleared
+  abbrev pub put_elsewhere : Unit → Unit
+  put_elsewhere x = record x { region = to; structure = structure; holding = record x.holding { guard = false } }
 
-  -- a unit put into another region or structure (`gone`, not the "gone" of a faction in docs/RULES.md) if `b` is true,
-  -- and otherwise as it was
-  abbrev pub gone_if : Bool → Unit → Unit
-  gone_if b x = if b then gone x else x
+  -- a unit put elsewhere if `b` is true, and otherwise as it was
+  abbrev pub put_elsewhere_if : Bool → Unit → Unit
+  put_elsewhere_if b x = if b then put_elsewhere x else x
 
   -- the units, of which unit n is in region `to`, inside structure `structure`, and has its guard flag cleared
   abbrev pub elsewhere : FinMap nat_cmp Unit → ℕ → FinMap nat_cmp Unit
-  elsewhere m n = with_changed_value gone m n
+  elsewhere m n = with_changed_value put_elsewhere m n
 
   -- putting unit n elsewhere and then clearing its flag changes nothing of the campaign but the units (`elsewhere`)
   pub elsewhere_is : (c : CampaignValue) (n : ℕ)
@@ -89,28 +87,27 @@ module _ (structure to : ℕ) where
       changed_twice (λ x. record x { region = to; structure = structure })
       (λ x. record x { holding = record x.holding { guard = false } }) c n
 
-  -- a unit keeps all but region, structure and guard flag (`IsSameUnit`), whether it is put into another region or
-  -- structure (`gone`, where `b` is true) or left as it was
-  pub gone_same : (b : Bool) (x : Unit) → IsSameUnit x (gone_if b x)
-  gone_same true x = record { faction = refl; name = refl; men = refl; money = refl; items = refl; days = refl }
-  gone_same false x = record { faction = refl; name = refl; men = refl; money = refl; items = refl; days = refl }
+  -- a unit keeps all but region, structure and guard flag (`IsSameUnit`), whether it is put elsewhere or left as it was
+  pub put_elsewhere_same : (b : Bool) (x : Unit) → IsSameUnit x (put_elsewhere_if b x)
+  put_elsewhere_same true x = record { faction = refl; name = refl; men = refl; money = refl; items = refl; days = refl }
+  put_elsewhere_same false x = record { faction = refl; name = refl; men = refl; money = refl; items = refl; days = refl }
 
   -- if a unit still guards, it didn't go elsewhere, and is as it was
-  pub guards_stay : (b : Bool) (x : Unit) → guards (gone_if b x) ≡ true → gone_if b x ≡ x
+  pub guards_stay : (b : Bool) (x : Unit) → guards (put_elsewhere_if b x) ≡ true → put_elsewhere_if b x ≡ x
   guards_stay true x g = false_true g
   guards_stay false x g = refl
 
   -- the units are the same people once unit n is put elsewhere
   pub elsewhere_people : (m : FinMap nat_cmp Unit) (n : ℕ) → AreSamePeople m (elsewhere m n)
-  elsewhere_people m n = people_changed gone (gone_same true) m n
+  elsewhere_people m n = people_changed put_elsewhere (put_elsewhere_same true) m n
 
   -- if unit n is put elsewhere, but into the structure that it is inside, the same units are inside each structure as
   -- before
   pub elsewhere_inside : (m : FinMap nat_cmp Unit) (n q : ℕ) (v : Unit) → get m n ≡ Some v → v.structure ≡ structure
       → numbers_inside q (elsewhere m n) ≡ numbers_inside q m
   elsewhere_inside m n q v is here =
-      ap (λ o. numbers_inside q (with_changed_option gone m n o)) is
-      ∙ inside_as_before q m (insert m n (gone v)) (numbers_where-insert_known (λ (x : Unit). x.structure == q) m n v (gone v) is (ap (λ s. s == q) here))
+      ap (λ o. numbers_inside q (with_changed_option put_elsewhere m n o)) is
+      ∙ inside_as_before q m (insert m n (put_elsewhere v)) (numbers_where-insert_known (λ (x : Unit). x.structure == q) m n v (put_elsewhere v) is (ap (λ s. s == q) here))
 
 -- ---- the totals
 

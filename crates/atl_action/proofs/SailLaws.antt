@@ -40,7 +40,7 @@ use Rattle.atl_campaign.proofs.NumberListLaws.{IsListed}
 use Rattle.atl_phase.specs.declared.phase_order.Arrangement.TheVariants.{ByUnit}
 use Rattle.atl_phase.specs.Month.{MonthValue}
 use Rattle.atl_phase.specs.Inside.{structure_of_unit}
-use Rattle.atl_phase.specs.Outcomes.{unless}
+use Rattle.atl_phase.specs.Outcomes.{fault_or}
 use Rattle.atl_phase.specs.PhaseOrders.{Task, orders_of}
 use Rattle.atl_phase.specs.OrderEffects.{IsStillThere, effect_on, faction_effect, meaning_by_orders, of_faction, one_order, order_result, others_unaffected}
 use Rattle.atl_phase.specs.Bounds.{IsOrderly, IsUnaffectedRelation, StepsWell, nothing_remaining}
@@ -54,7 +54,7 @@ use Rattle.atl_phase.specs.NoWorse.{IsUnchanged}
 use Rattle.atl_phase.proofs.UnbookedLaws.{stays_well}
 use Rattle.atl_action.specs.Sail.{AreAtMostMoved, IsAtMostMoved, SailsWith, after_sailing, capacity, affects_nobody, crew_needed, crew_of, is_complete_ship, is_sailing, is_way, sail, sail_fault, sail_spec, sail_step, sum_inside}
 use Rattle.atl_action.specs.Walk.{by_direction, with_unit_moved}
-use Rattle.atl_action.proofs.PeopleLaws.{AreSamePeople, elsewhere, elsewhere_inside, elsewhere_is, elsewhere_people, gone, gone_if, gone_same, guards_stay, people_same, people_twice, total_people}
+use Rattle.atl_action.proofs.PeopleLaws.{AreSamePeople, elsewhere, elsewhere_inside, elsewhere_is, elsewhere_people, put_elsewhere, put_elsewhere_if, put_elsewhere_same, guards_stay, people_same, people_twice, total_people}
 use Rattle.atl_action.proofs.WalkLaws.{in_each_direction, none_fit}
 use Rattle.atl_action.proofs.TravelLaws.{AreTravelled, IsPut, IsSameStructure, steady-travelled, travelled}
 
@@ -92,17 +92,17 @@ module _ (ship to : ℕ) where
       (elsewhere_people ship to m n) (all_people (elsewhere ship to m n) ns)
 
   mapped_both : (a b : Bool) (o : Option Unit)
-      → option_map (gone_if ship to b) (option_map (gone_if ship to a) o) ≡ option_map (gone_if ship to (a || b)) o
+      → option_map (put_elsewhere_if ship to b) (option_map (put_elsewhere_if ship to a) o) ≡ option_map (put_elsewhere_if ship to (a || b)) o
   mapped_both a b o = grind rules
 
   -- A look-up of a unit, after the units of a list went along with the ship, finds it gone along if listed, else
   -- unchanged.
   all_at : (m : FinMap nat_cmp Unit) (ns : List ℕ) (k : ℕ)
-      → get (fold (elsewhere ship to) m ns) k ≡ option_map (gone_if ship to (list_any (λ n. k == n) ns)) (get m k)
+      → get (fold (elsewhere ship to) m ns) k ≡ option_map (put_elsewhere_if ship to (list_any (λ n. k == n) ns)) (get m k)
   all_at m [] k = sym (option_map_id (get m k))
   all_at m (n ∷ ns) k =
       all_at (elsewhere ship to m n) ns k
-      ∙ ap (option_map (gone_if ship to (list_any (λ n. k == n) ns))) (get-changed (gone ship to) m n k)
+      ∙ ap (option_map (put_elsewhere_if ship to (list_any (λ n. k == n) ns))) (get-changed (put_elsewhere ship to) m n k)
       ∙ mapped_both (k == n) (list_any (λ n. k == n) ns) (get m k)
 
   abbrev IsInside : FinMap nat_cmp Unit → ℕ → Type 0
@@ -118,9 +118,9 @@ module _ (ship to : ℕ) where
 
   still_inside : (m : FinMap nat_cmp Unit) (n k : ℕ) → IsInside m k → IsInside (elsewhere ship to m n) k
   still_inside m n k (v, there, here) =
-      (gone_if ship to (k == n) v, get-changed (gone ship to) m n k ∙ ap (option_map (gone_if ship to (k == n))) there, by_test (k == n))
+      (put_elsewhere_if ship to (k == n) v, get-changed (put_elsewhere ship to) m n k ∙ ap (option_map (put_elsewhere_if ship to (k == n))) there, by_test (k == n))
     where
-      by_test : (b : Bool) → (gone_if ship to b v).structure ≡ ship
+      by_test : (b : Bool) → (put_elsewhere_if ship to b v).structure ≡ ship
       by_test true = refl
       by_test false = here
 
@@ -165,7 +165,7 @@ module _ (w : WorldValue) (c : CampaignValue) (ship to : ℕ) (steady : IsSteady
 
   -- the unit after the ship went: gone along with it, if it was inside, and otherwise as it was
   abbrev f : ℕ → Unit → Unit
-  f k v = gone_if ship to (v.structure == ship) v
+  f k v = put_elsewhere_if ship to (v.structure == ship) v
 
   -- the structure of a number after the ship went: in region `to` if it is the ship, and otherwise as it was
   abbrev g : ℕ → Structure → Structure
@@ -194,19 +194,19 @@ module _ (w : WorldValue) (c : CampaignValue) (ship to : ℕ) (steady : IsSteady
   ]
 
   units_by : (k : ℕ) (o : Option Unit) → get c.units k ≡ o
-      → option_map (gone_if ship to (list_any (λ n. k == n) aboard_numbers)) o ≡ option_map (f k) o
+      → option_map (put_elsewhere_if ship to (list_any (λ n. k == n) aboard_numbers)) o ≡ option_map (f k) o
   units_by k None there = refl
-  units_by k (Some v) there = ap (λ b. Some (gone_if ship to b v)) (member k v there)
+  units_by k (Some v) there = ap (λ b. Some (put_elsewhere_if ship to b v)) (member k v there)
 
   units_at : (k : ℕ) → get units k ≡ option_map (f k) (get c.units k)
   units_at k = all_at ship to c.units aboard_numbers k ∙ units_by k (get c.units k) refl
 
   carried : (k : ℕ) (v : Unit) → IsAtMostMoved v (f k v)
   carried k v =
-      cond_both (v.structure == ship) (gone ship to v) v (IsAtMostMoved v) (λ t. along (is_equal v.structure ship t))
+      cond_both (v.structure == ship) (put_elsewhere ship to v) v (IsAtMostMoved v) (λ t. along (is_equal v.structure ship t))
       (λ _. carried_same v)
     where
-      along : v.structure ≡ ship → IsAtMostMoved v (gone ship to v)
+      along : v.structure ≡ ship → IsAtMostMoved v (put_elsewhere ship to v)
       along here = record {
         faction = refl;
         structure = sym here;
@@ -247,7 +247,7 @@ module _ (w : WorldValue) (c : CampaignValue) (ship to : ℕ) (steady : IsSteady
   module _ (floats : is_ship w x ≡ true) (whole : x.done ≡ size_of w x.kind) (there_to : HasValue c.regions to) where
     put : (k : ℕ) (v : Unit) → get c.units k ≡ Some v → IsPut w c units structures f g (f k v)
     put k v there =
-        cond_both (v.structure == ship) (gone ship to v) v (IsPut w c units structures f g) (λ _. record { region = there_to; structure = λ some. (shifted x, at_ship, refl) })
+        cond_both (v.structure == ship) (put_elsewhere ship to v) v (IsPut w c units structures f g) (λ _. record { region = there_to; structure = λ some. (shifted x, at_ship, refl) })
         (λ t.
         let p = steady.known.units k v there in
         record { region = p.region; structure = λ some. let (s, was, near) = p.structure some in (s, at_other v.structure (is_unequal v.structure ship t) ∙ was, near) })
@@ -255,7 +255,7 @@ module _ (w : WorldValue) (c : CampaignValue) (ship to : ℕ) (steady : IsSteady
     aboard : (k : ℕ) (v : Unit) → get c.units k ≡ Some v → is_land_at w (f k v).region ≡ false
         → IsAboard w after (f k v)
     aboard k v there =
-        cond_both (v.structure == ship) (gone ship to v) v (λ u. is_land_at w u.region ≡ false → IsAboard w after u) (λ _ wet. (shifted x, at_ship, floats))
+        cond_both (v.structure == ship) (put_elsewhere ship to v) v (λ u. is_land_at w u.region ≡ false → IsAboard w after u) (λ _ wet. (shifted x, at_ship, floats))
         (λ t wet. let (s, was, afloat) = steady.water.units k v there wet in (s, at_other v.structure (is_unequal v.structure ship t) ∙ was, afloat))
 
     afloat : (q : ℕ) (y : Structure) → get c.structures q ≡ Some y → is_land_at w (g q y).region ≡ false
@@ -272,7 +272,7 @@ module _ (w : WorldValue) (c : CampaignValue) (ship to : ℕ) (steady : IsSteady
       unit_count = (all_people ship to c.units aboard_numbers).count;
       structure_count = len-changed shifted c.structures ship;
       of_factions = (all_people ship to c.units aboard_numbers).of_factions;
-      same_units = λ k v there. gone_same ship to (v.structure == ship) v;
+      same_units = λ k v there. put_elsewhere_same ship to (v.structure == ship) v;
       same_structures = λ q y there. cond_both (q == ship) (shifted y) y (IsSameStructure y) (λ _. record { kind = refl; done = refl; name = refl }) (λ _. record { kind = refl; done = refl; name = refl });
       put = put;
       built = λ q y there. cond_both (q == ship) (shifted y) y (λ (z : Structure). HasValue c.regions z.region) (λ _. there_to) (λ _. (steady.known.structures q y there).region);
@@ -312,7 +312,7 @@ module _ (w : WorldValue) (c : CampaignValue) (ship to : ℕ) (steady : IsSteady
     where
       by_unit : (o : Option Unit) → structure_in o ≢ ship → option_map (f k) o ≡ o
       by_unit None apart = refl
-      by_unit (Some v) apart = ap (λ b. Some (gone_if ship to b v)) (other_number v.structure ship apart)
+      by_unit (Some v) apart = ap (λ b. Some (put_elsewhere_if ship to b v)) (other_number v.structure ship apart)
 
   sailed_structure : (q : ℕ) → q ≢ ship → get (after_sailing c ship to).structures q ≡ get c.structures q
   sailed_structure q apart = ap (λ d. get d.structures q) sailed_is ∙ at_other q apart
@@ -384,7 +384,7 @@ sail_cases P w c n u direction same gone_off =
         gone_off (unwrap_or to 0) x at parts.0 (is_equal x.done (size_of w x.kind) parts.1) (way_there w u.region to way)
 
     by_fault : (to : Option ℕ) (o : Option EventFault) → sail_fault w c n u (get c.structures u.structure) to ≡ o
-        → P (unless c o (after_sailing c u.structure (unwrap_or to 0), Done 0))
+        → P (fault_or c o (after_sailing c u.structure (unwrap_or to 0), Done 0))
     by_fault to (Some fault) e = same (Fault (event_fault_number fault))
     by_fault to None e =
         let ship = get c.structures u.structure in
@@ -426,7 +426,7 @@ sum_same g h (n ∷ ns) same =
     grind (arith, sum_by-cons g n ns, sum_by-cons h n ns, same n (inl refl), sum_same g h ns (λ k l. same k (inr l)))
 
 same_outcome_unless : (c d x y : CampaignValue) (o : Option EventFault)
-    → (unless c o (x, Done 0)).1 ≡ (unless d o (y, Done 0)).1
+    → (fault_or c o (x, Done 0)).1 ≡ (fault_or d o (y, Done 0)).1
 same_outcome_unless c d x y o = grind rules
 
 -- `begun` is the campaign as the phase begins. `number` and `faction` are those of a unit, which the laws below show to
@@ -467,7 +467,7 @@ module _ (w : WorldValue) (begun : CampaignValue) (number faction : ℕ) where
     unfolding sail
     same_outcome n u direction here =
         let to = neighbour w u.region direction in
-        ap (λ o. (unless c o (after_sailing c u.structure (unwrap_or to 0), Done 0)).1) (fault_same n u to here)
+        ap (λ o. (fault_or c o (after_sailing c u.structure (unwrap_or to 0), Done 0)).1) (fault_same n u to here)
         ∙ same_outcome_unless c begun (after_sailing c u.structure (unwrap_or to 0)) (after_sailing begun u.structure (unwrap_or to 0)) (sail_fault w begun n u (get begun.structures u.structure) to)
 
     same_faction_outcome : (f n : ℕ) (direction : Direction) → structure_of_unit begun n ≡ s

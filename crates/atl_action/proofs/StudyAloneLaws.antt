@@ -22,7 +22,7 @@ use Rattle.atl_records.specs.Holdings.{amount_of}
 use Rattle.atl_campaign.specs.Campaign.{CampaignValue}
 use Rattle.atl_campaign.proofs.RegionLaws.{get-insert_same}
 use Rattle.atl_phase.specs.Month.{MonthValue}
-use Rattle.atl_phase.specs.Outcomes.{unless}
+use Rattle.atl_phase.specs.Outcomes.{fault_or}
 use Rattle.atl_phase.specs.PhaseOrders.{Task, orders_of}
 use Rattle.atl_phase.specs.OneOrder.{share_slot}
 use Rattle.atl_phase.specs.OrderEffects.{OrderEffect, effect_on, faction_effect, meaning_by_orders, of_faction, one_order, order_result}
@@ -64,8 +64,8 @@ module _ (w : WorldValue) (taught n s : ℕ) (c d : CampaignValue) (u : Unit) (i
       (Done (days_in c - amount_of u.holding.days s))
     where
       by_fault : (o : Option EventFault) (x y : Outcome)
-          → get (unless d o (after_study d n u s cost (days_in d), x)).0.units n
-          ≡ get (unless c o (after_study c n u s cost (days_in c), y)).0.units n
+          → get (fault_or d o (after_study d n u s cost (days_in d), x)).0.units n
+          ≡ get (fault_or c o (after_study c n u s cost (days_in c), y)).0.units n
       by_fault (Some fault) x y = in_d ∙ sym in_c
       by_fault None x y =
           get-insert_same d.units n (after_paying_with_days (days_in d))

@@ -35,7 +35,7 @@ use Rattle.atl_campaign.proofs.HoldingLaws.{MayHaveWithoutNewGuard, steady-new_h
 use Rattle.atl_campaign.proofs.RegionLaws.{steady-amount, total-booking}
 use Rattle.atl_phase.specs.Meaning.{moves_only}
 use Rattle.atl_phase.specs.Bounds.{HasRoom, HaveRoom, IsOrderly, IsUnaffectedRelation, StepsWell, UsesBound}
-use Rattle.atl_phase.specs.Outcomes.{unless}
+use Rattle.atl_phase.specs.Outcomes.{fault_or}
 use Rattle.atl_phase.specs.OrderEffects.{IsOwnOrder, IsStillThere, OrderEffect}
 use Rattle.atl_records.proofs.HoldingLaws.{every_amount}
 use Rattle.atl_phase.proofs.MeaningLaws.{same_month_by}
@@ -153,7 +153,7 @@ study_cases P w taught c n s u same learned =
   where
     by_fault : (days done : ℕ) → days ≤ most_days * u.holding.men → (o : Option EventFault)
         → study_fault u.holding (fee_of w s * u.holding.men) ≡ o
-        → P (unless c o (after_study c n u s (fee_of w s * u.holding.men) days, Done done)).0
+        → P (fault_or c o (after_study c n u s (fee_of w s * u.holding.men) days, Done done)).0
     by_fault days done most (Some fault) e = same
     by_fault days done most None e = learned days (payable_fee u.holding (fee_of w s * u.holding.men) e) most
 

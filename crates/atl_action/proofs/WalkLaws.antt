@@ -29,7 +29,7 @@ use Rattle.atl_campaign.specs.Owners.{after_handover, heir, with_position, with_
 use Rattle.atl_campaign.specs.Campaign.{CampaignValue, with_guard}
 use Rattle.atl_records.proofs.EveryLaws.{none_some, other_number}
 use Rattle.atl_campaign.proofs.LeavingLaws.{owned_by}
-use Rattle.atl_phase.specs.Outcomes.{first_fault, unless}
+use Rattle.atl_phase.specs.Outcomes.{fault_or, first_fault}
 use Rattle.atl_phase.specs.NoWorse.{IsNoWorse}
 use Rattle.atl_phase.specs.OrderEffects.{IsOwnOrder, OrderEffect}
 use Rattle.atl_phase.specs.Bounds.{IsOrderly, StepsWell, nothing_remaining}
@@ -42,7 +42,7 @@ use Rattle.atl_phase.proofs.StructureLaws.{changed_else, get-after_handover, get
 use Rattle.atl_phase.proofs.OrderEffectLaws.{no_worse_is_relation, well_same}
 use Rattle.atl_phase.proofs.UnbookedLaws.{unchanged_is_no_worse, stays_well}
 use Rattle.atl_action.specs.Walk.{by_direction, is_land_there, walk, walk_fault, walk_step, with_unit_moved}
-use Rattle.atl_action.proofs.PeopleLaws.{AreSamePeople, elsewhere, elsewhere_is, elsewhere_people, gone, gone_if, gone_same, guards_stay, total_people}
+use Rattle.atl_action.proofs.PeopleLaws.{AreSamePeople, elsewhere, elsewhere_is, elsewhere_people, put_elsewhere, put_elsewhere_if, put_elsewhere_same, guards_stay, total_people}
 use Rattle.atl_action.proofs.TravelLaws.{AreTravelled, IsPut, IsSameStructure, steady-travelled, travelled}
 
 -- a region that is land is in the world
@@ -68,7 +68,7 @@ module _ (w : WorldValue) (c : CampaignValue) (n : ℕ) (u : Unit) (to : ℕ) (i
 
   -- unit k after unit n walked: if k is n, in region `to`, outside structures, with its flag cleared; else as it was
   abbrev f : ℕ → Unit → Unit
-  f k = gone_if 0 to (k == n)
+  f k = put_elsewhere_if 0 to (k == n)
 
   -- ---- the units
 
@@ -76,18 +76,18 @@ module _ (w : WorldValue) (c : CampaignValue) (n : ℕ) (u : Unit) (to : ℕ) (i
   same_people = elsewhere_people 0 to c.units n
 
   units_at : (k : ℕ) → get units k ≡ option_map (f k) (get c.units k)
-  units_at = get-changed (gone 0 to) c.units n
+  units_at = get-changed (put_elsewhere 0 to) c.units n
 
-  here : get units n ≡ Some (gone 0 to u)
-  here = units_at n ∙ ap (option_map (f n)) is ∙ ap (λ b. Some (gone_if 0 to b u)) (eq-eqb n n refl)
+  here : get units n ≡ Some (put_elsewhere 0 to u)
+  here = units_at n ∙ ap (option_map (f n)) is ∙ ap (λ b. Some (put_elsewhere_if 0 to b u)) (eq-eqb n n refl)
 
   away : (k : ℕ) → k ≢ n → get units k ≡ get c.units k
   away k apart =
-      units_at k ∙ ap (λ b. option_map (gone_if 0 to b) (get c.units k)) (other_number k n apart)
+      units_at k ∙ ap (λ b. option_map (put_elsewhere_if 0 to b) (get c.units k)) (other_number k n apart)
       ∙ option_map_id (get c.units k)
 
   outside : (v : Unit) → get units n ≡ Some v → v.structure ≡ 0
-  outside v there = sym (ap (λ (x : Unit). x.structure) (same_Some (gone 0 to u) v (sym here ∙ there)))
+  outside v there = sym (ap (λ (x : Unit). x.structure) (same_Some (put_elsewhere 0 to u) v (sym here ∙ there)))
 
   -- ---- the structures
 
@@ -122,7 +122,7 @@ module _ (w : WorldValue) (c : CampaignValue) (n : ℕ) (u : Unit) (to : ℕ) (i
       forth k y there = at k ∙ ap (option_map (g k)) there
 
       put_by : (k : ℕ) (x : Unit) → get c.units k ≡ Some x → (b : Bool)
-          → IsPut w c units structures f g (gone_if 0 to b x)
+          → IsPut w c units structures f g (put_elsewhere_if 0 to b x)
       put_by k x there true =
           record { region = (steady.known.regions to).1 (land_is_there w to land); structure = λ some. absurd (some refl) }
       put_by k x there false =
@@ -130,8 +130,8 @@ module _ (w : WorldValue) (c : CampaignValue) (n : ℕ) (u : Unit) (to : ℕ) (i
           record { region = p.region; structure = λ some. let (s, was, near) = p.structure some in (g x.structure s, forth x.structure s was, (same x.structure s was).1 ∙ near) }
 
       aboard_by : (k : ℕ) (x : Unit) → get c.units k ≡ Some x → (b : Bool)
-          → is_land_at w (gone_if 0 to b x).region ≡ false
-          → (s : Structure) × (get structures (gone_if 0 to b x).structure ≡ Some s) × (is_ship w s ≡ true)
+          → is_land_at w (put_elsewhere_if 0 to b x).region ≡ false
+          → (s : Structure) × (get structures (put_elsewhere_if 0 to b x).structure ≡ Some s) × (is_ship w s ≡ true)
       aboard_by k x there true wet = absurd (true≢false (sym land ∙ wet))
       aboard_by k x there false wet =
           let (s, was, ship) = steady.water.units k x there wet in
@@ -144,7 +144,7 @@ module _ (w : WorldValue) (c : CampaignValue) (n : ℕ) (u : Unit) (to : ℕ) (i
         unit_count = same_people.count;
         structure_count = count;
         of_factions = same_people.of_factions;
-        same_units = λ k x there. gone_same 0 to (k == n) x;
+        same_units = λ k x there. put_elsewhere_same 0 to (k == n) x;
         same_structures = λ k y there. (same k y there).0;
         put = λ k x there. put_by k x there (k == n);
         built = λ k y there. rw (same k y there).1 ((steady.known.structures k y there).region);
@@ -277,7 +277,7 @@ walk_cases P w c n u direction same gone =
     by_fault (neighbour w u.region direction) (walk_fault w u (neighbour w u.region direction)) refl
   where
     by_fault : (to : Option ℕ) (o : Option EventFault) → walk_fault w u to ≡ o
-        → P (unless c o (with_unit_moved 0 (unwrap_or to 0) c n, Done 0)).0
+        → P (fault_or c o (with_unit_moved 0 (unwrap_or to 0) c n, Done 0)).0
     by_fault to (Some fault) e = same
     by_fault to None e =
         let no_way = (not (is_land_there w to), NoWay) ∷ (nat_lt (carried_by w u.holding) (goods_weight w u.holding), TooHeavy) ∷ [] in

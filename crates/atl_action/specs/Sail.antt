@@ -22,7 +22,7 @@ use Rattle.atl_campaign.specs.Owners.{is_owned_by}
 use Rattle.atl_campaign.specs.Campaign.{CampaignValue, numbers_inside, with_structure_region}
 use Rattle.atl_phase.specs.Inside.{structure_of_unit}
 use Rattle.atl_phase.specs.Meaning.{Frame}
-use Rattle.atl_phase.specs.Outcomes.{first_fault, unless}
+use Rattle.atl_phase.specs.Outcomes.{fault_or, first_fault}
 use Rattle.atl_phase.specs.PhaseOrders.{Task}
 use Rattle.atl_phase.specs.OrderEffects.{Affects, IsStillThere, OrderEffect, OrderMeaning, meaning_by_orders, order_result, others_unaffected}
 use Rattle.atl_phase.specs.NoWorse.{IsUnchanged}
@@ -92,7 +92,7 @@ after_sailing c ship to = with_structure_region (fold (with_unit_moved ship to) 
 unfoldable pub sail : WorldValue → (n : ℕ) → Direction → OrderEffect
 sail w n direction c u =
     let to = neighbour w u.region direction in
-    unless c (sail_fault w c n u (get c.structures u.structure) to) (after_sailing c u.structure (unwrap_or to 0), Done 0)
+    fault_or c (sail_fault w c n u (get c.structures u.structure) to) (after_sailing c u.structure (unwrap_or to 0), Done 0)
 
 -- the step of the phase of SAIL: the effect of an order, by its unit and its operands
 abbrev pub sail_step : OrderMeaning

@@ -20,7 +20,7 @@ use Rattle.atl_campaign.specs.Lending.{with_holding_at}
 use Rattle.atl_records.specs.Limits.{most_days}
 use Rattle.atl_campaign.specs.Campaign.{CampaignValue, with_booking}
 use Rattle.atl_phase.specs.Meaning.{BookBound, Frame, Meaning, most_moved, moves_only}
-use Rattle.atl_phase.specs.Outcomes.{first_fault, unless}
+use Rattle.atl_phase.specs.Outcomes.{fault_or, first_fault}
 use Rattle.atl_phase.specs.OrderEffects.{IsOwnOrder, OrderEffect, OrderMeaning, meaning_by_orders, others_unaffected}
 use Rattle.atl_phase.specs.NoWorse.{IsUnchanged}
 use Rattle.atl_action.specs.Learners.{is_studying, learners}
@@ -67,7 +67,7 @@ study w taught n s c u =
     let cost = fee_of w s * u.holding.men in
     let old = amount_of u.holding.days s in
     let days = days_after u.holding.men old taught (is_helpful w s (get c.structures u.structure)) in
-    unless c (study_fault u.holding cost) (after_study c n u s cost days, Done (days - old))
+    fault_or c (study_fault u.holding cost) (after_study c n u s cost days, Done (days - old))
 
 -- the effect of an order of STUDY, by its operands; None for operands of any other form
 abbrev pub study_effect : WorldValue → TaughtMen → (n : ℕ) → OperandsValue → Option OrderEffect

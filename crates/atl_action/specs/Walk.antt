@@ -15,7 +15,7 @@ use Rattle.atl_records.specs.declared.records.Unit.{Unit}
 use Rattle.atl_records.specs.Levels.{carried_by, goods_weight}
 use Rattle.atl_campaign.specs.Owners.{with_place}
 use Rattle.atl_campaign.specs.Campaign.{CampaignValue, with_guard}
-use Rattle.atl_phase.specs.Outcomes.{first_fault, unless}
+use Rattle.atl_phase.specs.Outcomes.{fault_or, first_fault}
 use Rattle.atl_phase.specs.NoWorse.{IsNoWorse}
 use Rattle.atl_phase.specs.OrderEffects.{IsOwnOrder, OrderEffect, OrderMeaning}
 use Rattle.atl_phase.specs.PhaseSpecs.{PhaseSpec, goes_by_orders}
@@ -50,7 +50,7 @@ with_unit_moved structure to c n = with_guard (with_place c n to structure) n fa
 unfoldable pub walk : WorldValue → (n : ℕ) → Direction → OrderEffect
 walk w n direction c u =
     let to = neighbour w u.region direction in
-    unless c (walk_fault w u to) (with_unit_moved 0 (unwrap_or to 0) c n, Done 0)
+    fault_or c (walk_fault w u to) (with_unit_moved 0 (unwrap_or to 0) c n, Done 0)
 
 -- the effect of an order by its operands, if they name a direction; None for operands of any other form
 abbrev pub by_direction : (Direction → OrderEffect) → OperandsValue → Option OrderEffect

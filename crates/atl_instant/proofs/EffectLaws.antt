@@ -27,7 +27,7 @@ use Rattle.atl_phase.specs.Meaning.{Condition}
 use Rattle.atl_phase.specs.Month.{Aliases}
 use Rattle.atl_phase.specs.NoWorse.{IsNoWorse}
 use Rattle.atl_phase.specs.OrderEffects.{Affects, IsOwnOrder, IsStillThere, OrderEffect, OrderMeaning}
-use Rattle.atl_phase.specs.Outcomes.{unless}
+use Rattle.atl_phase.specs.Outcomes.{fault_or}
 use Rattle.atl_phase.specs.PhaseOrders.{Task}
 use Rattle.atl_phase.specs.Bounds.{IsOrderly, IsUnitOf, StepsWell, nothing_remaining}
 use Rattle.atl_phase.specs.Unbooked.{moves_nothing}
@@ -69,7 +69,7 @@ module _ {holds : Condition} {fit : Type 0} (w : WorldValue) (c : CampaignValue)
   -- an order, with a fault or without, keeps `holds`, the books and the other units (`OrderKeeps`), if its effect
   -- without a fault does
   pub keeps_unless : (fault : Option EventFault) (d : CampaignValue) (o : Outcome)
-      → (fault ≡ None → OrderKeeps holds fit w c n f d) → OrderKeeps holds fit w c n f (unless c fault (d, o)).0
+      → (fault ≡ None → OrderKeeps holds fit w c n f d) → OrderKeeps holds fit w c n f (fault_or c fault (d, o)).0
   keeps_unless (Some fault) d o keeps = keeps_all
   keeps_unless None d o keeps = keeps refl
 
@@ -175,15 +175,15 @@ module _ (c : CampaignValue) (from to : ℕ) (u v : Unit) (h k : HoldingValue) (
 pub moved_cases : (P : CampaignValue → Type 0) (c : CampaignValue) (from to : ℕ) (u v : Unit) (h k : HoldingValue) (fault : Bool → Option EventFault) (o : Outcome)
     → P c
     → (to ≢ from → fault false ≡ None → P (with_holding_at (with_holding_at c from h (Some u)) to k (Some v)))
-    → P (unless c (fault (to == from)) (if to == from then c else with_holding_at (with_holding_at c from h (Some u)) to k (Some v), o)).0
+    → P (fault_or c (fault (to == from)) (if to == from then c else with_holding_at (with_holding_at c from h (Some u)) to k (Some v), o)).0
 moved_cases P c from to u v h k fault o same move = by_test (to == from) refl
   where
     by_fault : (b : Bool) → (to == from) ≡ b → (x : Option EventFault) → fault b ≡ x
-        → P (unless c x (if b then c else with_holding_at (with_holding_at c from h (Some u)) to k (Some v), o)).0
+        → P (fault_or c x (if b then c else with_holding_at (with_holding_at c from h (Some u)) to k (Some v), o)).0
     by_fault b is (Some x) none = same
     by_fault true is None none = same
     by_fault false is None none = let apart : to ≢ from = grind (arith, nat_tests) in move apart none
 
     by_test : (b : Bool) → (to == from) ≡ b
-        → P (unless c (fault b) (if b then c else with_holding_at (with_holding_at c from h (Some u)) to k (Some v), o)).0
+        → P (fault_or c (fault b) (if b then c else with_holding_at (with_holding_at c from h (Some u)) to k (Some v), o)).0
     by_test b is = by_fault b is (fault b) refl

@@ -38,7 +38,7 @@ use Rattle.atl_records.specs.declared.event.EventFault.TheVariants.{NotYours, Un
 use Rattle.atl_records.specs.declared.event.Outcome.TheVariants.{Done}
 use Rattle.atl_phase.specs.Month.{MonthValue}
 use Rattle.atl_phase.specs.Inside.{structure_of_unit, region_of}
-use Rattle.atl_phase.specs.Outcomes.{first_fault, unless}
+use Rattle.atl_phase.specs.Outcomes.{fault_or, first_fault}
 use Rattle.atl_phase.specs.PhaseOrders.{Task, orders_of}
 use Rattle.atl_phase.specs.OrderEffects.{is_of_faction}
 use Rattle.atl_phase.specs.declared.phase_order.Arrangement.TheVariants.{ByFaction}
@@ -240,13 +240,13 @@ module _ (w : WorldValue) (c : CampaignValue) (early : IsEarly w c) where
         (begun_well w c n u is early limit, begun_stays w c n u is early)
 
     by_limit : (u : Unit) → get c.units n ≡ Some u → (a b : Bool) → is_of_faction f (Some u) ≡ a → is_unit_limit c ≡ b
-        → IsEarlyAndKeepsUnits (unless c (first_fault ((not a, NotYours) ∷ (b, UnitLimit) ∷ [])) (with_formed_unit c f n, Done c.next_unit)).0
+        → IsEarlyAndKeepsUnits (fault_or c (first_fault ((not a, NotYours) ∷ (b, UnitLimit) ∷ [])) (with_formed_unit c f n, Done c.next_unit)).0
     by_limit u is false b own limit = same_fine
     by_limit u is true true own limit = same_fine
     by_limit u is true false own limit = formed_fine u is (is_equal u.faction f own) limit
 
     by_unit : (o : Option Unit) → get c.units n ≡ o
-        → IsEarlyAndKeepsUnits (unless c (first_fault ((not (is_of_faction f o), NotYours) ∷ (is_unit_limit c, UnitLimit) ∷ [])) (with_formed_unit c f n, Done c.next_unit)).0
+        → IsEarlyAndKeepsUnits (fault_or c (first_fault ((not (is_of_faction f o), NotYours) ∷ (is_unit_limit c, UnitLimit) ∷ [])) (with_formed_unit c f n, Done c.next_unit)).0
     by_unit None is = same_fine
     by_unit (Some u) is = by_limit u is (is_of_faction f (Some u)) (is_unit_limit c) refl refl
 

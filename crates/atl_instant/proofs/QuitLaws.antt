@@ -47,7 +47,7 @@ use Rattle.atl_records.proofs.RemovedLaws.{get-remove_other, sum_over-remove, ev
 use Rattle.atl_campaign.proofs.NumberListLaws.{IsListed, listed_passing}
 use Rattle.atl_phase.specs.Meaning.{BookBound, IsNear, both_move, most_moved, moves_only, Condition}
 use Rattle.atl_phase.specs.Bounds.{HasRoom, HaveRoom, IsOrderly, IsUnitOf, StepsWell, UsesBound, items_bound}
-use Rattle.atl_phase.specs.Outcomes.{unless}
+use Rattle.atl_phase.specs.Outcomes.{fault_or}
 use Rattle.atl_phase.specs.PhaseOrders.{Task, orders_of}
 use Rattle.atl_phase.specs.NoWorse.{IsNoWorse}
 use Rattle.atl_phase.specs.OrderEffects.{IsStillThere, is_of_faction, is_own, meaning_by_orders}
@@ -469,7 +469,7 @@ unfolding quit
 quit_cases P c number u same leave = by_fault (quit_fault number u) refl
   where
     by_fault : (f : Option EventFault) → quit_fault number u ≡ f
-        → P (unless c f (fold after_leaving c (numbers_of_faction u.faction c.units), Done 0)).0
+        → P (fault_or c f (fold after_leaving c (numbers_of_faction u.faction c.units), Done 0)).0
     by_fault (Some fault) e = same
     by_fault None e = leave (not_apart number u.faction (none_fits (not (number == u.faction)) WrongNumber [] e).0)
 

@@ -17,7 +17,7 @@ use Rattle.atl_campaign.specs.Campaign.{CampaignValue, with_unit_begun}
 use Rattle.atl_phase.specs.Month.{Aliases, MonthValue, with_alias}
 use Rattle.atl_phase.specs.Inside.{structure_of_unit, region_of}
 use Rattle.atl_phase.specs.Meaning.{Frame, Meaning}
-use Rattle.atl_phase.specs.Outcomes.{first_fault, unless}
+use Rattle.atl_phase.specs.Outcomes.{fault_or, first_fault}
 use Rattle.atl_phase.specs.PhaseOrders.{Task, orders_of}
 use Rattle.atl_phase.specs.OrderEffects.{event_for, is_of_faction}
 use Rattle.atl_phase.specs.declared.phase_order.Arrangement.TheVariants.{ByFaction}
@@ -52,7 +52,7 @@ with_formed_unit c f n = with_unit_begun c (new_unit c.next_unit f (region_of c 
 
 -- the campaign and the outcome after an order of FORM from faction f for unit n
 abbrev pub form_by : CampaignValue → (f n : ℕ) → CampaignValue × Outcome
-form_by c f n = unless c (form_fault c f n) (with_formed_unit c f n, Done c.next_unit)
+form_by c f n = fault_or c (form_fault c f n) (with_formed_unit c f n, Done c.next_unit)
 
 -- the alias that an order of FORM gives; 0 for operands of any other form
 abbrev pub alias_of : OperandsValue → ℕ

@@ -17,7 +17,7 @@ use Rattle.atl_campaign.specs.Lending.{with_holding_at}
 use Rattle.atl_records.specs.Limits.{holding_limit}
 use Rattle.atl_campaign.specs.Campaign.{CampaignValue}
 use Rattle.atl_phase.specs.Month.{Aliases}
-use Rattle.atl_phase.specs.Outcomes.{first_fault, unless}
+use Rattle.atl_phase.specs.Outcomes.{fault_or, first_fault}
 use Rattle.atl_phase.specs.PhaseOrders.{unit_of}
 use Rattle.atl_phase.specs.NoWorse.{IsNoWorse}
 use Rattle.atl_phase.specs.OrderEffects.{IsOwnOrder, OrderEffect, OrderMeaning}
@@ -66,7 +66,7 @@ after_gift c from to gift n giver receiver = c
 -- number `from`, the receiver `to`.
 abbrev pub give_to : CampaignValue → (from to : ℕ) → Gift → (n : ℕ) → Unit → Option Unit → CampaignValue × Outcome
 give_to c from to gift n u receiver =
-    unless c (give_fault gift n (to == from) u receiver) (after_gift c from to gift n (Some u) receiver, Done n)
+    fault_or c (give_fault gift n (to == from) u receiver) (after_gift c from to gift n (Some u) receiver, Done n)
 
 -- the effect of an order by which unit `from` gives n of the gift, money or an item, to unit `to`
 unfoldable pub give : (from to : ℕ) → Gift → (n : ℕ) → OrderEffect

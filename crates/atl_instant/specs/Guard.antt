@@ -14,7 +14,7 @@ use Rattle.atl_records.specs.declared.event.Outcome.TheVariants.{Done}
 use Rattle.atl_records.specs.declared.records.Unit.{Unit}
 use Rattle.atl_campaign.specs.Good.{guards}
 use Rattle.atl_campaign.specs.Campaign.{CampaignValue, numbers_in_region, with_guard}
-use Rattle.atl_phase.specs.Outcomes.{first_fault, unless}
+use Rattle.atl_phase.specs.Outcomes.{fault_or, first_fault}
 use Rattle.atl_phase.specs.NoWorse.{IsNoWorse}
 use Rattle.atl_phase.specs.OrderEffects.{Affects, IsOwnOrder, OrderEffect, OrderMeaning}
 use Rattle.atl_phase.specs.PhaseSpecs.{PhaseSpec, goes_by_orders}
@@ -40,7 +40,7 @@ guard_fault c u = first_fault ((u.holding.men == 0, NoMen) ∷ (is_guarded_again
 
 -- the effect of GUARD 1: the guard flag of unit n is set, unless the order has a fault
 unfoldable pub guard : (n : ℕ) → OrderEffect
-guard n c u = unless c (guard_fault c u) (with_guard c n true, Done 0)
+guard n c u = fault_or c (guard_fault c u) (with_guard c n true, Done 0)
 
 -- the effect of an order of GUARD for unit n, by its operands: that of GUARD 1; None for GUARD 0, which this phase
 -- passes over

@@ -17,7 +17,7 @@ use Rattle.atl_records.specs.declared.event.Outcome.TheVariants.{Done}
 use Rattle.atl_records.specs.declared.records.Structure.{Structure}
 use Rattle.atl_campaign.specs.Good.{is_ship}
 use Rattle.atl_campaign.specs.Campaign.{CampaignValue, with_faction_name, with_guard, with_structure_name, with_unit_name}
-use Rattle.atl_phase.specs.Outcomes.{first_fault, unless}
+use Rattle.atl_phase.specs.Outcomes.{fault_or, first_fault}
 use Rattle.atl_phase.specs.NoWorse.{IsNoWorse}
 use Rattle.atl_phase.specs.OrderEffects.{Affects, IsOwnOrder, OrderEffect, OrderMeaning}
 use Rattle.atl_phase.specs.PhaseSpecs.{PhaseSpec, goes_by_orders}
@@ -42,7 +42,7 @@ structure_fault w n ship (Some s) = first_fault ((not (is_structure_of_kind w sh
 -- inside
 abbrev pub structure_name_result : WorldValue → CampaignValue → (n inside : ℕ) → (ship : Bool) → List ℕ → CampaignValue × Outcome
 structure_name_result w c n inside ship name =
-    unless c (structure_fault w n ship (get c.structures inside)) (with_structure_name c inside name, Done 0)
+    fault_or c (structure_fault w n ship (get c.structures inside)) (with_structure_name c inside name, Done 0)
 
 -- The campaign and the outcome after an order of NAME by unit n. By the kind of name, the unit, its faction or the
 -- structure `inside`, which the unit is inside (0: none), gets the name.

@@ -19,7 +19,7 @@ use Rattle.atl_campaign.specs.Owners.{is_owned_by, with_place}
 use Rattle.atl_campaign.specs.Campaign.{CampaignValue, with_owner}
 use Rattle.atl_phase.specs.Month.{Aliases}
 use Rattle.atl_phase.specs.Inside.{structure_of_unit}
-use Rattle.atl_phase.specs.Outcomes.{first_fault, unless}
+use Rattle.atl_phase.specs.Outcomes.{fault_or, first_fault}
 use Rattle.atl_phase.specs.PhaseOrders.{unit_of}
 use Rattle.atl_phase.specs.NoWorse.{IsNoWorse}
 use Rattle.atl_phase.specs.OrderEffects.{IsOwnOrder, OrderEffect, OrderMeaning}
@@ -40,7 +40,7 @@ leave_fault w u = first_fault ((u.structure == 0, NotInside) ∷ (not (is_land_a
 -- the effect of LEAVE: unit n is inside no structure, and one that it owned gets its next owner (`with_place`), unless
 -- the order has a fault
 unfoldable pub leave : WorldValue → (n : ℕ) → OrderEffect
-leave w n c u = unless c (leave_fault w u) (with_place c n u.region 0, Done 0)
+leave w n c u = fault_or c (leave_fault w u) (with_place c n u.region 0, Done 0)
 
 -- whether a structure exists, and is in a given region
 abbrev pub is_structure_in : ℕ → Option Structure → Bool
@@ -58,7 +58,7 @@ with_unit_inside c n region from s = if from == s then c else with_place c n reg
 
 -- the effect of ENTER: unit n is inside structure s, unless the order has a fault
 unfoldable pub enter : (n s : ℕ) → OrderEffect
-enter n s c u = unless c (enter_fault c s u) (with_unit_inside c n u.region u.structure s, Done 0)
+enter n s c u = fault_or c (enter_fault c s u) (with_unit_inside c n u.region u.structure s, Done 0)
 
 -- Why unit n can't make unit `to` the owner of the structure that n is inside; None where it can. It is NotInside where
 -- n is inside none, NotOwner where n doesn't own it, or NotHere where `to` isn't inside it.
@@ -71,7 +71,7 @@ promote_fault c n to u = first_fault (
 
 -- the effect of PROMOTE: unit `to` owns the structure that unit n is inside, unless the order has a fault
 unfoldable pub promote : (n to : ℕ) → OrderEffect
-promote n to c u = unless c (promote_fault c n to u) (with_owner c u.structure to, Done 0)
+promote n to c u = fault_or c (promote_fault c n to u) (with_owner c u.structure to, Done 0)
 
 -- The effect of an order of faction f for unit n, by the form of its operands. LEAVE has none, ENTER a number, and
 -- PROMOTE a unit; operands of any other form have no effect (None).

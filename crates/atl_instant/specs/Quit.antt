@@ -23,7 +23,7 @@ use Rattle.atl_campaign.specs.Owners.{without_unit}
 use Rattle.atl_campaign.specs.Campaign.{CampaignValue, numbers_of_faction, with_booking}
 use Rattle.atl_phase.specs.Meaning.{BookBound, Frame, Meaning, most_moved}
 use Rattle.atl_phase.specs.Bounds.{RemainingBound}
-use Rattle.atl_phase.specs.Outcomes.{first_fault, unless}
+use Rattle.atl_phase.specs.Outcomes.{fault_or, first_fault}
 use Rattle.atl_phase.specs.PhaseOrders.{Task}
 use Rattle.atl_phase.specs.NoWorse.{IsNoWorse}
 use Rattle.atl_phase.specs.OrderEffects.{Affects, OrderEffect, OrderMeaning, is_own, meaning_by_orders, others_unaffected}
@@ -69,7 +69,7 @@ quit_fault number u = first_fault ((not (number == u.faction), WrongNumber) ∷ 
 -- The effect of QUIT: all units of the unit's faction leave, in the order of their numbers,
 -- unless the order has a fault.
 unfoldable pub quit : (number : ℕ) → OrderEffect
-quit number c u = unless c (quit_fault number u) (fold after_leaving c (numbers_of_faction u.faction c.units), Done 0)
+quit number c u = fault_or c (quit_fault number u) (fold after_leaving c (numbers_of_faction u.faction c.units), Done 0)
 
 -- the effect of an order of QUIT, by its operands; None for operands of any other form
 abbrev pub quit_effect : OperandsValue → Option OrderEffect

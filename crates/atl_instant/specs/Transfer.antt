@@ -17,7 +17,7 @@ use Rattle.atl_campaign.specs.Lending.{with_holding_at}
 use Rattle.atl_records.specs.Limits.{men_limit}
 use Rattle.atl_campaign.specs.Campaign.{CampaignValue}
 use Rattle.atl_phase.specs.Month.{Aliases}
-use Rattle.atl_phase.specs.Outcomes.{first_fault, unless}
+use Rattle.atl_phase.specs.Outcomes.{fault_or, first_fault}
 use Rattle.atl_phase.specs.PhaseOrders.{unit_of}
 use Rattle.atl_phase.specs.NoWorse.{IsNoWorse}
 use Rattle.atl_phase.specs.OrderEffects.{IsOwnOrder, OrderEffect, OrderMeaning}
@@ -91,7 +91,7 @@ after_transfer c from to n sender receiver = c
 -- The unit has the number `from`, the receiver `to`.
 abbrev pub transfer_to : CampaignValue → (from to n : ℕ) → Unit → Option Unit → CampaignValue × Outcome
 transfer_to c from to n u receiver =
-    unless c (transfer_fault n (to == from) u receiver) (after_transfer c from to n (Some u) receiver, Done n)
+    fault_or c (transfer_fault n (to == from) u receiver) (after_transfer c from to n (Some u) receiver, Done n)
 
 -- the effect of an order by which unit `from` sends n men to unit `to`
 unfoldable pub transfer : (from to n : ℕ) → OrderEffect

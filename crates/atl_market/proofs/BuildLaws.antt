@@ -37,7 +37,7 @@ use Rattle.atl_campaign.specs.Campaign.{CampaignValue, with_done}
 use Rattle.atl_records.proofs.EveryLaws.{each-from_every}
 use Rattle.atl_phase.specs.Meaning.{LeavesWell, most_moved}
 use Rattle.atl_phase.specs.Bounds.{HaveRoom, IsOrderly, StepsWell}
-use Rattle.atl_phase.specs.Outcomes.{unless}
+use Rattle.atl_phase.specs.Outcomes.{fault_or}
 use Rattle.atl_phase.specs.NoWorse.{IsNoWorse}
 use Rattle.atl_phase.specs.OrderEffects.{IsOwnOrder, effect_on, faction_effect, of_faction}
 use Rattle.atl_records.proofs.HoldingLaws.{amount_within}
@@ -279,7 +279,7 @@ unfolding begin
 begin_cases P w c n kind k u same go = by_fault (begin_fault w c u k) refl
   where
     by_fault : (o : Option EventFault) → begin_fault w c u k ≡ o
-        → P (unless c o (after_start c n kind k u.region (size_added k u.holding 0), Done (size_added k u.holding 0))).0
+        → P (fault_or c o (after_start c n kind k u.region (size_added k u.holding 0), Done (size_added k u.holding 0))).0
     by_fault (Some fault) e = same
     by_fault None e = go (can_begin w c u k e)
 
@@ -291,12 +291,12 @@ go_on_cases P w c n u same go = by_structure (get c.structures u.structure) refl
   where
     by_fault : (s : Structure) (k : Kind) → get c.structures u.structure ≡ Some s → slice_get w.kinds s.kind ≡ Some k
         → (o : Option EventFault) → inside_fault u s k ≡ o
-        → P (unless c o (after_building_on c n k.material (size_added k u.holding s.done) u.structure (s.done + size_added k u.holding s.done), Done (size_added k u.holding s.done))).0
+        → P (fault_or c o (after_building_on c n k.material (size_added k u.holding s.done) u.structure (s.done + size_added k u.holding s.done), Done (size_added k u.holding s.done))).0
     by_fault s k there kind_is (Some fault) e = same
     by_fault s k there kind_is None e = go s k there kind_is (can_go_on u s k e)
 
     -- for `go_on_cases`: `P` holds after `BUILD` by a unit outside any structure, which has a fault: NoMen or NotInside
-    outside : (b : Bool) → P (unless c (if b then Some NoMen else Some NotInside) (c, Done 0)).0
+    outside : (b : Bool) → P (fault_or c (if b then Some NoMen else Some NotInside) (c, Done 0)).0
     outside true = same
     outside false = same
 
@@ -447,7 +447,7 @@ pub begin_done : (w : WorldValue) (c d : CampaignValue) (f n kind : ℕ) (u : Un
 unfolding begin
 begin_done w c d f n kind u k size says is none first asked_is size_is =
     let whole = begun_outcome c n kind k u.region (size_added k u.holding 0) in
-    let chain : faction_effect (begin w n kind k) c f n ≡ whole = ap (effect_on (begin w n kind k) c) is ∙ ap (λ o. unless c o whole) none in
+    let chain : faction_effect (begin w n kind k) c f n ≡ whole = ap (effect_on (begin w n kind k) c) is ∙ ap (λ o. fault_or c o whole) none in
     rw (first, asked_is, size_is) (sym chain)
 
 -- Where `BUILD` of faction `f` for unit `n` inside structure `s` has no fault, the campaign `d` and the outcome
@@ -460,7 +460,7 @@ unfolding go_on
 go_on_done w c d f n u s k size says is there kind_is none first asked_is size_is =
     let added = size_added k u.holding s.done in
     let whole = continued_outcome c n k.material added u.structure (s.done + added) in
-    let chain : faction_effect (go_on w n) c f n ≡ whole = ap (effect_on (go_on w n) c) is ∙ ap (go_on_at c n u) (structure_and_kind_found w c u.structure s k there kind_is) ∙ ap (λ o. unless c o whole) none in
+    let chain : faction_effect (go_on w n) c f n ≡ whole = ap (effect_on (go_on w n) c) is ∙ ap (go_on_at c n u) (structure_and_kind_found w c u.structure s k there kind_is) ∙ ap (λ o. fault_or c o whole) none in
     rw (first, asked_is, size_is) (sym chain)
 
 -- what is done of a structure after an order of `BUILD` without a fault is at most the greatest size of a kind

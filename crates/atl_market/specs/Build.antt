@@ -25,7 +25,7 @@ use Rattle.atl_records.specs.Limits.{most_structures}
 use Rattle.atl_campaign.specs.Owners.{with_place}
 use Rattle.atl_campaign.specs.Campaign.{CampaignValue, with_done, with_structure_begun}
 use Rattle.atl_phase.specs.Meaning.{BookBound, most_moved}
-use Rattle.atl_phase.specs.Outcomes.{first_fault, unless}
+use Rattle.atl_phase.specs.Outcomes.{fault_or, first_fault}
 use Rattle.atl_phase.specs.NoWorse.{IsNoWorse}
 use Rattle.atl_phase.specs.OrderEffects.{IsOwnOrder, OrderEffect, OrderMeaning}
 use Rattle.atl_phase.specs.PhaseSpecs.{PhaseSpec, goes_by_orders}
@@ -89,7 +89,7 @@ after_start c n kind k region size =
 unfoldable pub begin : WorldValue → (n kind : ℕ) → Kind → OrderEffect
 begin w n kind k c u =
     let size = size_added k u.holding 0 in
-    unless c (begin_fault w c u k) (after_start c n kind k u.region size, Done size)
+    fault_or c (begin_fault w c u k) (after_start c n kind k u.region size, Done size)
 
 -- ---- BUILD
 
@@ -121,10 +121,10 @@ structure_and_kind_at w c structure = option_and_then (with_kind w) (get c.struc
 -- The campaign and outcome after `BUILD` by unit `n`, which is inside a structure of the given kind, or inside none.
 -- `Done 0` never comes out, as `outside_fault` always finds a fault.
 abbrev pub go_on_at : CampaignValue → (n : ℕ) → Unit → Option (Structure × Kind) → CampaignValue × Outcome
-go_on_at c n u None = unless c (outside_fault u) (c, Done 0)
+go_on_at c n u None = fault_or c (outside_fault u) (c, Done 0)
 go_on_at c n u (Some (s, k)) =
     let size = size_added k u.holding s.done in
-    unless c (inside_fault u s k) (after_building_on c n k.material size u.structure (s.done + size), Done size)
+    fault_or c (inside_fault u s k) (after_building_on c n k.material size u.structure (s.done + size), Done size)
 
 -- the effect of `BUILD` by unit `n`: it continues the structure that it is inside; with a fault nothing changes
 unfoldable pub go_on : WorldValue → (n : ℕ) → OrderEffect

@@ -25,7 +25,7 @@ use Rattle.atl_records.proofs.EveryLaws.{get-insert_other, none_some}
 use Rattle.atl_campaign.proofs.RegionLaws.{get-insert_same}
 use Rattle.atl_phase.specs.Month.{Aliases, MonthValue}
 use Rattle.atl_phase.specs.Meaning.{Frame, Meaning, both_keep, then_also}
-use Rattle.atl_phase.specs.Outcomes.{unless}
+use Rattle.atl_phase.specs.Outcomes.{fault_or}
 use Rattle.atl_phase.specs.PhaseOrders.{Task, orders_of}
 use Rattle.atl_phase.specs.NoWorse.{IsNoWorse}
 use Rattle.atl_phase.specs.OrderEffects.{Affects, IsOwnOrder, IsStillThere, OrderMeaning, Unaffected, event_for, meaning_by_orders, one_order, order_result, others_unaffected, with_event_of}
@@ -181,7 +181,7 @@ men_in_turn step each c (x ∷ xs) =
 
 -- an order, with a fault or without, leaves all units their men (`HaveTheirMen`), if what it does without a fault does
 pub men_unless : (c d : CampaignValue) (o : Outcome) (fault : Option EventFault) → HaveTheirMen c d
-    → HaveTheirMen c (unless c fault (d, o)).0
+    → HaveTheirMen c (fault_or c fault (d, o)).0
 men_unless c d o (Some fault) h = men_stay c
 men_unless c d o None h = h
 

@@ -12,6 +12,6 @@ first_fault [] = None
 first_fault ((fits, fault) ∷ more) = if fits then Some fault else first_fault more
 
 -- the result of an order: with a fault the campaign as it was, and the fault as the outcome; without one what was done
-abbrev pub unless : CampaignValue → Option EventFault → CampaignValue × Outcome → CampaignValue × Outcome
-unless c (Some fault) done = (c, Fault (event_fault_number fault))
-unless c None done = done
+abbrev pub fault_or : CampaignValue → Option EventFault → CampaignValue × Outcome → CampaignValue × Outcome
+fault_or c (Some fault) done = (c, Fault (event_fault_number fault))
+fault_or c None done = done

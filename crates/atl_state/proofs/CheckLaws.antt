@@ -157,8 +157,8 @@ module _ (f : Format) (w : WorldValue) (p : Parts) where
 
   -- If rows keep rules 1 to 10, the campaign read from them has at most 1,000,000 units and regions together
   -- (IsCountable).
-  pub few-said : KeepsRulesBelow f w p 11 → IsCountable (campaign_of w p)
-  few-said k = let range = AreInRange-said w p (k Ranges (omega arith)) in omega (arith, range.few_units, range.few_regions)
+  pub countable-said : KeepsRulesBelow f w p 11 → IsCountable (campaign_of w p)
+  countable-said k = let range = AreInRange-said w p (k Ranges (omega arith)) in omega (arith, range.few_units, range.few_regions)
 
   -- if rows keep rules 1 to 10, their books have the world's things, and list amounts of these alone
   pub books-said : KeepsRulesBelow f w p 11 → AreBooks (thing_count w) (campaign_of w p).books

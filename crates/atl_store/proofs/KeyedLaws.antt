@@ -151,8 +151,8 @@ module _ (part : Part) (db : Trees) (rows : List Row) where
     same_placed = subst (λ l. IsPermutation l rows) (in_places part is db) same
 
     -- if the rowids that the part's SELECT shows are different integers, so are those in the table's tree
-    pub places_keyed : HaveDistinctIntegers (column_count part) rows → AreKeyedByRowid (db (table_of part).tree)
-    places_keyed keys = keyed_by (placed_row part) (column_count part) (db (table_of part).tree) rows (row_place part) same_placed keys
+    pub rowids_keyed : HaveDistinctIntegers (column_count part) rows → AreKeyedByRowid (db (table_of part).tree)
+    rowids_keyed keys = keyed_by (placed_row part) (column_count part) (db (table_of part).tree) rows (row_place part) same_placed keys
 
     -- if the rowids in the table's tree are different integers, so are those that the part's SELECT shows
     pub keyed_places : AreKeyedByRowid (db (table_of part).tree) → HaveDistinctIntegers (column_count part) rows

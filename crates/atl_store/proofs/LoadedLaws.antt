@@ -38,7 +38,7 @@ use Rattle.atl_store.specs.WorldText.{world_text}
 use Rattle.atl_store.specs.declared.fault.LoadFault.{LoadFault}
 use Rattle.atl_store.specs.declared.fault.LoadFault.TheVariants.{Store, Damaged, NotACampaign, OtherFormat, Memory}
 use Rattle.atl_descriptions.specs.declared.records.campaign.StoredCampaign.{StoredCampaign}
-use Rattle.atl_store.proofs.KeyedLaws.{cut_nothing, cut_places, places_keyed, keyed_places, unplaced_all}
+use Rattle.atl_store.proofs.KeyedLaws.{cut_nothing, cut_places, rowids_keyed, keyed_places, unplaced_all}
 use Rattle.atl_store.proofs.GatherLaws.{shown_open, fails_then, format_before}
 use Rattle.atl_sql.proofs.ListLaws.{has_map, map_has}
 use Rattle.atl_store.proofs.PartsLaws.{every_part, keeps_one_row, rows_hold, rows_keyed, holds_all}
@@ -108,7 +108,7 @@ module _ (f : Format) {S : Type 0} (g : Ghosts S) (old : Held S) (reads : ReadRo
       let kept = has_filtered shows_rowids (parts_in f) part.0 part.1 in
       let read = read_of reads parts part.0 (not_own part.0 kept.1) in
       subst (λ (t : Table). AreKeyedByRowid (db t.tree)) (sym (part.2 ∙ ap table_of read.2))
-      (places_keyed read.0.0 db read.0.1 (subst (λ p. shows_rowids p ≡ true) read.2 kept.1) (all_of read.0 read.1 (subst (Has (parts_in f)) read.2 kept.0) begins) (apart.each read.0 read.1 (subst (λ p. shows_rowids p ≡ true) read.2 kept.1)))
+      (rowids_keyed read.0.0 db read.0.1 (subst (λ p. shows_rowids p ≡ true) read.2 kept.1) (all_of read.0 read.1 (subst (Has (parts_in f)) read.2 kept.0) begins) (apart.each read.0 read.1 (subst (λ p. shows_rowids p ≡ true) read.2 kept.1)))
 
   all_apart : AreMade f g old → AllHaveDistinctRowids reads
   unfolding IsDistinct

@@ -5,12 +5,12 @@ use Rattle.atl_records.specs.Every.{Every}
 use Rattle.atl_campaign.specs.Good.{AreOfMarkets}
 use Rattle.atl_campaign.specs.Campaign.{CampaignValue}
 use Rattle.atl_campaign.specs.Totals.{IsCountable}
-use Rattle.atl_state.proofs.CheckLaws.{few-said, books-said, items-said, stocks-said}
+use Rattle.atl_state.proofs.CheckLaws.{countable-said, books-said, items-said, stocks-said}
 use Rattle.atl_state.proofs.checking.keeps_books.Goals as goal
 
 pub are_balanced-requires-clause-few : goal.are_balanced-requires-clause-few
 are_balanced-requires-clause-few g c =
-    subst IsCountable (sym c.requires.0) (few-said c.args.format c.args.world.now g.rows c.requires.1.1)
+    subst IsCountable (sym c.requires.0) (countable-said c.args.format c.args.world.now g.rows c.requires.1.1)
 
 pub are_balanced-requires-clause-books : goal.are_balanced-requires-clause-books
 are_balanced-requires-clause-books g c =
