@@ -16,7 +16,8 @@ use Rattle.atl_campaign.specs.Campaign.{CampaignValue}
 use Rattle.atl_phase.specs.Bounds.{HasRoom, HaveRoom}
 use Rattle.atl_market.specs.Produce.{produce_moves, with_raw_used}
 
--- unit `n` can use `amount` of item `i`: it is there and holds enough, and the books have room for it
+-- unit `n` can use up `amount` of item `i`, which is booked as used: it is there and holds enough, the world has the
+-- item, the campaign is steady, and the books have room for it
 pub record CanUse (w : WorldValue) (c : CampaignValue) (n i amount : ℕ) : Type 0 where
   pub unit : Unit
   pub there : get c.units n ≡ Some unit

@@ -116,9 +116,10 @@ owed_all : (b : Bool) (lost x all : ℕ) (books : ℤ) → pos all ≡ books +�
     → pos all ≡ (books +ℤ cond b (neg_ℤ (pos lost)) (pos 0)) +ℤ pos (x + cond b lost 0)
 owed_all b lost x all books h = grind (arith, ints, h)
 
--- `t` is a thing of the world, of which an amount of unit `n` is passed on
+-- `t` is a thing of the world; `n` is the unit whose goods may be passed on
 module _ (w : WorldValue) (c : CampaignValue) (n : ℕ) (t : Thing) (inside : thing_index t < thing_count w) (steady : IsSteady w c) where
-  -- booking an amount as lost, which no unit gets, is passing it on (`PassesOn`)
+  -- If `amount` of the thing is booked as lost, and no unit gets it, this is a case of `PassesOn`. The units stay as they
+  -- were, so the thing's total is above its books by the amount more than before.
   pub all_lost : (amount : ℕ)
       → PassesOn w n (λ s. amount_as_thing s t amount) (moves_only amount Lost t) c (with_lost c t amount)
   all_lost amount = record {
