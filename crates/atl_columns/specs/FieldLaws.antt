@@ -1,10 +1,9 @@
 -- For proofs alone: columns give back the fields that they were given, if each column does. The laws of `Fields` cite these.
-use Rattle.std.proofs.Common.{arith, length, ℕ, suc, ◌≡◌, ◌+◌, ◌⊎◌, inl, inr, List, [], ◌∷◌, Option, Some, None, refl, ap}
+use Rattle.std.proofs.Common.{length, ℕ, suc, ◌≡◌, ◌+◌, ◌⊎◌, inl, inr, List, [], ◌∷◌, Option, Some, None, refl, ap}
 use Rattle.sqlite_value.specs.declared.value.Value.{Value}
 use Rattle.sqlite_value.specs.Order.{Row, column}
-use Rattle.atl_columns.specs.Fields.{both, columns_from, encode_then, decode_then, decode_end, Fits, strict_columns}
-use Rattle.atl_columns.specs.Forms.{Form, HasForm, IsTypedFrom, kind_of}
-use Rattle.sqlite_rules.specs.Cast.{cast}
+use Rattle.atl_columns.specs.Fields.{both, columns_from, encode_then, decode_then, decode_end}
+use Rattle.atl_columns.specs.Forms.{Form, HasForm, IsTypedFrom}
 
 pub both_first : {X Y : Type 0} (a : Option X) (b : Option Y) (p : X × Y) → both a b ≡ Some p → a ≡ Some p.0
 both_first None b p is = cc
@@ -56,12 +55,3 @@ end_other is = let e : ◌≡◌ {A = Option (Unit {0})} (Some tt) None = is in 
 pub end_same : (row : Row) (x : Unit {0}) → decode_end row ≡ Some x → ◌≡◌ {A = Row} [] row
 end_same [] x is = refl
 end_same (v ∷ vs) x is = cc
-
--- a row fits its columns, if the first value fits the first column, and the others the others
-pub fit_then : (names : List (List ℕ)) (form : Form) (forms : List Form) (v : Value) (vs : Row)
-    → length names ≡ suc (length forms) → cast (kind_of form) v ≡ v
-    → ((more : List (List ℕ)) → length more ≡ length forms → Fits (strict_columns forms more) vs)
-    → Fits (strict_columns (form ∷ forms) names) (v ∷ vs)
-fit_then [] form forms v vs many one more = absurd (let e : 0 ≡ suc (length forms) = many in omega arith)
-fit_then (name ∷ names) form forms v vs many one more =
-    (one, more names (let e : suc (length names) ≡ suc (length forms) = many in omega arith))

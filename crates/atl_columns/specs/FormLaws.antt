@@ -1,13 +1,10 @@
 -- For proofs alone: each form writes what it read, and reads exactly the values of its form. The laws of `Form` cite
 -- these lemmas.
-use Rattle.std.proofs.Common.{◌≡◌, ℕ, ℤ, List, Bool, true, false, Option, Some, None, refl, sym, ap, cond}
+use Rattle.std.proofs.Common.{◌≡◌, ℕ, ℤ, List, Bool, true, false, Option, Some, None, refl, sym, ap}
 use Rattle.std.specs.Str.{is_utf8}
 use Rattle.std.proofs.lemmas.Str.{is_utf8-from_IsUtf8, IsUtf8-from_is_utf8}
 use Rattle.sqlite_value.specs.declared.value.Value.{Value}
 use Rattle.sqlite_value.specs.declared.value.Value.TheVariants.{Null, Int, Real, Text, Blob}
-use Rattle.sqlite_rules.specs.Cast.{cast}
-use Rattle.sqlite_schema.specs.declared.schema.Kind.TheVariants.{Integer}
-use Rattle.sqlite_sql.specs.Ops.{unary}
 use Rattle.atl_columns.specs.Forms.{HasForm, Number, Utf8Text, TextBytes, Bytes, number_of, text_of, utf8_text_of, keep_if, if_utf8, bytes_of}
 
 pub number_same : (v : Value) (n : ℤ) → number_of v ≡ Some n → Int n ≡ v
@@ -66,11 +63,3 @@ bytes_same (Blob a) b is = cc
 
 pub bytes_other : (v : Value) → bytes_of v ≡ None → ¬ HasForm Bytes v
 bytes_other v is has = let e : bytes_of v ≡ Some has.0 = ap bytes_of has.1 in cc
-
-choice_of_equals : (b : Bool) (x : Value) → cond b x x ≡ x
-choice_of_equals true x = refl
-choice_of_equals false x = refl
-
-pub cast_integer : (n : ℤ) → cast Integer (Int n) ≡ Int n
-unfolding unary
-cast_integer n = choice_of_equals _ (Int n)

@@ -1,5 +1,5 @@
 -- The forms of columns: which values of SQL are of each, and what a value is read as.
-use Rattle.std.specs.Prelude.{◌≡◌, ◌+◌, ℕ, ℤ, pos, Bool, true, false, List, [], ◌∷◌, IsUtf8, ⊤, Option, Some, None}
+use Rattle.std.specs.Prelude.{◌≡◌, ◌+◌, ℕ, ℤ, Bool, true, false, List, [], ◌∷◌, IsUtf8, ⊤, Option, Some, None}
 use Rattle.std.specs.Str.{is_utf8}
 use Rattle.sqlite_value.specs.declared.value.Value.{Value}
 use Rattle.sqlite_value.specs.declared.value.Value.TheVariants.{Null, Int, Real, Text, Blob}
@@ -42,10 +42,6 @@ abbrev pub IsTyped : List Form → Row → Type 0
 IsTyped forms row = IsTypedFrom 0 forms row
 
 -- ---- what a value is read as
-
--- the SQL integer of a natural number
-abbrev pub int : ℕ → Value
-int n = Int (pos n)
 
 -- the integer that a value is
 abbrev pub number_of : Value → Option ℤ

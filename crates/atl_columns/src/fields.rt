@@ -3,8 +3,8 @@ ghost use Rattle.std.specs.Prelude.{◌≡◌, ◌+◌, ◌<◌, ◌^◌, ℕ, �
 ghost use Rattle.sqlite_value.specs.Value.{owned};
 ghost use Rattle.sqlite_value.specs.Order.{Row as SqlRow, column};
 ghost use Rattle.atl_columns.specs.Forms.{Form as ColumnForm, IsTypedFrom};
-ghost use Rattle.atl_columns.specs.Fields.{strict_column, strict_columns, Fits, columns_from, encode_then, decode_then, decode_end};
-ghost use Rattle.atl_columns.specs.FieldLaws.{then_same, then_typed, then_other, end_same, end_other, fit_then};
+ghost use Rattle.atl_columns.specs.Fields.{strict_column, strict_columns, columns_from, encode_then, decode_then, decode_end};
+ghost use Rattle.atl_columns.specs.FieldLaws.{then_same, then_typed, then_other, end_same, end_other};
 
 use crate::form::Form;
 use sqlite::Row;
@@ -35,9 +35,6 @@ pub trait Fields {
         requires { at + length forms < 2 ^ 32 }
         ensures { IfOk result
             (λ read. read ≡ decode (columns_from at (length forms) row.now)) };
-
-    // A row that is written has a value of its type in each column.
-    ghost are_stored: { (names : List (List ℕ)) → length names ≡ length forms → (x : Self.Value) → Fits (strict_columns forms names) (encode x) };
 
     // Fields that were read are written as the row that they were read of.
     ghost same: { (row : SqlRow) (x : Self.Value) → decode row ≡ Some x → encode x ≡ row };
@@ -78,8 +75,6 @@ impl Fields for () {
 
     ghost decode = { λ row. decode_end row };
 
-    ghost are_stored = { λ names many x. tt };
-
     ghost same = { λ row x is. end_same row x is };
 
     ghost typed = { λ row at x is. tt };
@@ -103,8 +98,6 @@ impl<A: Form, B: Fields> Fields for (A, B) {
     ghost encode = { λ x. encode_then A.Form.encode B.Fields.encode x };
 
     ghost decode = { λ row. decode_then A.Form.decode B.Fields.decode row };
-
-    ghost are_stored = { λ names many x. fit_then names A.Form.form B.Fields.forms (A.Form.encode x.0) (B.Fields.encode x.1) many (A.Form.is_stored x.0) (λ more count. B.Fields.are_stored more count x.1) };
 
     ghost same = { λ row x is. then_same A.Form.encode A.Form.decode B.Fields.encode B.Fields.decode row x
         (λ v here. A.Form.same v x.0 here) (λ vs here. B.Fields.same vs x.1 here) is };

@@ -2,7 +2,6 @@
 ghost use Rattle.std.specs.Prelude.{◌≡◌, Option, Some, None, IfOk};
 ghost use Rattle.sqlite_value.specs.declared.value.Value.{Value as SqlValue};
 ghost use Rattle.sqlite_value.specs.Value.{owned};
-ghost use Rattle.sqlite_rules.specs.Cast.{cast};
 ghost use Rattle.atl_columns.specs.Forms.{Form as ColumnForm, HasForm, kind_of};
 
 use sqlite::types::ValueRef;
@@ -29,9 +28,6 @@ pub trait Form {
     /// The type that a STRICT table gives the column.
     fn kind() -> Kind
         ensures { result ≡ kind_of form };
-
-    // SQL stores the value in the column as it is.
-    ghost is_stored: { (x : Self.Value) → cast (kind_of form) (encode x) ≡ encode x };
 
     // A field that was read is written as the value that it was read of.
     ghost same: { (v : SqlValue) (x : Self.Value) → decode v ≡ Some x → encode x ≡ v };

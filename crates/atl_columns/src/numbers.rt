@@ -2,7 +2,7 @@
 ghost use Rattle.std.proofs.Common.{sym};
 ghost use Rattle.sqlite_value.specs.declared.value.Value.TheVariants.{Int as SqlInt};
 ghost use Rattle.atl_columns.specs.Forms as forms;
-ghost use Rattle.atl_columns.specs.FormLaws.{cast_integer, number_same, number_other};
+ghost use Rattle.atl_columns.specs.FormLaws.{number_same, number_other};
 
 use crate::form::Form;
 use sqlite::types::ValueRef;
@@ -21,8 +21,6 @@ impl Form for Number {
     ghost encode = { λ n. SqlInt n };
 
     ghost decode = { λ v. forms.number_of v };
-
-    ghost is_stored = { λ n. cast_integer n };
 
     ghost same = { λ v n is. number_same v n is };
 

@@ -1,5 +1,5 @@
 //! Columns of texts, as bytes or as UTF-8, and columns of bytes.
-ghost use Rattle.std.specs.Prelude.{◌≡◌, IfOk, refl};
+ghost use Rattle.std.specs.Prelude.{◌≡◌, IfOk};
 ghost use Rattle.std.proofs.Common.{sym};
 ghost use Rattle.sqlite_value.specs.declared.value.Value.TheVariants.{Text as SqlText, Blob as SqlBlob};
 ghost use Rattle.atl_columns.specs.Forms as forms;
@@ -23,8 +23,6 @@ impl Form for TextBytes {
     ghost encode = { λ t. SqlText t };
 
     ghost decode = { λ v. forms.text_of v };
-
-    ghost is_stored = { λ t. refl };
 
     ghost same = { λ v t is. text_same v t is };
 
@@ -66,8 +64,6 @@ impl Form for Utf8Text {
 
     ghost decode = { λ v. forms.utf8_text_of v };
 
-    ghost is_stored = { λ t. refl };
-
     ghost same = { λ v t is. utf8_text_same v t is };
 
     ghost typed = { λ v t is. utf8_text_typed v t is };
@@ -98,8 +94,6 @@ impl Form for Bytes {
     ghost encode = { λ b. SqlBlob b };
 
     ghost decode = { λ v. forms.bytes_of v };
-
-    ghost is_stored = { λ b. refl };
 
     ghost same = { λ v b is. bytes_same v b is };
 

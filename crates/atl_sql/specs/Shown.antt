@@ -1,5 +1,5 @@
 -- The rows of each table as SQL shows them, and the forms of the columns. See docs/FORMATS.md, "Tables".
-use Rattle.std.specs.Prelude.{ℕ, ℤ, pos, Bool, if◌then◌else◌, List, [], ◌∷◌, ◌++◌}
+use Rattle.std.specs.Prelude.{ℕ, ℤ, pos, List, [], ◌∷◌, ◌++◌}
 use Rattle.sqlite.specs.declared.types.Value.{Value}
 use Rattle.sqlite.specs.declared.types.Value.TheVariants.{Int, Text, Blob}
 use Rattle.sqlite.specs.Order.{Row}
@@ -23,10 +23,6 @@ use Rattle.atl_columns.specs.Forms.{Form, Number, Utf8Text, TextBytes, Bytes}
 -- the SQL integer of a natural number
 abbrev pub int : ℕ → Value
 int n = Int (pos n)
-
--- the SQL integer of a flag: 1 for true, 0 for false
-abbrev pub flag : Bool → Value
-flag b = Int (if b then pos 1 else pos 0)
 
 -- the month, the next numbers and the pass text: the campaign row without its id, its format and its world text
 pub record CampaignRowValue : Type 0 where
@@ -54,23 +50,6 @@ abbrev pub campaign_row_values : CampaignRowValue → List ℕ → Row
 campaign_row_values head world =
     int head.month ∷ int head.next_faction ∷ int head.next_unit ∷ int head.next_structure
     ∷ Text head.pass ∷ Text world ∷ []
-
--- a row of `faction`: number, joined_as, name, pass, gone
-abbrev pub faction_row : ℕ → List ℕ → List ℕ → List ℕ → Bool → Row
-faction_row number joined_as name pass gone = int number ∷ Text joined_as ∷ Text name ∷ Text pass ∷ flag gone ∷ []
-
--- a row of `region`: number, peasants, money
-abbrev pub region_row : ℕ → ℕ → ℕ → Row
-region_row number peasants money = int number ∷ int peasants ∷ int money ∷ []
-
--- a row of `unit`: number, faction, name, region, structure, men, money, guard
-abbrev pub unit_row : ℕ → ℕ → List ℕ → ℕ → ℕ → ℕ → ℕ → Bool → Row
-unit_row number faction name region structure men money guard =
-    int number ∷ int faction ∷ Text name ∷ int region ∷ int structure ∷ int men ∷ int money ∷ flag guard ∷ []
-
--- a row of `structure`: number, kind, name, region, done, owner
-abbrev pub structure_row : ℕ → ℕ → List ℕ → ℕ → ℕ → ℕ → Row
-structure_row number kind name region done owner = int number ∷ int kind ∷ Text name ∷ int region ∷ int done ∷ int owner ∷ []
 
 -- a row of `mail`: faction, text
 abbrev pub mail_row : ℕ → List ℕ → Row

@@ -1,13 +1,13 @@
 -- Rows whose values are in the forms of their columns.
-use Rattle.std.specs.Prelude.{ℕ, List, map}
-use Rattle.std.specs.List.{range_with_len}
-use Rattle.sqlite.specs.Order.{Row, column}
+use Rattle.std.specs.Prelude.{ℕ, List}
+use Rattle.sqlite.specs.Order.{Row}
 use Rattle.sqlite_rules.specs.Lists.{Has}
+use Rattle.atl_columns.specs.Fields.{columns_from}
 use Rattle.atl_columns.specs.Forms.{Form, IsTyped}
 
 -- the first `count` columns of a row
 abbrev pub first_columns : ℕ → Row → Row
-first_columns count row = map (column row) (range_with_len 0 count)
+first_columns = columns_from 0
 
 -- each value of each of the rows can be read in its column's form
 abbrev pub AreTyped : List Form → List Row → Type 0

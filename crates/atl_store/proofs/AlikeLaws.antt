@@ -9,6 +9,7 @@ use Rattle.sqlite_trees.specs.Tree.{Trees}
 use Rattle.atl_world.specs.Worlds.{WorldValue}
 use Rattle.atl_records.specs.Books.{Account, amount_in, AreBooks, BooksValue, entry_index, thing_index}
 use Rattle.atl_campaign.specs.Founding as founding
+use Rattle.atl_campaign.specs.Rows.{flag}
 use Rattle.atl_records.specs.Every.{Every}
 use Rattle.atl_campaign.specs.Good.{IsGood}
 use Rattle.atl_campaign.specs.Campaign.{CampaignValue}
@@ -25,7 +26,7 @@ use Rattle.atl_store.specs.OneCampaign.{HoldsOneCampaign}
 use Rattle.atl_store.specs.Rows.{RowsOf, HasRowsOf, BooksRowsOf, MarketRowsOf, Holds, row_of_campaign, row_of_faction, row_of_region, row_of_unit, row_of_structure, things_of}
 use Rattle.atl_descriptions.specs.Sets.{HasExactly}
 use Rattle.atl_descriptions.specs.Tables.{Own, Factions, Regions, Units, Goods, Structures, Mail, Reports, Books, Markets}
-use Rattle.atl_sql.specs.Shown.{flag, mail_row, report_row, has_row, books_row, market_row}
+use Rattle.atl_sql.specs.Shown.{mail_row, report_row, has_row, books_row, market_row}
 use Rattle.atl_sql.specs.Written.{sort_number}
 use Rattle.atl_sql.specs.declared.rows.has.ThingKind.{ThingKind}
 use Rattle.atl_sql.specs.declared.rows.has.ThingKind.TheVariants.{Item, Skill}

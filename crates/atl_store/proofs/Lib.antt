@@ -31,3 +31,4 @@ pub mod ReopenLaws
 pub mod AlikeLaws
 pub mod OneWorldLaws
 pub mod TurnLaws
+pub mod FlagLaws

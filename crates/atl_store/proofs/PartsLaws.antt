@@ -40,7 +40,7 @@ use Rattle.atl_store.specs.Gathering.{HaveDistinctIntegers}
 use Rattle.atl_store.specs.Loading.{HaveRows, rows_read, own_stored, has_row_values, books_values, market_values, shows_rowids, tables_with_rowids}
 use Rattle.atl_store.specs.Rows.{RowsOf, rows_in_order, HasRowsOf, BooksRowsOf, MarketRowsOf, rows_for, Holds, HoldsIn, campaign_row_of, row_of_faction, row_of_region, row_of_unit, row_of_structure, things_of}
 use Rattle.atl_descriptions.specs.Sets.{HasExactly, AreKeyedByRowid, rows_in}
-use Rattle.atl_sql.specs.Shown.{flag, campaign_row_in, mail_row, report_row, faction_stored, region_stored, unit_stored, structure_stored, mail_stored, report_stored}
+use Rattle.atl_sql.specs.Shown.{campaign_row_in, mail_row, report_row, faction_stored, region_stored, unit_stored, structure_stored, mail_stored, report_stored}
 use Rattle.atl_descriptions.specs.Tables.{Part, Own, Factions, Regions, Units, Goods, Structures, Mail, Reports, Books, Markets, table_of, all_parts, parts_in}
 use Rattle.atl_sql.specs.Written.{sort_number}
 use Rattle.atl_sql.proofs.EditLaws.{has_permuted}
@@ -84,17 +84,6 @@ table_has_rows_of_map {A} {V} shown row line same numbered rows read m in_table 
       λ there. let e = map_has (λ (e : ℕ × V). line e.0 e.1) (entries m) r (has_permuted rows lines r is there) in (e.0.0, e.0.1, entry_got m e.0.0 e.0.1 e.1, e.2),
       λ of. has_permuted lines rows r (IsPermutation-sym rows lines is) (subst (Has lines) (sym of.3) (has_map (λ (e : ℕ × V). line e.0 e.1) (entries m) (of.0, of.1) (got_entry m of.0 of.1 of.2))),
     )
-
-stored_flag_is_flag : (b : Bool) → Int (made.flag b) ≡ flag b
-stored_flag_is_flag true = refl
-stored_flag_is_flag false = refl
-
-faction_row_is_line : (n : ℕ) (f : Faction) → faction_stored (made.faction_row n f) ≡ row_of_faction n f
-faction_row_is_line n f = ap (λ v. Int (pos n) ∷ Text f.joined_as ∷ Text f.name ∷ Text f.pass ∷ v ∷ []) (stored_flag_is_flag f.gone)
-
-unit_row_is_line : (n : ℕ) (u : Unit) → unit_stored (made.unit_row n u) ≡ row_of_unit n u
-unit_row_is_line n u =
-    ap (λ v. Int (pos n) ∷ Int (pos u.faction) ∷ Text u.holding.name ∷ Int (pos u.region) ∷ Int (pos u.structure) ∷ Int (pos u.holding.men) ∷ Int (pos u.holding.money) ∷ v ∷ []) (stored_flag_is_flag u.holding.guard)
 
 -- ---- the campaign's own row
 
@@ -250,9 +239,9 @@ module _ (f : Format) (db : Trees) (text : List ℕ) (p : Parts) (c : CampaignVa
       → HasExactly (rows_in (table_of part) db) (rows_for (campaign_row_in f (campaign_row_of c) text) c part) × (shows_rowids part ≡ false → HasKeys (rows_in (table_of part) db))
   unfolding rows_of
   by_part Own there = own_held f text c _ p.campaign (have.rows Own there) are.campaign
-  by_part Factions there = table_has_rows_of_map faction_stored made.faction_row row_of_faction faction_row_is_line (λ n v. refl) _ p.factions c.factions (have.rows Factions there) are.factions
+  by_part Factions there = table_has_rows_of_map faction_stored made.faction_row row_of_faction (λ n v. refl) (λ n v. refl) _ p.factions c.factions (have.rows Factions there) are.factions
   by_part Regions there = table_has_rows_of_map region_stored made.region_row row_of_region (λ n v. refl) (λ n v. refl) _ p.regions c.regions (have.rows Regions there) are.regions
-  by_part Units there = table_has_rows_of_map unit_stored made.unit_row row_of_unit unit_row_is_line (λ n v. refl) _ p.units c.units (have.rows Units there) are.units
+  by_part Units there = table_has_rows_of_map unit_stored made.unit_row row_of_unit (λ n v. refl) (λ n v. refl) _ p.units c.units (have.rows Units there) are.units
   by_part Goods there = (goods_held _ p.has c.units (have.rows Goods there) are.has, λ number. absurd (true≢false number))
   by_part Structures there = table_has_rows_of_map structure_stored made.structure_row row_of_structure (λ n v. refl) (λ n v. refl) _ p.structures c.structures (have.rows Structures there) are.structures
   by_part Mail there = table_has_rows_of_map mail_stored made.mail_row mail_row (λ n v. refl) (λ n v. refl) _ p.mail c.mail (have.rows Mail there) are.mail

@@ -20,7 +20,8 @@ use Rattle.atl_descriptions.specs.Sets.{Set, HasExactly, rows_in}
 use Rattle.atl_descriptions.specs.Tables.{Part, Own, Factions, Regions, Units, Goods, Structures, Mail, Reports, Books, Markets, table_of, parts_in}
 use Rattle.atl_world.specs.declared.format.Format.{Format}
 use Rattle.sqlite_rules.specs.Lists.{Has}
-use Rattle.atl_sql.specs.Shown.{CampaignRowValue, campaign_row, campaign_row_in, faction_row, region_row, unit_row, has_row, structure_row, mail_row, report_row, books_row, market_row}
+use Rattle.atl_campaign.specs.Rows.{faction_row, region_row, unit_row, structure_row}
+use Rattle.atl_sql.specs.Shown.{CampaignRowValue, campaign_row, campaign_row_in, faction_stored, region_stored, unit_stored, structure_stored, has_row, mail_row, report_row, books_row, market_row}
 use Rattle.atl_sql.specs.Written.{sort_number}
 
 -- the month, the next numbers and the pass text of this campaign, for its campaign row
@@ -38,21 +39,21 @@ campaign_row_of c =
 abbrev pub row_of_campaign : List ℕ → CampaignValue → Row
 row_of_campaign text c = campaign_row (campaign_row_of c) text
 
--- the row of `faction` for the faction with this number
+-- the row of `faction` for the faction with this number, as SQL shows it
 abbrev pub row_of_faction : ℕ → Faction → Row
-row_of_faction n f = faction_row n f.joined_as f.name f.pass f.gone
+row_of_faction n f = faction_stored (faction_row n f)
 
--- the row of `region` for the region with this number
+-- the row of `region` for the region with this number, as SQL shows it
 abbrev pub row_of_region : ℕ → Region → Row
-row_of_region n r = region_row n r.peasants r.money
+row_of_region n r = region_stored (region_row n r)
 
--- the row of `unit` for the unit with this number
+-- the row of `unit` for the unit with this number, as SQL shows it
 abbrev pub row_of_unit : ℕ → Unit → Row
-row_of_unit n u = unit_row n u.faction u.holding.name u.region u.structure u.holding.men u.holding.money u.holding.guard
+row_of_unit n u = unit_stored (unit_row n u)
 
--- the row of `structure` for the structure with this number
+-- the row of `structure` for the structure with this number, as SQL shows it
 abbrev pub row_of_structure : ℕ → Structure → Row
-row_of_structure n s = structure_row n s.kind s.name s.region s.done s.owner
+row_of_structure n s = structure_stored (structure_row n s)
 
 -- the rows that `line` makes of the numbers and values of a map, one row for each, as a set
 abbrev pub RowsOf : {V : Type 0} → (ℕ → V → Row) → FinMap nat_cmp V → Row → Type 0
