@@ -52,6 +52,7 @@ accounts_none f never row = refl
 and_or : (p a b c : Bool) → (p && ((a || b) && c)) ≡ ((p && (a && c)) || (p && (b && c)))
 and_or p a b c = ap (λ q. p && q) (and-or_distrib_right a b c) ∙ and-or_distrib_left p (a && c) (b && c)
 
+-- `marks` has the numbers of marked amounts; `entries` and `things` are tests of an entry and of a thing, by index
 module _ (marks : FinSet nat_cmp) where
   abbrev is_marked_at : ℕ → ℕ → Bool
   is_marked_at e t = contains marks (entry_count * t + e)
@@ -217,6 +218,8 @@ module _ (c : MarkedCampaign) (e : BooksEntry) (t : Thing) where
 
 -- ---- one entry after another, and one thing after another
 
+-- The rewriting begins at `old`, and the next entry or thing is rewritten from `mid` to `new`. `now` are those that are
+-- left at `mid`, and `rest` those that are left at `new`. `things` tests a thing, by its index.
 module _ (c : MarkedCampaign) where
   abbrev wanted : Row → Type 0
   wanted r = BooksRowsOf c.value.books r

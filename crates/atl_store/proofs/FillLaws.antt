@@ -55,7 +55,7 @@ module _ (c : CampaignValue) where
       are own now (rows_filled line numbered now was m none (subst (λ (l : List (ℕ × V)). HasExactly now (puts 1 (rows_in_order line l) (Has was))) same made)))
 
   -- putting the rows that `lines` gives for all entries of `m` fills a part, if its rows come in these groups
-  -- (`AreGroups`)
+  -- (`AreGroups`); their key is the first `more + 1` columns
   pub groups_fill : {V : Type 0} (part : Part) (lines : ℕ → V → List Row) (more : ℕ) (m : FinMap nat_cmp V)
       → ((own : Row) → AreGroups lines (suc more) m (rows_for own c part)) → (es : List (ℕ × V)) → es ≡ entries m
       → (old new : Database)

@@ -1,4 +1,7 @@
 -- Laws on reading several tables one after another: each read sees the tables as they were before the first.
+-- The connection is `old` before the first read, `mid` after some of them, and `new` after all. Of two lists of
+-- SELECTs, `xs` is asked first, with the result `one`, and then `ys`, with `two`. `r` is the result of all reads, and
+-- `P` and `Q` say what holds of what was found.
 use Rattle.std.proofs.Common.{◌≡◌, ◌≢◌, ◌⊎◌, ◌++◌, ℕ, List, [], ◌∷◌, Bool, true, false, not, true≢false, IsTrue, Option, Some, None, Result, Ok, Err, IfOk, IfErr, IsErrAnd, map, refl, sym, ◌∙◌, subst, inl, inr, arith}
 use Rattle.std.specs.Option.{option_zip}
 use Rattle.std.specs.declared.vec.Vec.{Vec}
@@ -102,6 +105,8 @@ module _ {S : Type 0} (g : Ghosts S) where
 
   -- ---- one table
 
+  -- `sql` is the SELECT of the table of `part`, `forms` are the forms of its columns, and `shown` gives the row as SQL
+  -- shows it of one that was read
   module _ {A : Type 0} (sql : List ℕ) (forms : List Form) (shown : A → Row) (part : Part) (old new : Held S) (settled : IsCommitted (state g old)) (idle : old.in_transaction ≡ false) where
     abbrev this_select : List (List ℕ × List Form)
     this_select = (sql, forms) ∷ []
@@ -159,7 +164,8 @@ module _ {S : Type 0} (g : Ghosts S) where
     fails_one (Err read.Store) reads clean = inl (refuses read.Store (reads.refused clean not_store store_no_memory))
     fails_one (Err read.Refused) reads clean = inr (refuses read.Refused (reads.refused clean not_refused refused_no_memory))
 
-    -- reading one table is reading the list with its SELECT alone (`ReadsSome`)
+    -- reading one table, with the result `r`, is reading the list with its SELECT alone (`ReadsSome`), with the result
+    -- that loading makes of `r`
     pub reads_one : {Z : Type 0} (r : Result (Vec A Z) ReadFault) → ReadsRows g sql old forms shown r new
         → GivesTable g (select_of_part part).since (select_of_part part).in_table shown r old new
         → (kept : Result (Option (Vec A Z)) LoadFault) → kept ≡ rows_or_none r
@@ -324,7 +330,8 @@ module _ {S : Type 0} (g : Ghosts S) where
         clean_mid : HasCleanDisk (state g new) → HasCleanDisk (state g mid)
         clean_mid clean = omega (arith, second.leaves.survives.clean, clean)
 
-  -- reading all rows of some tables and then of others reads all rows of both
+  -- reading all rows of some tables and then of others reads all rows of both; `some` and `others` give the rows of
+  -- what was read, by part
   pub both_read : {A B : Type 0} (xs ys : List (List ℕ × List Form)) (some : A → ReadRows) (others : B → ReadRows) (old mid new : Held S) (one : Result (Option A) LoadFault) (two : Result (Option B) LoadFault)
       → ReadsSome g old xs (λ a. AreAllRows (state g old).now (some a)) one mid → ReadsSome g mid ys (λ b. AreAllRows (state g mid).now (others b)) two new
       → (a : Option A) → one ≡ Ok a → (b : Option B) → two ≡ Ok b → (o : Option (A × B)) → o ≡ option_zip a b → ReadsSome g old (xs ++ ys) (λ x. AreAllRows (state g old).now (some x.0 ++ others x.1)) (Ok o) new
@@ -363,8 +370,8 @@ module _ {S : Type 0} (g : Ghosts S) where
       not_early : (part : Part) → Has second_format_parts part → ¬ Has (parts_in First) part
       not_early part there = not_among (parts_in First) part (no (is_among (parts_in First) part) (test_has (λ p. not (is_among (parts_in First) p)) second_format_parts part refl there))
 
-  -- in the first format: if all rows of its parts are read, and no row is taken of the others, each part has the rows
-  -- that the format gives it (`AreOfFormat`)
+  -- in the first format: if all rows of its parts are read (`some`), and no row is taken of the others (`others`), each
+  -- part has the rows that the format gives it (`AreOfFormat`)
   pub reads_first : {A B : Type 0} (selects : List (List ℕ × List Form)) (some : A → ReadRows) (others : B → ReadRows) (old new : Held S) (one : Result (Option A) LoadFault)
       → ReadsSome g old selects (λ a. AreAllRows (state g old).now (some a)) one new
       → (a : Option A) → one ≡ Ok a → (b : B) → AreNone (others b) → ((a : A) → map (λ read. read.0) (some a) ≡ other_parts First) → map (λ read. read.0) (others b) ≡ second_format_parts

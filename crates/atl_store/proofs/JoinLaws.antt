@@ -1,4 +1,6 @@
 -- Laws on `write_join` and `write_mail`: tables that held the campaign before hold the one after.
+-- The faction `f` with the number `n` joins, with its unit `u` under the number `m`; `after` is the campaign then.
+-- `world` is the world text with which the campaign row is put; a row that is there keeps its own.
 use Rattle.std.proofs.Common.{◌≡◌, ◌≢◌, ◌⊎◌, ◌+◌, ℕ, ℤ, pos, List, [], ◌∷◌, map, Some, None, false, refl, sym, ap, ◌∙◌, subst, inl, inr, take, arith}
 use Rattle.std.specs.Prelude.{◌+ℤ◌}
 use Rattle.std.specs.Ordering.{nat_cmp}
@@ -194,7 +196,7 @@ module _ (n : ℕ) (f : Faction) (m : ℕ) (u : Unit) (report : List ℕ) (after
             (λ e. free (inr (inr (inr (inl (same_part part Reports e)))))) (λ e. free (inr (inr (inr (inr (inl (same_part part Books e)))))));
       }
 
-  -- tables that held the campaign before a join hold the one after it, `after`, once the join is written
+  -- tables that held the campaign before a join (`a`) hold the one after it, `after`, once the join is written (`d`)
   pub join_held : (a d : Database) → WritesJoin n after a d → (text : List ℕ) (before : CampaignValue)
       → IsJoining before n after → Holds a.trees text before → Holds d.trees text after
   unfolding after_join

@@ -47,6 +47,7 @@ rewritten_as one other P Q same are after before is r =
 
 -- ---- a part with one row for each number
 
+-- the rows of the part are those that `line` makes of the numbers and `values` that the campaign has
 module _ {V : Type 0} (part : Part) (line : ℕ → V → Row) (values : CampaignValue → FinMap nat_cmp V) (are : (own : Row) (c : CampaignValue) (r : Row) → rows_for own c part r ↔ RowsOf line (values c) r) where
   -- to put the row of a value of the campaign is a statement of the campaign's rows (`OfRow`)
   pub puts_line : key_width_of part ≡ 1 → (c : CampaignValue) (r : Row) → RowsOf line (values c) r
@@ -74,6 +75,7 @@ module _ {V : Type 0} (part : Part) (line : ℕ → V → Row) (values : Campaig
         (λ own rows is r. (λ there. (are own c r).1 ((is r).0 there), λ of. (is r).1 ((are own c r).0 of)))
 
   -- rewriting the rows of all marked numbers rewrites the part (`RewritesPart`), if its rows are marked by number
+  -- (`marks`)
   pub kept_rewritten : (marks : Marks → FinSet nat_cmp)
       → ((m : Marks) (r : Row) → is_marked m part r ≡ begins_marked (marks m) r)
       → (c : MarkedCampaign) (old new : Database)

@@ -174,7 +174,7 @@ module _ (part : Part) (db : Trees) (rows : List Row) where
 
 -- ---- rows that were read with their rowids
 
--- A row that was read with its rowid is shown as its values and after them the rowid.
+-- A row that was read with its rowid is shown by SQL (`stored`) as its values (`values`) and after them the rowid.
 pub record IsPlacedAs {A : Type 0} (part : Part) (stored : RowWithId A → Row) (values : A → Row) : Type 0 where
   pub values_are : (s : RowWithId A) → take (column_count part) (stored s) ≡ values s.row
   pub place_is : (s : RowWithId A) → column (stored s) (column_count part) ≡ Int s.rowid

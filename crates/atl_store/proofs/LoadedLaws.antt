@@ -1,4 +1,5 @@
 -- Laws on `load`: from the rows that were read to the campaign that is loaded, or to the fault that refuses it.
+-- That a fault refuses the load means: loading may return it (`RefusesToLoadIn`).
 use Rattle.std.proofs.Common.{◌≡◌, ℕ, List, [], ◌∷◌, Bool, true, false, not, filter, map, IsTrue, IsPermutation, true≢false, Option, Result, Ok, Err, IfErr, IsErrAnd, ◌⊎◌, Some, None, inl, arith, refl, sym, ap, ◌∙◌, subst, inr}
 use Rattle.std.specs.List.{IsDistinct}
 use Rattle.std.proofs.lemmas.Bool.{cases_Bool}
@@ -241,7 +242,8 @@ module _ (f : Format) {S : Type 0} (g : Ghosts S) where
     unconfirmed_refuses idle typed OtherFormat fails = absurd fails
     unconfirmed_refuses idle typed Memory fails = may_return_memory old idle kept
 
--- what was read of the other tables after the campaign row was read
+-- The campaign row `own` was read between `old` and `mid`, and then the other tables between `mid` and `new`. What was
+-- read of these is `o`, None if a value is of another type than its column; `rows` gives its rows by part.
 module _ (f : Format) {S : Type 0} (g : Ghosts S) {A : Type 0} (rows : A → ReadRows) (old mid new : Held S) (own : StoredCampaign) (w : WorldValue) (row : OwnRead g old f own w) (before : AfterReads g old mid) (r : Result (Option A) LoadFault)
     (reads : ReadsSome g mid (other_selects f) (λ a. AreOfFormat f (state g mid).now (rows a)) r new) (o : Option A) (was : r ≡ Ok o) (clean : HasCleanDisk (state g new)) where
   found : (says : Option A) → o ≡ says
@@ -331,7 +333,8 @@ module _ (f : Format) {S : Type 0} (g : Ghosts S) (old new : Held S) (w : WorldV
         rows = subst (λ (d : Database). HoldsIn f d.trees all.text c.value) (sym same.0) (rows_hold f db all.text loaded.parts c.value rows loaded.checked.rows _ loaded.checked.good.sound.steady.numbers.books);
       }
 
-  -- what was loaded (`IsLoaded`) is what Ok of loading in the format says (`LoadsIn`)
+  -- what was loaded (`IsLoaded`) is what Ok of loading in the format says (`LoadsIn`), if loading only read, and before
+  -- it all was committed (`settled`)
   pub loads_in : LoadsIn f g old new w c
   loads_in = record {
     world = λ clean. subst (λ t. world_of_text f t ≡ Ok w) (sym (kept_text_is f (state g new) (loaded.gathered clean).text c.value (new_is_there clean))) (loaded.gathered clean).world;

@@ -1,5 +1,6 @@
 -- Laws on reading the table `campaign`: it has one row that keeps the first rule, or a fault refuses the load.
 -- To judge the rows gives Ok with the row and its world, Damaged by the first rule, or Memory.
+-- That a fault refuses the load means: loading may return it (`RefusesToLoadIn`).
 use Rattle.std.proofs.Common.{◌≡◌, ℕ, false, List, [], ◌∷◌, map, length, Result, Ok, Err, IfOk, IfErr, IsPermutation, refl, sym, ap, ◌∙◌, subst, inl, inr, IsUtf8}
 use Rattle.sqlite.specs.Held.{Held, state}
 use Rattle.sqlite.specs.Order.{Row, column}
@@ -121,7 +122,8 @@ judged_as Is Nothing P read lacks broken (Err (Damaged Books)) judged = absurd j
 judged_as Is Nothing P read lacks broken (Err (Damaged Mail)) judged = absurd judged
 
 module _ (f : Format) where
-  -- what judging the parsed rows gives (`JudgesOwn`) is right for the rows that SQL shows (`JudgesRows`)
+  -- a result that judging the parsed rows `items` may give (`JudgesOwn`) is one that judging the rows that SQL shows,
+  -- `rows`, may give (`JudgesRows`)
   pub judged_rows : (items : List StoredCampaign) (rows : List Row) (r : Result (StoredCampaign × WorldValue) LoadFault)
       → map campaign_stored items ≡ map (first_columns (length campaign_forms)) rows → AreTyped campaign_forms rows
       → JudgesOwn f items r → JudgesRows f rows r
@@ -131,7 +133,8 @@ module _ (f : Format) where
       record { shown = is; id = own.id; format = own.format; utf8 = own_utf8 both.0 rows typed is; world = own.world }) tt
       (λ none h text w own. let was = own_read f items rows h text w shown own in none was.0 w was.1) r
 
-  -- a fault of parsing the rows judges them: a value of another type breaks the first rule, and else it is Memory
+  -- the fault of loading for a fault of parsing the rows is one that judging them may give (`JudgesRows`): Damaged by
+  -- the first rule if a value is of another type, else Memory
   pub unread_rows : (rows : List Row) (fault : ReadFault) → (fault ≡ read.OtherType → ¬ AreTyped campaign_forms rows)
       → ((fault ≡ read.OtherType → ⊥) → fault ≡ read.Memory) → JudgesRows f rows (Err (campaign_row_fault fault))
   unread_rows rows read.OtherType other which = λ h text w own. other refl (own_typed f rows h text w own)

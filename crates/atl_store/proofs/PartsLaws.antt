@@ -232,7 +232,8 @@ second_by_late_part : (f : Format) (part : Part) → is_among (parts_in First) p
 second_by_late_part First part late there = absurd (not_among (parts_in First) part late there)
 second_by_late_part Second part late there = refl
 
--- tables that have the rows of a campaign
+-- The tables have just the rows that were read of them, `p`, which are made of the campaign (`are`).
+-- The books have `things` things, and each listed amount is of one of them and is not 0.
 module _ (f : Format) (db : Trees) (text : List ℕ) (p : Parts) (c : CampaignValue) (have : HaveRows f db text p) (are : AreRowsOf f c p) (things : ℕ) (books : AreBooks things c.books) where
   -- Each part's table has exactly the campaign's rows; these differ in the first column if it is the rowid.
   by_part : (part : Part) → Has (parts_in f) part

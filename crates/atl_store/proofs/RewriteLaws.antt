@@ -1,5 +1,6 @@
 -- Laws on rewriting the rows of a table that pass a test, one step after another.
--- To rewrite is to put the wanted rows (`Wanted`) that pass the test in place of the old ones.
+-- To rewrite is to put the wanted rows (`Wanted`) that pass the test in place of the old ones. `old` is the database,
+-- or the state, before the first step, `mid` before the step that a law is on, and `new` after it.
 use Rattle.std.proofs.Common.{◌≡◌, ◌≢◌, ◌⊎◌, ◌↔◌, ◌||◌, ℕ, pos, Bool, true, false, List, [], ◌∷◌, take, Some, None, refl, sym, ap, ◌∙◌, subst, inl, inr, true≢false}
 use Rattle.std.specs.Ordering.{nat_cmp}
 use Rattle.std.specs.Cmp.{nat_cmp_total}
@@ -226,6 +227,7 @@ kept_only (inr kept) = kept
 
 -- ---- a row that is put or deleted
 
+-- `line` makes the row of a number and its value, `values` are the values by number, and `n` is a number
 module _ {V : Type 0} (table : Table) (line : ℕ → V → Row) (numbered : (n : ℕ) (v : V) → take 1 (line n v) ≡ int n ∷ []) (values : FinMap nat_cmp V) (n : ℕ) where
   wanted_at : (r : Row) → first_column_passes (equals_number n) r ≡ true → RowsOf line values r
       → (v : V) × (get values n ≡ Some v) × (r ≡ line n v)

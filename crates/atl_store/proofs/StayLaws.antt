@@ -1,4 +1,7 @@
 -- Laws on what a connection keeps after a transaction: the campaign after a commit or before a fault, and other tables.
+-- `old` is the state before the transaction, and `new` after its commit or its end by a fault. The transaction does
+-- `Does` to tables that are as `Before` says. As a parameter, `Commits` says which trees a crash may leave besides
+-- those that it could have left before.
 use Rattle.std.proofs.Common.{◌≡◌, ◌≢◌, ℕ, Bool, true, false, cond, List, IsTrue, Result, Ok, Err, OnErr, IfErr, IsErrAnd, refl, sym, ap, ◌∙◌, subst, inl, inr, arith}
 use Rattle.sqlite_trees.specs.Tree.{Trees}
 use Rattle.sqlite_trees.specs.declared.store.Store.{Ghosts}
@@ -67,8 +70,8 @@ module _ (old new : State) (text : List ℕ) (settled : (db : Trees) → IsTrue 
     ];
   }
 
--- if a transaction that does `Does` makes tables hold the campaign `c`, a crash leaves what it could have left before,
--- or `c`
+-- if a transaction that does `Does` makes tables, which were as `Before` says, hold the campaign `c`, a crash leaves
+-- what it could have left before, or `c`, on a clean disk
 pub may_found : (old new : State) (text : List ℕ) (c : CampaignValue) (Before : Database → Type 0) (Does : Database → Database → Type 0)
     → Before old.now → ((db : Database) → Does old.now db → Holds db.trees text c) → HasCleanDisk new
     → Survives old new (MayLeave Before Does old) → MayLeaveCampaign old text c new
@@ -136,7 +139,8 @@ pub survives_is_later : (old new : State) (Commits : Trees → Type 0) → Survi
 survives_is_later old new Commits survives =
     record { clean = λ clean. omega (arith, survives.clean); counts = survives.counts; shield = survives.shield }
 
--- after a commit no table or index is gone, and tables that aren't the campaign's hold what they held
+-- after a commit no table or index is gone, and tables that aren't the campaign's hold what they held, if `Before`
+-- holds wherever all tables of a campaign are there
 pub commit_leaves_others : (old new : State) (Before : Database → Type 0) (Does : Database → Database → Type 0)
     → Commits Before Does old new → (HasTables old.now → Before old.now) → LeavesOthersAlone old new
 commit_leaves_others old new Before Does done before up has settled = (done.does (before has)).carries

@@ -94,6 +94,9 @@ own_row rows old was row key one made r = (
   λ same. (made r).1 (inl same),
 )
 
+-- The table `market` is added from `old` to `mid`; then, to `new`, the campaign row gets the second format and the
+-- world text `text`. Before, the tables held the campaign in the first format, with the text `before`, and nothing was
+-- in stock (`bare`).
 module _ (text : List ℕ) (c : CampaignValue) (old mid new : Database) (first : AddsMarkets old mid) (second : UpgradesCampaignRow (campaign_row_of c) text mid new) (before : List ℕ) (held : HoldsIn First old.trees before c) (bare : HasNoStocks c) where
   rows_between : (part : Part) → Has (parts_in First) part
       → HasExactly (rows_in (table_of part) mid.trees) (rows_for (campaign_row_in First (campaign_row_of c) before) c part)

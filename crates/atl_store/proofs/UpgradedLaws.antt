@@ -36,6 +36,8 @@ use Rattle.atl_store.proofs.StayLaws.{commits_keeps, failed_changes_nothing, may
 
 -- ---- what was loaded is what the tables held
 
+-- The campaign was loaded between `old` and `mid`, which changed nothing (`alone`), and the disk is clean. `text` is
+-- the new world text.
 module _ {S : Type 0} (g : Ghosts S) (text : List ℕ) (old mid : Held S) (alone : LeavesAlone g old mid) (clean : HasCleanDisk (state g mid)) where
   -- if a campaign is loaded in the first format, the tables held it before, as loading changes nothing
   pub loaded_old : (w : WorldValue) (c : MarkedCampaign) → LoadsIn First g old mid w c
@@ -62,7 +64,7 @@ module _ {S : Type 0} (g : Ghosts S) (text : List ℕ) (old mid : Held S) (alone
     held = subst (λ v. HoldsOld (state g old) v c.value) (sym (bare_before ready.before c ready.loads) ∙ sym ready.same) (loaded_old ready.before c ready.loads);
   }
 
-  -- if the new text's world differs from that of the loaded campaign in more than markets, the fault Differs is right
+  -- if the new text's world differs from that of the loaded campaign in more than markets, `upgrade` may return Differs
   -- (`HasOtherWorld`)
   pub other_world : (before w : WorldValue) (c : MarkedCampaign) → LoadsIn First g old mid before c
       → world_of text ≡ Ok w → ¬ (without_markets w ≡ without_markets before) → HasOtherWorld g text old mid
@@ -75,7 +77,8 @@ module _ {S : Type 0} (g : Ghosts S) (text : List ℕ) (old mid : Held S) (alone
     differs = λ same. differs (same ∙ sym (bare_before before c loads));
   }
 
-  -- if the schema is more than that of the first format, the fault Store is right for this cause (`HasMoreTables`)
+  -- if the campaign and the new text are ready for the upgrade, but the schema has more tables or indexes than the
+  -- first format, `upgrade` may return Store for that cause (`HasMoreTables`)
   pub has_more : (w : WorldValue) (c : MarkedCampaign) → IsReadyToUpgrade g text old mid w c
       → ¬ IsFirstFormatOnly mid.schema → HasMoreTables g text old mid
   has_more w c ready more =
@@ -97,6 +100,7 @@ later_both old mid new FirstMayLeave SecondMayLeave one two =
 
 -- ---- before the transaction
 
+-- `old` is the connection before `upgrade`, `new` after a failed check, and `text` the new world text
 module _ {S : Type 0} (g : Ghosts S) (text : List ℕ) (old new : Held S) where
   -- a fault of loading in the first format is one that a check of `upgrade` may return, by its name there
   pub fails_to_load : (fault : LoadFault) → RefusesToLoadIn First g old fault
@@ -131,6 +135,8 @@ module _ {S : Type 0} (g : Ghosts S) (text : List ℕ) (old new : Held S) where
 
 -- ---- the transaction
 
+-- The campaign was loaded between `old` and `mid`, which changed nothing (`alone`). The transaction leads from `mid` to
+-- `new`, after its commit or its end by a fault. `text` is the new world text, and `w` its world.
 module _ {S : Type 0} (g : Ghosts S) (text : List ℕ) (old mid new : Held S) (w : WorldValue) (c : MarkedCampaign) (alone : LeavesAlone g old mid) (ready : IsReadyToUpgrade g text old mid w c) where
   -- The transaction of the upgrade ended with this result, and left what `Transacts` says of it.
   abbrev Wrote : {A : Type 0} → Result A Error → Type 0
@@ -147,7 +153,8 @@ module _ {S : Type 0} (g : Ghosts S) (text : List ℕ) (old mid new : Held S) (w
       → HasCleanDisk (state g new) → HasCleanDisk (state g mid)
   clean_before survives clean = omega (arith, survives.clean, clean)
 
-  -- after the commit the connection keeps the loaded campaign with the new text, good and unmarked (`Upgrades`)
+  -- After the commit the connection keeps the loaded campaign with the new text, good and unmarked (`Upgrades`), if the
+  -- schema was that of the first format alone. A premise is that a crash leaves the last commit (`settled`).
   pub upgrades : (settled : (db : Trees) → IsTrue (state g new).is_open → (state g new).may_leave db → db ≡ (state g new).committed.trees)
       → IsFirstFormatOnly mid.schema
       → (HasCleanDisk (state g new) → Commits IsFirstFormat (WritesUpgrade text c.value) (state g mid) (state g new))
@@ -184,6 +191,8 @@ module _ {S : Type 0} (g : Ghosts S) (text : List ℕ) (old mid new : Held S) (w
     ];
   }
 
+  -- The transaction failed (`off`). Before it the connection was in no transaction (`idle`), and the schema was that of
+  -- the first format alone (`just`).
   module _ (just : IsFirstFormatOnly mid.schema) (idle : mid.in_transaction ≡ false) (off : HasCleanDisk (state g new) → LeavesOff (state g mid) (state g new)) (survives : Survives (state g mid) (state g new) (MayLeave IsFirstFormat (WritesUpgrade text c.value) (state g mid))) where
     upgrade_changed_nothing : HasCleanDisk (state g new) → ChangesNothing (state g old) (state g new)
     upgrade_changed_nothing clean =

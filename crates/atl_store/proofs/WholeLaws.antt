@@ -1,4 +1,6 @@
 -- Laws on a transaction as a whole: steps one after the other inside it, its commit, and what it leaves if it fails.
+-- BEGIN leads from `old` to `begun`, the steps inside from there to `mid`, and commit or rollback to `end`. A step does
+-- `Does` to tables that are as `Before` says.
 use Rattle.std.proofs.Common.{◌≡◌, [], false, true, true≢false, IsTrue, Result, Ok, Err, OnOk, IfErr, sym, ap, subst, ◌∙◌, inl, inr, arith}
 use Rattle.std.specs.Borrow.{MutBor}
 use Rattle.sqlite.specs.declared.error.Error.{Error}
@@ -35,7 +37,7 @@ pub inside_weaker : (Before : Database → Type 0) (Does Less : Database → Dat
 inside_weaker Before Does Less a b weaker h =
     (h.0, λ has. let did = h.1 has in record { does = weaker has did.does; tables = did.tables; carries = did.carries })
 
--- the effect of a write on the tables, weakened, and of two writes
+-- A write is a step of a transaction. `own` are the statements that it may run, and `r` is its result.
 module _ {S : Type 0} (g : Ghosts S) {own : Statements} {A : Type 0} {r : Result A Error} where
   -- a write whose step does `First` is also one that does `Does`, which follows from it
   pub done_as : {First Does : Database → Database → Type 0} {a b : MutBor (Held S)}

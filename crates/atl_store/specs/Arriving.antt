@@ -1,4 +1,6 @@
 -- What writing a join, or a mailing, changes in the tables. See docs/FORMATS.md, "Tables".
+-- `old` is the database before the write, and `new` after it. `faction` is the number of a faction, and `after` the
+-- campaign once this faction has joined.
 use Rattle.std.specs.Prelude.{◌≡◌, ◌≢◌, ◌⊎◌, ◌+◌, ◌-◌, ◌≤◌, ℕ, List, [], ◌∷◌, Some, IsSome, take}
 use Rattle.std.specs.FinMap.{get}
 use Rattle.sqlite.specs.Effect.{Database}
@@ -42,12 +44,14 @@ pub record HasArrivalWith (c : CampaignValue) (number : ℕ) (faction : Faction)
   -- the things of the books include money and people
   pub things : 2 ≤ c.books.things
 
--- the rows of `books` once one amount is written: its row, or none if it is 0, and the other rows of the set `S`
+-- the rows of `books` once the amount of `entry` and `thing` is written: its row, or none if it is 0, and the other
+-- rows of the set `S`
 abbrev pub rows_with_amount : CampaignValue → BooksEntry → Thing → Set → Set
 rows_with_amount c entry thing S r =
     Has (amount_lines c entry thing) r ⊎ (S r × (take 2 r ≢ books_key (entry_index entry + 1) (thing_index thing)))
 
--- one amount of the books is written: it has its row, or none if it is 0; all other rows and tables are as they were
+-- the amount of `entry` and `thing` in the books is written: it has its row, or none if it is 0; all other rows and
+-- tables are as they were
 abbrev pub WritesAmount : CampaignValue → BooksEntry → Thing → Database → Database → Type 0
 WritesAmount c entry thing old new = Alters books_table (rows_with_amount c entry thing (Has (rows_in books_table old.trees))) old new
 
@@ -83,6 +87,7 @@ WritesJoin faction after old new =
     → HasExactly (rows_in campaign_table old.trees) (λ r. r ≡ campaign_row before text)
     → AddsJoin faction after text old new
 
--- a mailing is written: it replaces an older one of its faction, or is added; all other rows and tables stay
+-- the mailing `mail` of the faction is written: it replaces an older one of the faction, or is added; all other rows
+-- and tables stay
 abbrev pub WritesMail : ℕ → List ℕ → Database → Database → Type 0
 WritesMail faction mail old new = Puts mail_table 1 (mail_row faction mail) old new

@@ -1,4 +1,6 @@
 -- What writing a campaign's changes does: rows with a marked key become the campaign's, and every other row stays.
+-- `old` is the database before the write, and `new` after it. As a parameter, `is_marked` says of a row whether its key
+-- is marked. The wanted rows (`Wanted`) are those that the campaign has.
 use Rattle.std.specs.Prelude.{◌≡◌, ◌↔◌, ℕ, Bool, true, false, List}
 use Rattle.sqlite.specs.Effect.{Database}
 use Rattle.sqlite.specs.Order.{Row}

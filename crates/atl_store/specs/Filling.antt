@@ -1,4 +1,5 @@
 -- For proofs and for private functions: what writing a whole campaign into empty tables does.
+-- `old` is the database before the write, and `new` after it.
 use Rattle.std.specs.Prelude.{◌≡◌, [], ◌∷◌, List, ℕ}
 use Rattle.sqlite.specs.Effect.{Database}
 use Rattle.sqlite.specs.Order.{Row}
@@ -8,8 +9,8 @@ use Rattle.atl_descriptions.specs.Tables.{Part, campaign_table}
 use Rattle.atl_sql.specs.Inside.{Changes}
 use Rattle.atl_store.specs.Rows.{row_of_campaign, rows_for, Holds}
 
--- one part is filled: if its table had no row (`before`), it has exactly the campaign's rows afterwards; `own` is the
--- campaign row
+-- one part is filled: if its table had no row (`before`), it has exactly the campaign's rows afterwards (`after`);
+-- `own` is the campaign row
 abbrev pub Fills : CampaignValue → Row → Part → List Row → List Row → Type 0
 Fills c own part before after = before ≡ [] → HasExactly after (rows_for own c part)
 

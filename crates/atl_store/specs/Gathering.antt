@@ -1,4 +1,6 @@
 -- For proofs and for private functions: what each step of loading has read, and which fault it returns.
+-- `f` is the format that the file is to have, and `r` the result of a step. `g` is the kind of store, in memory or in
+-- files. `old` is the connection, or its state, before a step or before all of loading, and `new` after it.
 use Rattle.std.specs.Prelude.{◌≡◌, ◌≢◌, ◌++◌, ℕ, List, [], ◌∷◌, Bool, false, true, if◌then◌else◌, ◌⊎◌, IsTrue, IsPermutation, drop, length, map, take, pos, Option, Some, None, Result, Ok, Err, IfOk, IfErr, ⊤}
 use Rattle.std.specs.List.{AllByRecursion, IsDistinct}
 use Rattle.std.specs.Ordering.{eq_by_cmp, int_cmp, is_eq}
@@ -99,7 +101,8 @@ Judges Is Nothing (Err Memory) = ⊤
 Judges Is Nothing (Err (Damaged OneRow)) = Nothing
 Judges Is Nothing (Err fault) = ⊥
 
--- the result of reading a world text: the world, Damaged by the first rule if the text reads as none, or Memory
+-- the result of reading `text` as a world of the format: the world, Damaged by the first rule if the text is of none,
+-- or Memory
 abbrev pub ReadsWorld : Format → List ℕ → Result WorldValue LoadFault → Type 0
 ReadsWorld f text r = Judges (λ w. world_of_text f text ≡ Ok w) ((w : WorldValue) → world_of_text f text ≢ Ok w) r
 

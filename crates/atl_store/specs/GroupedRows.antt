@@ -43,7 +43,7 @@ pub record AreGroups {V : Type 0} (lines : ℕ → V → List Row) (key : ℕ) (
 
 -- ---- amounts of things
 
--- the rows for the amount of one thing: its one row, or none if the amount is 0
+-- the one row that `row` makes of a thing's number and its amount, as a list, or no row if the amount is 0
 abbrev pub thing_rows : (ℕ → ℕ → Row) → ℕ → ℕ → List Row
 thing_rows row thing amount = if amount == 0 then [] else row thing amount ∷ []
 
@@ -53,7 +53,8 @@ amount_rows row amounts = flat_map (λ e. thing_rows row e.0 e.1) amounts
 
 -- ---- what units have
 
--- the rows of `has` for a unit's things of one kind whose amount isn't 0
+-- the rows of `has` for things of one kind that the unit with this number has; `things` are their numbers with their
+-- amounts, and an amount of 0 has no row
 abbrev pub kind_lines : ℕ → ThingKind → List (ℕ × ℕ) → List Row
 kind_lines unit sort things = amount_rows (has_row unit (sort_number sort)) things
 

@@ -1,5 +1,6 @@
 -- What a connection satisfies between two calls (`Keeps`), and how it may differ later, after a fault and after
--- `create`.
+-- `create`. `old` is a connection, or its state, before a call, and `new` after it. `g` is the kind of store, in memory
+-- or in files, `state g conn` the state of the database under a connection, and `text` a world text.
 use Rattle.std.specs.Prelude.{◌≡◌, ◌⊎◌, ◌≤◌, false, IsTrue, List, ℕ}
 use Rattle.sqlite_trees.specs.Tree.{Trees}
 use Rattle.sqlite_trees.specs.declared.store.Store.{Ghosts}
@@ -91,7 +92,7 @@ pub record ChangesNothing (old new : State) : Type 0 where
   -- an open connection stays open, unless the disk failed again
   pub shuts : IsTrue old.is_open → IsTrue new.is_open ⊎ MoreFaults old.faults new.faults
 
--- a crash leaves what it could have left before, or a file that stores this campaign
+-- a crash after the call (`new`) leaves what it could have left before it (`old`), or a file that stores this campaign
 abbrev pub MayLeaveCampaign : State → List ℕ → CampaignValue → State → Type 0
 MayLeaveCampaign old text c new = (db : Trees) → new.may_leave db → old.may_leave db ⊎ Stores db text c
 

@@ -1,4 +1,6 @@
--- What `load` returns and leaves. See docs/FORMATS.md, "Opening a file".
+-- What `load` returns and leaves. See docs/FORMATS.md, "Opening a file". `f` is the format that the file is to have.
+-- `old` is the connection, or its state, before loading, or before some of its reads, and `new` after them.
+-- `g` is the kind of store, in memory or in files, and `state g conn` the state of the database under a connection.
 use Rattle.std.specs.Prelude.{◌≡◌, ◌⊎◌, ◌++◌, ℕ, Bool, List, [], ◌∷◌, length, drop, filter, map, is_some, not, pos, true, false, IsTrue, IsPermutation, IsUtf8, Ok}
 use Rattle.sqlite.specs.declared.error.Error.{Error}
 use Rattle.sqlite.specs.declared.types.Value.TheVariants.{Int, Text}

@@ -1,4 +1,6 @@
 -- For proofs and for private functions: what the steps of writing a campaign's changes do.
+-- `old` is the database before the step, and `new` after it. `line` makes the row of a number and its value; `values`
+-- are the campaign's values by number, and `marks` the marked numbers.
 use Rattle.std.specs.Prelude.{◌≡◌, ◌+◌, ◌*◌, ◌&&◌, ◌||◌, ℕ, Bool, false, List, [], ◌∷◌, is_some}
 use Rattle.std.specs.List.{list_any}
 use Rattle.std.specs.Ordering.{nat_cmp, eq_by_cmp}
@@ -37,8 +39,8 @@ equals_number n k = eq_by_cmp nat_cmp k n
 abbrev pub is_among : List ℕ → ℕ → Bool
 is_among ns k = list_any (eq_by_cmp nat_cmp k) ns
 
--- whether a row of `books` is of a marked amount whose entry passes the test `entries`, and whose thing passes
--- `things`, both by their indexes
+-- whether a row of `books` is of an amount whose number is in `marks`, whose entry passes the test `entries`, and whose
+-- thing passes `things`, both by their indexes
 abbrev pub is_of_marked_amount : FinSet nat_cmp → (ℕ → Bool) → (ℕ → Bool) → Row → Bool
 is_of_marked_amount marks entries things r =
     entry_and_thing_pass (λ entry thing. entries entry && (things thing && contains marks (entry_count * thing + entry))) r
@@ -60,8 +62,8 @@ pub record FindsByNumbers (finds : (ℕ → ℕ → Bool) → Row → Bool) : Ty
   -- the test that is always false finds no row
   pub none : (r : Row) → finds (λ n t. false) r ≡ false
 
--- the row of one number becomes that of the campaign, or is deleted if the campaign has no row of the number; all other
--- rows and tables stay
+-- the row of the number `n` becomes that of the campaign, or is deleted if the campaign has no row of the number; all
+-- other rows and tables stay
 abbrev pub RewritesNumber : {V : Type 0} → Table → (ℕ → V → Row) → FinMap nat_cmp V → ℕ → Database → Database → Type 0
 RewritesNumber table line values n old new = Rewrites table (first_column_passes (equals_number n)) (RowsOf line values) old new
 
@@ -71,8 +73,8 @@ abbrev pub RewritesMarked : {V : Type 0} → Table → (ℕ → V → Row) → F
     → Database → Database → Type 0
 RewritesMarked table line values marks old new = Rewrites table (begins_marked marks) (RowsOf line values) old new
 
--- in one table the rows of one unit or region, whose key begins with its number, become those of the set `Wanted`; all
--- others stay
+-- in one table the rows of one unit or region, whose key begins with its number `n`, become those of the set `Wanted`;
+-- all others stay
 abbrev pub RewritesGroup : Table → Set → ℕ → Database → Database → Type 0
 RewritesGroup table Wanted n old new = Rewrites table (first_column_passes (equals_number n)) Wanted old new
 

@@ -1,4 +1,5 @@
 -- Which database is of the first format; for proofs and private functions, what the transaction of an upgrade does.
+-- `old` is the database before this transaction, or before a step of it, and `new` after it.
 use Rattle.std.specs.Prelude.{◌≡◌, [], List, ℕ, map}
 use Rattle.sqlite.specs.Effect.{Database}
 use Rattle.sqlite.specs.Table.{Table}

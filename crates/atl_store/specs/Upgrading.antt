@@ -1,4 +1,6 @@
 -- What `upgrade` returns and leaves. See docs/RULES.md, "Upgrading", and docs/FORMATS.md, "Upgrading a file".
+-- `old` is the connection, or its state, before `upgrade`, and `new` after it; `text` is the new world text. `g` is the
+-- kind of store, in memory or in files.
 use Rattle.std.specs.Prelude.{◌≡◌, ◌≢◌, ◌⊎◌, ℕ, Bool, List, false, true, Ok, Err}
 use Rattle.sqlite_trees.specs.Tree.{Trees}
 use Rattle.sqlite_trees.specs.declared.store.Store.{Ghosts}
@@ -152,10 +154,12 @@ module _ {S : Type 0} (g : Ghosts S) (text : List ℕ) (old new : Held S) where
 
 -- ---- For proofs and for private functions.
 
--- the campaign is loaded in the first format, and the new text's world differs from the campaign's in markets alone
+-- The campaign is loaded in the first format, which leads from `old` to `mid`. `w` is the world of the new text, and it
+-- differs from that of the campaign in markets alone.
 pub record IsReadyToUpgrade {S : Type 0} (g : Ghosts S) (text : List ℕ) (old mid : Held S)
     (w : WorldValue) (c : MarkedCampaign) : Type 0 where
   pub world : world_of text ≡ Ok w
+  -- the world with which the campaign is loaded
   pub before : WorldValue
   pub loads : LoadsIn First g old mid before c
   pub same : without_markets w ≡ without_markets before
