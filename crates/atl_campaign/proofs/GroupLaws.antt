@@ -150,8 +150,9 @@ module _ {R U : Type 0} (group : R → ℕ) (number : U → ℕ) where
 
 -- ---- rows of a group with keys
 
+-- `mine` tests whether a row is of the group, and `same` whether two keys are equal; `thing` gives the thing of a row
 module _ {R K : Type 0} (key : R → K) (same : K → K → Bool) (itself : (k : K) → same k k ≡ true) (thing : R → ℕ) (mine : R → Bool) (P : R → Type 0) where
-  -- a row of the group, which is what the test `mine` tells, for which P holds
+  -- a row of the group for which P holds
   abbrev pub IsOfGroupWithP : R → Type 0
   IsOfGroupWithP r = P r × (mine r ≡ true)
 

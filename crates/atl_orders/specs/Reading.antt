@@ -1,4 +1,5 @@
--- The effect of one line of a mailing. See docs/RULES.md, "Reading a mailing".
+-- The effect of one line of a mailing. See docs/RULES.md, "Reading a mailing". Where a comment says nothing else,
+-- `state` is the reader's state before the line, and `given` says which aliases earlier FORM lines gave.
 use Rattle.std.specs.Prelude.{ℕ, Bool, ◌&&◌, ◌||◌, List, [], ◌∷◌, codes, Option, Some, None, Result, Ok, Err, nat_le, ◌==◌, if◌then◌else◌}
 use Rattle.std.specs.List.{list_all}
 use Rattle.std.specs.Option.{option_map}
