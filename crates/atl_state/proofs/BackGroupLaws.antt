@@ -56,6 +56,7 @@ module _ {U R : Type 0} (f : ℕ × U → List R) (P : R → Type 0) where
 
 -- ---- the rows of a group: of each amount that is not 0
 
+-- `row` makes the row of a thing and its amount, and `none` tests whether the amount of a row is 0
 module _ {R : Type 0} (none : R → Bool) (row : ℕ → ℕ → R) (m : FinMap nat_cmp ℕ) where
   -- the rows of a map of amounts (a unit's goods, a region's stocks): one for each amount that is not 0
   abbrev lines : List R
@@ -80,6 +81,8 @@ module _ {R : Type 0} (none : R → Bool) (row : ℕ → ℕ → R) (m : FinMap 
 
 -- ---- the amounts of a group
 
+-- `listed` and `rows` are the same rows in another order, and `mine` tests whether a row is of the group whose amounts
+-- are in m
 module _ {R : Type 0} (thing amount : R → ℕ) (mine : R → Bool) (m : FinMap nat_cmp ℕ) (listed rows : List R) (same : IsPermutation listed rows) where
   -- the map has the amount of a row under the row's thing
   abbrev IsIn : FinMap nat_cmp ℕ → R → Type 0
