@@ -42,7 +42,8 @@ pub AreRegions-of : (regions : FinMap nat_cmp Region)
 AreRegions-of regions =
     record { within = within-none; rows_fit = Room-of regions; markets_fit = Room-of regions; stocks_fit = Room-of regions }
 
--- `rows`, `markets`, `stocks` and `items` are the marks of regions, as in MarkedRegions
+-- `rows` has the regions whose rows are marked, and `markets` those of which a stock is. Of these, `stocks` has those
+-- all of whose stocks are marked, and `items` the single stocks.
 module _ (regions : FinMap nat_cmp Region) (rows markets stocks : RoomySet) (items : MarkedThings) (h : AreRegions regions rows markets stocks items) where
   -- the invariant still holds once all marks are cleared
   pub AreRegions-without_marks : AreRegions regions (cleared rows) (cleared markets) (cleared stocks) empty

@@ -120,7 +120,8 @@ pub AreUnits-of : (units : FinMap nat_cmp Unit)
 AreUnits-of units =
     record { within = within-none; marks_fit = Room-of units; rows_fit = Room-of units; goods_fit = Room-of units }
 
--- `marks`, `rows`, `goods`, `items` and `skills` are the marks of units, as in Roster
+-- `marks` has the units of which a part is marked. Of these, `rows` has those whose rows are, `goods` those all of
+-- whose items and days are, and `items` and `skills` the single ones.
 module _ (units : FinMap nat_cmp Unit) (marks rows goods : RoomySet) (items skills : MarkedThings) where
   -- before a change, there is room for all marks of units, and each unit with a marked part is marked (AreUnits)
   abbrev Before : Type 0

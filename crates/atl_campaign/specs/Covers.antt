@@ -36,7 +36,7 @@ days_under None = empty
 days_under (Some u) = u.holding.days
 
 -- Of each item, or each skill (`under` picks which), that is not marked, each unit has as much in `before` as in
--- `after`. `goods` and `things` are the marks, as in `is_thing_marked`.
+-- `after`. `goods` has the units all of whose things are marked, and `things` the single marks.
 abbrev pub SameThings : FinSet nat_cmp → MarkedThings → (Option Unit → FinMap nat_cmp ℕ) → FinMap nat_cmp Unit
     → FinMap nat_cmp Unit → Type 0
 SameThings goods things under before after =
