@@ -78,6 +78,7 @@ filter_lines test f (x ∷ xs) =
 
 -- ---- group by group
 
+-- `group` gives the number of the group that a row is of, and `number` the number of a group
 module _ {R U : Type 0} (group : R → ℕ) (number : U → ℕ) where
   -- the rows whose group has number n, as the goods of unit n or the stocks of region n
   abbrev pub of_group : ℕ → List R → List R

@@ -1,4 +1,5 @@
--- Laws of reading maps back: the rows of a map's entries, in any order, give that map again.
+-- Laws of reading maps back: the rows of a map's entries, in any order, give that map again. `row` makes the row of a
+-- number and its value, and `number` and `value` read both from a row.
 use Rattle.std.proofs.Common.{◌≡◌, ℕ, suc, ◌≤◌, ◌<◌, ◌&&◌, ◌++◌, List, [], ◌∷◌, Bool, true, false, length, Some, None, refl, sym, ap, ◌∙◌, arith}
 use Rattle.std.specs.Prelude.{pos, ⊤}
 use Rattle.std.specs.declared.cmp.Ordering.{Ordering}

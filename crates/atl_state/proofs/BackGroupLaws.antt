@@ -29,6 +29,7 @@ module _ {X R : Type 0} (P : R → Type 0) (f : X → List R) where
 
 -- ---- the rows of all groups
 
+-- f gives the rows of a group, which is a number of the map with its value
 module _ {U R : Type 0} (f : ℕ × U → List R) (P : R → Type 0) where
   of_each : (es : List (ℕ × U)) → EachEntry (λ n u. AllByRecursion P (f (n, u))) es
       → AllByRecursion (λ e. AllByRecursion P (f e)) es
