@@ -79,8 +79,8 @@ end_step (Skipping parent) given = step nothing (state_naming_unit parent) given
 abbrev pub form_value : ℕ → OrderValue
 form_value alias = order_of verbs.Form (operands.Alias alias)
 
--- The step of a FORM line for unit n outside of blocks: a new alias is given, and its block opens. On a fault, as
--- BadAlias for an alias given before, the block is skipped.
+-- The step of a FORM line for the unit `parent`, outside of blocks: a new alias is given, and its block opens. On a
+-- fault, as BadAlias for an alias given before, the block is skipped.
 abbrev pub block_step : ℕ → (ℕ → Bool) → Result (ℕ × List WordText) LineFault → LineStep
 block_step parent given (Ok n) =
     if given n.0

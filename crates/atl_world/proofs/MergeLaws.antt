@@ -232,6 +232,7 @@ all_put xs ys now all own left none kept h =
     ∙ ap (λ zs. zs ++ drop own now) (kept ∙ sym (ap (merged (take own xs)) none_left ∙ merged_alone (take own xs)))
     ∙ ap (λ k. merged (take own xs) (take left ys) ++ drop k now) (sym there) ∙ h
 
+-- if P and b < a contradict each other, a ≤ b follows from P
 pub not_above : (P : Type 0) (a b : ℕ) → (P × (b < a) → IsTrue false) → P → a ≤ b
 not_above P a b h p = elim (cases_order a b) [
   | inl e ↦ omega (arith, e)
