@@ -38,6 +38,7 @@ at_other : {V : Type 0} (f : V → V) (m : FinMap nat_cmp V) (k n : ℕ) (o : Op
 at_other f m k n None apart = refl
 at_other f m k n (Some v) apart = get-insert_other m k n (f v) apart
 
+-- `owner` gives the number whose value a row belongs to, and `more` adds the row to that value
 module _ {R V : Type 0} (owner : R → ℕ) (more : R → V → V) where
   -- the value v of number n with each row of number n added to it, in the order of the rows
   abbrev pub value_with_rows : ℕ → List R → V → V
@@ -67,6 +68,7 @@ module _ {R V : Type 0} (owner : R → ℕ) (more : R → V → V) where
       ∙ ap (option_map (value_with_rows n rows)) (get-changed r m n)
       ∙ map_twice (value_with_rows n rows) (λ v. cond (owner r == n) (more r v) v) (get m n)
 
+  -- `before t` is the value of t without its rows, and `after t` its value with them
   module _ {T : Type 0} (number : T → ℕ) (before after : T → V) (rows : List R) (each : (t : T) → value_with_rows (number t) rows (before t) ≡ after t) where
     -- both maps have the same numbers, and the second has each value of the first with the rows of its number added
     abbrev Becomes : FinMap nat_cmp V → FinMap nat_cmp V → Type 0
@@ -91,8 +93,7 @@ module _ {R V : Type 0} (owner : R → ℕ) (more : R → V → V) where
     put_each (t ∷ ts) m l all =
         put_each ts (insert m (number t) (before t)) (insert l (number t) (after t)) (put_one t m l all)
 
-    -- Goods (`rows`) are added to the values of their owners (ts). If a t's rows turn its value by `before` into that
-    -- by `after`, all rows turn the map made of ts by `before` into that by `after`.
+    -- adding all rows to the map of the values of ts without their rows gives the map of their values with them
     pub with_rows_added-by_number : (ts : List T)
         → with_rows_added owner more rows (by_number number before ts) ≡ by_number number after ts
     with_rows_added-by_number ts =

@@ -100,7 +100,7 @@ put_there marks n k e =
 pub unmarked_differs_from_put : (marks : FinSet nat_cmp) (n k : ℕ) → contains (insert marks n) k ≡ false → k ≢ n
 unmarked_differs_from_put marks n k free same = absurd (true≢false (sym (put_there marks n k same) ∙ free))
 
--- ---- things of units
+-- ---- things of units and regions: `goods` has those all of whose things are marked, `things` has the single marks
 
 -- for whole_stays and thing_stays: if a implies b, and c implies d, `a || c` implies `b || d`
 both_stay : (a b c d : Bool) → (a ≡ true → b ≡ true) → (c ≡ true → d ≡ true) → (a || c) ≡ true → (b || d) ≡ true
@@ -314,8 +314,8 @@ part_by_part a b stays says = record {
 pub marks-refl : (a : MarkedCampaign) → MarksChanges a a
 marks-refl a = part_by_part a a (λ p k h. h) (λ p k free. refl)
 
--- P holds of a map in which f changes the value of n, and of the old value, if it holds in both cases: n has no value,
--- or n has one
+-- P holds of the map after f changed the value under n, and of that value before (None: there was none), if it does
+-- where there is no value under n, and where there is one
 pub holds_of_changed : {V : Type 0} (P : FinMap nat_cmp V → Option V → Type 0) (f : V → V) (values : FinMap nat_cmp V) (n : ℕ)
     → P values None → ((v : V) → get values n ≡ Some v → P (map.insert values n (f v)) (Some v))
     → P (with_changed_value f values n) (get values n)

@@ -11,6 +11,7 @@ list_after_copy xs from to at l =
     ap (drop at) (append_assoc (take at xs) (take (to - from) (drop from xs)) (drop (at + (to - from)) xs))
     ∙ drop_at (take at xs) (take (to - from) (drop from xs) ++ drop (at + (to - from)) xs) at (length-take-le at xs l)
 
+-- xs are all slots of the vector, the first `free` of them are free, and the others are the list
 module _ {A : Type 0} (xs : List A) (free position : ℕ) where
   -- for closed and opened: index `free + position` of the vector, less its `free` free slots, is index `position` of
   -- the list that follows them

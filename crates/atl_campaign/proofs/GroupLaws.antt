@@ -78,6 +78,7 @@ filter_lines test f (x ∷ xs) =
 
 -- ---- group by group
 
+-- `group` gives the number of the group that a row is of, and `number` the number of a group
 module _ {R U : Type 0} (group : R → ℕ) (number : U → ℕ) where
   -- the rows whose group has number n, as the goods of unit n or the stocks of region n
   abbrev pub of_group : ℕ → List R → List R
@@ -150,8 +151,9 @@ module _ {R U : Type 0} (group : R → ℕ) (number : U → ℕ) where
 
 -- ---- rows of a group with keys
 
+-- `mine` tests whether a row is of the group, and `same` whether two keys are equal; `thing` gives the thing of a row
 module _ {R K : Type 0} (key : R → K) (same : K → K → Bool) (itself : (k : K) → same k k ≡ true) (thing : R → ℕ) (mine : R → Bool) (P : R → Type 0) where
-  -- a row of the group, which is what the test `mine` tells, for which P holds
+  -- a row of the group for which P holds
   abbrev pub IsOfGroupWithP : R → Type 0
   IsOfGroupWithP r = P r × (mine r ≡ true)
 

@@ -1,4 +1,5 @@
--- Laws of joining: a sound campaign that a faction joins is sound, rule by rule.
+-- Laws of joining: a sound campaign that a faction joins is sound, rule by rule. The faction joins with the name `name`
+-- and the pass text `pass`, and `word`, a word of the dice, picks the region where it begins.
 use Rattle.std.proofs.Common.{◌≡◌, ◌≢◌, ℕ, ◌+◌, ◌%◌, ◌≤◌, ◌<◌, ◌==◌, ◌||◌, true, false, cond, List, [], ◌∷◌, length, Some, None, is_some, take, drop, ◌*◌, refl, sym, ap, ◌∙◌, arith, nat_le, nat_lt, nat_eq, length-append, true≢false}
 use Rattle.std.proofs.lemmas.Bool.{false≢true}
 use Rattle.std.specs.Prelude.{unwrap_or, ℤ, pos, ◌+ℤ◌, IsTrue}
@@ -60,7 +61,8 @@ held_booked w word c Money = omega (arith, ints)
 held_booked w word c People = refl
 held_booked w word c (Item i) = no_item_is_booked w word c i (grind (arith, nat_tests)) (grind (arith, nat_tests))
 
--- the books balance after a join if they did before: the new unit's money and man are booked
+-- the books balance after a join if they did before, and no unit had the next number: the new unit's money and man are
+-- booked
 pub joined-balances : (w : WorldValue) (name pass : List ℕ) (word : ℕ) (c : CampaignValue)
     → get c.units c.next_unit ≡ None → Balances c → Balances (after_join w name pass word c)
 unfolding after_join total

@@ -290,7 +290,7 @@ module _ (w : WorldValue) (c : CampaignValue) (n : ℕ) (u : Unit) (is : get c.u
           steady_left c.structures (AreReowned-unchanged old.owners low (ap (λ o. is_owned_by o n) here)) old
       by_owner (Some s) here = by_test s here (is_owned_by (Some s) n) (ap (λ o. is_owned_by o n) here)
 
-  -- a steady campaign stays steady when unit n is removed, and its structure gets the next owner
+  -- a steady campaign stays steady when unit n is removed, and a structure that it owned gets its next owner
   pub steady-without : IsSteady w c → IsSteady w (without_unit c n)
   steady-without old = subst (IsSteady w) (sym without-known) (steady_handed old)
 

@@ -1,5 +1,6 @@
 -- Laws of the lists of units by region, faction and structure: they have just the units of each as units come, change
 -- and go. A unit's key is the number of its region, faction or structure, which says in whose list the unit is.
+-- `belongs_to` gives this key.
 use Rattle.std.proofs.Common.{◌≡◌, ◌≢◌, ◌==◌, ℕ, true, false, cond, Option, Some, None, List, [], map, filter, refl, sym, ap, subst, ◌∙◌, arith, inl, inr}
 use Rattle.std.specs.declared.cmp.Ordering.TheVariants.{Less, Equal, Greater}
 use Rattle.std.specs.Prelude.{Result, Ok, Err, OnOk, OnErr, unwrap_or}
@@ -231,8 +232,8 @@ AreUnitLists-kept units lists n u v is same old = record {
 put_there : (units : FinMap nat_cmp Unit) (n : ℕ) (u : Unit) → get (insert units n u) n ≡ Some u
 put_there units n u = get-insert nat_cmp_total units n u n ∙ ap (λ b. cond b (Some u) (get units n)) (key_itself n)
 
--- the lists by region, faction and structure have just the units of each (AreUnitLists) again once a new unit is put
--- into them and taken out again
+-- the lists by region, faction and structure have just the units of each (AreUnitLists) again once a new unit with the
+-- keys l is put into them (`mid`) and taken out again (`new`)
 pub AreUnitLists-back : (units : FinMap nat_cmp Unit) (n : ℕ) (u : Unit) (l : ListKeys) (old mid new : UnitLists)
     → get units n ≡ None → list_keys_of u ≡ l → ListsUnit n l old mid → UnlistsUnit n l mid new → AreUnitLists units old
     → AreUnitLists units new
@@ -265,8 +266,9 @@ module _ (belongs_to : Unit → ℕ) where
         | inr apart ↦ rw (other_number from to apart, other_number to from (λ e. apart (sym e)), listed_else lists to (put_number k (list_of lists to)) from (λ e. apart (sym e))) (AreLists-moved units lists k u v is apart old)
       ]
 
-  -- if the lists `old` have just the units of each key (AreLists), so do the lists `new`, which are `old` with a
-  -- changed unit moved from the list of its old key to that of its new one
+  -- If the lists `old` have just the units of each key (AreLists), so do the lists `new` once unit n is changed from u
+  -- to v. They are `old` with n put into the list of its new key, `to` (`mid`), and then taken out of that of its old
+  -- key, `from`.
   pub AreLists-relisted : (units : FinMap nat_cmp Unit) (old mid new : FinMap nat_cmp (List ℕ)) (n from to : ℕ) (u v : Unit)
       → get units n ≡ Some u → belongs_to u ≡ from → belongs_to v ≡ to → mid ≡ listed_unless old n to from
       → SameLists new (unlisted_unless mid n from to)
@@ -277,8 +279,8 @@ module _ (belongs_to : Unit → ℕ) where
       (subst (λ q. AreLists belongs_to (insert units n v) (unlisted_unless (listed_unless old n to q) n q to)) own
       (subst (λ q. AreLists belongs_to (insert units n v) (unlisted_unless (listed_unless old n q (belongs_to u)) n (belongs_to u) q)) goes (relisted units old n u v is lists))))
 
-  -- putting number n into the list of `key` and taking it out again gives the lists of the same units again, also where
-  -- `key` is `other` and nothing is done
+  -- putting number n into the list of `key` (`mid`) and taking it out again (`new`) gives the lists of the same units
+  -- again, also where `key` is `other` and nothing is done
   pub AreLists-apart : (units : FinMap nat_cmp Unit) (old mid new : FinMap nat_cmp (List ℕ)) (n key other : ℕ)
       → mid ≡ listed_unless old n key other → SameLists new (unlisted_unless mid n key other)
       → AreLists belongs_to units old → AreLists belongs_to units new
@@ -318,8 +320,8 @@ AreUnitLists-changed f stays units lists n is = by_unit (get units n) refl
     by_unit None e = is
     by_unit (Some u) e = AreUnitLists-kept units lists n u (f u) e (stays u) is
 
--- the lists by region, faction and structure still have just the units of each (AreUnitLists) when unit n changes, but
--- none of these three, or memory runs out and nothing changes
+-- The lists by region, faction and structure still have just the units of each (AreUnitLists) after a call with the
+-- result r. If r is Ok, f changed unit n, but none of these three; if r is Err, nothing changed.
 pub AreUnitLists-set : {A E : Type 0} (r : Result A E) (f : Unit → Unit)
     → ((u : Unit) → list_keys_of u ≡ list_keys_of (f u)) → (old new : FinMap nat_cmp Unit) (lists : UnitLists) (n : ℕ)
     → OnOk r (new ≡ with_changed_value f old n) → OnErr r (new ≡ old)

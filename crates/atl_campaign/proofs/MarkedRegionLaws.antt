@@ -42,6 +42,8 @@ pub AreRegions-of : (regions : FinMap nat_cmp Region)
 AreRegions-of regions =
     record { within = within-none; rows_fit = Room-of regions; markets_fit = Room-of regions; stocks_fit = Room-of regions }
 
+-- `rows` has the regions whose rows are marked, and `markets` those of which a stock is. Of these, `stocks` has those
+-- all of whose stocks are marked, and `items` the single stocks.
 module _ (regions : FinMap nat_cmp Region) (rows markets stocks : RoomySet) (items : MarkedThings) (h : AreRegions regions rows markets stocks items) where
   -- the invariant still holds once all marks are cleared
   pub AreRegions-without_marks : AreRegions regions (cleared rows) (cleared markets) (cleared stocks) empty
@@ -58,8 +60,8 @@ module _ (regions : FinMap nat_cmp Region) (rows markets stocks : RoomySet) (ite
       record { within = h.within; rows_fit = Room-put regions rows.numbers rows.room n (get regions n) refl h.rows_fit; markets_fit = h.markets_fit; stocks_fit = h.stocks_fit }
 
   module _ (n : ℕ) (r : Region) (is : get regions n ≡ Some r) where
-    -- once one stock of a region, and so the region, is marked, there is still room for all marks, and still no stock
-    -- is marked without its region (AreRegions)
+    -- the invariant still holds once the stocks of region n of the items in `group` are marked, and the region is put
+    -- into `markets`
     pub AreRegions-item : (group : FinMap nat_cmp (Prim.Unit {0}))
         → AreRegions regions rows (with_region_marked regions markets n) stocks (insert items n group)
     AreRegions-item group = record {

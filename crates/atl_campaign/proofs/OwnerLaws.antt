@@ -26,7 +26,8 @@ by_test : (b : Bool) (c d : MarkedCampaign) → (if b then d else c).value ≡ (
 by_test true c d = refl
 by_test false c d = refl
 
--- handing a structure on with its mark (`handed_marked`) does to the campaign's value what `after_handover` does
+-- handing a structure from one owner to another with its mark (`handed_marked`) does to the campaign's value what
+-- `after_handover` does
 pub after_handover-what : (c : MarkedCampaign) (s from to : ℕ)
     → (handed_marked c s from to).value ≡ after_handover c.value s from to
 after_handover-what c s from to =
@@ -75,8 +76,8 @@ place_stays c n r s u is same =
     sym
     (ap (place_marked_at c n r s) is ∙ ap (λ b. if b then put_marked c n r s else handed_marked (handed_marked (put_marked c n r s) u.structure n (heir c.value u.structure n)) s 0 n) same)
 
--- moving a unit to another structure hands on the one that it leaves, if it owns that, and gives it the one that it
--- enters, if nobody owns that
+-- moving a unit to another structure gives the one that it leaves to the next owner (`heir`), if the unit owned that,
+-- and gives the unit the one that it enters, if nobody (0) owns that
 pub place_leaves : (c : MarkedCampaign) (n r s : ℕ) (u : Unit) → get c.value.units n ≡ Some u
     → (u.structure == s) ≡ false
     → handed_marked (handed_marked (put_marked c n r s) u.structure n (heir c.value u.structure n)) s 0 n

@@ -1,4 +1,5 @@
--- Laws of reading maps back: the rows of a map's entries, in any order, give that map again.
+-- Laws of reading maps back: the rows of a map's entries, in any order, give that map again. `row` makes the row of a
+-- number and its value, and `number` and `value` read both from a row.
 use Rattle.std.proofs.Common.{◌≡◌, ℕ, suc, ◌≤◌, ◌<◌, ◌&&◌, ◌++◌, List, [], ◌∷◌, Bool, true, false, length, Some, None, refl, sym, ap, ◌∙◌, arith}
 use Rattle.std.specs.Prelude.{pos, ⊤}
 use Rattle.std.specs.declared.cmp.Ordering.{Ordering}
@@ -198,6 +199,7 @@ abbrev pub InOrder : {X : Type 0} → (X → X → Type 0) → List X → Type 0
 InOrder Before [] = ⊤
 InOrder Before (x ∷ xs) = AllByRecursion (Before x) xs × InOrder Before xs
 
+-- e tests whether two elements count as the same
 module _ {A : Type 0} (e : A → A → Bool) where
   -- two joined lists are distinct by e if both are, and no element of the first equals one of the second by e
   pub append_apart : (xs ys : List A) → IsDistinct e xs → IsDistinct e ys
@@ -206,7 +208,8 @@ module _ {A : Type 0} (e : A → A → Bool) where
   append_apart [] ys d f h = f
   append_apart (x ∷ xs) ys d f h = (all_append (λ y. e x y ≡ false) xs ys d.0 h.0, append_apart xs ys d.1 f h.1)
 
-  -- lists f x joined, where rows of elements in order differ
+  -- f makes rows of each x: `Own x` holds of them, and no two of them are the same by e. `Before x y` says that x comes
+  -- before y, and then no row of x is the same by e as a row of y.
   module _ {X : Type 0} (f : X → List A) (Before : X → X → Type 0) (Own : X → A → Type 0) (apart : (x y : X) (a b : A) → Before x y → Own x a → Own y b → e a b ≡ false) (own : (x : X) → AllByRecursion (Own x) (f x)) (one : (x : X) → IsDistinct e (f x)) where
     -- for all_against: e is false of row a, which belongs to x (Own), and of each row that f makes of the elements xs,
     -- which come after x (Before)
@@ -225,8 +228,7 @@ module _ {A : Type 0} (e : A → A → Bool) where
     all_against x xs [] mine h = tt
     all_against x xs (a ∷ rows) mine h = (against x a xs mine.0 h, all_against x xs rows mine.1 h)
 
-    -- if the elements of a list are in order (InOrder), and e is false of rows of two elements in order and of two rows
-    -- of one, all rows that f makes are distinct by e
+    -- all rows that f makes of the elements of a list are distinct by e, if these are in order (InOrder)
     pub flat_apart : (xs : List X) → InOrder Before xs → IsDistinct e (flat_map f xs)
     unfolding IsDistinct
     flat_apart [] h = tt

@@ -120,6 +120,8 @@ pub AreUnits-of : (units : FinMap nat_cmp Unit)
 AreUnits-of units =
     record { within = within-none; marks_fit = Room-of units; rows_fit = Room-of units; goods_fit = Room-of units }
 
+-- `marks` has the units of which a part is marked. Of these, `rows` has those whose rows are, `goods` those all of
+-- whose items and days are, and `items` and `skills` the single ones.
 module _ (units : FinMap nat_cmp Unit) (marks rows goods : RoomySet) (items skills : MarkedThings) where
   -- before a change, there is room for all marks of units, and each unit with a marked part is marked (AreUnits)
   abbrev Before : Type 0
@@ -155,7 +157,7 @@ module _ (units : FinMap nat_cmp Unit) (marks rows goods : RoomySet) (items skil
     goods_fit = Room-over units goods.numbers goods.room n w (ap is_some is) h.goods_fit;
   }
 
-  -- the invariant still holds once a unit is replaced, and it and single items of it are marked
+  -- the invariant still holds once unit n is replaced, and it and its items in `group` are marked
   pub AreUnits-item : (n : ℕ) (u w : Unit) (group : FinMap nat_cmp (Prim.Unit {0})) → get units n ≡ Some u → Before
       → AreUnits (insert units n w) (with_number_marked marks n) rows goods (insert items n group) skills
   AreUnits-item n u w group is h = record {
@@ -165,7 +167,7 @@ module _ (units : FinMap nat_cmp Unit) (marks rows goods : RoomySet) (items skil
     goods_fit = Room-over units goods.numbers goods.room n w (ap is_some is) h.goods_fit;
   }
 
-  -- the invariant still holds once a unit is replaced, and it and single skills of it are marked
+  -- the invariant still holds once unit n is replaced, and it and its skills in `group` are marked
   pub AreUnits-skill : (n : ℕ) (u w : Unit) (group : FinMap nat_cmp (Prim.Unit {0})) → get units n ≡ Some u → Before
       → AreUnits (insert units n w) (with_number_marked marks n) rows goods items (insert skills n group)
   AreUnits-skill n u w group is h = record {

@@ -215,7 +215,7 @@ with_owner c n owner = structure_changed (λ s. record s { owner = owner }) c n
 abbrev pub with_month : CampaignValue → ℕ → CampaignValue
 with_month c n = record c { month = n }
 
--- the campaign with an amount added to what is booked of a thing under an entry
+-- the campaign with n, of either sign, added to what is booked of thing t under entry e
 abbrev pub with_booking : CampaignValue → BooksEntry → Thing → ℤ → CampaignValue
 with_booking c e t n = record c { books = after_booking c.books e t n }
 

@@ -12,8 +12,8 @@ use Rattle.atl_campaign.specs.Marks.{Marks, MarkedThings, is_thing_marked}
 use Rattle.atl_campaign.specs.Campaign.{CampaignValue, MarkedCampaign}
 use Rattle.atl_campaign.specs.Stocks.{stock_of}
 
--- both maps have the same value, or both none, under each number that is not in the given dirty set, the set of the
--- numbers that are marked
+-- the maps `before` and `after` have the same value, or both none, under each number that is not in the dirty set
+-- `marks`
 abbrev pub SameBut : {V : Type 0} → FinSet nat_cmp → FinMap nat_cmp V → FinMap nat_cmp V → Type 0
 SameBut marks before after = (n : ℕ) → contains marks n ≡ false → get after n ≡ get before n
 
@@ -35,7 +35,8 @@ abbrev pub days_under : Option Unit → FinMap nat_cmp ℕ
 days_under None = empty
 days_under (Some u) = u.holding.days
 
--- of each item, or each skill (`under` picks which), that is not marked, each unit has as much in both maps
+-- Of each item, or each skill (`under` picks which), that is not marked, each unit has as much in `before` as in
+-- `after`. `goods` has the units all of whose things are marked, and `things` the single marks.
 abbrev pub SameThings : FinSet nat_cmp → MarkedThings → (Option Unit → FinMap nat_cmp ℕ) → FinMap nat_cmp Unit
     → FinMap nat_cmp Unit → Type 0
 SameThings goods things under before after =

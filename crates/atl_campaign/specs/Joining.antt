@@ -72,7 +72,7 @@ join_of w name pass word c =
     else Ok (after_join w name pass word c, (c.next_faction, c.next_unit)))
 
 -- what `join`, with a name, a pass text and a word of the dice, may answer: what the definition `join_of` gives, or the
--- fault Memory. After a fault the campaign `new` that is left is the old one.
+-- fault Memory. `old` is the campaign before the call, and `new` that after it, which after a fault is the same.
 abbrev pub Joins : WorldValue → List ℕ → List ℕ → ℕ → CampaignValue → Result (ℕ × ℕ) JoinFault → CampaignValue → Type 0
 Joins w name pass word old (Ok numbers) new = join_of w name pass word old ≡ Ok (new, numbers)
 Joins w name pass word old (Err NameTaken) new = (join_of w name pass word old ≡ Err NameTaken) × (new ≡ old)

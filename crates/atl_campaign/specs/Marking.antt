@@ -16,7 +16,8 @@ use Rattle.atl_campaign.specs.Campaign.{MarkedCampaign, with_owner}
 use Rattle.atl_campaign.specs.Regions.{MarkedRegions, region_to_restock, region_to_set}
 use Rattle.atl_campaign.specs.Roster.{Roster, unit_to_supply}
 
--- the marks of a campaign, put together from those of its factions, regions, units and so on, and of the campaign row
+-- the marks of a campaign, put together from those of its factions, regions, units and so on; `row` says whether the
+-- campaign row is marked
 abbrev pub marks_of_parts : (factions : FinSet nat_cmp) → MarkedRegions → Roster
     → (structures mail reports books : FinSet nat_cmp) → Bool → Marks
 marks_of_parts factions regions units structures mail reports books row = record {
@@ -118,8 +119,8 @@ mark_all_stocks c n item amount =
     let region = region_to_restock c.value.regions n item amount in
     record c.marks { markets = marked_with c.marks.markets n region; stocks = marked_with c.marks.stocks n region }
 
--- the last argument is the marks after a stock was set. If the stock's amount changed, that stock alone is marked too
--- (`mark_stock`), or all stocks of its region (`mark_all_stocks`).
+-- m has the marks after the stock of an item in a region was set to `amount`. If that was another amount, the stock
+-- alone is marked too (`mark_stock`), or all stocks of the region are (`mark_all_stocks`).
 abbrev pub MarksStock : MarkedCampaign → (region item : ℕ) → ℕ → Marks → Type 0
 MarksStock c n item amount m = (m ≡ mark_stock c n item amount) ⊎ (m ≡ mark_all_stocks c n item amount)
 
@@ -155,16 +156,18 @@ handed_marked c s from to =
 abbrev pub put_marked : MarkedCampaign → ℕ → ℕ → ℕ → MarkedCampaign
 put_marked c n r s = record { value = with_position c.value n r s; marks = mark_unit_row c n }
 
--- `place_marked` once unit n is looked up: n is put in region r and structure s, structures left and entered may get
--- other owners, and changes are marked. Where n isn't there (None), nothing changes.
+-- `place_marked` once unit n is looked up (the last argument; None: it isn't there, and nothing changes). n is put in
+-- region r and structure s (0: in none), and n and its row are marked. If that changes its structure, one that n owned
+-- and leaves gets its next owner (`heir`), and one that n enters and nobody owns (owner 0) becomes n's. Each structure
+-- that is handed over is marked.
 abbrev pub place_marked_at : MarkedCampaign → ℕ → ℕ → ℕ → Option Unit → MarkedCampaign
 place_marked_at c n r s None = c
 place_marked_at c n r s (Some u) =
     if u.structure == s then put_marked c n r s
     else handed_marked (handed_marked (put_marked c n r s) u.structure n (heir c.value u.structure n)) s 0 n
 
--- the campaign with unit n, if it is there, put in region r and structure s; the unit, its row, and structures that get
--- another owner are marked
+-- the campaign with unit n, if it is there, put in region r and structure s (0: in none); the unit, its row, and
+-- structures that get another owner are marked
 unfoldable pub place_marked : MarkedCampaign → ℕ → ℕ → ℕ → MarkedCampaign
 place_marked c n r s = place_marked_at c n r s (get c.value.units n)
 

@@ -111,8 +111,8 @@ marks_code =
     })
     (λ _. refl)
 
--- whether an item or skill of unit n, or a stock of region n, is marked. It is marked by itself, in the given
--- `MarkedThings`, or with all of n's, as n is in the given set.
+-- Whether `thing` is marked: an item or a skill of unit n, or an item in stock in region n. It is marked by itself, in
+-- `things`, or with all of n's, if n is in `goods`.
 abbrev pub is_thing_marked : FinSet nat_cmp → MarkedThings → ℕ → ℕ → Bool
 is_thing_marked goods things n thing = contains goods n || is_some (map.get (group_of things n) thing)
 

@@ -42,8 +42,8 @@ after_handover c s from to = if is_owned_by (get c.structures s) from then with_
 abbrev pub with_position : CampaignValue → ℕ → ℕ → ℕ → CampaignValue
 with_position c n r s = unit_changed (λ u. record u { region = r; structure = s }) c n
 
--- `with_place` once unit n is looked up: n is put in region r and structure s, and structures left and entered may get
--- other owners. Where n isn't there (None), nothing changes.
+-- `with_place` once unit n is looked up (the last argument; None: it isn't there, and nothing changes). n is put in
+-- region r and structure s, and where that changes its structure, owners change as `with_place` says.
 abbrev pub with_place_at : CampaignValue → ℕ → ℕ → ℕ → Option Unit → CampaignValue
 with_place_at c n r s None = c
 with_place_at c n r s (Some u) =

@@ -87,6 +87,7 @@ pub words-bare_line : (line : List ℕ) → 0 < length line → ends_word (get_o
 words-bare_line [] p h = absurd (omega arith)
 words-bare_line (b ∷ bs) p h = words-bare b bs h
 
+-- what follows the quote that bs begin with; where bs are empty there is none (`closing` is 0), and nothing follows
 pub after_closing : (bs : List ℕ) (closing : ℕ) → closing ≡ min (length bs) 1
     → take (length bs - closing) (drop closing bs) ≡ drop 1 bs
 after_closing bs closing e = take_rest bs closing ∙ ap (λ n. drop n bs) (e ∙ min_comm (length bs) 1) ∙ drop_min 1 bs

@@ -25,7 +25,8 @@ pub record EntryValue : Type 0 where
   pub target : UnitRef
   pub order_value : OrderValue
 
--- the effect of each line above the first `#END`, with the line's number; the first line has the number n
+-- The effect of each line above the first `#END`, with the line's number. The first line has the number n, the reader
+-- is in `state` before it, and `given` says which aliases earlier FORM lines gave.
 unfoldable pub effects : WorldValue → ℕ → ReaderState → (ℕ → Bool) → List (List ℕ) → List (ℕ × Effect)
 effects world n state given [] = []
 effects world n state given (line ∷ rest) =

@@ -1,4 +1,5 @@
--- The effect of one line of a mailing. See docs/RULES.md, "Reading a mailing".
+-- The effect of one line of a mailing. See docs/RULES.md, "Reading a mailing". Where a comment says nothing else,
+-- `state` is the reader's state before the line, and `given` says which aliases earlier FORM lines gave.
 use Rattle.std.specs.Prelude.{ℕ, Bool, ◌&&◌, ◌||◌, List, [], ◌∷◌, codes, Option, Some, None, Result, Ok, Err, nat_le, ◌==◌, if◌then◌else◌}
 use Rattle.std.specs.List.{list_all}
 use Rattle.std.specs.Option.{option_map}
@@ -78,8 +79,8 @@ end_step (Skipping parent) given = step nothing (state_naming_unit parent) given
 abbrev pub form_value : ℕ → OrderValue
 form_value alias = order_of verbs.Form (operands.Alias alias)
 
--- The step of a FORM line for unit n outside of blocks: a new alias is given, and its block opens. On a fault, as
--- BadAlias for an alias given before, the block is skipped.
+-- The step of a FORM line for the unit `parent`, outside of blocks: a new alias is given, and its block opens. On a
+-- fault, as BadAlias for an alias given before, the block is skipped.
 abbrev pub block_step : ℕ → (ℕ → Bool) → Result (ℕ × List WordText) LineFault → LineStep
 block_step parent given (Ok n) =
     if given n.0

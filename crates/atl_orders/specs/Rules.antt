@@ -1,5 +1,6 @@
 -- The rules for reading a mailing, as relations: of one line, of all lines after the header, and of a text.
--- See docs/RULES.md, "Reading a mailing".
+-- See docs/RULES.md, "Reading a mailing". `state` is the reader's state before the line, or before the first of the
+-- lines, and `given` says which aliases earlier FORM lines gave.
 use Rattle.std.specs.Prelude.{◌≡◌, ℕ, ◌+◌, ◌<◌, ◌≤◌, ◌++◌, Bool, true, false, List, [], ◌∷◌, length, codes, Option, Some, None, Result, Ok, Err}
 use Rattle.std.specs.List.{All, list_all, flat_map}
 use Rattle.atl_world.specs.Worlds.{WorldValue}
@@ -157,11 +158,11 @@ LineRules =
     × ((world : WorldValue) (state : ReaderState) (given : ℕ → Bool) (line : List ℕ) (s : LineStep)
     → LineSays world state given line s → s ≡ line_step world state given line)
 
--- the orders that lines give by the function `effects`, where the first line has the number n
+-- the orders that the lines above the first `#END` give by the function `effects`; the first line has the number n
 abbrev pub entries_from : WorldValue → ℕ → ReaderState → (ℕ → Bool) → List (List ℕ) → List EntryValue
 entries_from world n state given lines = flat_map entry_of (effects world n state given lines)
 
--- the faulty lines among lines by the function `effects`, where the first line has the number n
+-- the faulty lines among those above the first `#END` by the function `effects`; the first line has the number n
 abbrev pub faults_from : WorldValue → ℕ → ReaderState → (ℕ → Bool) → List (List ℕ) → List FaultyLine
 faults_from world n state given lines = flat_map fault_of (effects world n state given lines)
 

@@ -48,13 +48,14 @@ with_units front units = units >>= λ us. Ok (front ++ us)
 abbrev pub alias_set : Aliases → ℕ → Bool
 alias_set aliases k = slice_index_or aliases.given.items k false
 
--- the result of a line in the code, as an effect
+-- the code's result of a line of `text`, as an effect
 abbrev pub effect_of : List ℕ → LineResult → Effect
 effect_of text outcomes.Nothing = nothing
 effect_of text (outcomes.Faulty fault) = faulty fault
 effect_of text (outcomes.Says unit order) = says unit (order_value text order)
 
--- the step of a line by what the code returns for it, its result and the next state, and the aliases given so far
+-- the step of a line of `text` by r, which the code returns for it (its result and the next state), and by the aliases
+-- given so far
 abbrev pub step_of : List ℕ → LineResult × ReaderState → (ℕ → Bool) → LineStep
 step_of text r given = step (effect_of text r.0) r.1 given
 

@@ -64,6 +64,7 @@ module _ {V : Type 0} where
 
   -- ---- the entries of a map
 
+  -- a number that is less than all numbers of the entries has no value among them
   pub not_below : (k : ℕ) (es : List (ℕ × V)) → below_all nat_cmp k es ≡ true → find nat_cmp k es ≡ None
   not_below k [] h = refl
   not_below k (e ∷ es) h =
@@ -73,6 +74,7 @@ module _ {V : Type 0} where
         | Greater ↦ λ g. absurd (false≢true g)
       ] (and_parts _ _ h).0
 
+  -- what sorted entries have under a number, leaving out the first entry, they also have with it
   pub later : (e : ℕ × V) (es : List (ℕ × V)) (n : ℕ) (v : V) → is_sorted nat_cmp (e ∷ es) ≡ true
       → find nat_cmp n es ≡ Some v → find nat_cmp n (e ∷ es) ≡ Some v
   later e es n v s is =

@@ -212,7 +212,7 @@ booked-as_books rows t grid there =
     (λ i. sum_of (map (λ e. each e i) all_entries))
     ∙ ap sum_of (row_listed (row_of rows t) (grid.wide (thing_index t) [] there))
 
--- ---- for the code of Books
+-- ---- for the code of Books: `row` is the row at `index`, that of thing t, and k is the index of entry e in it
 
 pub grid_there : (rows : List (List ℤ)) (books : BooksValue) (t : Thing) → as_books rows ≡ books
     → thing_index t < books.things → thing_index t < length rows

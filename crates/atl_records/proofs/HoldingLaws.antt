@@ -89,7 +89,7 @@ module _ (items : FinMap nat_cmp ℕ) (i amount : ℕ) where
           ap (λ b. if b then remove items i else insert items i amount) (not-true _ parts.0)
           ∙ put_same items i listed amount is equal
 
--- ---- a unit's amounts stay within the limits, whether there was memory or not
+-- ---- a unit's amounts stay within limits, before a call (`old`) and after it (`new`), whether there was memory or not
 
 -- Each amount stays from 1 to holding_limit: after one of at most holding_limit is set, and also where memory ran out
 -- and nothing was set.

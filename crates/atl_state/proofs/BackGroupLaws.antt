@@ -29,6 +29,7 @@ module _ {X R : Type 0} (P : R → Type 0) (f : X → List R) where
 
 -- ---- the rows of all groups
 
+-- f gives the rows of a group, which is a number of the map with its value
 module _ {U R : Type 0} (f : ℕ × U → List R) (P : R → Type 0) where
   of_each : (es : List (ℕ × U)) → EachEntry (λ n u. AllByRecursion P (f (n, u))) es
       → AllByRecursion (λ e. AllByRecursion P (f e)) es
@@ -56,6 +57,7 @@ module _ {U R : Type 0} (f : ℕ × U → List R) (P : R → Type 0) where
 
 -- ---- the rows of a group: of each amount that is not 0
 
+-- `row` makes the row of a thing and its amount, and `none` tests whether the amount of a row is 0
 module _ {R : Type 0} (none : R → Bool) (row : ℕ → ℕ → R) (m : FinMap nat_cmp ℕ) where
   -- the rows of a map of amounts (a unit's goods, a region's stocks): one for each amount that is not 0
   abbrev lines : List R
@@ -80,6 +82,8 @@ module _ {R : Type 0} (none : R → Bool) (row : ℕ → ℕ → R) (m : FinMap 
 
 -- ---- the amounts of a group
 
+-- `listed` and `rows` are the same rows in another order, and `mine` tests whether a row is of the group whose amounts
+-- are in m
 module _ {R : Type 0} (thing amount : R → ℕ) (mine : R → Bool) (m : FinMap nat_cmp ℕ) (listed rows : List R) (same : IsPermutation listed rows) where
   -- the map has the amount of a row under the row's thing
   abbrev IsIn : FinMap nat_cmp ℕ → R → Type 0

@@ -120,6 +120,7 @@ unit_back has n u few h items days =
 
 -- ---- a table with a key of one number
 
+-- `row` makes the row of a number and its value, which `key` and `value` read from it; `rows` are the rows of the map m
 module _ {V R : Type 0} (row : ℕ → V → R) (key : R → ℤ) (value : R → V) (keyed : (n : ℕ) (v : V) → key (row n v) ≡ pos n) (m : FinMap nat_cmp V) (few : Every (λ n v. n ≤ most_u32) m) (rows : List R) (h : IsPermutation (rows_by row (entries m)) rows) where
   apart : (n k : ℕ) (v u : V) → n < k → is_same_key (one_key (key (row n v))) (one_key (key (row k u))) ≡ false
   apart n k v u l =

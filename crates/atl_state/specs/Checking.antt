@@ -1,4 +1,5 @@
--- The twelve rules of the tables, and what `check` may answer. See docs/FORMATS.md, "Rules of the tables".
+-- The twelve rules of the tables, and what `check` may answer. See docs/FORMATS.md, "Rules of the tables". f is the
+-- format of the tables, and p are their rows.
 use Rattle.std.specs.Prelude.{◌≡◌, ◌≤◌, ℕ, ◌<◌, pos, IsTrue, Result, Ok, Err, ⊤}
 use Rattle.std.specs.List.{list_all}
 use Rattle.atl_world.specs.Worlds.{WorldValue}

@@ -21,7 +21,8 @@ elements_conditions conditions key i (item d ds) =
     element_conditions conditions (element_path key i) d
     ++ elements_conditions conditions key (i + 1) ds
 
--- the values of the elements of an array from the index i on, in their order; `key` is the path of the array
+-- the values that `record_of` gives for the path and the table of each element of an array, from the index i on; `key`
+-- is the path of the array
 abbrev pub elements_of : {A : Type 0} → (List ℕ → Members → A) → List ℕ → ℕ → Items → List A
 elements_of record_of key i no_items = []
 elements_of record_of key i (item d ds) =
@@ -32,6 +33,6 @@ elements_of record_of key i (item d ds) =
 unfoldable pub list_conditions : (List ℕ → Members → Conditions) → List ℕ → Result Items WorldFault → Conditions
 list_conditions conditions key items = fault_of items ∷ elements_conditions conditions key 0 (value_or no_items items)
 
--- the list of the values of an array's elements, empty if reading its key gave a fault
+-- the list of the values of an array's elements (`elements_of`), empty if reading its key gave a fault
 unfoldable pub list_of : {A : Type 0} → (List ℕ → Members → A) → List ℕ → Result Items WorldFault → List A
 list_of record_of key items = elements_of record_of key 0 (value_or no_items items)

@@ -10,6 +10,6 @@ use Rattle.atl_world.specs.Names.{same_name}
 abbrev pub has_name : {Z : Type 0} → BTreeSet (String Z) → List ℕ → Bool
 has_name seen name = contains_text seen (map to_ascii_lowercase name)
 
--- a set of names has exactly the names of the elements of a list, ignoring ASCII case
+-- the set `seen` has exactly the names that `title` gives for the elements of the list `all`, ignoring ASCII case
 abbrev pub HasNames : {A Z : Type 0} → (A → List ℕ) → List A → BTreeSet (String Z) → Type 0
 HasNames title all seen = (name : List ℕ) → has_name seen name ≡ list_any (λ x. same_name (title x) name) all

@@ -194,8 +194,9 @@ put_there : (xs : List ℕ) (index from n : ℕ) → index ≡ from → index < 
     → drop from (set xs index n) ≡ n ∷ drop (from + 1) xs
 put_there xs index from n e l = subst (λ p. drop p (set xs index n) ≡ n ∷ drop (p + 1) xs) e (drop-set xs index n l)
 
--- To put the first list's largest number left in place keeps this list: the numbers left of both lists, merged,
--- followed by those in place. For this it must be above all left of the second list.
+-- To put the first list's largest number left, n, in place keeps this list: the numbers left of both lists, merged,
+-- followed by those in place. For this n must be above all left of the second list. Of xs and ys the first `own` and
+-- `left` numbers are left, and of xs one less (`less`) after this; `now` is the list in place.
 pub own_put : (xs ys now : List ℕ) (own less left index n : ℕ) → own ≡ less + 1 → index ≡ less + left
     → index < length now → less < length xs → n ≡ get_or xs less 0 → Under (take left ys) n
     → merged (take less xs) (take left ys) ++ drop (less + left) (set now index n) ≡ merged (take own xs) (take left ys) ++ drop (own + left) now
@@ -207,8 +208,8 @@ own_put xs ys now own less left index n o p within short is under =
     ∙ sym (append_assoc (merged (take less xs) (take left ys)) (n ∷ []) (drop (own + left) now))
     ∙ ap (λ zs. zs ++ drop (own + left) now) (sym first)
 
--- To put the second list's largest number left in place keeps this list: the numbers left of both lists, merged,
--- followed by those in place. For this it must be above all left of the first list.
+-- Likewise for n, the second list's largest number left, which must be above all left of the first list. `less` is how
+-- many are left of the second list after this.
 pub other_put : (xs ys now : List ℕ) (own left less index n : ℕ) → left ≡ less + 1 → index ≡ own + less
     → index < length now → less < length ys → n ≡ get_or ys less 0 → Under (take own xs) n
     → merged (take own xs) (take less ys) ++ drop (own + less) (set now index n) ≡ merged (take own xs) (take left ys) ++ drop (own + left) now
@@ -220,7 +221,8 @@ other_put xs ys now own left less index n o p within short is under =
     ∙ sym (append_assoc (merged (take own xs) (take less ys)) (n ∷ []) (drop (own + left) now))
     ∙ ap (λ zs. zs ++ drop (own + left) now) (sym first)
 
--- a merge in place is complete once no number of the second list is left: the list is the merged list
+-- a merge in place is complete once no number of the second list is left: the list in place, `now`, is the merged list,
+-- `all`
 pub all_put : (xs ys now all : List ℕ) (own left : ℕ) → left ≡ 0 → take own now ≡ take own xs
     → merged (take own xs) (take left ys) ++ drop (own + left) now ≡ all → now ≡ all
 all_put xs ys now all own left none kept h =
@@ -230,6 +232,7 @@ all_put xs ys now all own left none kept h =
     ∙ ap (λ zs. zs ++ drop own now) (kept ∙ sym (ap (merged (take own xs)) none_left ∙ merged_alone (take own xs)))
     ∙ ap (λ k. merged (take own xs) (take left ys) ++ drop k now) (sym there) ∙ h
 
+-- if P and b < a contradict each other, a ≤ b follows from P
 pub not_above : (P : Type 0) (a b : ℕ) → (P × (b < a) → IsTrue false) → P → a ≤ b
 not_above P a b h p = elim (cases_order a b) [
   | inl e ↦ omega (arith, e)

@@ -1,4 +1,5 @@
 -- Laws of maps by number with marks: there stays room for the marks, and taking a new value out undoes putting it in.
+-- v has the values, m is the set of the marked numbers, and r says for how many marks there is room.
 use Rattle.std.proofs.Common.{◌≡◌, ℕ, ◌+◌, ◌≤◌, Bool, true, false, cond, not, ◌&&◌, ◌||◌, length, Option, Some, None, refl, sym, ap, ◌∙◌, arith}
 use Rattle.std.specs.Prelude.{is_some}
 use Rattle.std.proofs.lemmas.Bool.{false≢true, or_right, or_left}
