@@ -44,8 +44,8 @@ module _ (schema : Schema) (among : (u : Table) → Has all_tables u → Has sch
       (x : Row) → Has rows x → (p x ≡ true → take key (visible_row t x) ≡ k) ×
       (take key (visible_row t x) ≡ k → p x ≡ true)
 
-  -- If an edit swapped the rows with the key of `v`, which the test `p` finds, for the row `n`, the table then shows its
-  -- old rows with `v` in place of these. SQL shows `n` as `v`.
+  -- If an edit swapped the rows with the key of `v`, which the test `p` finds, for the row `n`, the table then shows
+  -- its old rows with `v` in place of these. SQL shows `n` as `v`.
   pub swaps_set : (p : Row → Bool) (n v : Row) (db next : Trees) → Swaps schema t p n db next → visible_row t n ≡ v
       → Tests p (take key v) (db t.tree)
       → HasExactly (rows_in t next) (put key v (Has (rows_in t db)))
