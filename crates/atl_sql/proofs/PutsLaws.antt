@@ -11,8 +11,8 @@ use Rattle.atl_descriptions.specs.Tables.{all_tables}
 use Rattle.atl_sql.specs.Inside.{DoesInside, HasTables, Puts, PutsRows}
 use Rattle.atl_sql.proofs.CarryLaws.{carries_then, carries_none}
 
--- some rows of the list `all` are put: once the rows `rest` are put too, all rows of the list are; the other tables of a
--- campaign are unchanged
+-- some rows of the list `all` are put: once the rows `rest` are put too, all rows of the list are; the other tables of
+-- a campaign are unchanged
 pub record IsPartlyPut (table : Table) (key : ℕ) (rest all : List Row) (old now : Database) : Type 0 where
   pub rows : (r : Row)
       → puts key rest (Has (rows_in table now.trees)) r ↔ puts key all (Has (rows_in table old.trees)) r
