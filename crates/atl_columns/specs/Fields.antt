@@ -38,16 +38,16 @@ both None b = None
 both (Some x) None = None
 both (Some x) (Some y) = Some (x, y)
 
--- the first field as the first value, and the others after it
+-- the row of several fields: `one` writes the first field as a value, and `more` the others as the values after it
 abbrev pub encode_then : {X Y : Type 0} → (X → Value) → (Y → Row) → X × Y → Row
 encode_then one more x = one x.0 ∷ more x.1
 
--- the first value as the first field, and the others after it
+-- the fields of a row: `one` reads the first value, and `more` the others; None if either can't, or the row is empty
 abbrev pub decode_then : {X Y : Type 0} → (Value → Option X) → (Row → Option Y) → Row → Option (X × Y)
 decode_then one more [] = None
 decode_then one more (v ∷ vs) = both (one v) (more vs)
 
--- no field, of a row without a value
+-- no fields, for a row without values; None for a row that has one
 abbrev pub decode_end : Row → Option (Unit {0})
 decode_end [] = Some tt
 decode_end (v ∷ vs) = None

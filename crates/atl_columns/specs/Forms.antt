@@ -41,7 +41,7 @@ IsTypedFrom at (form ∷ forms) row = HasForm form (column row at) × IsTypedFro
 abbrev pub IsTyped : List Form → Row → Type 0
 IsTyped forms row = IsTypedFrom 0 forms row
 
--- ---- what a value is read as
+-- ---- what a value is read as; None if it is of another form
 
 -- the integer that a value is
 abbrev pub number_of : Value → Option ℤ

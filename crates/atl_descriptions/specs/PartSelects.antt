@@ -24,11 +24,12 @@ pub record PartSelect : Type 0 where
   -- the rows that the SELECT shows, computed from the trees
   pub in_table : Trees → List Row
 
--- how to read all columns of a table whose key is its first `key` columns
+-- how to read all columns of table `t`, whose key is its first `key` columns; `since` is the first format that has it
 abbrev pub select_all_columns : Format → Table → ℕ → PartSelect
 select_all_columns since t key = record { since = since; names = column_names t; select = selection t key; in_table = rows_in t }
 
--- how to read all columns of a table whose key is its first `key` columns, and each row's rowid as a last column
+-- how to read all columns of table `t`, whose key is its first `key` columns, and each row's rowid as a last column;
+-- `since` is the first format that has it
 abbrev pub select_all_columns_with_ids : Format → Table → ℕ → PartSelect
 select_all_columns_with_ids since t key =
     record {

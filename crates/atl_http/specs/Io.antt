@@ -1,5 +1,6 @@
 -- What reading a request, running its command and writing the reply return and leave.
--- `before` and `after` are the bytes, if they are known, that a reader has left or that a writer holds.
+-- `before` and `after` are the bytes, if they are known, that a reader has left or that a writer holds. `g` is the kind
+-- of store, in memory or in files, and `dice` has the club's seed.
 use Rattle.std.specs.Prelude.{◌≡◌, ◌≤◌, ◌<◌, ◌⊎◌, ℕ, List, ◌++◌, length, take, string_bytes, Option, Result, Ok, Err, ⊤}
 use Rattle.std.specs.Io.KnownBytes.{Keeps, Appends, Consumes, IsAtEnd}
 use Rattle.std.specs.declared.alloc.AllocError.{AllocError}
@@ -51,8 +52,8 @@ Sends before after bytes (Err ReadFault) = ⊥
 Sends before after bytes (Err WriteFault) = (count : ℕ) × (count < length bytes) × Appends before after (take count bytes)
 Sends before after bytes (Err Memory) = ⊥
 
--- The message is the reply to a request with this final verdict (`IsReply`). If memory ran out there is no message, and
--- the command has been run or not.
+-- The message is the reply to a request with the final verdict `outcome` (`IsReply`). If memory ran out there is no
+-- message, and the command has been run or not. `old` and `new` are the service before and after it.
 abbrev pub RepliesWith : {S : Type 0} → Ghosts S → Dice → (old : ServiceValue S) → FinalVerdict
     → Result Message AllocError → (new : ServiceValue S) → Type 0
 RepliesWith g dice old outcome (Ok message) new = (reply : Reply) × MatchesReply reply message × IsReply g dice old outcome reply new

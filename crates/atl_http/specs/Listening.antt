@@ -1,4 +1,5 @@
--- What serving connections one after another leaves of a service, whatever the peers send and take. See
+-- What serving connections one after another leaves of a service, whatever the peers send and take. `old` and `new` are
+-- the service before and after it, `dice` has the club's seed, and `g` is the kind of store, in memory or in files. See
 -- docs/FORMATS.md, "HTTP".
 use Rattle.std.specs.Prelude.{◌≡◌, ◌≢◌, ◌<◌, ℕ, zero, suc, None, Result, Ok, Err}
 use Rattle.sqlite_trees.specs.declared.store.Store.{Ghosts}

@@ -1,4 +1,6 @@
--- `Serves`: what serving one request returns, writes, and leaves of the service. See docs/FORMATS.md, "HTTP".
+-- `Serves`: what serving one request returns, writes, and leaves of the service. See docs/FORMATS.md, "HTTP". `old` and
+-- `new` are the service before and after the request, and `before` and `after` the bytes of reader and writer
+-- (`IoBytes`). `dice` has the club's seed, and `g` is the kind of store, in memory or in files.
 use Rattle.std.specs.Prelude.{◌≡◌, ◌+◌, ◌<◌, ◌⊎◌, ℕ, List, length, take, Option, Some, None, Result, Ok, Err}
 use Rattle.std.specs.FinMap.{len}
 use Rattle.std.specs.Io.KnownBytes.{Keeps, Appends, Consumes, IsAtEnd}

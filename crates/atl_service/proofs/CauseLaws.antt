@@ -1,5 +1,6 @@
--- Laws on the cause of a fault: for Memory a call of the write ran out of memory, for Store it gave another error. A
--- disk is clean if each read has returned what was written (docs/PROVED.md, "Premises").
+-- Laws on the cause of a fault: for Memory a call of the write ran out of memory, for Store it gave another error.
+-- `own` has the SQL statements of the write, and `old` and `new` are the connection before and after it. A disk is
+-- clean if each read has returned what was written (docs/PROVED.md, "Premises").
 use Rattle.std.proofs.Common.{◌≡◌, ◌≢◌, Bool, true, false, cond, Result, Ok, Err, IfErr, refl, sym, subst, inr}
 use Rattle.std.specs.Prelude.{IsErrAnd}
 use Rattle.sqlite_trees.specs.declared.store.Store.{Ghosts}

@@ -166,7 +166,8 @@ module _ {S : Type 0} (g : Ghosts S) where
   run_none now holds =
       record { follows = none_left now now.campaign refl holds; each = refl; later = record { clean = λ h. h; counts = omega arith; shield = λ s. s } }
 
-  -- ---- the loop of `run_all`
+  -- ---- the loop of `run_all`: `e` is the service before the list `cs`, `mid` that before command `i`, and `now` that
+  -- after it; `sofar` are the answers before it
 
   -- If the answers before command `i`, with any that the commands from `i` on may get, are answers to the whole list
   -- (`RunsAll`), so are they with the answer to command `i` added.

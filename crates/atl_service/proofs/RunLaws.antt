@@ -28,6 +28,7 @@ module _ {S : Type 0} (g : Ghosts S) where
   abbrev pub service_value : Held S → WorldValue → CampaignValue → Bool → ServiceValue S
   service_value conn w c is_open = record { conn = conn; world = w; campaign = cond is_open (Some c) None }
 
+  -- the command finds the connection `conn` and the campaign `c`, and leaves `conn'` and `c'`
   module _ (conn conn' : Held S) (w : WorldValue) (c c' : CampaignValue) (command : Command) where
     -- The command was answered without a fault, and left campaign `c'` and connection `conn'` (`Answers`).
     abbrev pub Answered : Answer → Type 0

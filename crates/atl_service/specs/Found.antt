@@ -1,5 +1,6 @@
--- What `found` returns and leaves. A disk is clean if each read has returned what was written (docs/PROVED.md,
--- "Premises"). See docs/RULES.md, "Founding".
+-- What `found` returns and leaves. `old` and `new` are the connection before and after it, and `made` is the service
+-- that it returns. `g` is the kind of store, in memory or in files. A disk is clean if each read has returned what was
+-- written (docs/PROVED.md, "Premises"). See docs/RULES.md, "Founding".
 use Rattle.std.specs.Prelude.{◌≡◌, ◌⊎◌, ℕ, List, Bool, true, false, Some, Ok, Err, ⊤}
 use Rattle.sqlite_trees.specs.declared.store.Store.{Ghosts}
 use Rattle.sqlite.specs.Held.{Held, state}

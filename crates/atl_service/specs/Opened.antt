@@ -1,5 +1,6 @@
--- What `open` returns and leaves. A disk is clean if each read has returned what was written (docs/PROVED.md,
--- "Premises"). See docs/FORMATS.md, "Opening a file".
+-- What `open` returns and leaves. `old` is the connection before it, `made` the service that it returns, and `new` the
+-- connection after a refusal. `g` is the kind of store, in memory or in files. A disk is clean if each read has
+-- returned what was written (docs/PROVED.md, "Premises"). See docs/FORMATS.md, "Opening a file".
 use Rattle.std.specs.Prelude.{◌≡◌, ℕ, List, Some, Ok}
 use Rattle.sqlite_trees.specs.declared.store.Store.{Ghosts}
 use Rattle.sqlite.specs.Held.{Held, state}

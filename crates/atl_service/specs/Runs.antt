@@ -1,6 +1,7 @@
 -- What `run` and `run_all` return and leave: answers, campaign and tables of one command, and of a list. `Headline` is
--- the main theorem. `g` is the kind of store, in memory or in files, and `state g conn` the state of the database under
--- a connection. A disk is clean if each read has returned what was written (docs/PROVED.md, "Premises").
+-- the main theorem. `old` and `new` are the service before and after the command or the list. `g` is the kind of store,
+-- in memory or in files, and `state g conn` the state of the database under a connection. A disk is clean if each read
+-- has returned what was written (docs/PROVED.md, "Premises").
 use Rattle.std.specs.Prelude.{◌≡◌, ◌≢◌, ◌⊎◌, ◌<◌, ◌+◌, ◌∷◌, ◌++◌, [], ℕ, List, map, take, drop, length, slice_get, Option, Some, None, ⊤}
 use Rattle.sqlite_trees.specs.declared.store.Store.{Ghosts}
 use Rattle.sqlite.specs.Held.{state}

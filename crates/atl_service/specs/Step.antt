@@ -40,7 +40,8 @@ faction_with_pass pass None = Err why.NoFaction
 faction_with_pass pass (Some f) = if not (pointwise nat_eq f.pass pass) then Err why.WrongPass else Ok f
 
 -- The campaign and answer for what a mailing was read as: stored in place of an older one, refused, or out of memory.
--- A stored one is answered with the number of its orders and its faulty lines; these are no reason to refuse.
+-- A stored one is answered with the number of its orders and its faulty lines; these are no reason to refuse. A mailing
+-- `text` whose header names another faction than its sender `faction` is refused as WrongFaction.
 abbrev pub mailed : CampaignValue → ℕ → List ℕ → Result Reading MailFault → CampaignValue × Answer
 mailed c faction text (Ok r) =
     if not (r.faction == faction) then (c, Refused why.WrongFaction)

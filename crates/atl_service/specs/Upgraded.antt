@@ -1,5 +1,7 @@
--- What `upgrade` returns and leaves. A disk is clean if each read has returned what was written (docs/PROVED.md,
--- "Premises"). See docs/RULES.md, "Upgrading".
+-- What `upgrade` returns and leaves. `old` is the connection before it, `made` the service that it returns, and `new`
+-- the connection after a refusal. `g` is the kind of store, in memory or in files, and `text` the new world text. A
+-- disk is clean if each read has returned what was written (docs/PROVED.md, "Premises"). See docs/RULES.md,
+-- "Upgrading".
 use Rattle.std.specs.Prelude.{◌≡◌, ℕ, List, Some}
 use Rattle.sqlite_trees.specs.declared.store.Store.{Ghosts}
 use Rattle.sqlite.specs.Held.{Held, state}

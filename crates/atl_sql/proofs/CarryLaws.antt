@@ -27,6 +27,8 @@ none_refer : (tables : List Table) (f : Table → Reference → Option Work)
 none_refer [] f free = refl
 none_refer (t ∷ tables) f free = rw (free.0) (none_refer tables f free.1)
 
+-- if none of the tables after the ten has a foreign key, a write of the rows `news` in place of `olds` in a tree leaves
+-- no foreign key to check (`works`)
 pub write_checks_no_reference : (tables : List Table) (indexes : List Index) (tree : ℕ)
     → AllByRecursion (λ t. t.references ≡ []) tables → (olds news : List Row)
     → works (all_tables_and_others tables indexes) Enforced 0 tree olds news ≡ []
@@ -35,6 +37,7 @@ write_checks_no_reference tables indexes tree free olds news =
 
 -- ---- indexes that make nothing unique find nothing
 
+-- if the indexes make nothing unique in table t, the rows `new` and `r` share no unique value (`shares`)
 pub none_share : (t : Table) (target : Option (List ℕ)) (new r : Row) (indexes : List Index)
     → ((i : Index) → Has indexes i → guards i t ≡ false) → list_any (shares target t new r) indexes ≡ false
 none_share t target new r [] plain = refl

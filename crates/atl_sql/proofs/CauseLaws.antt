@@ -20,6 +20,7 @@ use Rattle.atl_sql.specs.Causes.{IsGiven, IsBroken, IsRefused, Gives, Leads, IsR
 more_later : (a b c : ℕ) → b ≤ c → MoreFaults a b → MoreFaults a c
 more_later a b c later more = omega (arith, later, more)
 
+-- if the count of the disk's failures rose from `b` to `c`, it rose from `a`, which is at most `b`, to `c`
 pub more_before : (a b c : ℕ) → a ≤ b → MoreFaults b c → MoreFaults a c
 more_before a b c before more = omega (arith, before, more)
 
@@ -95,11 +96,13 @@ module _ {S : Type 0} (g : Ghosts S) (own more : Statements) (among : (sql : Lis
 
 -- ---- from one call to the whole transaction
 
--- e is the error that a step returns
+-- e is the error that a step returns. `old` and `new` are the connection before and after the step, or before and after
+-- a whole transaction; `mid` is the connection at a moment in between.
 module _ {S : Type 0} (g : Ghosts S) (own : Statements) (e : Error) where
   as_begun : (old : Held S) → IsTrue (state g old).in_transaction → record old { in_transaction = true } ≡ old
   as_begun old inside = ap (λ b. record old { in_transaction = b }) (sym inside)
 
+  -- if one call inside a transaction gave an error, the transaction gives it (`Gives`)
   pub gives : (old new : Held S) → IsTrue (state g old).in_transaction → IsGiven own e (state g old) (state g new)
       → Gives g own e old new
   gives old new inside given =
@@ -129,6 +132,8 @@ module _ {S : Type 0} (g : Ghosts S) (own : Statements) (e : Error) where
     ];
   }
 
+  -- an error that a transaction gives up to `mid` is one that it gives up to the later `new`, until which the disk has
+  -- failed at least as often
   pub gives_until : (old mid new : Held S) → (state g mid).faults ≤ (state g new).faults → Gives g own e old mid
       → Gives g own e old new
   gives_until old mid new counts gave = record {
@@ -140,6 +145,8 @@ module _ {S : Type 0} (g : Ghosts S) (own : Statements) (e : Error) where
     cause = λ other. elim (gave.cause other) [ inl (inl more) ↦ inl (inl (more_later _ _ _ counts more)) | inl (inr shut) ↦ inl (inr shut) | inr refused ↦ inr refused ];
   }
 
+  -- an error that a transaction gives, counted from the connection as it is once the transaction has begun (`begun`),
+  -- is one that it gives counted from the connection before that (`old`)
   pub gives_begun : (old begun new : Held S) → begun ≡ record old { in_transaction = true } → Gives g own e begun new
       → Gives g own e old new
   gives_begun old begun new begins gave =

@@ -114,10 +114,12 @@ module _ {X : Type 0} (text : X → List ℕ) (xs : List X) (all : map text xs �
 
 -- a call returns r, and leads from a to b
 module _ {S A : Type 0} (g : Ghosts S) {r : Result A Error} {a b : MutBor (Held S)} where
+  -- a step by the CREATE text of one part is a step by those of the ten parts (`Creations`)
   pub creating : {Does : State → State → Type 0} {before after : Schema} (text : List ℕ)
       → MakesNextTable before after text → Writes g (OneStatement text []) Does r a b → Writes g Creations Does r a b
   creating text makes one = among_only g text [] (makes.0, refl) one
 
+  -- a step that ran the CREATE text of the next table made this table (`Extends`)
   pub made_by : {before after : Schema} (text : List ℕ) → MakesNextTable before after text
       → Writes g (OneStatement text []) (RunsStatement text []) r a b → Writes g Creations (Extends before after) r a b
   made_by text makes one = weaker g makes.1 (creating text makes one)

@@ -31,6 +31,7 @@ use Rattle.sqlite.proofs.Callers.{one_step}
 use Rattle.atl_descriptions.specs.Sets.{AreKeyedByRowid}
 use Rattle.atl_sql.proofs.ListLaws.{keyed_without, keyed_put, has_map, map_has, AreFound, stays, was_there}
 
+-- a step that ended with Ok didn't stop with an error, so it did its work `R`
 pub ok_step_did : {B E R : Type 0} {b : B} {Stops : E → Type 0} → ((stop : E) × Stops stop × (Ok b ≡ Err stop)) ⊎ R → R
 ok_step_did (inl stopped) = absurd (let e = stopped.2 in cc)
 ok_step_did (inr on) = on
@@ -69,6 +70,7 @@ module _ (schema : Schema) (table : Table) (unlinked : (olds news : List Row) �
 
   -- ---- DELETE
 
+  -- a DELETE whose query finds exactly the rows that pass the test `p` takes these rows out (`Loses`)
   pub deletes : (limit : Option ℕ) (params : Row) (q : _) (p : Row → Bool) (db : Trees) (w : Written)
       → AreKeyedByRowid (db table.tree)
       → ((rows : List Row) → Answers (record { schema = schema; trees = db }) q params rows → AreFound p (db table.tree) rows)
@@ -81,11 +83,12 @@ module _ (schema : Schema) (table : Table) (unlinked : (olds news : List Row) �
 
   -- ---- INSERT OR REPLACE of one row
 
-  -- `params` are the parameters of the statement
+  -- `params` are the parameters of the statement, and `limit` is its step limit, if it has one
   module _ (limit : Option ℕ) (params : Row) where
     abbrev task : Task
     task = record { limit = limit; keys = Enforced; schema = schema; table = table; params = params }
 
+    -- putting the row `new` adds it, as SQL casts it, and keeps all other rows and tables
     pub puts : (new : Row) (db : Trees) (w : Written) → AreKeyedByRowid (db table.tree) → Puts task new db (Ok w)
         → Has (w.trees table.tree) (cast_row table new)
         × ((r : Row) → Has (w.trees table.tree) r → (r ≡ cast_row table new) ⊎ Has (db table.tree) r)
@@ -132,6 +135,7 @@ module _ (schema : Schema) (table : Table) (unlinked : (olds news : List Row) �
           others = λ t listed other. put.3 t listed other ∙ lost.others t listed other;
         }
 
+    -- INSERT OR REPLACE puts the row `new`, as SQL casts it, in place of all rows that it conflicts with (`Swaps`)
     pub tries : (new : Row) (db : Trees) (w : Written) → AreKeyedByRowid (db table.tree)
         → Tries task Replace [] new db (Ok w)
         → Swaps schema table (p new) (cast_row table new) db w.trees

@@ -99,12 +99,13 @@ MeansDelete tree at sql filter =
 
 -- The text `sql` means an INSERT of one row by `terms`, with an UPDATE by `project` of the row that has its key, the
 -- columns at the indexes `positions`. Of what the UPDATE reads, the column at the index `hole`, after the parameters,
--- is the rowid of that row.
+-- is the rowid of that row. `width` is how many terms make a row. The table has the index `at` and the tree `tree`.
 abbrev pub MeansUpsert : ℕ → ℕ → List ℕ → List ℕ → ℕ → List Term → ℕ → List Term → Type 0
 MeansUpsert tree at positions sql width terms hole project = (more : List Table) (indexes : List Index)
     → command_of (understood (all_tables_and_others more indexes) sql) ≡ InsertOr at Abort (Values terms width) (conflict_clause positions (record { lets = []; body = update_query tree hole project }) ∷ [])
 
--- the terms of an upsert make a row that shows these values, whether it is inserted or updated, and under any rowid
+-- The terms of an upsert make a row that shows these values, whether it is inserted or updated, and under any rowid.
+-- The other parameters are those of `MeansUpsert`.
 pub record MakesValues (t : Table) (positions : List ℕ) (width : ℕ) (terms : List Term) (hole : ℕ) (project : List Term) (values : Row) : Type 0 where
   pub source : value_rows (values ++ []) width (length terms / width) terms ≡ (Null ∷ values) ∷ []
   -- SQL's casts leave the row of these values, with NULL as its rowid, unchanged
@@ -229,7 +230,8 @@ module _ (tree : ℕ) (name : List ℕ) (columns : List Column) (positions : Lis
           done_with t old.now new.now has key.ours _ _ (λ did. did) makes,
     )
 
-    -- the text of the DELETE removes the rows whose first columns of the key are the parameters (`DoneBy`)
+    -- The text of the DELETE removes the rows whose columns `front` are the parameters `k` (`DoneBy`). These columns,
+    -- given by index, are the first ones of the key, and `filter` tests them.
     pub drops_keyed : (sql : List ℕ) (filter : List Term) → MeansDelete tree at sql filter → AlwaysPlain sql
         → (front : List ℕ)
         → ((x : Row) → AreInts positions x → AreInts front x)

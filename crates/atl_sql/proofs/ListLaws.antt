@@ -46,6 +46,7 @@ eq_sym a b h = sym (ap is_eq (value_cmp_total.antisymm a b) ∙ reversed (value_
     reversed Equal = refl
     reversed Greater = refl
 
+-- two rows of a tree with the same rowid are one row, if no two of its rowids are alike
 pub one_rowid : (rows : List Row) → IsAscending (λ a b. is_eq (value_cmp (rowid a) (rowid b)) ≡ false) rows
     → (a b : Row) → Has rows a → Has rows b → is_eq (value_cmp (rowid a) (rowid b)) ≡ true → a ≡ b
 one_rowid [] up a b h k same = absurd h
@@ -55,12 +56,14 @@ one_rowid (r ∷ rows) up a b (inr h) (inl f) same =
     absurd (true≢false (sym (eq_sym _ _ same) ∙ rw f (all_has _ rows a up.0 h)))
 one_rowid (r ∷ rows) up a b (inr h) (inr k) same = one_rowid rows up.1 a b h k same
 
+-- taking out the rows with these rowids keeps each row that has none of them
 pub without_keeps : (ids : List ℤ) (rows : List Row) (r : Row) → Has rows r
     → ((id : ℤ) → Has ids id → has_rowid id r ≡ false) → Has (without_all rows ids) r
 without_keeps [] rows r h apart = h
 without_keeps (id ∷ ids) rows r h apart =
     without_keeps ids (without_rowid id rows) r (has_kept _ rows r h (ap not (apart id (inl refl)))) (λ i there. apart i (inr there))
 
+-- a row that is left, once the rows with these rowids are taken out, has none of them
 pub without_drops : (ids : List ℤ) (rows : List Row) (r : Row) → Has (without_all rows ids) r → (id : ℤ) → Has ids id
     → has_rowid id r ≡ false
 without_drops [] rows r h id there = absurd there
@@ -80,7 +83,8 @@ pub is_int_at : (rows : List Row) (r : Row) → AllByRecursion (λ r. is_int (ro
     → rowid r ≡ Int (id_in (rowid r))
 is_int_at rows r ints h = int_is (rowid r) (all_has _ rows r ints h)
 
--- `found` has the rowids of the rows that pass the test p
+-- `found` has the rowids of the rows that pass the test p. Once these rows are taken out, exactly those that fail the
+-- test are left.
 module _ (p : Row → Bool) (rows found : List Row) (keyed : AreKeyedByRowid rows) (are : AreFound p rows found) where
   pub stays : (r : Row) → Has rows r → p r ≡ false → Has (without_all rows (ids_of found)) r
   stays r h fails = without_keeps (ids_of found) rows r h (λ id there.

@@ -16,7 +16,8 @@ pub record Makes (schema : Schema) (table : Table) (old new : Database) (S : Set
   pub others : (t : Table) → Has schema.tables t → t.tree ≢ table.tree → new.trees t.tree ≡ old.trees t.tree
   pub sound : IsSoundDatabase schema new.trees
 
--- a CREATE TABLE turned the schema `before` into `after`, with one table more, without rows; the others are unchanged
+-- a CREATE TABLE turned the schema `before` into `after`, with one table more, whose tree `tree` has no rows; the other
+-- tables are unchanged
 pub record CreatesTable (before after : Schema) (tree : ℕ) (old new : Database) : Type 0 where
   pub schema_is : new.schema ≡ after
   pub empty : new.trees tree ≡ []

@@ -44,6 +44,8 @@ module _ (schema : Schema) (among : (u : Table) → Has all_tables u → Has sch
       (x : Row) → Has rows x → (p x ≡ true → take key (visible_row t x) ≡ k) ×
       (take key (visible_row t x) ≡ k → p x ≡ true)
 
+  -- If an edit swapped the rows with the key of `v`, which the test `p` finds, for the row `n`, the table then shows
+  -- its old rows with `v` in place of these. SQL shows `n` as `v`.
   pub swaps_set : (p : Row → Bool) (n v : Row) (db next : Trees) → Swaps schema t p n db next → visible_row t n ≡ v
       → Tests p (take key v) (db t.tree)
       → HasExactly (rows_in t next) (put key v (Has (rows_in t db)))
@@ -68,6 +70,7 @@ module _ (schema : Schema) (among : (u : Table) → Has all_tables u → Has sch
     ],
   )
 
+  -- if an edit took out the rows with the key `k`, which the test `p` finds, the table then shows its other rows
   pub loses_set : (p : Row → Bool) (k : Row) (db next : Trees) → Loses schema t p db next → Tests p k (db t.tree)
       → HasExactly (rows_in t next) (drop_key key k (Has (rows_in t db)))
   loses_set p k db next lose tests r = (
@@ -95,6 +98,7 @@ module _ (schema : Schema) (among : (u : Table) → Has all_tables u → Has sch
     listed = subst (λ s. IsSound s new.trees) is base;
   }
 
+  -- the edit of `swaps_set` leaves a sound database sound, with `v` in place of the rows with its key (`Makes`)
   pub swaps_make : (p : Row → Bool) (n v : Row) (old new : Database) → Swaps schema t p n old.trees new.trees
       → visible_row t n ≡ v → Tests p (take key v) (old.trees t.tree)
       → IsSoundDatabase schema old.trees → IsDatabase new → new.schema ≡ schema
@@ -106,6 +110,7 @@ module _ (schema : Schema) (among : (u : Table) → Has all_tables u → Has sch
     sound = stays_sound old new sound base is swap.keyed swap.others;
   }
 
+  -- the edit of `loses_set` leaves a sound database sound, without the rows with the key `k` (`Makes`)
   pub loses_make : (p : Row → Bool) (k : Row) (old new : Database) → Loses schema t p old.trees new.trees
       → Tests p k (old.trees t.tree)
       → IsSoundDatabase schema old.trees → IsDatabase new → new.schema ≡ schema
@@ -117,8 +122,11 @@ module _ (schema : Schema) (among : (u : Table) → Has all_tables u → Has sch
     sound = stays_sound old new sound base is lose.keyed lose.others;
   }
 
-  -- The upsert of the row `new` leads from `old` to `next`, and v is the row that SQL shows afterwards. The other
-  -- parameters are those of the upsert in UpsertLaws.
+  -- The upsert of the row `new` leads from `old` to `next`, and v is the row that SQL shows afterwards. The key is in
+  -- the columns at the indexes `target`, and the UPDATE sets the terms `project`. Of what the UPDATE reads, the column
+  -- at the index `position` is the rowid of the row to change. `params` are the statement's parameters, and `limit` is
+  -- its step limit. An edit of t leaves no work for a foreign key (`unlinked`), and its tree isn't that of a temporary
+  -- table (`plain`).
   module _ (unlinked : (olds news : List Row) → works schema Enforced 0 t.tree olds news ≡ []) (limit : Option ℕ) (params : Row) (target : List ℕ) (position : ℕ) (project : List Term)
       (plain : (db : Trees) → overlay db [] t.tree ≡ db t.tree) (new v : Row) (old next : Database) where
     -- where a row has the key, the UPDATE of the upsert changes it to one that shows the values `v`
@@ -149,8 +157,9 @@ module _ (schema : Schema) (among : (u : Table) → Has all_tables u → Has sch
           λ e. alone x r k there (e ∙ sym same),
         )) sound base is
 
-    -- after an upsert whose INSERT and whose UPDATE make rows that show `v`, the table is the old one with the row `v`
-    -- put (`Makes`)
+    -- An upsert whose INSERT and whose UPDATE both make rows that show `v` makes of the table its old rows with `v` in
+    -- place of the row with its key (`Makes`). Premises: `hits` finds just the rows with this key, there is one row for
+    -- a key (`OneRow`), the database was sound before, and its schema stays.
     pub upserts_make : Upserted schema t unlinked limit params target position project plain new old.trees next.trees
         → visible_row t (cast_row t new) ≡ v → UpdateShowsValues
         → Tests (hits schema t unlinked limit params target position project plain new) (take key v) (old.trees t.tree)

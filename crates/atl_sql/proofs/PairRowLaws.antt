@@ -48,6 +48,7 @@ module _ (tree : ℕ) (name first second amount : List ℕ) where
       let p2 = and_parts _ _ p1.1 in
       (strict_integer_is_int a t1.0 (not-true _ p1.0), (strict_integer_is_int b t2.0 (not-true _ p2.0), tt))
 
+  -- the terms of the upsert make the row of the key `a`, `b` and the third number `n` (`MakesValues`)
   pub makes_pair : (a b : ℕ) (n : ℤ)
       → MakesValues pair_table pair_unique 4 pair_terms 3 pair_update_terms (int a ∷ int b ∷ Int n ∷ [])
   makes_pair a b n = record {

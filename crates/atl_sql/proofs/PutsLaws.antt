@@ -11,8 +11,8 @@ use Rattle.atl_descriptions.specs.Tables.{all_tables}
 use Rattle.atl_sql.specs.Inside.{DoesInside, HasTables, Puts, PutsRows}
 use Rattle.atl_sql.proofs.CarryLaws.{carries_then, carries_none}
 
--- some rows of the list `all` are put: once the rows `rest` are put too, all rows of the list are; the other tables are
--- unchanged
+-- some rows of the list `all` are put: once the rows `rest` are put too, all rows of the list are; the other tables of
+-- a campaign are unchanged
 pub record IsPartlyPut (table : Table) (key : ℕ) (rest all : List Row) (old now : Database) : Type 0 where
   pub rows : (r : Row)
       → puts key rest (Has (rows_in table now.trees)) r ↔ puts key all (Has (rows_in table old.trees)) r
@@ -63,6 +63,7 @@ module _ (table : Table) (key : ℕ) where
         record { does = towards_rows xs rest all old.now mid.now new.now was.does now.does; tables = now.tables; carries = carries_then old.now mid.now new.now was.carries now.carries },
   )
 
+  -- at first all rows are still to put, and nothing has changed (`IsPartlyPut`)
   pub none_yet : (rest all : List Row) → rest ≡ all → (s : State)
       → DoesInside HasTables (IsPartlyPut table key rest all) s s
   none_yet rest all same s = (
@@ -74,6 +75,7 @@ module _ (table : Table) (key : ℕ) where
     },
   )
 
+  -- once no row is left to put, all rows of the list `all` are put (`PutsRows`)
   pub all_put : (rest all : List Row) → rest ≡ [] → (old new : State)
       → DoesInside HasTables (IsPartlyPut table key rest all) old new
       → DoesInside HasTables (PutsRows table key all) old new

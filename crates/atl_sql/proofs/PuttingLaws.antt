@@ -52,6 +52,7 @@ module _ {S : Type 0} (g : Ghosts S) (table : Table) (key : ℕ) where
         two_steps g (inside_both table key xs ys) (first_part one)
         (among_each g (upsert table key) (Has ys) (λ row there. (refl, has_right xs ys row there)) two)
 
+    -- if putting the rows `xs` ends with an error, which is handed on as the result `r`, so does putting both lists
     pub first_failed : {A X : Type 0} {e : Error} {r : Result A Error} {a b : MutBor (Held S)}
         → WritesRows {A = X} g table key xs (Err e) a b → HandsOn e r → WritesRows g table key (xs ++ ys) r a b
     first_failed one failed = stops g (first_part one) failed
@@ -80,6 +81,7 @@ module _ {S : Type 0} (g : Ghosts S) (table : Table) (key : ℕ) where
       left = λ row there. so_far.left row (subst (λ (l : List Row). Has l row) (sym is) (has_right xs rest row there));
     }
 
+    -- if putting the rows `xs` ends with an error, which is handed on as the result `r`, so does putting all rows
     pub putting_failed : {Does : State → State → Type 0} {A X : Type 0} {e : Error} {r : Result A Error} {a b c : MutBor (Held S)}
         → HasPutSome g table key was all a b → WritesRows {A = X} g table key xs (Err e) b c → HandsOn e r
         → Writes g (RowStatements (upsert table key) (Has all)) Does r a c

@@ -45,8 +45,9 @@ sorts_plainly : (part : Part) → get_or (table_of part).orders 0 plain ≡ plai
 sorts_plainly Own = refl
 sorts_plainly part = refl
 
--- A test for the index of a described key is one for the index of the first unique key of the part's table
--- (`index_of`).
+-- A test `r` whether `found` is the index of a described key tests whether it is the index of the first unique key of
+-- the part's table (`index_of`). What describes it fits this table: `name` and `tree` of the index, the key's columns
+-- `key`, and the tree `at` of the table.
 pub is_index : (part : Part) (name key : List ℕ) (tree at : ℕ) → (table_of part).uniques ≡ key ∷ []
     → name ≡ codes "sqlite_autoindex_" ++ ((table_of part).name ++ codes "_1")
     → tree ≡ (table_of part).tree + 1 → at ≡ (table_of part).tree
@@ -102,6 +103,7 @@ module _ (part : Part) (tree : ℕ) (name : List ℕ) (number : Option ℕ) (pri
       ∙ ap (λ (c : List Column). table (table_of part).tree (table_of part).name c (table_of part).key (table_of part).primary (table_of part).uniques (table_of part).checks) (sym (ap (λ (t : Table). t.columns) is))
       ∙ sym (as_described found.columns)
 
+-- a unique index that makes nothing unique in these tables (`guards`) is of none of them
 pub harmless_is_of_none : (i : Index) (tables : List Table) → i.is_unique ≡ true
     → ((t : Table) → Has tables t → guards i t ≡ false)
     → list_any (λ t. i.table == t.tree) tables ≡ false
@@ -111,6 +113,7 @@ harmless_is_of_none i (t ∷ tables) unique guards_none =
     let rest = harmless_is_of_none i tables unique (λ u there. guards_none u (inr there)) in
     rw (first, rest) refl
 
+-- an index that is of none of these tables makes nothing unique in them
 pub guards_not : (i : Index) (tables : List Table) → list_any (λ t. i.table == t.tree) tables ≡ false → (t : Table)
     → Has tables t
     → guards i t ≡ false

@@ -76,6 +76,7 @@ module _ {S : Type 0} (g : Ghosts S) (sql : List ℕ) (old begun mid end : Held 
   asked_after_begin : IsAsked (state g old) (state g begun)
   asked_after_begin = subst (λ h. IsAsked (state g old) (state g h)) (sym begins) (record { was_open = λ up. up; is_open = λ up. up; same = refl; limit = refl; faults = no_fewer (state g old).faults })
 
+  -- if the SELECT showed rows, and these are the result, it was asked as promised (`Asks`)
   pub showed : {Z : Type 0} (rows : Vec Row Z) → (HasCleanDisk (state g mid) → Shown sql [] (state g begun) (state g mid) rows.items) → Asks g sql old {Z = Z} (Ok rows) end
   showed rows ok = record {
     rows = λ clean. (begun, mid, asked_after_begin, ok (omega (arith, two.clean)));
@@ -102,6 +103,7 @@ module _ {S : Type 0} (g : Ghosts S) (sql : List ℕ) (old begun mid end : Held 
     idle = ended;
   }
 
+  -- if the SELECT was refused with the error `e`, whose fault is the result `r`, it was asked as promised (`Asks`)
   pub says : {Z : Type 0} (e : Error) (r : Result (Vec Row Z) ReadFault) → IsErrAnd r (λ fault. fault ≡ read_fault e) → (HasCleanDisk (state g mid) → FailsToQuery sql [] (state g begun) (state g mid) e ⊎ IsTooLate sql [] (state g begun) (state g mid) e) → Asks g sql old {Z = Z} r end
   says e (Ok rows) is err = absurd is
   says e (Err fault) is err = was_refused e fault is err
@@ -116,6 +118,7 @@ not_other e same = by_memory (is_memory e) (is_failure e) same
     by_memory false true is = cc
     by_memory false false is = cc
 
+-- the fault of a SELECT that is refused is never OtherType, which only a value of a row that was shown can give
 pub never_other : {S : Type 0} (g : Ghosts S) (sql : List ℕ) (old : Held S) (fault : ReadFault)
     → RefusesToSelect g sql old fault → fault ≡ OtherType → ⊥
 never_other g sql old fault says same = not_other says.2 (sym says.5 ∙ same)
@@ -127,6 +130,7 @@ if_both P Q (Err e) p q = tt
 -- The SELECT `sql` is asked between `old` and `new`. The columns have these forms, and `shown` gives the row that a
 -- value is read of.
 module _ {S A Z : Type 0} (g : Ghosts S) (sql : List ℕ) (old new : Held S) (forms : List Form) (shown : A → Row) where
+  -- if the SELECT was refused, and the result `r` hands on its fault, all was read as promised (`ReadsRows`)
   pub unasked : {Y : Type 0} (fault : ReadFault) (r : Result (Vec A Z) ReadFault) → Asks g sql old {Z = Y} (Err fault) new → IsErrAnd r (λ says. says ≡ fault) → ReadsRows g sql old forms shown r new
   unasked fault (Ok all) asks is = absurd is
   unasked fault (Err says) asks is = record {
@@ -139,6 +143,7 @@ module _ {S A Z : Type 0} (g : Ghosts S) (sql : List ℕ) (old new : Held S) (fo
     idle = asks.idle;
   }
 
+  -- if the SELECT showed rows, and `r` is what parsing these (`lent`) gave, all was read as promised (`ReadsRows`)
   pub parsed : {Y : Type 0} (rows : Vec Row Y) (lent : List Row) (r : Result (Vec A Z) ReadFault)
       → Asks g sql old (Ok rows) new → lent ≡ rows.items
       → IfOk r (λ all. map shown all.items ≡ map (first_columns (length forms)) lent) → IfOk r (λ _. AreTyped forms lent) → IfErr r (λ fault. fault ≡ OtherType → ¬ AreTyped forms lent) → IfErr r (λ fault. fault ≢ OtherType → fault ≡ Memory) → ReadsRows g sql old forms shown r new

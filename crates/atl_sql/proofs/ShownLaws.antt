@@ -35,6 +35,8 @@ pub typed_next : (forms : List Form) (rows : List Row) (at : ℕ) (row : Row) �
     → row ≡ get_or rows at row → AreTyped forms (take at rows) → IsTyped forms row → AreTyped forms (take (at + 1) rows)
 typed_next forms rows at row within is = typed_more forms (take at rows) (take (at + 1) rows) row (take_more rows at row within ∙ ap (λ r. take at rows ++ r ∷ []) (sym is))
 
+-- If the values `all` were read of the first `at` rows, and `a` of the next row, the values `more`, `all` and then `a`,
+-- were read of the first `at + 1`. `shown` gives the row of a value, and `cut` the columns that are read.
 pub mapped_next : {A : Type 0} (shown : A → Row) (cut : Row → Row) (all more : List A) (a : A) (rows : List Row) (at : ℕ) (row : Row)
     → at < length rows → row ≡ get_or rows at row → more ≡ all ++ a ∷ [] → map shown all ≡ map cut (take at rows)
     → shown a ≡ cut row

@@ -71,6 +71,7 @@ module _ (schema : Schema) (tree : ℕ) (name : List ℕ) (columns : List Column
       let shown = ok_step_did tested.2 in
       (ap (λ (x : Tally × Database). x.1.trees) (same_value shown.2), ap (λ (x : Tally × Database). x.1.schema) (same_value shown.2))
 
+  -- a DELETE whose query finds exactly the rows that pass the test `p` takes these out (`Loses`), and keeps the schema
   pub removes : (limit : Option ℕ) (params : Row) (text : List ℕ) (q : Program) (p : Row → Bool) (db : Trees) (out : Tally × Database)
       → AreKeyedByRowid (db tree)
       → ((rows : List Row) → Answers (record { schema = schema; trees = db }) q params rows → AreFound p (db tree) rows)
@@ -89,7 +90,7 @@ module _ (schema : Schema) (tree : ℕ) (name : List ℕ) (columns : List Column
   row_inserted_by db src = with_rowid Chosen (db tree) (cast_row t src)
 
   -- An upsert of the key in the columns `target`. Its UPDATE sets the terms `project` in the row whose rowid is at the
-  -- index `hole` of what it reads.
+  -- index `hole` of what it reads. `params` are the statement's parameters, and `limit` is its step limit.
   module _ (limit : Option ℕ) (params : Row) (target : List ℕ) (hole : ℕ) (project : List Term) (plain : (db : Trees) → overlay db [] tree ≡ db tree) where
     abbrev q : Program
     q = record { lets = []; body = update_query tree hole project }
@@ -120,6 +121,8 @@ module _ (schema : Schema) (tree : ℕ) (name : List ℕ) (columns : List Column
         subst (Changed (row_inserted_by db src) db) (sym (counted limit params db each.0 counter.0 w each.2))
         (each_upserts src (count_of counter.0) db each.0 keyed aimed (subst (λ l. TriesEach (task limit params t) Abort (conflict_clause target q ∷ []) l (count_of counter.0) (nothing db) (Ok each.0)) given each.1))
 
+    -- an upsert whose terms make the row `src` of the parameters inserted this row, or changed the row with its key
+    -- (`Changed`), and kept the schema
     pub upserting : (text : List ℕ) (terms : List Term) (width : ℕ) (src : Row) (db : Trees) (out : Tally × Database)
         → AreKeyedByRowid (db tree)
         → ((r : Row) → Has (db tree) r → column (params ++ rowid r ∷ shown t (row_inserted_by db src)) hole ≡ rowid r)
@@ -160,6 +163,7 @@ pub done_by : (sql : List ℕ) (values : Row) (What : Database → Database → 
 done_by sql values What does old new count params inside h same =
     does old new count inside (subst (λ p. ExecutesInside 0 sql p old new (Ok count)) same h)
 
+-- a step that ran a statement which does `What` (`DoneBy`) did `What`; `params` and `values` are the same parameters
 pub runs_with : {S A : Type 0} (g : Ghosts S) {r : Result A Error} {a b : MutBor (Held S)} (sql : List ℕ) (values params : Row) (What : Database → Database → Type 0)
     → DoneBy sql values What → params ≡ values → Writes g (OneStatement sql params) (RunsStatement sql params) r a b
     → Writes g (OneStatement sql values) (DoesInside HasTables What) r a b

@@ -27,6 +27,7 @@ rests_unchanged old new h = record { was_open = λ _. h.0.was_open; same = λ _.
 
 -- a query `sql` without RETURNING that doesn't read the time leads from `old` to `new`
 module _ (sql : List ℕ) (old new : State) (plain : IsPlain (understood old.now.schema sql)) where
+  -- a query without RETURNING (`what` is None) that fails as it runs changes nothing
   pub fails_stay : (c : _) (row : Row) (e : Error) (what : Option Returning) → what ≡ None
       → FailsToShow old new sql c row e what → IsUnchanged old new
   fails_stay c row e None is h = h.3
@@ -96,6 +97,7 @@ pub record IsGiving {S : Type 0} (g : Ghosts S) (sql : List ℕ) (old : Held S) 
 module _ {S : Type 0} (g : Ghosts S) (sql : List ℕ) (old : Held S) where
   -- the columns have these forms, and `shown` gives the row that a value is read of
   module _ {A : Type 0} (forms : List Form) (shown : A → Row) where
+    -- if the query is refused at the start with `e`, and `r` is the fault of `e`, the read is as promised (`Streams`)
     pub not_begun : {Z : Type 0} (now : Held S) (e : Error) (r : Result (Option (Vec A Z)) ReadFault)
         → IsPlain (understood old.schema sql) → IsErrAnd r (λ fault. fault ≡ read_fault e)
         → (HasCleanDisk (state g now) → FailsToQuery sql [] (state g old) (state g now) e)
@@ -110,6 +112,7 @@ module _ {S : Type 0} (g : Ghosts S) (sql : List ℕ) (old : Held S) where
       idle = idle;
     }
 
+    -- a read may stop with None after any rows (`Streams`)
     pub given_up : {Z : Type 0} (given : List Row) (now : Held S) → IsGiving g sql old given now → Streams g sql old {Z = Z} forms shown (Ok None) now
     given_up given now giving = record {
       rows = λ _. tt;
@@ -132,6 +135,7 @@ module _ {S : Type 0} (g : Ghosts S) (sql : List ℕ) (old : Held S) where
     same_before clean = (giving.given_so (clean_before clean)).1
 
     module _ {A : Type 0} (forms : List Form) (shown : A → Row) where
+      -- if the next row is refused with `e`, and `r` is the fault of `e`, the read is as promised (`Streams`)
       pub not_advanced : {Z : Type 0} (e : Error) (r : Result (Option (Vec A Z)) ReadFault)
           → IsPlain (understood old.schema sql) → IsErrAnd r (λ fault. fault ≡ read_fault e)
           → (HasCleanDisk (state g now) → FailsToAdvance g mid now e) → Streams g sql old forms shown r now
@@ -148,6 +152,7 @@ module _ {S : Type 0} (g : Ghosts S) (sql : List ℕ) (old : Held S) where
         idle = idle giving.idle;
       }
 
+      -- if there is no next row, and `all` was read of the rows given, the read is as promised (`Streams`)
       pub ended : {Z : Type 0} (all : Vec A Z) → map shown all.items ≡ map (first_columns (length forms)) given
           → AreTyped forms given → (HasCleanDisk (state g now) → Advances g mid now None)
           → (HasCleanDisk (state g now) → IsUnchanged (state g mid) (state g now))
@@ -189,6 +194,7 @@ module _ {S : Type 0} (g : Ghosts S) (sql : List ℕ) (old : Held S) where
 -- The query `sql` is asked on the connection `old`. The columns have these forms, and `shown` gives the row that a
 -- value is read of.
 module _ {S A Z : Type 0} (g : Ghosts S) (sql : List ℕ) (old : Held S) (forms : List Form) (shown : A → Row) where
+  -- rows that were all read one by one are read as promised (`ReadsRows`)
   pub streamed : (all : Vec A Z) (new : Held S) → Streams g sql old {Z = Z} forms shown (Ok (Some all)) new → ReadsRows g sql old {Z = Z} forms shown (Ok all) new
   streamed all new streams = record {
     rows = streams.rows;
@@ -200,6 +206,7 @@ module _ {S A Z : Type 0} (g : Ghosts S) (sql : List ℕ) (old : Held S) (forms 
     idle = streams.idle;
   }
 
+  -- a fault of reading them one by one, which `r` hands on, is one of reading all rows (`ReadsRows`)
   pub unstreamed : (fault : ReadFault) (r : Result (Vec A Z) ReadFault) (new : Held S) → Streams g sql old {Z = Z} forms shown (Err fault) new → IsErrAnd r (λ says. says ≡ fault) → ReadsRows g sql old forms shown r new
   unstreamed fault (Ok all) new streams is = absurd is
   unstreamed fault (Err says) new streams is = record {

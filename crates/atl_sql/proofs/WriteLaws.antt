@@ -1,5 +1,6 @@
 -- Laws on writes inside a transaction: what one statement, or several steps together, do, and which error they give.
 -- `own` is the set of statements that a write may run; `Does` says what the write does, of the states before and after.
+-- `a` is the connection before the first step, and `b`, `c` and `d` are the connection after each step.
 use Rattle.std.proofs.Common.{◌≡◌, ℕ, List, false, IsTrue, Result, Ok, Err, IsErr, IsErrAnd, OnOk, refl, sym, ◌∙◌, subst, inl, inr, arith}
 use Rattle.std.specs.Borrow.{MutBor}
 use Rattle.std.proofs.lemmas.Bool.{cases_Bool}
@@ -61,6 +62,7 @@ module _ {S : Type 0} (g : Ghosts S) where
       | inr outside ↦ subst (λ (h : Held S). KeepsCommit (state g old.now) (state g h)) (sym (ended outside).1) (record { was_open = λ up. up; committed = λ _. refl })
     ]
 
+    -- a statement that ended with the error `e`, which `result` hands on, is a step as promised (`Writes`)
     pub fails : {A : Type 0} (Does : State → State → Type 0) (e : Error) (result : Result A Error) → Ended (Err e)
         → Ran (Err e) → HandsOn e result → Writes g (OneStatement sql params) Does result old new
     fails Does e result ended ran failed = record {
@@ -73,6 +75,7 @@ module _ {S : Type 0} (g : Ghosts S) where
       survives = survives;
     }
 
+    -- a statement that ran is a step as promised (`Writes`) that does `RunsStatement`
     pub runs : {A : Type 0} (count : ℕ) (a : A) → Ended (Ok count) → Ran (Ok count)
         → Writes g (OneStatement sql params) (RunsStatement sql params) (Ok a) old new
     runs count a ended ran = record {
@@ -144,6 +147,7 @@ module _ {S : Type 0} (g : Ghosts S) where
         survives = survives_more _ _ _ one.survives two.survives;
       }
 
+  -- a write that ended with an error, which `r` hands on, ended so whatever it was to do
   pub stops : {own : Statements} {First Does : State → State → Type 0} {A X : Type 0} {e : Error} {r : Result A Error} {a b : MutBor (Held S)}
       → Writes g own First {A = X} (Err e) a b → HandsOn e r → Writes g own Does r a b
   stops {e = e} {r = r} one failed = record {
@@ -186,6 +190,7 @@ module _ {S : Type 0} (g : Ghosts S) where
       → Writes g own Second (Ok u) b c → HasDone g own Does a c
   goes_on both so_far more = two_steps both so_far more
 
+  -- to run no statement does `Does`, if `Does` holds of each state and itself
   pub begins : {own : Statements} {Does : State → State → Type 0} {A : Type 0} {a : A} {b : MutBor (Held S)}
       → ((s : State) → Does s s) → Writes g own Does (Ok a) b b
   begins none =

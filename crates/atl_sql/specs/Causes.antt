@@ -1,4 +1,5 @@
--- Which call inside a transaction gave an error of the database, and why.
+-- Which call inside a transaction gave an error of the database, and why. `g` is the kind of store, in memory or in
+-- files, and `state g conn` the state of the database under a connection.
 use Rattle.std.specs.Prelude.{◌≡◌, ◌⊎◌, ℕ, zero, suc, List, true, false, IsTrue, Ok, Err}
 use Rattle.sqlite_disk.specs.Disk.{MoreFaults}
 use Rattle.sqlite_trees.specs.declared.store.Store.{Ghosts}
@@ -26,7 +27,8 @@ Leads {S} g own (suc count) old new = (mid : Held S) × RunsOne own (state g old
 abbrev pub IsReached : {S : Type 0} → Ghosts S → Statements → Held S → Held S → Type 0
 IsReached g own old new = (count : ℕ) × Leads g own count old new
 
--- a statement of the set `own`, or the commit of the transaction, ended with this error
+-- a statement of the set `own`, or the commit of the transaction, ended with the error `e`, and led from the state
+-- `before` to `after`
 abbrev pub IsGiven : Statements → Error → State → State → Type 0
 IsGiven own e before after =
     ((sql : List ℕ) × (params : Row) × own sql params × ExecutesInside 0 sql params before after (Err e))
@@ -36,18 +38,23 @@ IsGiven own e before after =
 abbrev pub IsBroken : State → State → Type 0
 IsBroken old new = MoreFaults old.faults new.faults ⊎ (old.is_open ≡ false)
 
--- a cause of the error of a call: the error says that something is too big, or the call changed nothing
+-- a cause of the error `e` of a call that led from the state `before` to `after`: `e` says that something is too big,
+-- or the call changed nothing
 abbrev pub IsRefused : Error → State → State → Type 0
 IsRefused e before after = (e ≡ SqliteFailure TooBig) ⊎ IsUnchanged before after
 
--- In a transaction on this connection a statement of `own`, or the commit, ended with the error `e`.
--- An error other than lack of memory comes of a broken disk or connection, or the call that gave it was refused.
+-- In a transaction that ran only statements of the set `own`, one of these, or the commit, ended with the error `e`.
+-- `old` is the connection before the transaction, or at a moment within it; only what came after that moment counts.
+-- `new` is the connection after the step that returns `e`, or, for a whole transaction, after its commit or rollback.
+-- An error other than lack of memory has a cause: the disk failed or the connection was shut (`IsBroken`), or the call
+-- was refused (`IsRefused`).
 pub record Gives {S : Type 0} (g : Ghosts S) (own : Statements) (e : Error) (old new : Held S) : Type 0 where
   -- the connection before the call that gave the error
   pub before : Held S
   -- the connection after the call that gave the error
   pub after : Held S
-  -- from the beginning of the transaction to the call that gave the error, only statements of `own` ran
+  -- from the connection `old`, once the transaction has begun, to the call that gave the error, only statements of
+  -- `own` ran
   pub reached : IsReached g own (record old { in_transaction = true }) before
   -- nothing was committed before the call that gave the error
   pub kept : KeepsCommit (state g old) (state g before)
@@ -56,6 +63,8 @@ pub record Gives {S : Type 0} (g : Ghosts S) (own : Statements) (e : Error) (old
   -- an error other than lack of memory comes of a broken disk or connection, or the call that gave it was refused
   pub cause : is_memory e ≡ false → IsBroken (state g old) (state g new) ⊎ IsRefused e (state g before) (state g after)
 
--- the fault is the one that `fault_of` makes of an error that a transaction of statements of `own` gave (`Gives`)
+-- `fault` is what `fault_of`, which turns each error of the database into a fault, makes of an error that a transaction
+-- gave (`Gives`). `own` is the set of the transaction's statements. `old` and `new` are the connection before the
+-- transaction and after its commit or rollback.
 abbrev pub IsFaultOfError : {S F : Type 0} → Ghosts S → Statements → (Error → F) → Held S → Held S → F → Type 0
 IsFaultOfError g own fault_of old new fault = (e : Error) × (fault ≡ fault_of e) × Gives g own e old new

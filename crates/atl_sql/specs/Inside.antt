@@ -1,4 +1,5 @@
--- What is done to the tables inside a transaction, and what a whole transaction leaves.
+-- What is done to the tables inside a transaction, and what a whole transaction leaves. `old` and `new` are the
+-- database, or the state of the connection, before and after it.
 use Rattle.std.specs.Prelude.{◌≡◌, ◌≢◌, ℕ, List, [], ◌∷◌, false, IsTrue}
 use Rattle.sqlite_value.specs.Order.{Row}
 use Rattle.sqlite_schema.specs.declared.schema.Table.{Table}
@@ -66,11 +67,13 @@ abbrev pub InTurn : (Part → Database → Database → Type 0) → List Part �
 InTurn Does [] old new = new ≡ old
 InTurn Does (part ∷ parts) old new = (mid : Database) × Does part old mid × InTurn Does parts mid new
 
--- the row replaces the one with the same first `key` columns, or is added; all other rows and tables are as they were
+-- in `table` the row replaces the one with the same first `key` columns, or is added; its other rows, and all other
+-- tables of a campaign, are as they were
 abbrev pub Puts : Table → ℕ → Row → Database → Database → Type 0
 Puts table key row old new = Alters table (put key row (Has (rows_in table old.trees))) old new
 
--- the rows whose first `key` columns are `k` are deleted; all other rows and tables are as they were
+-- in `table` the rows whose first `key` columns are `k` are deleted; its other rows, and all other tables of a
+-- campaign, are as they were
 abbrev pub Drops : Table → ℕ → Row → Database → Database → Type 0
 Drops table key k old new = Alters table (drop_key key k (Has (rows_in table old.trees))) old new
 

@@ -1,4 +1,5 @@
--- What reading all rows of a table gives.
+-- What reading all rows of a table gives. `old` and `new` are the connection before and after the read. `forms` are the
+-- forms of the columns, and `shown` gives the row that a value was read of.
 use Rattle.std.specs.Prelude.{◌≡◌, ◌≢◌, ◌≤◌, ◌⊎◌, ◌++◌, ℕ, List, [], ◌∷◌, length, map, IsTrue, IsPermutation, false, Option, Result, IfOk, IfErr, IfSome, OnOk}
 use Rattle.std.specs.declared.vec.Vec.{Vec}
 use Rattle.sqlite_trees.specs.declared.store.Store.{Ghosts}
@@ -36,6 +37,7 @@ pub record IsAsked (old before : State) : Type 0 where
   -- the connection's disk has failed at least as often as that of `old`
   pub faults : old.faults ≤ before.faults
 
+-- `sql` is the text of a SELECT, and `g` the kind of store, in memory or in files
 module _ {S : Type 0} (g : Ghosts S) (sql : List ℕ) (old : Held S) where
   -- the SELECT, asked on a connection with the tables of `old` (`IsAsked`), shows these rows
   abbrev pub Selects : List Row → Type 0
@@ -119,8 +121,8 @@ abbrev pub AddsRow : {A : Type 0} → List Form → (A → Row) → List A → R
 AddsRow forms shown old row new =
     (one : _) × (new ≡ old ++ one ∷ []) × (shown one ≡ first_columns (length forms) row) × IsTyped forms row
 
--- Ok has all rows of a table, each as often as it is there, if the disk is clean and the schema begins with the tables
--- of the format `since`.
+-- Ok of `result` has all rows of a table, each as often as it is there, if the disk is clean and the schema begins with
+-- the tables of the format `since`. `in_table` gives the rows of the table by the trees of the database.
 abbrev pub GivesTable : {S A Z : Type 0} → Ghosts S → Format → (Trees → List Row) → (A → Row)
     → Result (Vec A Z) ReadFault → Held S → Held S → Type 0
 GivesTable g since in_table shown result old new =

@@ -1,4 +1,6 @@
--- What one step of a transaction does, and what a whole transaction does.
+-- What one step of a transaction does, and what a whole transaction does. `old` and `new` are the connection before and
+-- after the step, or before the transaction begins and after its commit or rollback. `result` is what the step or the
+-- transaction returns, and `g` the kind of store, in memory or in files.
 use Rattle.std.specs.Prelude.{◌≡◌, ℕ, List, false, IsTrue, Result, Ok, IfErr, OnOk, OnErr}
 use Rattle.std.specs.Borrow.{MutBor}
 use Rattle.sqlite_trees.specs.declared.store.Store.{Ghosts}
