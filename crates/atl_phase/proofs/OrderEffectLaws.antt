@@ -177,8 +177,9 @@ module _ (step : OrderMeaning) {holds : Condition} {remaining : RemainingBound} 
       let rest = orders_leave_other next.0 next.1 ts (order_well m.aliases c t h fit.0).holds_still fit.1 n one.unit one.there (subst (λ f. AllByRecursion (λ t. affects t n f → ⊥) ts) (sym same_faction) others.1) in
       record { unit = rest.unit; there = rest.there; is_unaffected = orderly.unaffected_is_relation.transitive u one.unit rest.unit one.is_unaffected rest.is_unaffected }
 
-  -- Each unit that none of some orders affects is there after them, and `unaffected` relates what it was to what it is
-  -- then. For this `holds` is true before, the orders can be read with the world, and their phase is `IsOrderly`.
+  -- Once the orders `ts` are carried out one after another, from campaign c and month m, each unit that none of them
+  -- affects is still there, and changed at most as the phase's relation `unaffected` allows. For this `holds` is true
+  -- before, and the orders can be read with the world.
   pub orders_leave_others : (c : CampaignValue) (m : MonthValue) (ts : List Task) → holds w c
       → All (λ t. IsOrderOf w t.order_value) ts
       → AreUnaffected affects unaffected ts c (fold (one_order step w) (c, m) ts).0

@@ -94,8 +94,8 @@ module _ (w : WorldValue) (c : CampaignValue) (n : ℕ) (u : Unit) (s : ℕ) (is
   abbrev pub refitted : CampaignValue
   refitted = record c { units = units; structures = structures }
 
-  -- A refit: unit n is inside structure s of its region, which on water is a ship, or inside none (0). The function g
-  -- gives the structures, each changed in owner and name at most, and with its right owner.
+  -- A refit: on land unit n is inside structure s of its region, or inside none (s is 0); on water s is a ship. The
+  -- function g gives the structures, each changed in owner and name at most, and with its right owner.
   pub record IsRefit : Type 0 where
     pub at : (k : ℕ) → get structures k ≡ option_map (g k) (get c.structures k)
     pub count : len structures ≡ len c.structures

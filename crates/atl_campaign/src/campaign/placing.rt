@@ -57,6 +57,7 @@ impl Campaign {
         }
     }
 
+    /// No owner changes.
     fn put(&mut self, number: u32, region: u32, structure: u32) -> Result<(), AllocError>
         ensures ok { OnOk result (self.new ≡ put_marked self.old number region structure) }
         ensures err { OnErr result (self.new ≡ self.old) }
@@ -99,6 +100,7 @@ impl Campaign {
         Ok(())
     }
 
+    /// No owner changes.
     fn take_unit(&mut self, number: u32)
         ensures { self.new ≡ taken_marked self.old number }
     {

@@ -50,12 +50,14 @@ fn unit_in_range(row: &StoredUnit) -> bool
         && is_from(0, 1, row.guard)
 }
 
+/// Days of study (sort 1) have no range here: rule 6 judges them.
 fn has_in_range(row: &StoredHas) -> bool
     ensures { result ≡ has_in_range row.now }
 {
     is_from(1, 1, row.sort) || is_from(0, 0, row.sort) && is_from(1, HOLDING_LIMIT, row.amount)
 }
 
+/// A kind that the world lacks counts as one of MOST_SIZE.
 fn structure_in_range(world: &World, row: &StoredStructure) -> bool
     ensures { result ≡ structure_in_range world.now row.now }
 {
