@@ -5,7 +5,7 @@ use Rattle.std.specs.FinMap.{FinMap, get, same_map, nat_cmp-IsAntisymmetric}
 use Rattle.std.specs.Ordering.{nat_cmp}
 use Rattle.toml.specs.Data.{Members}
 use Rattle.toml.specs.Parse.{parse_document}
-use Rattle.atl_tables.specs.Faults.{fault_or, first_fault_value}
+use Rattle.atl_tables.specs.Faults.{first_fault, fault_or_value}
 use Rattle.atl_tables.specs.EachIndex.{EachIndex}
 use Rattle.atl_tables.specs.OldWorlds.{OldWorldsHaveNoMarkets}
 use Rattle.atl_world.specs.Worlds.{WorldValue, without_market, without_markets}
