@@ -10,6 +10,7 @@ use Rattle.atl_campaign.specs.Campaign.{CampaignValue}
 use Rattle.atl_records.specs.declared.records.Unit.{Unit}
 use Rattle.atl_records.proofs.EveryLaws.{get-insert_other}
 use Rattle.atl_campaign.proofs.RegionLaws.{changed-known, get-insert_same}
+use Rattle.atl_pots.proofs.PotLaws.{only_takers_get, pots_give}
 use Rattle.atl_market.specs.AtOnce.{unchanged_region}
 use Rattle.atl_market.specs.Goods.{with_made, with_used}
 use Rattle.atl_market.specs.AfterPots.{ProducesAtOnce, RecruitsAtOnce, TaxesAtOnce, WorksAtOnce, unit_after_production, maker_of, with_raw_taken, with_less_money, with_less_peasants, with_pieces_added, with_more_money, with_recruits}
@@ -20,7 +21,6 @@ use Rattle.atl_market.specs.Tax.{after_tax, money_at, tax_pots}
 use Rattle.atl_market.specs.Work.{after_work, places_at, wages_for, work_pots}
 use Rattle.atl_market.proofs.AtOnceLaws.{Pays, all_at_once}
 use Rattle.atl_market.proofs.ItemUseLaws.{made_unit, used_unit}
-use Rattle.atl_market.proofs.PotLaws.{only_takers_get, pots_give}
 use Rattle.atl_market.proofs.ProduceLaws.{given_can, produced_others}
 use Rattle.atl_market.proofs.MoreMoneyLaws.{others_stay, paid_unit}
 use Rattle.atl_market.proofs.RecruitLaws.{with_fewer_peasants, recruited_is, recruited_others}

@@ -23,8 +23,9 @@ use Rattle.atl_campaign.proofs.RegionLaws.{changed-known, get-insert_same}
 use Rattle.atl_campaign.proofs.StockLaws.{restocked}
 use Rattle.atl_phase.specs.PhaseOrders.{Task}
 use Rattle.atl_phase.proofs.StructureLaws.{changed_else}
+use Rattle.atl_pots.specs.Pots.{asks_for}
+use Rattle.atl_pots.proofs.PotLaws.{found_other}
 use Rattle.atl_market.specs.AtOnce.{HasNewStocks, UnitChange, paid_unit, is_in_region}
-use Rattle.atl_market.specs.Pots.{asks_for}
 use Rattle.atl_market.specs.AfterPots.{TradesAtOnce, stock_after, trader_of, with_trade}
 use Rattle.atl_market.specs.PotPhase.{after_sharing, count_in, given_by, item_in, items_by}
 use Rattle.atl_market.specs.Trade.{after_trade, market_for, trade_entry, trade_pots, trade_result_of, trade_want, with_trade_booked, with_trade_result}
@@ -33,7 +34,6 @@ use Rattle.atl_market.specs.declared.trade.Trade.{Trade}
 use Rattle.atl_market.specs.declared.trade.Trade.TheVariants.{Sell, Buy}
 use Rattle.atl_market.proofs.AtOnceLaws.{drawn_is_sum}
 use Rattle.atl_market.proofs.DrawLaws.{AreUntouched, all_pairs, drawn, still, untouched}
-use Rattle.atl_market.proofs.PotLaws.{found_other}
 use Rattle.atl_market.proofs.TradeLaws.{market_is, stock_is, draws_item, traded_is, traded_others, trades_give}
 use Rattle.atl_market.proofs.WantLaws.{given_is_named}
 

@@ -15,10 +15,10 @@ use Rattle.atl_campaign.specs.Campaign.{CampaignValue}
 use Rattle.atl_campaign.proofs.ReadBackLaws.{Rise, entries_rise}
 use Rattle.atl_records.proofs.EveryLaws.{each-from_every, first, other_number, same_number}
 use Rattle.atl_phase.specs.PhaseOrders.{Task}
+use Rattle.atl_pots.proofs.PotLaws.{found_other}
 use Rattle.atl_market.specs.AtOnce.{PaysAtOnce, RegionChange, UnitChange, paid_unit, is_in_region}
 use Rattle.atl_market.specs.PotPhase.{PotMeaning, after_sharing, given_by, items_by}
 use Rattle.atl_market.proofs.DrawLaws.{AreUntouched, Drawers, all_pairs, drawn, still, untouched, draws_region}
-use Rattle.atl_market.proofs.PotLaws.{found_other}
 
 -- the condition that a unit's region is in the campaign, where payments need the region (the first argument); else it
 -- always holds

@@ -16,9 +16,9 @@ use Rattle.atl_campaign.specs.Campaign.{CampaignValue, region_changed}
 use Rattle.atl_campaign.proofs.ReadBackLaws.{Rise, entries_rise}
 use Rattle.atl_records.proofs.EveryLaws.{each-from_every, get-insert_other, other_number, same_number}
 use Rattle.atl_campaign.proofs.RegionLaws.{changed-known, get-insert_same}
+use Rattle.atl_pots.specs.Pots.{amount_given, pot_shares, takers_in, wants_in}
+use Rattle.atl_pots.proofs.PotLaws.{IsRisen, gives_each_pot, only_takers_get, taker_listed, takers_risen}
 use Rattle.atl_market.specs.AtOnce.{is_in_region}
-use Rattle.atl_market.specs.Pots.{amount_given, pot_shares, takers_in, wants_in}
-use Rattle.atl_market.proofs.PotLaws.{IsRisen, gives_each_pot, only_takers_get, taker_listed, takers_risen}
 use Rattle.atl_campaign.proofs.NumberListLaws.{IsListed}
 
 listed_is_above : (n : ℕ) (ns : List ℕ) → AllByRecursion (λ k. n < k) ns → (k : ℕ) → IsListed k ns → n < k

@@ -1,4 +1,3 @@
-pub mod PotLaws
 pub mod TurnLaws
 pub mod WantLaws
 pub mod AskLaws
@@ -19,8 +18,6 @@ pub mod BuildUsedLaws
 pub mod BuildBegunLaws
 pub mod BuildPlaceLaws
 pub mod BuildLaws
-pub mod WantGroupLaws
-pub mod ItemPotLaws
 pub mod MakesLaws
 pub mod ItemUseLaws
 pub mod ProduceLaws

@@ -10,10 +10,10 @@ use Rattle.atl_world.specs.Worlds.{WorldValue}
 use Rattle.atl_campaign.specs.Campaign.{CampaignValue}
 use Rattle.atl_campaign.proofs.ReadBackLaws.{Rise, entries_rise}
 use Rattle.atl_records.proofs.EveryLaws.{first, none_some}
-use Rattle.atl_market.specs.Puts.{with_entries}
+use Rattle.atl_pots.specs.Puts.{with_entries}
+use Rattle.atl_pots.proofs.ItemPotLaws.{items_give}
+use Rattle.atl_pots.proofs.PotLaws.{found_other, risen_put}
 use Rattle.atl_market.specs.Produce.{made_amounts, amount_made, output_at, output_item, output_share, produce_pots, takes_raw}
-use Rattle.atl_market.proofs.ItemPotLaws.{items_give}
-use Rattle.atl_market.proofs.PotLaws.{found_other, risen_put}
 use Rattle.atl_market.proofs.WantLaws.{GivesToWants}
 
 -- ---- entries with other amounts under the same numbers

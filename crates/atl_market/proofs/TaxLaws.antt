@@ -30,6 +30,7 @@ use Rattle.atl_phase.specs.Unbooked.{moves_nothing}
 use Rattle.atl_phase.specs.PhaseOrders.{Task}
 use Rattle.atl_phase.proofs.MeaningLaws.{near_same, same_month_by, well_within}
 use Rattle.atl_phase.proofs.NoWorseLaws.{are_no_worse, are_no_worse_twice}
+use Rattle.atl_pots.proofs.PotLaws.{pots_give}
 use Rattle.atl_market.specs.PotPhase.{after_sharing, given_by}
 use Rattle.atl_market.specs.Bounds.{CanInTurn}
 use Rattle.atl_market.specs.Tax.{after_tax, money_at, tax_pots}
@@ -37,7 +38,6 @@ use Rattle.atl_market.proofs.DrawLaws.{SharesArePayable, Drains, DrawnPots, Have
 use Rattle.atl_market.proofs.MoreMoneyLaws.{others_stay, paid, richer, richer_is, richer_no_worse}
 use Rattle.atl_market.proofs.ThereLaws.{by_region, by_unit, region_there, unit_there}
 use Rattle.atl_market.proofs.TurnLaws.{turns_leave_well}
-use Rattle.atl_market.proofs.PotLaws.{pots_give}
 use Rattle.atl_market.proofs.WantLaws.{given_is_wanted}
 use Rattle.atl_market.specs.Payable.{CanTax}
 

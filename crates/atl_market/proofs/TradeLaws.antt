@@ -46,9 +46,10 @@ use Rattle.atl_phase.proofs.BookingLaws.{within-neg, within-pos}
 use Rattle.atl_phase.proofs.ChangeLaws.{changed_held}
 use Rattle.atl_phase.proofs.MarkLaws.{marks_by}
 use Rattle.atl_phase.proofs.MeaningLaws.{room_less, well_unchanged, well_within}
+use Rattle.atl_pots.specs.ItemPots.{share_for}
+use Rattle.atl_pots.specs.Pots.{asks_for, wants_for}
+use Rattle.atl_pots.proofs.ItemPotLaws.{items_give, shares_at}
 use Rattle.atl_market.specs.AtOnce.{is_in_region}
-use Rattle.atl_market.specs.ItemPots.{share_for}
-use Rattle.atl_market.specs.Pots.{asks_for, wants_for}
 use Rattle.atl_market.specs.PotPhase.{after_sharing, count_in, given_by, item_in, items_by, wants_by}
 use Rattle.atl_market.specs.Bounds.{CanInTurn}
 use Rattle.atl_market.specs.Trade.{after_trade, limit_of, market_for, market_pot, trade_entry, trade_fault, trade_moves, trade_pot, trade_pots, trade_result_of, trade_want, with_trade_booked, with_trade_result}
@@ -59,7 +60,6 @@ use Rattle.atl_market.specs.declared.trade.Trade.{Trade}
 use Rattle.atl_market.specs.declared.trade.Trade.TheVariants.{Sell, Buy}
 use Rattle.atl_market.proofs.DrawLaws.{SharesArePayable, Drains, DrawnPots, HaveEnough, all_pairs, drawn, first_draws, nothing_drains, ready_after, region_drains, shares_are_enough, untouched}
 use Rattle.atl_market.proofs.ExchangeLaws.{KeepsTogether, exchange_well}
-use Rattle.atl_market.proofs.ItemPotLaws.{items_give, shares_at}
 use Rattle.atl_market.proofs.UnorderedLaws.{others_no_worse}
 use Rattle.atl_market.proofs.ProduceLaws.{only_room}
 use Rattle.atl_market.proofs.ThereLaws.{by_option, by_unit, unit_there}

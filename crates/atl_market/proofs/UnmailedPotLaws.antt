@@ -23,6 +23,7 @@ use Rattle.atl_phase.specs.Unmailed.{men_starved_by, starved_in}
 use Rattle.atl_phase.specs.declared.phase_order.Arrangement.TheVariants.{ByUnit}
 use Rattle.atl_phase.proofs.PhaseSpecLaws.{PhaseLeavesUnmailed}
 use Rattle.atl_phase.proofs.UnmailedLaws.{HasItsItems, HasItsMen, HaveTheirMen, LeavesUnmailed, UnmailedAre, items_of_no_worse, men_changed, men_in_turn, men_stay, none_ordered, whole_leaves}
+use Rattle.atl_pots.proofs.PotLaws.{pots_give}
 use Rattle.atl_market.specs.PotPhase.{PotMeaning, after_sharing, event_of, events_by, given_by, items_by, pots_meaning}
 use Rattle.atl_market.specs.Recruit.{is_recruit, recruit_pots, recruit_spec, recruits_at}
 use Rattle.atl_market.specs.Tax.{after_tax, is_tax, tax_pots, tax_spec}
@@ -32,7 +33,6 @@ use Rattle.atl_market.specs.declared.trade.Trade.TheVariants.{Buy, Sell}
 use Rattle.atl_market.specs.Unordered.{OthersAreNoWorse, has_own_order}
 use Rattle.atl_market.specs.Work.{after_work, wages_for, work_orders, work_pots, work_spec}
 use Rattle.atl_market.proofs.UnorderedLaws.{without_order_stays}
-use Rattle.atl_market.proofs.PotLaws.{pots_give}
 use Rattle.atl_market.proofs.RecruitLaws.{recruited_others}
 use Rattle.atl_market.proofs.ThereLaws.{by_region, by_unit}
 use Rattle.atl_market.proofs.TradeLaws.{traded_others, trades_give}

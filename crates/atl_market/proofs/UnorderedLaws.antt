@@ -14,11 +14,11 @@ use Rattle.atl_campaign.specs.Campaign.{CampaignValue}
 use Rattle.atl_records.proofs.EveryLaws.{each-from_every, get-insert_other, none_some}
 use Rattle.atl_phase.specs.PhaseOrders.{Task}
 use Rattle.atl_phase.proofs.NoWorseLaws.{no_worse}
+use Rattle.atl_pots.specs.Puts.{with_entry_if_some, with_entries}
+use Rattle.atl_pots.proofs.PotLaws.{put_in_turn}
 use Rattle.atl_market.specs.PotPhase.{PotMeaning, after_sharing, given_by, items_by, unit_for, want_by, wants_by}
-use Rattle.atl_market.specs.Puts.{with_entry_if_some, with_entries}
 use Rattle.atl_market.specs.Unordered.{OthersAreNoWorse, has_own_order}
 use Rattle.atl_market.proofs.DrawLaws.{all_pairs}
-use Rattle.atl_market.proofs.PotLaws.{put_in_turn}
 use Rattle.atl_market.proofs.WantLaws.{GivesToWants, optional_entry_first, carries_out}
 
 -- ---- units without an order want nothing

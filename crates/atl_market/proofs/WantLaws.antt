@@ -26,10 +26,10 @@ use Rattle.atl_campaign.proofs.RegionLaws.{get-insert_same}
 use Rattle.atl_phase.specs.PhaseOrders.{Task}
 use Rattle.atl_phase.specs.OrderEffects.{of_faction}
 use Rattle.atl_phase.proofs.MapOfListLaws.{find_is}
-use Rattle.atl_market.proofs.PotLaws.{put_in_turn}
+use Rattle.atl_pots.proofs.PotLaws.{put_in_turn}
+use Rattle.atl_pots.specs.Pots.{AreWants}
+use Rattle.atl_pots.specs.Puts.{with_entry_if_some, with_entries}
 use Rattle.atl_market.specs.PotPhase.{PotMeaning, carrier_of, given_by, item_by, item_in, items_by, unit_for, unless_fault, want_by, wants_by}
-use Rattle.atl_market.specs.Pots.{AreWants}
-use Rattle.atl_market.specs.Puts.{with_entry_if_some, with_entries}
 
 -- a phase gives only to units with a want, and to none more than it wants
 abbrev pub GivesToWants : PotMeaning → WorldValue → CampaignValue → Type 0

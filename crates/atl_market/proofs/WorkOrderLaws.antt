@@ -28,7 +28,7 @@ use Rattle.atl_phase.specs.declared.phase_order.PhaseOrder.{PhaseOrder}
 use Rattle.atl_phase.proofs.MappedLaws.{no_entries}
 use Rattle.atl_phase.proofs.OrderKeyLaws.{listed_tasks}
 use Rattle.atl_phase.specs.OrderEffects.{is_of_faction}
-use Rattle.atl_market.specs.Puts.{with_entries}
+use Rattle.atl_pots.specs.Puts.{with_entries}
 use Rattle.atl_market.specs.Idle.{all_idle_orders, all_work, idle_order, own_unit, own_writers}
 use Rattle.atl_market.specs.Unordered.{has_own_order}
 use Rattle.atl_market.specs.Work.{idle_task, idle_work, is_idle, is_work, work_orders, written_work}

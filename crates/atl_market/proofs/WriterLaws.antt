@@ -9,7 +9,7 @@ use Rattle.std.proofs.lemmas.Grind.{flat_map-append}
 use Rattle.atl_campaign.specs.Campaign.{CampaignValue}
 use Rattle.atl_phase.specs.PhaseOrders.{Task}
 use Rattle.atl_phase.specs.OrderEffects.{is_of_faction}
-use Rattle.atl_market.specs.Puts.{with_entries}
+use Rattle.atl_pots.specs.Puts.{with_entries}
 use Rattle.atl_market.specs.Idle.{own_unit, own_writers, with_writer}
 use Rattle.atl_market.proofs.WantLaws.{appended_entries}
 

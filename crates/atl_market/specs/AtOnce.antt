@@ -10,7 +10,7 @@ use Rattle.atl_records.specs.declared.records.Unit.{Unit}
 use Rattle.atl_records.specs.Holdings.{amount_of}
 use Rattle.atl_campaign.specs.Campaign.{CampaignValue}
 use Rattle.atl_phase.specs.PhaseOrders.{Task}
-use Rattle.atl_market.specs.Pots.{asks_for}
+use Rattle.atl_pots.specs.Pots.{asks_for}
 use Rattle.atl_market.specs.PotPhase.{PotMeaning, after_sharing, given_by}
 
 -- whether a unit is there (Some) and is in the region with the given number

@@ -9,7 +9,7 @@ use Rattle.atl_records.specs.declared.records.Unit.{Unit}
 use Rattle.atl_campaign.specs.Campaign.{CampaignValue}
 use Rattle.atl_phase.specs.PhaseOrders.{Task}
 use Rattle.atl_phase.specs.OrderEffects.{is_of_faction}
-use Rattle.atl_market.specs.Puts.{with_entries}
+use Rattle.atl_pots.specs.Puts.{with_entries}
 use Rattle.atl_market.specs.Work.{idle_task, written_work}
 
 -- the unit of an order with the faction that wrote it, if the unit is of that faction; else nothing

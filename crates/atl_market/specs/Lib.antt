@@ -1,7 +1,3 @@
-pub mod Pots
-pub mod Puts
-pub mod WantGroups
-pub mod ItemPots
 pub mod PotPhase
 pub mod AtOnce
 pub mod Unordered

@@ -21,8 +21,8 @@ use Rattle.atl_campaign.specs.Campaign.{CampaignValue}
 use Rattle.atl_phase.specs.Meaning.{BookBound, Frame, Meaning, most_moved}
 use Rattle.atl_phase.specs.Outcomes.{first_fault}
 use Rattle.atl_phase.specs.PhaseSpecs.{PhaseSpec}
+use Rattle.atl_pots.specs.ItemPots.{item_share}
 use Rattle.atl_market.specs.Goods.{with_made, with_used}
-use Rattle.atl_market.specs.ItemPots.{item_share}
 use Rattle.atl_market.specs.PotPhase.{PotMeaning, item_in, pots_by_orders}
 use Rattle.atl_market.specs.Unordered.{no_worse_without_order}
 

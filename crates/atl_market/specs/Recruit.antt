@@ -17,7 +17,7 @@ use Rattle.atl_campaign.specs.Campaign.{CampaignValue, with_booking, with_peasan
 use Rattle.atl_phase.specs.Meaning.{BookBound, Frame, Meaning, moves_only}
 use Rattle.atl_phase.specs.Outcomes.{first_fault}
 use Rattle.atl_phase.specs.There.{at_region, at_unit}
-use Rattle.atl_market.specs.Pots.{pot_shares}
+use Rattle.atl_pots.specs.Pots.{pot_shares}
 use Rattle.atl_market.specs.PotPhase.{PotMeaning, count_in, pots_by_orders}
 use Rattle.atl_market.specs.Unordered.{no_worse_without_order}
 use Rattle.atl_phase.specs.PhaseSpecs.{PhaseSpec, books_money}

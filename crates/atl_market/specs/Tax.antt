@@ -14,7 +14,7 @@ use Rattle.atl_phase.specs.Meaning.{Meaning}
 use Rattle.atl_phase.specs.NoWorse.{all_no_worse}
 use Rattle.atl_phase.specs.Outcomes.{first_fault}
 use Rattle.atl_phase.specs.There.{at_region, at_unit}
-use Rattle.atl_market.specs.Pots.{pot_shares}
+use Rattle.atl_pots.specs.Pots.{pot_shares}
 use Rattle.atl_market.specs.PotPhase.{PotMeaning, pots_by_orders}
 use Rattle.atl_phase.specs.PhaseSpecs.{PhaseSpec, spec_without_books}
 

@@ -23,10 +23,10 @@ use Rattle.atl_phase.specs.Meaning.{BookBound, Frame, Meaning, moves_only}
 use Rattle.atl_phase.specs.Outcomes.{first_fault}
 use Rattle.atl_phase.specs.There.{at_unit}
 use Rattle.atl_phase.specs.PhaseSpecs.{PhaseSpec, books_money}
+use Rattle.atl_pots.specs.ItemPots.{item_shares}
 use Rattle.atl_market.specs.declared.trade.TradeResult.{TradeResult}
 use Rattle.atl_market.specs.declared.trade.Trade.{Trade}
 use Rattle.atl_market.specs.declared.trade.Trade.TheVariants.{Sell, Buy}
-use Rattle.atl_market.specs.ItemPots.{item_shares}
 use Rattle.atl_market.specs.PotPhase.{PotMeaning, count_in, item_in, pots_by_orders}
 use Rattle.atl_market.specs.Unordered.{no_worse_without_order}
 

@@ -23,9 +23,9 @@ use Rattle.atl_phase.specs.NoWorse.{all_no_worse}
 use Rattle.atl_phase.specs.declared.phase_order.Arrangement.TheVariants.{ByUnit}
 use Rattle.atl_phase.specs.Outcomes.{first_fault}
 use Rattle.atl_phase.specs.There.{at_unit}
+use Rattle.atl_pots.specs.Pots.{pot_shares}
 use Rattle.atl_market.specs.Unordered.{has_own_order}
 use Rattle.atl_market.specs.PotPhase.{PotMeaning, pots_meaning}
-use Rattle.atl_market.specs.Pots.{pot_shares}
 use Rattle.atl_phase.specs.PhaseSpecs.{PhaseSpec, books_money}
 
 -- ---- who works

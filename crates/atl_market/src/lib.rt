@@ -1,23 +1,21 @@
-//! The pots of regions and of items, and the phases that share them: SELL, BUY, TAX, RECRUIT,
-//! PRODUCE and WORK; and the phase BUILD.
+//! The phases that share the pots of regions and of items: SELL, BUY, TAX, RECRUIT, PRODUCE and
+//! WORK; and the phase BUILD.
 #![tactic(auto)]
 
 mod build;
 mod goods;
-mod item_pots;
 mod making;
 mod outputs;
 mod pot_phase;
-pub mod pots;
 pub mod produce;
 pub mod recruit;
 pub mod tax;
 pub mod trade;
 pub mod work;
 
+pub use atl_pots::{Pots, pot_shares, pots};
 pub use atl_shares::{share, shares};
 pub use build::BuildPhase;
-pub use pots::{Pots, pot_shares};
 pub use produce::ProducePhase;
 pub use recruit::RecruitPhase;
 pub use tax::TaxPhase;

@@ -1,15 +1,14 @@
 //! How much each unit makes in PRODUCE: its share of what the terrain of its region gives, or what
 //! its raw items allow. See docs/RULES.md, "Producing".
 ghost use Rattle.std.specs.Prelude.{⊤, ◌≡◌, map, IfOk};
-ghost use Rattle.atl_market.specs.ItemPots.{item_shares};
-ghost use Rattle.atl_market.specs.Pots.{AreWants};
+ghost use Rattle.atl_pots.specs.ItemPots.{item_shares};
+ghost use Rattle.atl_pots.specs.Pots.{AreWants};
+ghost use Rattle.atl_pots.specs.Puts.{with_entries};
 ghost use Rattle.atl_market.specs.Produce.{made_amounts, amount_made, output_at, output_item, takes_raw};
-ghost use Rattle.atl_market.specs.Puts.{with_entries};
 
-use crate::item_pots::{ItemPots, item_shares};
 use crate::making::item_of;
-use crate::pots::AskedPots;
 use atl_campaign::Campaign;
+use atl_pots::{AskedPots, ItemPots, item_shares};
 use atl_world::{Numbered, World};
 use std::alloc::{AllocError, Global};
 
@@ -61,7 +60,7 @@ impl<'a> ItemPots for Outputs<'a> {
     }
 }
 
-#[tactic(auto, using(crate::proofs::ItemPotLaws::shares_at))]
+#[tactic(auto, using(atl_pots::proofs::ItemPotLaws::shares_at))]
 fn amount_made(
     world: &World,
     campaign: &Campaign,

@@ -8,12 +8,12 @@ ghost use Rattle.atl_market.specs.PotPhase.{asks_count};
 ghost use Rattle.atl_market.specs.AfterPots.{RecruitsAtOnce};
 
 use crate::pot_phase::{PotPhase, named_count, share_out};
-use crate::pots::{Pots, pot_shares};
 use atl_campaign::{BooksEntry, Campaign, EventFault, MEN_LIMIT, Thing, Unit};
 use atl_orders::Verb;
 use atl_phase::{
     Arrangement, Month, Phase, PhaseOrder, PhaseResult, PhaseVerbs, add_events, book_taken,
 };
+use atl_pots::{Pots, pot_shares};
 use atl_world::{Numbered, World};
 use std::alloc::{AllocError, Global};
 

@@ -7,10 +7,10 @@ ghost use Rattle.atl_market.specs.Payable.{CanTax};
 ghost use Rattle.atl_market.specs.AfterPots.{TaxesAtOnce};
 
 use crate::pot_phase::{PotPhase, share_out};
-use crate::pots::{Pots, pot_shares};
 use atl_campaign::{Campaign, EventFault, HOLDING_LIMIT, Unit};
 use atl_orders::Verb;
 use atl_phase::{Arrangement, Month, Phase, PhaseOrder, PhaseResult, PhaseVerbs, add_events};
+use atl_pots::{Pots, pot_shares};
 use atl_world::{Numbered, World};
 use std::alloc::{AllocError, Global};
 

@@ -13,13 +13,12 @@ ghost use Rattle.atl_market.specs.Trading.{CanAfford, CanBookTrade, CanTrade, Po
 ghost use Rattle.atl_market.specs.PotPhase.{asks_count};
 ghost use Rattle.atl_market.specs.AfterPots.{TradesAtOnce};
 
-use crate::item_pots::{ItemPots, item_shares};
 use crate::pot_phase::{PotPhase, named_count, named_item, share_out};
-use crate::pots::AskedPots;
 use crate::produce::world_is_well_formed;
 use atl_campaign::{BooksEntry, Campaign, EventFault, HOLDING_LIMIT, Holding, Thing, Unit};
 use atl_orders::Verb;
 use atl_phase::{Arrangement, Month, Phase, PhaseOrder, PhaseResult, PhaseVerbs, add_events};
+use atl_pots::{AskedPots, ItemPots, item_shares};
 use atl_world::{Market, Numbered, World};
 use std::alloc::{AllocError, Global};
 

@@ -20,12 +20,12 @@ ghost use Rattle.atl_market.specs.AfterPots.{WorksAtOnce};
 ghost use Rattle.atl_market.specs.Payable.{CanWork};
 
 use crate::pot_phase::{PotPhase, share_out};
-use crate::pots::{Pots, pot_shares};
 use atl_campaign::{BooksEntry, Campaign, EventFault, HOLDING_LIMIT, Thing, Unit};
 use atl_orders::{Mailing, Operands, Order, Verb};
 use atl_phase::{
     Arrangement, Month, MonthLongVerbs, Phase, PhaseOrder, PhaseResult, add_events, is_of_faction,
 };
+use atl_pots::{Pots, pot_shares};
 use atl_world::{Marks, Numbered, Sequence, World};
 use std::alloc::{AllocError, Global};
 

@@ -17,7 +17,7 @@ use Rattle.atl_campaign.proofs.ReadBackLaws.{Rise, entries_rise}
 use Rattle.atl_phase.specs.Month.{MonthValue}
 use Rattle.atl_phase.specs.Unmailed.{IsLessBy, men_starved_by, starved_in}
 use Rattle.atl_phase.proofs.UnmailedLaws.{ClosesUnmailed, LeavesUnmailed, men_same, whole_leaves}
-use Rattle.atl_market.proofs.PotLaws.{found_other}
+use Rattle.atl_pots.proofs.PotLaws.{found_other}
 use Rattle.atl_month.specs.declared.upkeep_sharing.UpkeepInput.{UpkeepInput}
 use Rattle.atl_month.specs.declared.upkeep_sharing.UpkeepResult.{UpkeepResult}
 use Rattle.atl_month.specs.Season.{season_keeps, season_meaning}

@@ -1,7 +1,7 @@
 //! Tests of sharing the pots of two regions among units, against results worked out by hand
 //! (docs/RULES.md, "Shares").
 ghost use Rattle.std.specs.Prelude.{IfOk, ⊤};
-ghost use Rattle.atl_market.specs.Pots.{AreWants};
+ghost use Rattle.atl_pots.specs.Pots.{AreWants};
 ghost use Rattle.atl_month_tests.specs.Places.{pot_in};
 
 use super::row_text::{assert_row, write_pair};

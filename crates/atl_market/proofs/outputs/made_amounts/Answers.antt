@@ -1,6 +1,6 @@
 use Rattle.std.proofs.Common.{◌≡◌, [], ◌∙◌, ap, map, rules, sym}
+use Rattle.atl_pots.specs.Puts.{with_entries}
 use Rattle.atl_market.specs.Produce.{amount_made}
-use Rattle.atl_market.specs.Puts.{with_entries}
 use Rattle.atl_market.proofs.MakesLaws.{makes_are}
 use Rattle.atl_market.proofs.outputs.made_amounts.Goals as goal
 

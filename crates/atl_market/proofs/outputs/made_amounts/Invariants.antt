@@ -1,7 +1,7 @@
 use Rattle.std.proofs.Common.{◌≡◌, map}
 use Rattle.std.specs.FinMap.{empty, entries}
+use Rattle.atl_pots.specs.Puts.{with_entries}
 use Rattle.atl_market.specs.Produce.{amount_made}
-use Rattle.atl_market.specs.Puts.{with_entries}
 use Rattle.atl_market.proofs.outputs.made_amounts.Given as goal
 
 -- putting what the units still to come make into the map so far gives the map of what all units make

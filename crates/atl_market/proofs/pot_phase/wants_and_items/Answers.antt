@@ -4,9 +4,9 @@ use Rattle.atl_phase.proofs.FoldLaws.{each_mapped}
 use Rattle.std.specs.List.{filter_map}
 use Rattle.atl_world.specs.Limits.{most_amount}
 use Rattle.atl_records.proofs.EveryLaws.{every-empty}
+use Rattle.atl_pots.specs.Puts.{with_entries}
+use Rattle.atl_pots.proofs.PotLaws.{put_in_turn}
 use Rattle.atl_market.specs.PotPhase.{item_by, want_by}
-use Rattle.atl_market.specs.Puts.{with_entries}
-use Rattle.atl_market.proofs.PotLaws.{put_in_turn}
 use Rattle.atl_market.proofs.pot_phase.wants_and_items.Goals as goal
 
 pub loop-order-init : goal.loop-order-init

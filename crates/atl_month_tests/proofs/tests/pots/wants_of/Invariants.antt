@@ -1,4 +1,4 @@
-use Rattle.atl_market.specs.Pots.{AreWants}
+use Rattle.atl_pots.specs.Pots.{AreWants}
 use Rattle.atl_month_tests.proofs.tests.pots.wants_of.Given as goal
 
 -- before each taker: no want in the map is more than 999,999,999 (`AreWants`)

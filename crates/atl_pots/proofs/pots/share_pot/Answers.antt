@@ -2,7 +2,7 @@ use Rattle.std.proofs.Common.{◌∙◌, ap, length}
 use Rattle.std.proofs.lemmas.List.{length-map}
 use Rattle.std.specs.FinMap.{entries}
 use Rattle.atl_shares.proofs.ShareLaws.{length-shares}
-use Rattle.atl_market.proofs.pots.share_pot.Goals as goal
+use Rattle.atl_pots.proofs.pots.share_pot.Goals as goal
 
 pub put_shares-requires-clause-length : goal.put_shares-requires-clause-length
 put_shares-requires-clause-length c =

@@ -17,10 +17,10 @@ use Rattle.atl_campaign.specs.Campaign.{CampaignValue}
 use Rattle.atl_campaign.proofs.GroupLaws.{filter_each}
 use Rattle.atl_campaign.proofs.ReadBackLaws.{Rise, entries_rise}
 use Rattle.atl_campaign.proofs.RegionLaws.{get-insert_same}
-use Rattle.atl_market.specs.Pots.{AreWants, asks_for, pot_shares, region_of_unit, share_of, shares_in, wants_at, wants_for}
-use Rattle.atl_market.specs.Puts.{with_entries}
-use Rattle.atl_market.specs.WantGroups.{WantGroups, all_region_shares, grouped, region_shares, with_want}
-use Rattle.atl_market.proofs.PotLaws.{AgreeWith, Entries, agreeing_put, asking, each_flat, found_among, found_is, found_put, given_takes, region_agrees, rise_apart, somewhere, taker_wants, want_at}
+use Rattle.atl_pots.specs.Pots.{AreWants, asks_for, pot_shares, region_of_unit, share_of, shares_in, wants_at, wants_for}
+use Rattle.atl_pots.specs.Puts.{with_entries}
+use Rattle.atl_pots.specs.WantGroups.{WantGroups, all_region_shares, grouped, region_shares, with_want}
+use Rattle.atl_pots.proofs.PotLaws.{AgreeWith, Entries, agreeing_put, asking, each_flat, found_among, found_is, found_put, given_takes, region_agrees, rise_apart, somewhere, taker_wants, want_at}
 
 pub each_if_all : {A : Type 0} (P : A → Type 0) → ((x : A) → P x) → (xs : List A) → AllByRecursion P xs
 each_if_all P h [] = tt

@@ -4,9 +4,9 @@ ghost use Rattle.std.specs.Prelude.{◌≡◌, ◌≤◌, All, IfOk, OnOk, lengt
 ghost use Rattle.std.specs.List.{zip};
 ghost use Rattle.std.specs.FinMap.{entries, keys};
 ghost use Rattle.atl_world.specs.Limits.{most_amount};
-ghost use Rattle.atl_market.specs.WantGroups.{all_region_shares, grouped, region_shares, with_want};
-ghost use Rattle.atl_market.specs.Pots.{AreWants, EachTakerGets, GivesEachPot, OnlyTakersGet, OtherRegionsDoNotCount, SharesEachPot, amounts_of, pot_shares, region_of_unit, shares_of};
-ghost use Rattle.atl_market.specs.Puts.{with_entries};
+ghost use Rattle.atl_pots.specs.WantGroups.{all_region_shares, grouped, region_shares, with_want};
+ghost use Rattle.atl_pots.specs.Pots.{AreWants, EachTakerGets, GivesEachPot, OnlyTakersGet, OtherRegionsDoNotCount, SharesEachPot, amounts_of, pot_shares, region_of_unit, shares_of};
+ghost use Rattle.atl_pots.specs.Puts.{with_entries};
 
 use atl_campaign::Campaign;
 use atl_shares::share;
@@ -31,7 +31,7 @@ pub trait Pots {
 }
 
 /// Which pot each unit asks for: that of its region, or that of an item.
-pub(crate) trait AskedPots {
+pub trait AskedPots {
     ghost use Rattle.std.specs.Prelude.{ℕ, Option, ◌≡◌};
 
     // The number of the pot that a unit asks for, by the unit's number; None if it asks for none.

@@ -1,10 +1,10 @@
 use Rattle.std.proofs.Common.{◌≡◌}
 use Rattle.std.specs.List.{flat_map}
 use Rattle.atl_records.specs.Every.{EachEntry}
-use Rattle.atl_market.specs.Pots.{AreWants}
-use Rattle.atl_market.specs.Puts.{with_entries}
-use Rattle.atl_market.specs.WantGroups.{all_region_shares, region_shares}
-use Rattle.atl_market.proofs.pots.share_regions.Given as goal
+use Rattle.atl_pots.specs.Pots.{AreWants}
+use Rattle.atl_pots.specs.Puts.{with_entries}
+use Rattle.atl_pots.specs.WantGroups.{all_region_shares, region_shares}
+use Rattle.atl_pots.proofs.pots.share_regions.Given as goal
 
 -- putting the shares of the regions still to come into the map so far gives the map before the loop with the shares of
 -- all regions put in

@@ -20,8 +20,8 @@ use Rattle.atl_records.proofs.EveryLaws.{each-from_every, every-from_each, first
 use Rattle.atl_records.proofs.AmountListLaws.{all_append}
 use Rattle.atl_campaign.proofs.RegionLaws.{get-insert_same}
 use Rattle.atl_shares.specs.Share.{shares}
-use Rattle.atl_market.specs.Pots.{AreWants, amounts_of, asks_for, wants_for, wants_at, region_of_unit, takers_in, wants_in, shares_in, pot_shares, share_of, OnlyTakersGet, EachTakerGets, SharesEachPot, GivesEachPot, OtherRegionsDoNotCount}
-use Rattle.atl_market.specs.Puts.{with_entries}
+use Rattle.atl_pots.specs.Pots.{AreWants, amounts_of, asks_for, wants_for, wants_at, region_of_unit, takers_in, wants_in, shares_in, pot_shares, share_of, OnlyTakersGet, EachTakerGets, SharesEachPot, GivesEachPot, OtherRegionsDoNotCount}
+use Rattle.atl_pots.specs.Puts.{with_entries}
 use Rattle.atl_shares.proofs.ShareLaws.{all_is_given, share_at_most, length-shares}
 
 -- pairs of a unit's number and an amount, such as its share

@@ -6,7 +6,7 @@ use Rattle.std.specs.Ordering.{nat_cmp}
 use Rattle.std.specs.FinMap.{FinMap, empty, entries, get, insert}
 use Rattle.atl_world.specs.Groups.{group_of}
 use Rattle.atl_campaign.specs.Campaign.{CampaignValue}
-use Rattle.atl_market.specs.Pots.{region_of_unit, shares_of}
+use Rattle.atl_pots.specs.Pots.{region_of_unit, shares_of}
 
 -- the wants of units: for each pot a map from each unit that asks for it to its want
 abbrev pub WantGroups : Type 0

@@ -1,8 +1,8 @@
 use Rattle.std.proofs.Common.{◌≡◌, ◌+◌, drop, length, map}
 use Rattle.std.specs.FinMap.{keys}
 use Rattle.std.specs.List.{zip}
-use Rattle.atl_market.specs.Puts.{with_entries}
-use Rattle.atl_market.proofs.pots.put_shares.Given as goal
+use Rattle.atl_pots.specs.Puts.{with_entries}
+use Rattle.atl_pots.proofs.pots.put_shares.Given as goal
 
 -- putting the shares still to come into the map so far gives the map before the loop with all shares put in
 abbrev pub invariant-loop-unit : goal.invariant-loop-unit

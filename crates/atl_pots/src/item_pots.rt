@@ -2,8 +2,8 @@
 //! See docs/RULES.md, "Pots".
 ghost use Rattle.std.specs.Prelude.{◌≡◌, IfOk};
 ghost use Rattle.atl_world.specs.Limits.{most_amount};
-ghost use Rattle.atl_market.specs.ItemPots.{item_shares};
-ghost use Rattle.atl_market.specs.Pots.{AreWants};
+ghost use Rattle.atl_pots.specs.ItemPots.{item_shares};
+ghost use Rattle.atl_pots.specs.Pots.{AreWants};
 
 use crate::pots::{AskedPots, Pots, group_wants, share_regions};
 use atl_campaign::Campaign;
@@ -12,7 +12,7 @@ use std::alloc::{AllocError, Global};
 
 /// The pots of items: how much each region has to share of each item. Which item each unit asks for
 /// is said by `AskedPots`.
-pub(crate) trait ItemPots {
+pub trait ItemPots {
     ghost use Rattle.std.specs.Prelude.{ℕ, ◌≡◌, ◌≤◌};
 
     // The pot of an item in a region, by their numbers.
@@ -49,7 +49,7 @@ impl<'a, P: ItemPots> Pots for PotsOfItem<'a, P> {
 /// unit. All units get their shares at once. The function goes over the wants alone, and not over
 /// regions and units without one. AllocError without memory.
 #[tactic(auto, using(crate::proofs::ItemPotLaws::all_items_put, crate::proofs::WantGroupLaws::groups_are_wants))]
-pub(crate) fn item_shares<P: AskedPots + ItemPots>(
+pub fn item_shares<P: AskedPots + ItemPots>(
     alloc: Global,
     campaign: &Campaign,
     pots: &P,

@@ -5,7 +5,7 @@ use Rattle.std.specs.List.{filter_map}
 use Rattle.std.specs.Ordering.{nat_cmp}
 use Rattle.std.specs.FinMap.{FinMap, entries, from_entries}
 use Rattle.atl_campaign.specs.Campaign.{CampaignValue}
-use Rattle.atl_market.specs.Pots.{share_of, wants_for}
+use Rattle.atl_pots.specs.Pots.{share_of, wants_for}
 
 -- `item_of` gives, by a unit's number, the number of the item that it asks for, if any. `pot_of` gives how much of an
 -- item a region has to share. `wants` has how much each unit wants of its item, by unit.

@@ -2,10 +2,10 @@ use Rattle.std.proofs.Common.{◌≡◌}
 use Rattle.std.specs.FinMap.{empty, entries}
 use Rattle.std.specs.List.{flat_map}
 use Rattle.atl_records.specs.Every.{EachEntry}
-use Rattle.atl_market.specs.Pots.{AreWants}
-use Rattle.atl_market.specs.Puts.{with_entries}
-use Rattle.atl_market.specs.WantGroups.{grouped, shares_of_item}
-use Rattle.atl_market.proofs.item_pots.item_shares.Given as goal
+use Rattle.atl_pots.specs.Pots.{AreWants}
+use Rattle.atl_pots.specs.Puts.{with_entries}
+use Rattle.atl_pots.specs.WantGroups.{grouped, shares_of_item}
+use Rattle.atl_pots.proofs.item_pots.item_shares.Given as goal
 
 -- putting the shares of the items still to come into the map so far gives the map into which those of all items were
 -- put

@@ -1,5 +1,0 @@
-use Rattle.atl_market.proofs.PotLaws as laws
-use Rattle.atl_market.proofs.pots.takers_alone_get.Goals as goal
-
-pub returns : goal.returns
-returns c = record { only = laws.only_takers_get; each = laws.each_taker_gets }

@@ -1,0 +1,3 @@
+pub mod PotLaws
+pub mod WantGroupLaws
+pub mod ItemPotLaws

@@ -1,0 +1,4 @@
+pub mod Pots
+pub mod Puts
+pub mod WantGroups
+pub mod ItemPots
