@@ -53,7 +53,7 @@ use Rattle.atl_market.specs.AtOnce.{is_in_region}
 use Rattle.atl_market.specs.PotPhase.{after_sharing, count_in, given_by, item_in, items_by, wants_by}
 use Rattle.atl_market.specs.Bounds.{CanInTurn}
 use Rattle.atl_market.specs.Trade.{after_trade, limit_of, market_for, market_pot, trade_entry, trade_fault, trade_moves, trade_pot, trade_pots, trade_result_of, trade_want, with_trade_booked, with_trade_result}
-use Rattle.atl_market.specs.Trading.{CanAfford, CanBookTrade, CanTrade, PotAllowsShare}
+use Rattle.atl_market.specs.Trading.{CanAfford, CanBookTrade, CanTrade, MarketAllowsShare}
 use Rattle.atl_market.specs.Unordered.{OthersAreNoWorse}
 use Rattle.atl_market.specs.declared.trade.TradeResult.{TradeResult}
 use Rattle.atl_market.specs.declared.trade.Trade.{Trade}
@@ -192,7 +192,7 @@ module _ (w : WorldValue) (u : Unit) (m : Market) (stock share : ℕ) (there : m
   up_to a k limit few most = omega (arith, few, most)
 
   -- if the unit can afford the trade and the market's pot is large enough, the result of the trade is within all limits
-  pub deal_fits : (trade : Trade) → CanAfford trade u.holding share (Some m) → PotAllowsShare trade stock share (Some m)
+  pub deal_fits : (trade : Trade) → CanAfford trade u.holding share (Some m) → MarketAllowsShare trade stock share (Some m)
       → ResultFits w u m.item stock (trade_result_of trade u.holding stock share m)
   deal_fits Sell (enough, room) pot = record {
     money = room;
@@ -236,7 +236,7 @@ item_pots trade w units items =
     record { pot_region = λ k. k.0; draws = draws_item units items; left = λ k q. market_pot trade (limit_of w k.1 k.0) (amount_of q.stocks k.1) }
 
 pot_less : (trade : Trade) (h : HoldingValue) (limit stock share : ℕ) (m : Market) → limit ≡ m.limit
-    → PotAllowsShare trade stock share (Some m)
+    → MarketAllowsShare trade stock share (Some m)
     → market_pot trade limit (trade_result_of trade h stock share m).stock + share ≡ market_pot trade limit stock
 pot_less Sell h limit stock share m same pot = omega (arith, same, pot)
 pot_less Buy h limit stock share m same pot = omega (arith, pot)
@@ -401,10 +401,10 @@ module _ (trade : Trade) (items : FinMap nat_cmp ℕ) (w : WorldValue) (world : 
 
   -- a share that is at most the market's pot can be traded: the market has room for it (SELL) or has it in stock (BUY)
   has_pot : (limit stock share : ℕ) (m : Market) → limit ≡ m.limit → stock ≤ m.limit
-      → share ≤ market_pot trade limit stock → PotAllowsShare trade stock share (Some m)
+      → share ≤ market_pot trade limit stock → MarketAllowsShare trade stock share (Some m)
   has_pot limit stock share m same low few = by_trade trade few
     where
-      by_trade : (t : Trade) → share ≤ market_pot t limit stock → PotAllowsShare t stock share (Some m)
+      by_trade : (t : Trade) → share ≤ market_pot t limit stock → MarketAllowsShare t stock share (Some m)
       by_trade Sell few = omega (arith, same, low, few)
       by_trade Buy few = few
 

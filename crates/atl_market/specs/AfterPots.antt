@@ -48,8 +48,8 @@ stock_after Buy stock traded = stock - traded
 abbrev pub TradesAtOnce : Type 0
 TradesAtOnce =
     (trade : Trade) (w : WorldValue) (c : CampaignValue) (os : List Task) → IsWorld w →
-    let item_of = get (items_by (trade_pots trade) w c os) in
-    PaysItemsAtOnce (trade_pots trade) w item_of (λ n u share. trader_of trade u share (market_for w u (item_of n)))
+    let asked_item = get (items_by (trade_pots trade) w c os) in
+    PaysItemsAtOnce (trade_pots trade) w asked_item (λ n u share. trader_of trade u share (market_for w u (asked_item n)))
     (stock_after trade) c os
 
 -- a unit with its share of money added to its own
@@ -106,8 +106,8 @@ unit_after_production w u made asked = option_map_or (λ e. maker_of u made e.0 
 abbrev pub ProducesAtOnce : Type 0
 ProducesAtOnce =
     (w : WorldValue) (c : CampaignValue) (os : List Task) →
-    let item_of = get (items_by produce_pots w c os) in
-    PaysAtOnce produce_pots w (λ n u made. unit_after_production w u made (item_of n)) unchanged_region c os
+    let asked_item = get (items_by produce_pots w c os) in
+    PaysAtOnce produce_pots w (λ n u made. unit_after_production w u made (asked_item n)) unchanged_region c os
 
 -- The law that all units are paid for WORK at once, whatever the orders `os`. Each has the wages of its work places
 -- added to its money, and no region changes.

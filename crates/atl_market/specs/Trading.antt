@@ -28,10 +28,10 @@ CanAfford Sell h share (Some m) = (share ≤ amount_of h.items m.item) × (h.mon
 CanAfford Buy h share (Some m) = (share * m.price ≤ h.money) × (amount_of h.items m.item + share ≤ holding_limit)
 
 -- the market has room for `share` pieces (SELL), or has them in stock (BUY); always so without a market
-abbrev pub PotAllowsShare : Trade → (stock share : ℕ) → Option Market → Type 0
-PotAllowsShare trade stock share None = ⊤
-PotAllowsShare Sell stock share (Some m) = stock + share ≤ m.limit
-PotAllowsShare Buy stock share (Some m) = share ≤ stock
+abbrev pub MarketAllowsShare : Trade → (stock share : ℕ) → Option Market → Type 0
+MarketAllowsShare trade stock share None = ⊤
+MarketAllowsShare Sell stock share (Some m) = stock + share ≤ m.limit
+MarketAllowsShare Buy stock share (Some m) = share ≤ stock
 
 -- the conditions on a market's numbers: its two prices are at least 1, and its limit is at most 999,999,999
 pub record IsPriced (m : Market) : Type 0 where
@@ -48,7 +48,7 @@ pub record CanTrade (trade : Trade) (items : FinMap nat_cmp ℕ) (w : WorldValue
   -- the market of the order's item, if there is one, has room for the share (SELL) or has it in stock (BUY)
   pub pot :
       (m : Market) → market_for w at.unit (get items e.0) ≡ Some m
-      → PotAllowsShare trade (amount_of at.region.stocks m.item) e.1 (Some m)
+      → MarketAllowsShare trade (amount_of at.region.stocks m.item) e.1 (Some m)
   pub world : IsWorld w
   pub early : IsEarly w c
   -- the books have room for 999,999,999 money of the trade, sold or bought

@@ -9,7 +9,7 @@ ghost use Rattle.atl_campaign.specs.Good.{IsEarly};
 ghost use Rattle.atl_records.specs.declared.records.Unit.{Unit};
 ghost use Rattle.atl_phase.specs.Meaning.{most_moved};
 ghost use Rattle.atl_market.specs.Trade.{has_too_little, is_trade, limit_of, market_for, most_tradable, trade_entry, trade_fault, trade_keeps, trade_meaning, trade_moves, trade_of, trade_pot, trade_pots, trade_result_of, with_trade_booked};
-ghost use Rattle.atl_market.specs.Trading.{CanAfford, CanBookTrade, CanTrade, PotAllowsShare, IsPriced};
+ghost use Rattle.atl_market.specs.Trading.{CanAfford, CanBookTrade, CanTrade, MarketAllowsShare, IsPriced};
 ghost use Rattle.atl_market.specs.PotPhase.{asks_count};
 ghost use Rattle.atl_market.specs.AfterPots.{TradesAtOnce};
 
@@ -106,7 +106,7 @@ fn trade_result_of(
     market: &Market,
 ) -> TradeResult
     requires holder { CanAfford trade holding.now share (Some market.now) }
-    requires pot { PotAllowsShare trade stock share (Some market.now) }
+    requires pot { MarketAllowsShare trade stock share (Some market.now) }
     requires priced { IsPriced market.now }
     ensures { result ≡ trade_result_of trade holding.now stock share market.now }
 {

@@ -21,23 +21,23 @@ choice_of_equals : (b : Bool) (o : Option ℕ) → cond b o o ≡ o
 choice_of_equals true o = refl
 choice_of_equals false o = refl
 
--- `item_of` gives, by a unit's number, the item that it asks for, if any. `pot_of` gives how much of an item a region
+-- `asked_item` gives, by a unit's number, the item that it asks for, if any. `pot_of` gives how much of an item a region
 -- has to share. `wants` has by unit how much it wants of its item.
-module _ (item_of : ℕ → Option ℕ) (pot_of : (item region : ℕ) → ℕ) (wants : FinMap nat_cmp ℕ) (c : CampaignValue) where
+module _ (asked_item : ℕ → Option ℕ) (pot_of : (item region : ℕ) → ℕ) (wants : FinMap nat_cmp ℕ) (c : CampaignValue) where
   -- what a unit, by its number, gets by the definition of the pot of its item in its region (`item_share`)
   abbrev gets : ℕ → Option ℕ
-  gets n = item_share item_of pot_of wants c n
+  gets n = item_share asked_item pot_of wants c n
 
   -- a unit with a share of an item has a want, and the share is at most its want
   pub items_give : (n s : ℕ) → gets n ≡ Some s → (want : ℕ) × (get wants n ≡ Some want) × (s ≤ want)
-  items_give n s is = by_item (item_of n) is
+  items_give n s is = by_item (asked_item n) is
     where
-      by_item : (o : Option ℕ) → share_for item_of pot_of wants c n o ≡ Some s
+      by_item : (o : Option ℕ) → share_for asked_item pot_of wants c n o ≡ Some s
           → (want : ℕ) × (get wants n ≡ Some want) × (s ≤ want)
       by_item None is = none_some s is
       by_item (Some i) is =
-          let (want, wanted, low) = pots_give (pot_of i) c (wants_for item_of wants i) n s is in
-          (want, (asking item_of wants i n want wanted).1, low)
+          let (want, wanted, low) = pots_give (pot_of i) c (wants_for asked_item wants i) n s is in
+          (want, (asking asked_item wants i n want wanted).1, low)
 
   abbrev share_at : ℕ → Option ℕ → Option (ℕ × ℕ)
   share_at n o = option_map (λ s. (n, s)) o
@@ -71,7 +71,7 @@ module _ (item_of : ℕ → Option ℕ) (pot_of : (item region : ℕ) → ℕ) (
 
   -- the definition's map of all shares (`item_shares`) has under each number the share of that unit (`item_share`), or
   -- nothing
-  pub shares_at : (n : ℕ) → get (item_shares item_of pot_of wants c) n ≡ gets n
+  pub shares_at : (n : ℕ) → get (item_shares asked_item pot_of wants c) n ≡ gets n
   shares_at n =
       get-from_entries nat_cmp_total (of_wants (entries wants)) n ∙ found_listed (entries wants) n
       ∙ by_share (gets n) refl
@@ -85,16 +85,16 @@ module _ (item_of : ℕ → Option ℕ) (pot_of : (item region : ℕ) → ℕ) (
 
   -- the shares that the code puts in, item by item and region by region
   abbrev all_shares : Entries
-  all_shares = flat_map (shares_of_item c pot_of) (entries (grouped item_of wants))
+  all_shares = flat_map (shares_of_item c pot_of) (entries (grouped asked_item wants))
 
   abbrev items_listed : List ℕ
-  items_listed = keys (grouped item_of wants)
+  items_listed = keys (grouped asked_item wants)
 
   abbrev of_item : ℕ → Entries
-  of_item i = all_region_shares c (pot_of i) (wants_for item_of wants i)
+  of_item i = all_region_shares c (pot_of i) (wants_for asked_item wants i)
 
   all_are : all_shares ≡ flat_map of_item items_listed
-  all_are = from_groups item_of wants (λ i group. all_region_shares c (pot_of i) group)
+  all_are = from_groups asked_item wants (λ i group. all_region_shares c (pot_of i) group)
 
   all_agree : AgreeWith gets all_shares
   all_agree =
@@ -103,24 +103,24 @@ module _ (item_of : ℕ → Option ℕ) (pot_of : (item region : ℕ) → ℕ) (
     where
       one : (i : ℕ) → AgreeWith gets (of_item i)
       one i =
-          each_follows (λ e. share_of (pot_of i) (wants_for item_of wants i) c e.0 ≡ Some e.1) (λ e. gets e.0 ≡ Some e.1) (λ e is.
-          let (want, wanted, low) = pots_give (pot_of i) c (wants_for item_of wants i) e.0 e.1 is in
-          ap (share_for item_of pot_of wants c e.0) (asking item_of wants i e.0 want wanted).0 ∙ is) (of_item i) (region_shares_agree (pot_of i) (wants_for item_of wants i) c)
+          each_follows (λ e. share_of (pot_of i) (wants_for asked_item wants i) c e.0 ≡ Some e.1) (λ e. gets e.0 ≡ Some e.1) (λ e is.
+          let (want, wanted, low) = pots_give (pot_of i) c (wants_for asked_item wants i) e.0 e.1 is in
+          ap (share_for asked_item pot_of wants c e.0) (asking asked_item wants i e.0 want wanted).0 ∙ is) (of_item i) (region_shares_agree (pot_of i) (wants_for asked_item wants i) c)
 
   none_missing : (n s : ℕ) → gets n ≡ Some s → is_some (find nat_cmp n all_shares) ≡ true
   none_missing n s is =
-      subst (λ (es : Entries). is_some (find nat_cmp n es) ≡ true) (sym all_are) (by_item (item_of n) is)
+      subst (λ (es : Entries). is_some (find nat_cmp n es) ≡ true) (sym all_are) (by_item (asked_item n) is)
     where
-      by_item : (o : Option ℕ) → share_for item_of pot_of wants c n o ≡ Some s
+      by_item : (o : Option ℕ) → share_for asked_item pot_of wants c n o ≡ Some s
           → is_some (find nat_cmp n (flat_map of_item items_listed)) ≡ true
       by_item None is = none_some s is
       by_item (Some i) is =
-          let (want, wanted, low) = pots_give (pot_of i) c (wants_for item_of wants i) n s is in
-          found_among of_item n items_listed i (group_listed item_of wants i n want wanted)
-          (region_shares_whole (pot_of i) (wants_for item_of wants i) c n s is)
+          let (want, wanted, low) = pots_give (pot_of i) c (wants_for asked_item wants i) n s is in
+          found_among of_item n items_listed i (group_listed asked_item wants i n want wanted)
+          (region_shares_whole (pot_of i) (wants_for asked_item wants i) c n s is)
 
   -- the map into which all shares were put is the one of the definition
-  pub all_items_put : with_entries empty all_shares ≡ item_shares item_of pot_of wants c
+  pub all_items_put : with_entries empty all_shares ≡ item_shares asked_item pot_of wants c
   all_items_put =
       same_map nat_cmp_total nat_cmp-IsAntisymmetric _ _
       (λ n. agreeing_put gets all_shares all_agree none_missing n ∙ sym (shares_at n))

@@ -7,17 +7,17 @@ use Rattle.std.specs.FinMap.{FinMap, entries, from_entries}
 use Rattle.atl_campaign.specs.Campaign.{CampaignValue}
 use Rattle.atl_pots.specs.Pots.{share_of, wants_for}
 
--- `item_of` gives, by a unit's number, the number of the item that it asks for, if any. `pot_of` gives how much of an
+-- `asked_item` gives, by a unit's number, the number of the item that it asks for, if any. `pot_of` gives how much of an
 -- item a region has to share. `wants` has how much each unit wants of its item, by unit.
-module _ (item_of : ℕ → Option ℕ) (pot_of : (item region : ℕ) → ℕ) (wants : FinMap nat_cmp ℕ) (c : CampaignValue) where
+module _ (asked_item : ℕ → Option ℕ) (pot_of : (item region : ℕ) → ℕ) (wants : FinMap nat_cmp ℕ) (c : CampaignValue) where
   -- the share that a unit, by its number, gets of what its region has of an item; None where no item is given
   abbrev pub share_for : ℕ → Option ℕ → Option ℕ
   share_for number None = None
-  share_for number (Some item) = share_of (pot_of item) (wants_for item_of wants item) c number
+  share_for number (Some item) = share_of (pot_of item) (wants_for asked_item wants item) c number
 
   -- the share that a unit, by its number, gets of the item that it asks for
   abbrev pub item_share : ℕ → Option ℕ
-  item_share number = share_for number (item_of number)
+  item_share number = share_for number (asked_item number)
 
   -- a map, by unit, of the shares of all units that have a want and get a share
   abbrev pub item_shares : FinMap nat_cmp ℕ
