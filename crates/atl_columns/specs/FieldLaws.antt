@@ -1,4 +1,5 @@
--- For proofs alone: columns give back the fields that they were given, if each column does. The laws of `Fields` cite these.
+-- For proofs alone: columns give back the fields that they were given, if each column does. The laws of `Fields` cite
+-- these.
 use Rattle.std.proofs.Common.{length, ℕ, suc, ◌≡◌, ◌+◌, ◌⊎◌, inl, inr, List, [], ◌∷◌, Option, Some, None, refl, ap}
 use Rattle.sqlite_value.specs.declared.value.Value.{Value}
 use Rattle.sqlite_value.specs.Order.{Row, column}

@@ -44,9 +44,9 @@ pub struct Statements {
 }
 
 /// A table and its statements by its columns, each with its parameter's number, its name and its
-/// type. Before them stand the first format that has the table, and the number of the table's tree. The key is the row's number (`number`),
-/// or several columns (`keys`, with the tree of its index); then the SELECT shows the rowid as a last
-/// column.
+/// type. Before them stand the first format that has the table, and the number of the table's tree.
+/// The key is the row's number (`number`), or several columns (`keys`, with the tree of its index);
+/// then the SELECT shows the rowid as a last column.
 #[macro_export]
 macro_rules! table {
     ($since:ident $tree:literal $name:literal

@@ -114,8 +114,9 @@ module _ (draws : Drawers) where
           | false ↦ λ _. none_of (drawn es) (sum (map amount (n ∷ ns))) (with_first n ns rest es up rise.1 all.1)
         ] refl
 
-    -- For each rising list `ns` of units and rising list of shares: if each unit that draws from the pot is on `ns`, with
-    -- its amount as share, the shares drawn are at most the sum of the amounts of `ns`. Some units may draw nothing.
+    -- For each rising list `ns` of units and rising list of shares: if each unit that draws from the pot is on `ns`,
+    -- with its amount as share, the shares drawn are at most the sum of the amounts of `ns`. Some units may draw
+    -- nothing.
     pub drawn_among : (ns : List ℕ) → DrawAtMostTheirAmounts ns
     drawn_among [] es up rise all = let none = nothing_drawn es all in omega (arith, none)
     drawn_among (n ∷ ns) es up rise all = with_first n ns (drawn_among ns) es up rise all

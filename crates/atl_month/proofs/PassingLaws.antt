@@ -118,8 +118,8 @@ owed_all b lost x all books h = grind (arith, ints, h)
 
 -- `t` is a thing of the world; `n` is the unit whose goods may be passed on
 module _ (w : WorldValue) (c : CampaignValue) (n : ℕ) (t : Thing) (inside : thing_index t < thing_count w) (steady : IsSteady w c) where
-  -- If `amount` of the thing is booked as lost, and no unit gets it, this is a case of `PassesOn`. The units stay as they
-  -- were, so the thing's total is above its books by the amount more than before.
+  -- If `amount` of the thing is booked as lost, and no unit gets it, this is a case of `PassesOn`. The units stay as
+  -- they were, so the thing's total is above its books by the amount more than before.
   pub all_lost : (amount : ℕ)
       → PassesOn w n (λ s. amount_as_thing s t amount) (moves_only amount Lost t) c (with_lost c t amount)
   all_lost amount = record {

@@ -1,5 +1,5 @@
--- What holds of all orders that are read: operands of the verb's shape, numbers in range, names by their rule, things of
--- the world.
+-- What holds of all orders that are read: operands of the verb's shape, numbers in range, names by their rule, things
+-- of the world.
 use Rattle.std.specs.Prelude.{◌≡◌, ◌≤◌, ◌<◌, ℕ, true, List, [], ◌∷◌, length, Some, None, Ok}
 use Rattle.std.specs.List.{All}
 use Rattle.atl_orders.specs.Limits.{most_number, last_alias, last_faction}

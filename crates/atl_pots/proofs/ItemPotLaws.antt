@@ -21,8 +21,8 @@ choice_of_equals : (b : Bool) (o : Option ℕ) → cond b o o ≡ o
 choice_of_equals true o = refl
 choice_of_equals false o = refl
 
--- `asked_item` gives, by a unit's number, the item that it asks for, if any. `pot_of` gives how much of an item a region
--- has to share. `wants` has by unit how much it wants of its item.
+-- `asked_item` gives, by a unit's number, the item that it asks for, if any. `pot_of` gives how much of an item a
+-- region has to share. `wants` has by unit how much it wants of its item.
 module _ (asked_item : ℕ → Option ℕ) (pot_of : (item region : ℕ) → ℕ) (wants : FinMap nat_cmp ℕ) (c : CampaignValue) where
   -- what a unit, by its number, gets by the definition of the pot of its item in its region (`item_share`)
   abbrev gets : ℕ → Option ℕ

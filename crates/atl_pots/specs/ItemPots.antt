@@ -7,8 +7,8 @@ use Rattle.std.specs.FinMap.{FinMap, entries, from_entries}
 use Rattle.atl_campaign.specs.Campaign.{CampaignValue}
 use Rattle.atl_pots.specs.Pots.{share_of, wants_for}
 
--- `asked_item` gives, by a unit's number, the number of the item that it asks for, if any. `pot_of` gives how much of an
--- item a region has to share. `wants` has how much each unit wants of its item, by unit.
+-- `asked_item` gives, by a unit's number, the number of the item that it asks for, if any. `pot_of` gives how much of
+-- an item a region has to share. `wants` has how much each unit wants of its item, by unit.
 module _ (asked_item : ℕ → Option ℕ) (pot_of : (item region : ℕ) → ℕ) (wants : FinMap nat_cmp ℕ) (c : CampaignValue) where
   -- the share that a unit, by its number, gets of what its region has of an item; None where no item is given
   abbrev pub share_for : ℕ → Option ℕ → Option ℕ

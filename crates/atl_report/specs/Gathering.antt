@@ -1,5 +1,5 @@
--- For proofs alone: the numbers of the regions that a faction sees, gathered from its units one after another, and those
--- of the units that it sees in a region, gathered from the region's lists; and lists of units by a key of theirs.
+-- For proofs alone: the numbers of the regions that a faction sees, gathered from its units one after another, and
+-- those of the units that it sees in a region, gathered from the region's lists; and lists of units by a key of theirs.
 use Rattle.std.specs.Prelude.{ℕ, List, [], ◌∷◌, nat_le, if◌then◌else◌, Option, Some, None}
 use Rattle.std.specs.Ordering.{nat_cmp}
 use Rattle.std.specs.FinMap.{FinMap, get, insert, empty, entries}
@@ -32,7 +32,8 @@ abbrev pub with_keyed : (Unit → ℕ) → FinMap nat_cmp (List ℕ) → ℕ →
 with_keyed key lists n None = lists
 with_keyed key lists n (Some u) = with_listed lists (key u) n
 
--- `with_all_keyed units key lists ns`: the lists by key with the number of each listed unit added to the list of its key
+-- `with_all_keyed units key lists ns`: the lists by key with the number of each listed unit added to the list of its
+-- key
 abbrev pub with_all_keyed : FinMap nat_cmp Unit → (Unit → ℕ) → FinMap nat_cmp (List ℕ) → List ℕ → FinMap nat_cmp (List ℕ)
 with_all_keyed units key lists [] = lists
 with_all_keyed units key lists (n ∷ ns) = with_all_keyed units key (with_keyed key lists n (get units n)) ns

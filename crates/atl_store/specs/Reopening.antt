@@ -7,8 +7,9 @@ use Rattle.sqlite.specs.State.{HasCleanDisk}
 use Rattle.atl_campaign.specs.Campaign.{CampaignValue}
 use Rattle.atl_store.specs.Keeps.{Keeps, Stores}
 
--- The connection `new` is `old` opened again after a crash. If the disk is clean now, it was clean before, and the tables
--- are some that a crash could leave of `old`. If they then store a campaign (`Stores`), the new connection keeps it.
+-- The connection `new` is `old` opened again after a crash. If the disk is clean now, it was clean before, and the
+-- tables are some that a crash could leave of `old`. If they then store a campaign (`Stores`), the new connection keeps
+-- it.
 pub record Reopens {S : Type 0} (g : Ghosts S) (old new : Held S) : Type 0 where
   -- a disk that is clean now was clean before
   pub clean : HasCleanDisk (state g new) → HasCleanDisk (state g old)
