@@ -1,5 +1,6 @@
 -- Laws of STUDY: the campaign stays steady, the fee is booked, and a unit without an own order of STUDY (one from its
--- faction) is unchanged.
+-- faction) is unchanged. In the laws s is the skill that unit n (u) studies, and `taught` is how many of its men were
+-- taught this month, or has this by unit.
 use Rattle.std.proofs.Common.{◌≡◌, ◌≢◌, ◌==◌, ℕ, ◌+◌, ◌-◌, ◌*◌, ◌≤◌, ◌<◌, Bool, false, cond, [], ◌∷◌, length, Option, Some, None, refl, sym, ap, subst, ◌∙◌, arith}
 use Rattle.std.specs.Prelude.{pos, neg_ℤ, ◌+ℤ◌, IfSome, nat_lt}
 use Rattle.std.specs.FinMap.{get}
@@ -139,8 +140,9 @@ payable_fee h cost e =
     let two = none_fits (nat_lt h.money cost) NoFee [] one.1 in
     not_less h.money cost two.0
 
--- A condition P holds of the campaign after an order of STUDY, if it holds of the campaign before, and of the one in
--- which the unit studied
+-- P holds of the campaign after an order of STUDY, if it holds of the campaign before, and of the one in which the unit
+-- paid the fee and has `days` of the skill. For the latter the unit has the money for the fee, and `days` are at most
+-- 450 for each man.
 pub study_cases : (P : CampaignValue → Type 0) (w : WorldValue) (taught : ℕ) (c : CampaignValue) (n s : ℕ) (u : Unit)
     → P c
     → ((days : ℕ) → fee_of w s * u.holding.men ≤ u.holding.money → days ≤ most_days * u.holding.men → P (after_study c n u s (fee_of w s * u.holding.men) days))

@@ -53,12 +53,12 @@ sail_gives = gives_by_orders sail_step is_sailing all_orders sail_takes
 
 -- ---- TEACH and STUDY
 
--- an order of TEACH has the shape of TEACH
+-- operands with the shape of a verb that passes the test `is_teaching` have the shape of TEACH, the only such verb
 pub teach_shape : (v : Verb) (o : OperandsValue) → is_teaching v ≡ true → Fits v o → Fits verbs.Teach o
 teach_shape verbs.Teach o of_phase fits = fits
 teach_shape v o of_phase fits = cc
 
--- an order of STUDY has the shape of STUDY
+-- operands with the shape of a verb that passes the test `is_studying` have the shape of STUDY, the only such verb
 pub study_shape : (v : Verb) (o : OperandsValue) → is_studying v ≡ true → Fits v o → Fits verbs.Study o
 study_shape verbs.Study o of_phase fits = fits
 study_shape v o of_phase fits = cc

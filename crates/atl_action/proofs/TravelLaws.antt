@@ -61,6 +61,7 @@ module _ (w : WorldValue) (c : CampaignValue) (units : FinMap nat_cmp Unit) (str
     pub afloat : Every (λ k y. is_land_at w (g k y).region ≡ false → (is_ship w y ≡ true) × (y.done ≡ size_of w y.kind)) c.structures
     pub guarding : Every (λ k u. guards (f k u) ≡ true → f k u ≡ u) c.units
 
+  -- the units and structures after the changes are as `AreTravelled` says
   module _ (are : AreTravelled) where
     every_unit : (P : ℕ → Unit → Type 0) → Every (λ k u. P k (f k u)) c.units → Every P units
     every_unit P h k x there =

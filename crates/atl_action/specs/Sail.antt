@@ -66,13 +66,14 @@ sum_inside f c s = sum_by (λ n. option_map_or (λ u. f u.holding) (get c.units 
 
 -- ---- SAIL
 
--- whether a ship can sail from a region to its neighbour: the world has that neighbour, and the two aren't both land
+-- whether a ship can sail from a region to its neighbour (None: it has none there): the world has that neighbour, and
+-- the two aren't both land
 abbrev pub is_way : WorldValue → (from : ℕ) → (neighbour : Option ℕ) → Bool
 is_way w from neighbour =
     option_map_or (λ to. is_some (get w.regions to) && not (is_land_at w from && is_land_at w to)) neighbour false
 
--- Why unit n can't sail the ship that it is inside to region `to`; None where it can. The fault is the first that fits
--- of NoMen, NotInside, NotOwner, NotComplete, NoWay, NoCrew and TooHeavy.
+-- Why unit n can't sail the ship that it is inside (None: no structure) to region `to` (None: no neighbour there); None
+-- where it can. The fault is the first that fits of NoMen, NotInside, NotOwner, NotComplete, NoWay, NoCrew, TooHeavy.
 abbrev pub sail_fault : WorldValue → CampaignValue → (n : ℕ) → Unit → Option Structure → (to : Option ℕ) → Option EventFault
 sail_fault w c n u ship to = first_fault (
     (u.holding.men == 0, NoMen)
@@ -121,7 +122,8 @@ pub record IsAtMostMoved (before after : Unit) : Type 0 where
 abbrev pub AreAtMostMoved : CampaignValue → CampaignValue → Type 0
 AreAtMostMoved before after = Every (λ n u. IsStillThere IsAtMostMoved after n u) before.units
 
--- an order of SAIL affects no unit, so that what SAIL keeps of units (`IsAtMostMoved`) is kept of every unit
+-- Order t affects no unit, whichever number n and faction f it has. So what SAIL keeps of units that no order affects
+-- (`IsAtMostMoved`) is kept of every unit.
 abbrev pub affects_nobody : Affects
 affects_nobody t n f = ⊥
 

@@ -29,7 +29,7 @@ pub record IsOwnStudy (m : MonthValue) (n faction skill : ℕ) : Type 0 where
 abbrev pub taught_men : WorldValue → CampaignValue → MonthValue → (n : ℕ) → ℕ
 taught_men w c m n = (after_lessons c (learners w c m) m).0 n
 
--- Unit n after STUDY of this skill in the campaign as the phase began, by its value there; None where it isn't there.
+-- What a look-up of unit n finds after its STUDY of this skill in campaign `c` as the phase began, where unit n is `u`.
 -- As many of its men are taught as all lessons of the phase teach.
 abbrev pub unit_after_own_study : WorldValue → CampaignValue → MonthValue → (n skill : ℕ) → Unit → Option Unit
 unit_after_own_study w c m n skill u = get (study w (taught_men w c m n) n skill c u).0.units n

@@ -33,7 +33,8 @@ is_walking verb = false
 abbrev pub is_land_there : WorldValue → (to : Option ℕ) → Bool
 is_land_there w to = option_map_or (is_land_at w) to false
 
--- why a unit can't walk to a neighbouring region: NoMen, AtSea, NoWay or TooHeavy; None where it can
+-- why a unit can't walk to the neighbouring region `to` (None: there is none): NoMen, AtSea, NoWay or TooHeavy; None
+-- where it can
 abbrev pub walk_fault : WorldValue → Unit → (to : Option ℕ) → Option EventFault
 walk_fault w u to = first_fault (
     (u.holding.men == 0, NoMen)
@@ -63,7 +64,7 @@ walk_step w aliases t = by_direction (walk w t.unit) t.order_value.operands
 
 -- ---- the phase
 
--- The specification of the phase of MOVE, which books nothing; a unit for which no MOVE of its own faction counts is no
--- worse off.
+-- The specification of the phase of MOVE, which books nothing. A unit for which no MOVE of its own faction counts keeps
+-- its place, name and guard flag, and loses nothing (`IsNoWorse`).
 abbrev pub walk_spec : PhaseSpec
 walk_spec = goes_by_orders walk_step is_walking IsOwnOrder IsNoWorse

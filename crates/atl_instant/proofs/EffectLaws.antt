@@ -52,7 +52,8 @@ pub record OrderKeeps (holds : Condition) (fit : Type 0) (w : WorldValue) (c : C
   pub well : holds w c → fit → StepsWell holds nothing_remaining w c d
   pub others : (k : ℕ) (v : Unit) → get c.units k ≡ Some v → k ≢ n → IsStillThere (IsLeftAlone f) d k v
 
--- an order of faction f for unit n of campaign c; `holds` is what the order keeps true, if it fits the world (`fit`)
+-- an order of faction f for unit n, which makes campaign d of c; `holds` is what it keeps true, if it fits the world
+-- (`fit`)
 module _ {holds : Condition} {fit : Type 0} (w : WorldValue) (c : CampaignValue) (n f : ℕ) where
   -- an order that changes no unit but n, and keeps `holds` and the books (`StepsWell`), keeps what `OrderKeeps` says
   pub keeps_others : (d : CampaignValue) → (holds w c → fit → StepsWell holds nothing_remaining w c d)
@@ -73,8 +74,8 @@ module _ {holds : Condition} {fit : Type 0} (w : WorldValue) (c : CampaignValue)
   keeps_unless (Some fault) d o keeps = keeps_all
   keeps_unless None d o keeps = keeps refl
 
--- the effect of each order for a unit of its writer's faction keeps `holds`, the books and the other units
--- (`OrderKeeps`)
+-- The effect that `step` gives each order for a unit of its writer's faction keeps the other units (`OrderKeeps`). If
+-- the operands of the order fit the world, it also keeps `holds` and the books.
 abbrev pub StepKeeps : Condition → OrderMeaning → Type 0
 StepKeeps holds step =
     (w : WorldValue) (a : Aliases) (c : CampaignValue) (t : Task) (x : Unit) → IsUnitOf c t x → IfSome (step w a t)

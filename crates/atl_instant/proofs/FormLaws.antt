@@ -58,7 +58,7 @@ pub unit_limits_not_reached : (c : CampaignValue) → is_unit_limit c ≡ false
     → (len c.units < most_units) × (c.next_unit ≤ last_unit)
 unit_limits_not_reached c h = below_limits (len c.units) c.next_unit h
 
--- unit p (u) of the early campaign c forms a unit (`child`) with the next unit number
+-- unit p (u) of the early campaign c forms a unit (`child`) with the next unit number, which makes the campaign `begun`
 module _ (w : WorldValue) (c : CampaignValue) (p : ℕ) (u : Unit) (is : get c.units p ≡ Some u) (early : IsEarly w c) where
   abbrev child : Unit
   child = new_unit c.next_unit u.faction u.region u.structure
@@ -253,11 +253,11 @@ module _ (w : WorldValue) (c : CampaignValue) (early : IsEarly w c) where
     form_fine : IsEarlyAndKeepsUnits (form_by c f n).0
     form_fine = by_unit (get c.units n) refl
 
-  -- an order of FORM keeps an early campaign early, in its month and with balanced books (`StepsWell`)
+  -- an order of FORM, by its copy o, keeps an early campaign early, in its month and with balanced books (`StepsWell`)
   pub order_well : (m : MonthValue) (o : Forming) → StepsWell IsEarly nothing_remaining w c (form_by_copy (c, m) o).0
   order_well m o = (form_fine o.faction o.unit).0
 
-  -- an order of FORM leaves each unit that was there as it was
+  -- an order of FORM, by its copy o, leaves each unit that was there as it was
   pub order_stays : (m : MonthValue) (o : Forming)
       → Every (λ k v. get (form_by_copy (c, m) o).0.units k ≡ Some v) c.units
   order_stays m o = (form_fine o.faction o.unit).1

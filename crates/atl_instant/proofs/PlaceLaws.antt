@@ -35,7 +35,8 @@ use Rattle.atl_phase.proofs.UnbookedLaws.{same_total_of, unbooked_well}
 use Rattle.atl_instant.specs.Place.{enter, with_unit_inside, is_structure_in, leave, leave_fault, enter_fault, place_effect, place_step, promote_fault, promote}
 use Rattle.atl_instant.proofs.EffectLaws.{OrderKeeps, StepKeeps, keeps_all, keeps_others, keeps_unless, orderly_by}
 
--- what an order of LEAVE, ENTER or PROMOTE for unit n (u) of campaign c keeps (`OrderKeeps`)
+-- what an order of LEAVE, ENTER or PROMOTE for unit n (u) of campaign c keeps (`OrderKeeps`), if it fits the world
+-- (`fit`)
 module _ (fit : Type 0) (w : WorldValue) (c : CampaignValue) (n : ℕ) (u : Unit) (is : get c.units n ≡ Some u) where
   -- Campaign d, which an order for unit n makes of c, is early and in balance, if c is and the order fits the world
   -- (`fit`). No unit but n is worse off in d (`OrderKeeps`).

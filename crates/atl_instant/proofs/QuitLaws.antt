@@ -605,7 +605,8 @@ module _ (begun : CampaignValue) where
     bounded = λ w c since. quit_orderly.bounded w c since.0;
   }
 
--- a unit is no worse off after the phase, unless its faction quits (`quit_keeps`), if the campaign is steady
+-- a unit is no worse off after the phase, unless its faction quits (`quit_keeps`), if the campaign is steady before,
+-- and the mailings can be read with the world
 pub quit_leaves_others : (w : WorldValue) (c : CampaignValue) (m : MonthValue) → IsSteady w c → AreFit w m.readings
     → quit_keeps w m c (quit_meaning w c m).0
 unfolding meaning_by_orders

@@ -59,13 +59,14 @@ abbrev pub alias_of : OperandsValue → ℕ
 alias_of (operands.Alias alias) = alias
 alias_of order = 0
 
--- the aliases after an order of FORM: if it is Done, the new unit has the alias
+-- the aliases after an order of FORM by faction f: if it is Done, with the number of the new unit, this unit has the
+-- alias; otherwise they stay
 abbrev pub aliases_after : Aliases → (f alias : ℕ) → Outcome → Aliases
 aliases_after aliases f alias (Done number) = with_alias aliases f alias number
 aliases_after aliases f alias outcome = aliases
 
--- the campaign after an order of FORM, and the month with the event of the order, and with its alias if a unit was
--- formed
+-- What an order t of FORM leaves, by what it made: the campaign and the outcome. It leaves this campaign, and the month
+-- with the event of the order, and with its alias if a unit was formed.
 abbrev pub with_form_result : MonthValue → Task → CampaignValue × Outcome → CampaignValue × MonthValue
 with_form_result m t (c, outcome) = (
   c,

@@ -24,8 +24,8 @@ forming_of t = record {
 abbrev pub forming_event : Forming → Outcome → Event
 forming_event o outcome = record { faction = o.faction; unit = o.unit; line = o.line; verb = Order o.verb; outcome = outcome }
 
--- the campaign after a copied order of FORM, and the month with the event of the order, and with its alias if a unit
--- was formed
+-- What an order of FORM leaves, by its copy o and what it made: the campaign and the outcome. It leaves this campaign,
+-- and the month with the event of the order, and with its alias if a unit was formed.
 abbrev pub with_forming_result : MonthValue → Forming → CampaignValue × Outcome → CampaignValue × MonthValue
 with_forming_result m o (c, outcome) = (
   c,

@@ -68,6 +68,7 @@ abbrev pub unless_fault : Option EventFault → Unit → Result Unit EventFault
 unless_fault None u = Ok u
 unless_fault (Some fault) u = Err fault
 
+-- `p` is the phase, and `c` the campaign as it begins
 module _ (p : PotMeaning) (w : WorldValue) (c : CampaignValue) where
   -- ---- who takes part
 

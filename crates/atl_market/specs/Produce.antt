@@ -63,7 +63,7 @@ abbrev pub takes_raw : WorldValue → Option ℕ → Bool
 takes_raw w asked = option_map_or (λ x. is_some x.raw) (item_of w asked) true
 
 -- The item that unit `n` makes out of what its region gives: the one that its order names, if no raw item goes into it.
--- `asked` has by unit the number of the item that its order names, here and below.
+-- Here and below, `asked` has by unit the number of the item that its order names, and `wants` how many it wants.
 abbrev pub output_item : WorldValue → FinMap nat_cmp ℕ → ℕ → Option ℕ
 output_item w asked n = if takes_raw w (get asked n) then None else get asked n
 
@@ -79,7 +79,7 @@ output_share w asked c wants n = item_share (output_item w asked) (output_at w) 
 -- ---- who makes how much
 
 -- how much a unit makes, by its number and its want: out of raw items all that it wants, else its share of what its
--- region gives of the item
+-- region gives of the item, or 0 without a share
 abbrev pub amount_made : WorldValue → FinMap nat_cmp ℕ → CampaignValue → FinMap nat_cmp ℕ → ℕ × ℕ → ℕ
 amount_made w asked c wants (n, want) =
     if takes_raw w (get asked n) then want else unwrap_or (output_share w asked c wants n) 0
@@ -110,7 +110,8 @@ after_production asked w c (n, made) =
 abbrev pub is_unskilled : HoldingValue → Item → Bool
 is_unskilled h x = if is_some x.skill then nat_lt (level_in_any h x.skill) x.level else true
 
--- whether an item needs raw items, `count` for each piece, and a unit holds too few of them for a single piece
+-- whether an item needs raw items (None: it needs none), `count` for each piece, and a unit holds too few of them for a
+-- single piece
 abbrev pub is_raw_missing : HoldingValue → (count : ℕ) → (raw : Option ℕ) → Bool
 is_raw_missing h count raw = option_map_or (λ r. amount_of h.items r / count == 0) raw false
 

@@ -109,7 +109,8 @@ trade_entry Buy = Bought
 abbrev pub with_trade_result : HoldingValue → (item : ℕ) → TradeResult → HoldingValue
 with_trade_result h item d = record h { money = d.money; items = with_amount_of h.items item d.amount }
 
--- a campaign with unit `n`, which is `u`, the stock of its region and the books as the result `d` of a trade says
+-- a campaign with unit `n`, which is `u`, the stock of its region and the books (under `entry`) as the result `d` of a
+-- trade says
 abbrev pub with_trade_booked : CampaignValue → ℕ → Unit → (item : ℕ) → BooksEntry → TradeResult → CampaignValue
 with_trade_booked c n u item entry d =
     let paid = with_holding c n (with_trade_result u.holding item d) in

@@ -117,7 +117,7 @@ phases_result phases w c d m n begin events meaning begins events_are =
     ap (λ (es : List Event). (d, es)) events_are
     ∙ ap (λ (p : CampaignValue × MonthValue). (p.0, p.1.events)) (meaning ∙ ap (phases w c) begins)
 
--- the campaign and the events that the phases make of a new month are those of the definition (`month_of`)
+-- the campaign d and the `events` that the phases make of c and a new month m are those of the definition (`month_of`)
 pub month_is : (w : WorldValue) (c d : CampaignValue) (m n : MonthValue) (readings : FinMap nat_cmp Reading) (words : List ℕ) (events : List Event)
     → (d, n) ≡ month_meaning w c m → m ≡ new_month readings words → events ≡ n.events
     → (d, events) ≡ month_of w c readings words
@@ -169,8 +169,9 @@ phases_leave_unmailed phases keeps closes w c d m events begins is kept n u ther
     subst (λ k. IsLeft k d n u) so_many (subst (λ s. IsLeft (starved_in (phases w c m).1.events n - starved_in m.events n) s n u) (sym state)
     (closes.left w c m (subst (keeps w m c) state kept) n u there none))
 
--- after a month each unit of a faction without a mailing has its name, no less of any item, and all men who didn't
--- starve, or is removed where all its men starved (`UnmailedAreLeft`)
+-- After a month each unit of a faction without a mailing has its name, no less of any item, and all men who didn't
+-- starve, or is removed where all its men starved (`UnmailedAreLeft`). For this the phases keep what `month_keeps` says
+-- from campaign c, before the phases, to d, after them.
 pub unmailed_left : (w : WorldValue) (c d : CampaignValue) (ms : List Mailing) (words : List ℕ) (events : List Event)
     → (d, events) ≡ month_of w c (by_faction (map reading_of ms)) words
     → month_keeps w (new_month (by_faction (map reading_of ms)) words) c d → UnmailedAreLeft ms events c d

@@ -172,7 +172,8 @@ one_added verbs.Guard o x y t u = by_flag (sets_guard o) y
 one_added v o x true t u = refl
 one_added v o x false t u = refl
 
--- `readings` has by faction its mailing as read, and `words` are the words of the dice for the month
+-- `readings` has by faction its mailing as read, which fits the world (`fit`), and `words` are the words of the dice
+-- for the month
 module _ (w : WorldValue) (c : CampaignValue) (readings : FinMap nat_cmp Reading) (words : List ℕ) (fit : AreFit w readings) where
   -- the month as its first phase begins
   abbrev before : MonthValue

@@ -88,7 +88,8 @@ passes-refl w n c steady = record {
   back = λ m v is. (v, is, kept-refl v);
 }
 
--- passing on twice in turn is passing on both amounts, within the sum of both bounds on the books
+-- passing on twice in turn, amounts o from campaign a to b and amounts p from b to c, is passing on both amounts,
+-- within the sum of both bounds on the books
 pub passes-trans : {o p : Thing → ℕ} {i j : BookBound} (w : WorldValue) (n : ℕ) (a b c : CampaignValue)
     → PassesOn w n o i a b → PassesOn w n p j b c
     → PassesOn w n (λ s. o s + p s) (both_move i j) a c
@@ -136,8 +137,8 @@ module _ (w : WorldValue) (c : CampaignValue) (n : ℕ) (t : Thing) (inside : th
     back = λ m v is. (v, is, kept-refl v);
   }
 
-  -- Unit `k`, which isn't `n`, is `v` before, and has holding `h` after it took `taken` of thing `t` (`more`). The rest
-  -- of the amount is `lost`.
+  -- Unit `k`, which isn't `n`, is `v` before, and has holding `h` after it took `taken` of thing `t` (`more`). It may
+  -- have `h` (`may`), and loses nothing by it (`kept`). The rest of the amount is `lost`.
   module _ (k : ℕ) (v : Unit) (h : HoldingValue) (is : get c.units k ≡ Some v) (apart : n ≢ k) (may : MayHaveWithoutNewGuard w v h)
       (kept : IsKept v (record v { holding = h })) (taken lost : ℕ)
       (more : (s : Thing) → unit_amount s h ≡ unit_amount s v.holding + amount_as_thing s t taken) where

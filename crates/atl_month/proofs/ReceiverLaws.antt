@@ -160,7 +160,8 @@ pub nothing_noted : (c : CampaignValue) (m : ReceiverMap) → m ≡ empty → (r
     → or_if_zero (receiver_in m r f) (first_or_zero (numbers_among (receives r f) (entries c.units))) ≡ receiver c r f
 nothing_noted c m none r f = rw (none, get-empty nat_cmp r, get-empty nat_cmp f) refl
 
--- once all units are noted, the map has the receivers of the campaign
+-- Once all units are noted, and none is to come, the map has the receivers of the campaign. For this the one in the
+-- map, else the first that receives among the units to come, is the campaign's receiver.
 pub all_noted : (c : CampaignValue) (m : ReceiverMap)
     → ((r f : ℕ) → or_if_zero (receiver_in m r f) (first_or_zero (numbers_among (receives r f) [])) ≡ receiver c r f)
     → AreReceivers c m

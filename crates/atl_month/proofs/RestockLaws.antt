@@ -173,6 +173,7 @@ module _ (w : WorldValue) (n : ℕ) (there : HasValue w.regions n) where
       both_leave_well (moves_only most_amount Stocked (Item x.0)) (stocking_bound xs) w c (after_market_restock n c x) (after_restock n c (x ∷ xs)) one
       (all_leave_well xs each.1 (after_market_restock n c x) one.leaves_it)
 
+-- the empty map of markets lists no market
 pub none_there : entries (empty {X = Market} {R = nat_cmp}) ≡ []
 none_there = entries-empty
 
@@ -244,7 +245,8 @@ room_for_later_markets w n there x xs c of steady room =
     room_for_second (moves_only most_amount Stocked (Item x.0)) (stocking_bound xs) w c (after_market_restock n c x)
     (one_leaves_well w n there c x of steady) room
 
--- setting a market's stock and booking the new goods, both with their marks, marks all that changes (`MarksChanges`)
+-- setting a market's stock, which makes d of c, and booking the new goods, which makes e of d, both with their marks,
+-- marks all that changes (`MarksChanges`)
 pub market_marks : (stock more n i : ℕ) (c d e : MarkedCampaign) → d.value ≡ with_stock c.value n i (stock + more)
     → MarksStock c n i (stock + more) d.marks
     → e.value ≡ with_booking d.value Stocked (Item i) (pos more) → e.marks ≡ mark_amount d Stocked (Item i)

@@ -143,8 +143,8 @@ births_first c room =
 
 -- ---- marks
 
--- setting the peasants and the money of a region and booking both, with their marks, marks all that changes
--- (`MarksChanges`)
+-- setting the peasants and the money of a region and booking both, each with its mark, from campaign c over d, e and f
+-- to g, marks all that changes (`MarksChanges`)
 pub growth_marks : (c d e f g : MarkedCampaign) (n peasants money born earned : ℕ)
     → d.value ≡ with_peasants c.value n peasants → d.marks ≡ mark_peasants c n peasants
     → e.value ≡ with_region_money d.value n money → e.marks ≡ mark_region_money d n money
@@ -253,15 +253,16 @@ season_keeps_units w c words =
 
 -- ---- the season region by region
 
--- once the first of some regions had its season, the seasons of the other regions, with the other words, make campaign
--- `all`, as the seasons of all of them do
+-- Where the seasons of `regions` with `words` make campaign `all` of c, those of the other regions (`rest`) with the
+-- other words (`tail`) make `all` of d. Campaign d is c after the season of the first region.
 pub season_goes_on : (w : WorldValue) (c d all : CampaignValue) (regions rest : List (ℕ × RegionPlan)) (words tail : List ℕ) (n word : ℕ) (plan : RegionPlan)
     → regions ≡ (n, plan) ∷ rest → words ≡ word ∷ tail → d ≡ season_at w c (n, word)
     → fold (season_at w) c (zip (map (λ e. e.0) regions) words) ≡ all
     → fold (season_at w) d (zip (map (λ e. e.0) rest) tail) ≡ all
 season_goes_on w c d all regions rest words tail n word plan listed given is whole = rw is (rw (listed, given) at whole)
 
--- if books have room for the seasons of some regions, they have room for those of the others after the first one
+-- where the books of c have room for the seasons of `regions`, those of d, which is c after the season of the first
+-- one, have room for those of the others (`rest`)
 pub room_for_later_seasons : (w : WorldValue) → IsWorld w
     → (c d : CampaignValue) (regions rest : List (ℕ × RegionPlan)) (n word : ℕ) (plan : RegionPlan)
     → regions ≡ (n, plan) ∷ rest → d ≡ season_at w c (n, word) → IsSteady w c

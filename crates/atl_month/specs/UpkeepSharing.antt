@@ -46,7 +46,7 @@ abbrev pub given_among : ℕ → (peers : List UpkeepInput) → ℕ
 given_among maintenance peers =
     min (sum_by (left_of maintenance) peers) (sum_by (short_of maintenance) peers)
 
--- ---- a unit among them
+-- ---- a unit among them: `peers` are the units of its faction in its region, the unit among them
 
 -- the units of its faction in its region with lower numbers than the unit's, which have their turn before it
 abbrev pub peers_before : (peers : List UpkeepInput) → UpkeepInput → List UpkeepInput
@@ -76,7 +76,8 @@ upkeep_result_among maintenance peers input = record {
   starved = starved_of maintenance (short_of maintenance input - given_to maintenance peers input);
 }
 
--- what upkeep takes from each of some units; for each only the units of its faction in its region count
+-- what upkeep takes from each of some units, at this maintenance for each man; for each only the units of its faction
+-- in its region count
 abbrev pub upkeep_results_of : ℕ → List UpkeepInput → List UpkeepResult
 upkeep_results_of maintenance inputs =
     map (λ p. upkeep_result_among maintenance (peers_of p.region p.faction inputs) p) inputs

@@ -51,7 +51,7 @@ pub record Gives (added : Bool → Task → List Report) (meaning : Meaning) : T
 abbrev pub report_if : Bool → Task → List Report
 report_if b t = cond b (report_for t ∷ []) []
 
--- two phases in turn add what the first adds, and then what the second adds
+-- two phases in turn add what the first adds (a), and then what the second adds (b)
 pub gives_both : {a b : Bool → Task → List Report} {first second : Meaning} → Gives a first → Gives b second
     → Gives (λ counts t. a counts t ++ b counts t) (then_also first second)
 gives_both {a} {b} {first} {second} one two = record {
@@ -85,8 +85,9 @@ pub one_reported : (t : Task) (b : Bool) → map report_for (cond b (t ∷ []) [
 one_reported t true = refl
 one_reported t false = refl
 
--- of the reports of a phase's orders just that of order t is of t's faction and on t's line, if t has a verb of the
--- phase and counts in its mailing (`order_counts`), and otherwise none is
+-- Of the reports of a phase's orders just that of order t is of t's faction and on t's line, if t has a verb of the
+-- phase and counts in its mailing (`order_counts`). Otherwise none is. For this t is in the mailing of its faction, and
+-- the mailings can be read with the world.
 pub report_in_phase : (w : WorldValue) (m : MonthValue) (aliases : Aliases) (readings : FinMap nat_cmp Reading)
     → m.aliases ≡ aliases → m.readings ≡ readings → AreFit w readings
     → (t : Task) (there : IsInMailing aliases readings t) (is_of : Verb → Bool) (a : Arrangement)
@@ -105,9 +106,10 @@ reports_made outcome (t ∷ ts) = ap (λ rs. report_for t ∷ rs) (reports_made 
 
 -- ---- orders in turn
 
--- X is what orders carried out in turn change besides the month, such as the campaign
+-- X is what orders carried out in turn change besides the month, such as the campaign. Below, `step` carries out one
+-- order: it makes of the X and the month before it those after it.
 module _ {X : Type 0} where
-  -- what each order keeps of the month is kept by orders in turn
+  -- what `part` gives of the month stays the same over orders carried out in turn, if it does so over each order
   pub fold_keeps : {A : Type 0} (part : MonthValue → A) (step : X × MonthValue → Task → X × MonthValue)
       → ((p : X × MonthValue) (t : Task) → part (step p t).1 ≡ part p.1) → (ts : List Task) (p : X × MonthValue)
       → part (fold step p ts).1 ≡ part p.1

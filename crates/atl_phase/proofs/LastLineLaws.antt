@@ -78,8 +78,8 @@ module _ (slot : Slot) (aliases : Aliases) (faction : ℕ) (text : List ℕ) whe
       ap (λ ds. last_line slot unit (tasks_from aliases faction i (map (entry_value text) ds))) (next_of es i e h is)
       ∙ ap (λ o. max (if (unit_of aliases faction e.target == unit) && is_same_slot slot o then e.line else 0) (rest_from (i + 1) es unit)) slot_is
 
-  -- if the order at i is in a slot, the greatest of the noted lines and those still to come stays the same once the
-  -- line of this order is noted
+  -- The order e at i is in slot `other`. Once its line is noted, the greater of the line noted for `slot` and a unit,
+  -- and of those still to come for them, is the same as before.
   pub noted : (es : List Entry) (i : ℕ) (e : Entry) (lines : LastLineMap) (other : Slot) (unit : ℕ) → i < length es
       → e ≡ get_or es i e → (row_of e.order.verb).slot ≡ Some other →
       max (line_in (with_line lines (slot_number other) (unit_of aliases faction e.target) e.line) (slot_number slot) unit) (rest_from (i + 1) es unit) ≡ max (line_in lines (slot_number slot) unit) (rest_from i es unit)

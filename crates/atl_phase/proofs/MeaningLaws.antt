@@ -61,7 +61,8 @@ room_when_sound w c book_bound l sound e t =
     within a bound change few little h =
         record { above = omega (arith, ints, h.most); below = omega (arith, ints, h.least) }
 
--- books with room for two phases have room for the second after the first, if the first keeps its bound (`LeavesWell`)
+-- Where the books of c have room for two phases, with the bounds j and k, those of d, after the first one, have room
+-- for the second one. For this the first one kept its bound (`LeavesWell`).
 pub room_for_second : {leaves : Condition} (j k : BookBound) (w : WorldValue) (c d : CampaignValue)
     → LeavesWell leaves j w c d → HaveRoom (both_move j k) c → HaveRoom k d
 room_for_second j k w c d well room e t =
@@ -103,7 +104,8 @@ same_month_twice a b c one two = record {
   factions = λ n there. one.factions n (two.factions n there);
 }
 
--- two phases in turn keep books balanced and amounts within the sum of their bounds, if each does so (`LeavesWell`)
+-- Two phases in turn, from campaign a to b and from b to c, keep books balanced and amounts within the sum of their
+-- bounds, if each does so (`LeavesWell`). After them holds what the second one leaves.
 pub both_leave_well : {between leaves : Condition} (j k : BookBound) (w : WorldValue) (a b c : CampaignValue)
     → LeavesWell between j w a b → LeavesWell leaves k w b c → LeavesWell leaves (both_move j k) w a c
 both_leave_well j k w a b c one two = record {
@@ -113,7 +115,8 @@ both_leave_well j k w a b c one two = record {
   near = λ e t. near_twice (j e t) (k e t) (amount_in a.books e t) (amount_in b.books e t) (amount_in c.books e t) (one.near e t) (two.near e t);
 }
 
--- two phases in turn keep what each keeps, if the first phase makes the campaign and month that the second one gets
+-- Two phases in turn, from campaign a to b and from b to c, keep what each keeps (`both_keep`). For this the first one,
+-- in month m, makes b and the month n, which the second one gets.
 pub both_keep_well : (first : Meaning) (early late : Frame) (w : WorldValue) (m n : MonthValue) (a b c : CampaignValue)
     → (b, n) ≡ first w a m → early w m a b → late w n b c → both_keep first early late w m a c
 both_keep_well first early late w m n a b c is one two = rw (sym is) (one, two)

@@ -44,7 +44,8 @@ sorted_by_faction ms ns apart p =
     sorted_strictly (on_total (λ (m : Mailing). m.faction) nat_cmp_total) ms ns p
     (IsDistinct-of_map (λ (m : Mailing). m.faction) (eq_by_cmp nat_cmp) ms apart)
 
--- if the mailing at index i is of faction f, the map of readings has what was read of it under f
+-- where the mailings are strictly sorted by faction, and the one at index i is of faction f, the map of readings has
+-- what was read of it under f
 pub found_at : (ms : List Mailing) (f i : ℕ) (d : Mailing) → AreByFaction ms → i < length ms
     → nat_cmp (get_or ms i d).faction f ≡ Equal
     → get (by_faction (map reading_of ms)) f ≡ Some (reading_of (get_or ms i d))

@@ -66,7 +66,8 @@ room_after_use r s a b h room =
 
 -- ---- steps
 
--- a step that changes nothing steps well (`StepsWell`), if `holds` is true of the campaign
+-- a step that changes nothing keeps `holds`, month and balance and moves no amount (`StepsWell`), if `holds` is true of
+-- the campaign
 pub well_same : {holds : Condition} {remaining : RemainingBound} (w : WorldValue) (c : CampaignValue) → holds w c
     → StepsWell holds remaining w c c
 well_same {holds} {remaining} w c h =
@@ -148,8 +149,8 @@ result_of_effect effect c d faction n o is = ap with_some is
 -- a phase that is `IsOrderly`, and of which `step` says what one order does. Each order keeps `holds` true, and moves
 -- no amount further than `remaining` falls. `unaffected` relates each unit that it doesn't affect to the unit after it.
 module _ (step : OrderMeaning) {holds : Condition} {remaining : RemainingBound} {book_bound : BookBound} {affects : Affects} {unaffected : Unaffected} (orderly : IsOrderly step holds remaining book_bound affects unaffected) (w : WorldValue) where
-  -- each order that can be read with the world steps well (`StepsWell`), with a fault or without, if its phase is
-  -- `IsOrderly` and `holds` is true before
+  -- Each order that can be read with the world, with a fault or without, keeps `holds`, month and balance, and moves
+  -- amounts within their remaining bounds (`StepsWell`). For this `holds` is true before.
   pub order_well : (a : Aliases) (c : CampaignValue) (t : Task) → holds w c → IsOrderOf w t.order_value
       → StepsWell holds remaining w c (order_result (step w a t) c t.faction t.unit).0
   order_well a c t h fit =

@@ -86,7 +86,8 @@ sorted_by_keys {X = X} as_task key os list ts are apart p up =
     sym (ap (map (λ e. e.1)) sorted ∙ map-map (λ (e : List ℕ × Task). e.1) entry list)
     ∙ ap (λ es. values (from_entries {R = slice_cmp nat_cmp} es)) (sym (map-map paired as_task os) ∙ ap (map paired) are)
 
--- orders of the code sorted by a key, no two with the same key, are the orders sorted by it (`sorted_by`)
+-- if the code sorts its orders `os` by a key that no two have into `list`, then `list` has the orders `ts`, which are
+-- those of `os`, as the definition sorts them (`sorted_by`)
 pub listed_tasks : (key : Task → List ℕ) (os list : List PhaseOrder) (ts : List Task) → map task_of os ≡ ts
     → IsDistinct (λ t u. eq_by_cmp (slice_cmp nat_cmp) (key t) (key u)) ts → IsPermutation os list
     → IsSortedByKey (λ o. key (task_of o)) (slice_cmp nat_cmp) list → map task_of list ≡ sorted_by key ts
@@ -108,8 +109,8 @@ sorted_by_order_keys : (a : Arrangement) (ms : List Mailing) (list : List OrderI
 sorted_by_order_keys ByUnit ms list up = up
 sorted_by_order_keys ByFaction ms list up = up
 
--- the indices of all orders that count, once sorted by their own keys, name these orders as the arrangement sorts them
--- (`AreOrderIndices`)
+-- The indices `os` of all orders that count, once sorted by their own keys into `list`, name these orders as the
+-- arrangement sorts them (`AreOrderIndices`). For this the mailings are sorted by faction, no two of one faction.
 pub sorted_places : (is_of : Verb → Bool) (a : Arrangement) (aliases : Aliases) (ms : List Mailing) (os list : List OrderIndex)
     → AreByFaction ms → AreIndicesByMailing is_of aliases ms os → IsPermutation os list
     → IsSortedByKey (key_by a) (slice_cmp nat_cmp) list

@@ -6,6 +6,7 @@ use Rattle.std.proofs.lemmas.Bool.Decides.{nat_tests}
 use Rattle.atl_records.specs.declared.event.EventFault.{EventFault}
 use Rattle.atl_phase.specs.Outcomes.{first_fault}
 
+-- if false were true, anything would hold
 pub false_true : {P : Type 0} → false ≡ true → P
 false_true e = cc
 

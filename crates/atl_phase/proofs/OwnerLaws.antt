@@ -25,8 +25,8 @@ module _ (c d : CampaignValue) (n : ℕ) (away : (k : ℕ) → k ≢ n → get d
     | inr apart ↦ others k v apart (sym (away k apart) ∙ there)
   ]
 
-  -- A structure that is rightly owned in c, by another unit than n or by nobody, is so in d. If nobody owns it, unit n
-  -- must not be inside it in d.
+  -- Structure q (y) that is rightly owned in c, by another unit than n or by nobody, is so in d. If nobody owns it,
+  -- unit n must not be inside it in d.
   pub owner_stays : (q : ℕ) (y : Structure) → IsOwned c q y → y.owner ≢ n
       → (y.owner ≡ 0 → (v : Unit) → get d.units n ≡ Some v → v.structure ≢ q) → IsOwned d q y
   owner_stays q y old other outside = record {
@@ -34,8 +34,9 @@ module _ (c d : CampaignValue) (n : ℕ) (away : (k : ℕ) → k ≢ n → get d
     ownerless = λ none. every_away (λ k v. v.structure ≢ q) (outside none) (λ k v apart there. old.ownerless none k v there);
   }
 
-  -- A structure that unit n has left is rightly owned by the structure's heir: the lowest of the other units inside, or
-  -- nobody (0) where no other unit is inside. For this all units have numbers of at least 1.
+  -- The structure (y) of number `location` is in d rightly owned by its heir: the lowest of the units but n inside it
+  -- in c, or nobody (0) where there is none. For this unit n isn't inside it in d, and all units have numbers of at
+  -- least 1.
   pub heir_owns : (location : ℕ) → location ≢ 0 → Every (λ k v. 1 ≤ k) c.units
       → ((v : Unit) → get d.units n ≡ Some v → v.structure ≢ location) → (y : Structure)
       → IsOwned d location (owned_by (heir c location n) y)

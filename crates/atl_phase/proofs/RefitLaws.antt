@@ -43,8 +43,8 @@ module _ (c : CampaignValue) (units : FinMap nat_cmp Unit) (structures : FinMap 
   abbrev pub replaced : CampaignValue
   replaced = record c { units = units; structures = structures }
 
-  -- campaign c keeps its limits with other units and structures, if there are as many of them, and each is within its
-  -- limits
+  -- campaign c keeps its limits (`AreInRange`) with other units and structures, if there are as many of them, and each
+  -- is within its limits
   pub in_range_replaced : (w : WorldValue) → len units ≡ len c.units → len structures ≡ len c.structures
       → Every (λ k x. (1 ≤ k) × IsHolding x.holding) units
       → Every (λ k x. (1 ≤ x.done) × (x.done ≤ size_of w x.kind)) structures → AreInRange w c → AreInRange w replaced
@@ -63,7 +63,8 @@ module _ (c : CampaignValue) (units : FinMap nat_cmp Unit) (structures : FinMap 
     books = old.books;
   }
 
-  -- campaign c keeps the rules of names with other units and structures, if their names follow the name rule
+  -- campaign c keeps the rules of names (`AreNamed`) with other units and structures, if their names follow the name
+  -- rule
   pub named_replaced : Every (λ k x. IsTrue (name_ok x.holding.name)) units
       → Every (λ k x. IsTrue (name_ok x.name)) structures → AreNamed c → AreNamed replaced
   named_replaced new_units new_structures old =

@@ -33,7 +33,7 @@ module _ {V : Type 0} (f : V → V) (m : FinMap nat_cmp V) (k : ℕ) where
   changed_here None is = is
   changed_here (Some v) is = get-insert_same m k (f v)
 
-  -- a change under number k leaves what the map has under another number q
+  -- a change under number k to f of the value in `o`, if there is one, leaves what the map has under another number q
   pub changed_else : (q : ℕ) → q ≢ k → (o : Option V) → get (with_changed_option f m k o) q ≡ get m q
   changed_else q apart None = refl
   changed_else q apart (Some v) = get-insert_other m k q (f v) apart

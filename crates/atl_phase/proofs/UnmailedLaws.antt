@@ -223,8 +223,8 @@ none_less x y u v same men items =
     nobody : (a b : ℕ) → b ≡ a → b + (y - x) ≡ a
     nobody a b e = omega (arith, same)
 
--- A phase that keeps the mailings, and reports no man as starved (`nobody`). If it keeps what `keeps` says, units of
--- factions without a mailing have their men and items after it.
+-- A phase that keeps the mailings (`readings`), and reports no man as starved (`nobody`). If it keeps what `keeps`
+-- says, units of factions without a mailing have their men (`men`) and items (`items`) after it.
 module _ {meaning : Meaning} {keeps : Frame} (readings : (w : WorldValue) (c : CampaignValue) (m : MonthValue) → (meaning w c m).1.readings ≡ m.readings)
     (nobody : (w : WorldValue) (c : CampaignValue) (m : MonthValue) (n : ℕ) → starved_in (meaning w c m).1.events n ≡ starved_in m.events n)
     (men : (w : WorldValue) (c : CampaignValue) (m : MonthValue) → keeps w m c (meaning w c m).0 → UnmailedAre HasItsMen m c (meaning w c m).0)

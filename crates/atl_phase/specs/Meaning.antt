@@ -40,7 +40,7 @@ abbrev pub Frame : Type 1
 Frame = WorldValue → MonthValue → CampaignValue → CampaignValue → Type 0
 
 -- What two phases in turn keep: the first one what `early` says, and the second one what `late` says. The second one
--- gets the campaign and the month that the effect of the first one makes.
+-- gets the campaign and the month that `first`, the effect of the first one, makes.
 abbrev pub both_keep : Meaning → Frame → Frame → Frame
 both_keep first early late w m before after =
     let between = first w before m in

@@ -68,7 +68,8 @@ abbrev pub goes_by_orders : OrderMeaning → (Verb → Bool) → Affects → Una
 goes_by_orders step is_of affects unaffected =
     spec_without_books (meaning_by_orders step is_of) (others_unaffected affects unaffected is_of)
 
--- the specification of a phase that moves the money of one entry of the books, and no other amount
+-- the specification of a phase that has a given effect, moves the money of one entry of the books and no other amount,
+-- and keeps what the given frame says
 abbrev pub books_money : BooksEntry → Meaning → Frame → PhaseSpec
 books_money entry meaning keeps = record {
   meaning = meaning;
@@ -77,8 +78,8 @@ books_money entry meaning keeps = record {
   keeps = keeps;
 }
 
--- the specification of a phase that moves the money of one entry of the books and the people of another,
--- and no other amount
+-- the specification of a phase that has a given effect and keeps what the given frame says. It moves the money of one
+-- entry of the books and the people of another, and no other amount.
 abbrev pub books_money_and_people : (money people : BooksEntry) → Meaning → Frame → PhaseSpec
 books_money_and_people money people meaning keeps = record {
   meaning = meaning;

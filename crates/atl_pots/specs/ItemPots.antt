@@ -15,7 +15,7 @@ module _ (asked_item : ℕ → Option ℕ) (pot_of : (item region : ℕ) → ℕ
   share_for number None = None
   share_for number (Some item) = share_of (pot_of item) (wants_for asked_item wants item) c number
 
-  -- the share that a unit, by its number, gets of the item that it asks for
+  -- the share that a unit, by its number, gets of the item that it asks for; None where it asks for none, or gets none
   abbrev pub item_share : ℕ → Option ℕ
   item_share number = share_for number (asked_item number)
 

@@ -18,7 +18,8 @@ AreWants wants = Every (λ number want. want ≤ most_amount) wants
 abbrev pub asks_for : (pot : ℕ) → (asked : Option ℕ) → Bool
 asks_for pot asked = option_map_or (λ other. other == pot) asked false
 
--- the wants, by unit, of those units that ask for a pot; `asked_by` has the number of the pot that a unit asks for
+-- the wants, by unit, of those units that ask for a pot; `asked_by` has the number of the pot that a unit asks for, if
+-- any
 abbrev pub wants_for : (asked_by : ℕ → Option ℕ) → FinMap nat_cmp ℕ → (pot : ℕ) → FinMap nat_cmp ℕ
 wants_for asked_by wants pot = retain_keys wants (λ number. asks_for pot (asked_by number))
 
@@ -46,7 +47,8 @@ wants_in wants units region = amounts_of (wants_at wants units region)
 abbrev pub shares_of : (pot : ℕ) → FinMap nat_cmp ℕ → List (ℕ × ℕ)
 shares_of pot wants = zip (keys wants) (shares pot (amounts_of wants))
 
--- a region's units that have a want, each with its share of the region's pot, in unit order
+-- a region's units that have a want, each with its share of the region's pot, in unit order; `pot_of` has the pot of
+-- each region
 abbrev pub shares_in : (ℕ → ℕ) → FinMap nat_cmp ℕ → FinMap nat_cmp Unit → ℕ → List (ℕ × ℕ)
 shares_in pot_of wants units region = shares_of (pot_of region) (wants_at wants units region)
 

@@ -82,6 +82,7 @@ listed-filter p q [] = none (p q)
     none false = refl
 listed-filter p q (n ∷ ns) = filtered p q n ns (eq_by_cmp nat_cmp q n) (p n) refl refl (listed-filter p q ns)
 
+-- `p` is a test of the values of map `m`, and `q` is the number that is looked up
 module _ {V : Type 0} (p : V → Bool) (m : FinMap nat_cmp V) (q : ℕ) where
   -- for `listed-where`: the value looked up passes, where the number is on the list of those that pass
   passes : (o : Option V) → get m q ≡ o → is_listed q (numbers_where p m) ≡ true → option_map_or p o false ≡ true
@@ -145,6 +146,8 @@ get-with_levels q observation (e ∷ es) seen =
 
 -- ---- who is seen
 
+-- `q` is the number of a unit, `hides` its hiding level, and `observation` a level of observation; `here` says whether
+-- the unit is in the watched region
 module _ (q observation hides : ℕ) (here : Bool) where
   -- for `within_one`: the first list, or the later ones
   first_or_later : (level : ℕ) (ns : List ℕ) (b found : Bool) → eq_by_cmp nat_cmp hides level ≡ b
@@ -224,6 +227,8 @@ seen_by_parts false f false = refl
 abbrev forget_unit : Unit → Prim.Unit {0}
 forget_unit u = tt
 
+-- `watch` is a faction's watch in a region, and `levels` has for each hiding level the list of the region's units that
+-- have it (`are`)
 module _ (w : WorldValue) (c : CampaignValue) (watch : Watch) (levels : FinMap nat_cmp (List ℕ)) (are : AreLevels w c watch.region levels) where
   -- whether a unit of a number is seen in the region
   abbrev seen_at : ℕ → Bool
@@ -280,6 +285,7 @@ module _ (w : WorldValue) (c : CampaignValue) (watch : Watch) (levels : FinMap n
 
 -- ---- the views
 
+-- `watch` is a faction's watch in a region
 module _ (w : WorldValue) (c : CampaignValue) (watch : Watch) where
   -- the views of some entries
   abbrev views : List (ℕ × Unit) → List UnitView
@@ -328,7 +334,8 @@ views_of_seen w c watch =
 
 -- ---- what the functions ask
 
--- if Ok of `r` is the set gathered from a region's lists, it has the numbers of the units that the faction sees there
+-- Let the code's result `r`, if it is Ok, be the set gathered from the faction's own units in a region (`own`) and from
+-- the region's lists by hiding level (`levels`). Then it has the numbers of the units that the faction sees there.
 pub gathered_are_seen : {E : Type 0} (r : Result (FinMap nat_cmp (Prim.Unit {0})) E) (w : WorldValue) (c : CampaignValue) (watch : Watch) (own : List ℕ) (levels : FinMap nat_cmp (List ℕ))
     → AreLevels w c watch.region levels → own ≡ own_units_in c watch.faction watch.region
     → IfOk r (λ seen. seen ≡ numbers_seen own levels watch.observation)

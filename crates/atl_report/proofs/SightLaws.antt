@@ -24,6 +24,7 @@ use Rattle.atl_campaign.proofs.SortedMapLaws.{above_compares_unequal}
 
 -- ---- what holds of some entry
 
+-- `p` is a test of the values of a map, and `g` one of what a look-up in it finds, None where it finds nothing
 module _ {X : Type 0} (p : X → Bool) (g : Option X → Bool) where
   -- an entry in front, whose number is below all of `es`, makes no difference to whether `g` holds of some value looked
   -- up by the number of an entry of `es` that passes `p`
@@ -94,6 +95,8 @@ forget_value v = tt
 abbrev number_alone : {V : Type 0} → ℕ × V → ℕ × Prim.Unit {0}
 number_alone e = (e.0, tt)
 
+-- entries whose values are replaced by `tt` keep their numbers and their order; a look-up finds `tt` where it found a
+-- value before
 module _ {V : Type 0} where
   find-alone : (q : ℕ) (es : List (ℕ × V))
       → find nat_cmp q (map number_alone es) ≡ option_map forget_value (find nat_cmp q es)
@@ -122,6 +125,7 @@ module _ {V : Type 0} where
   alone_chosen true o = refl
   alone_chosen false o = refl
 
+-- `f` is a faction's number, and `q` a region's, which is looked up in the set gathered from the faction's units
 module _ (c : CampaignValue) (f q : ℕ) where
   abbrev there : ℕ → Option (Prim.Unit {0})
   there k = option_map forget_value (get c.regions k)

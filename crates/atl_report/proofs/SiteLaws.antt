@@ -51,6 +51,7 @@ no_lists m h key =
 
 -- ---- units by a key of theirs
 
+-- `units` has units by number, `key` gives the key of a unit, and `k` is one key
 module _ (units : FinMap nat_cmp Unit) (key : Unit → ℕ) (k : ℕ) where
   -- whether a unit exists, and has the key `k`
   abbrev has_key : Option Unit → Bool

@@ -1,5 +1,6 @@
--- For proofs alone: the numbers of the regions that a faction sees, gathered from its units one after another, and
--- those of the units that it sees in a region, gathered from the region's lists; and lists of units by a key of theirs.
+-- For proofs alone: the numbers of the regions that a faction sees, gathered from its units one after another. Also
+-- those of the units that it sees in a region, gathered from the region's lists, and lists of units by a key of theirs.
+-- A set of numbers is a map from each of them to `tt`, the only value of the type `Prim.Unit`.
 use Rattle.std.specs.Prelude.{ℕ, List, [], ◌∷◌, nat_le, if◌then◌else◌, Option, Some, None}
 use Rattle.std.specs.Ordering.{nat_cmp}
 use Rattle.std.specs.FinMap.{FinMap, get, insert, empty, entries}
@@ -9,7 +10,8 @@ use Rattle.atl_campaign.specs.Campaign.{CampaignValue}
 use Rattle.atl_report.specs.Watching.{is_watching}
 use Rattle.atl_report.specs.Sites.{with_listed}
 
--- the set of region numbers with `n` added, if the campaign has a region of number `n`
+-- `with_region seen n region`: the set `seen` of region numbers with `n` added, if the campaign has a region of number
+-- `n`, which is `region`; None where it has none
 abbrev pub with_region : FinMap nat_cmp (Prim.Unit {0}) → ℕ → Option Region → FinMap nat_cmp (Prim.Unit {0})
 with_region seen n None = seen
 with_region seen n (Some r) = insert seen n tt
