@@ -4,18 +4,18 @@ use Rattle.atl_tables.proofs.FaultLaws.{gives_error, error_of_condition_is_of_li
 use Rattle.atl_tables.proofs.kind_table.KindDraftDraft.resolve.Goals as goal
 
 pub returns-in_err-material-clause-value : goal.returns-in_err-material-clause-value
-unfolding kind_known kind_of
+unfolding kind_known
 returns-in_err-material-clause-value c =
     gives_error _ _ _ _ _ c.from_residual-in_err-material.ensures.1 (error_of_condition_is_of_list c.in_err-material.field-0.0 _ _ (rw (c.as_str-at.ensures, c.in_ok-element.ensures, c.as_slice.ensures) at c.in_err-material.ensures.value))
 
 pub returns-in_err-skill-clause-value : goal.returns-in_err-skill-clause-value
-unfolding kind_known kind_of
+unfolding kind_known
 returns-in_err-skill-clause-value c =
     let material = rw (c.as_str-at.ensures, c.in_ok-element.ensures, c.as_slice.ensures) at c.in_ok-material.ensures.value.0 in
     rw material (gives_error _ _ _ _ _ c.from_residual-in_err-skill.ensures.1 (error_of_condition_is_of_list c.in_err-skill.field-0.0 _ _ (rw (c.as_str-at.ensures, c.in_ok-element.ensures, c.as_slice-skills.ensures) at c.in_err-skill.ensures.value)))
 
 pub returns-in_err-helps-clause-value : goal.returns-in_err-helps-clause-value
-unfolding kind_known kind_of
+unfolding kind_known
 returns-in_err-helps-clause-value c =
     let material = rw (c.as_str-at.ensures, c.in_ok-element.ensures, c.as_slice.ensures) at c.in_ok-material.ensures.value.0 in
     let skill = rw (c.as_str-at.ensures, c.in_ok-element.ensures, c.as_slice-skills.ensures) at c.in_ok-skill.ensures.value.0 in
