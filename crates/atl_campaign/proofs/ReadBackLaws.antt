@@ -79,8 +79,8 @@ module _ {R V : Type 0} (number : R → ℕ) (value : R → V) where
       → Every P (by_number number value rows)
   every_by P rows all = put_from_each P rows _ all (every-empty P)
 
-  -- the map made of rows is m, if each row's value is under its number in m, and each value of m is in the map made of
-  -- rows
+  -- the map made of rows is m, if each row's value is under its number in m, and each value of m is under its number in
+  -- the map made of rows
   pub by_number_is : (m : FinMap nat_cmp V) (rows : List R)
       → AllByRecursion (λ r. get m (number r) ≡ Some (value r)) rows
       → Every (λ n v. get (by_number number value rows) n ≡ Some v) m → by_number number value rows ≡ m

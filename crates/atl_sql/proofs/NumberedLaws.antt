@@ -40,20 +40,22 @@ use Rattle.atl_sql.proofs.FitLaws.{given_row, changed_row, makes_row}
 use Rattle.atl_sql.proofs.EditLaws.{delete_query, found_by}
 use Rattle.atl_sql.proofs.Terms.{head_is, upsert_finds_number, one_number, delete_finds_number}
 
+-- the condition that a row's number is the first parameter of the statement
 abbrev has_number : List Term
 has_number = op2 (Compare Eq Binary) (col 1 0) (col 0 0) ∷ []
 
 -- The rows of table `t` are a number and `width` values, and are put and deleted by the number. The index of the table
--- among all tables is `at`. Its two texts mean the upsert of a row and the DELETE of a row by its number, whatever
--- other tables follow.
+-- among all tables is `at`. `more` and `indexes` are whatever tables and indexes follow those of a campaign.
 pub record IsNumberedTable (t : Table) (at width : ℕ) : Type 0 where
   pub ours : Has all_tables t
   pub position : (more : List Table) → slice_get (all_tables ++ more) at ≡ Some t
   -- the table's tree is one of the file, not that of a temporary table
   pub plain : (db : Trees) → overlay db [] t.tree ≡ db t.tree
+  -- the text `upsert t 1` means the upsert of a row by its number
   pub puts : (more : List Table) (indexes : List Index)
       → command_of (understood (all_tables_and_others more indexes) (upsert t 1)) ≡ InsertOr at Abort (Values (given_row width) (width + 2)) (conflict_clause (0 ∷ []) (record { lets = []; body = update_query t.tree (width + 1) (changed_row width) }) ∷ [])
   pub puts_plain : AlwaysPlain (upsert t 1)
+  -- the text `deletion t 1` means the DELETE of the rows with the number that is the first parameter
   pub drops : (more : List Table) (indexes : List Index)
       → command_of (understood (all_tables_and_others more indexes) (deletion t 1)) ≡ Delete at (record { lets = []; body = delete_query t.tree has_number })
   pub drops_plain : AlwaysPlain (deletion t 1)
