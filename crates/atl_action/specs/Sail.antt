@@ -122,8 +122,8 @@ pub record IsAtMostMoved (before after : Unit) : Type 0 where
 abbrev pub AreAtMostMoved : CampaignValue → CampaignValue → Type 0
 AreAtMostMoved before after = Every (λ n u. IsStillThere IsAtMostMoved after n u) before.units
 
--- No order t of SAIL counts as affecting a unit, whatever its number n and faction f. So what SAIL keeps of units that no order affects
--- (`IsAtMostMoved`) is kept of every unit.
+-- No order t of SAIL counts as affecting a unit, whatever its number n and faction f. So what SAIL keeps of units that
+-- no order affects (`IsAtMostMoved`) is kept of every unit.
 abbrev pub affects_nobody : Affects
 affects_nobody t n f = ⊥
 

@@ -88,8 +88,8 @@ module _ (f : Format) (w : WorldValue) (p : Parts) where
       → b ≡ false → IsFirstBroken f w p r
   first_broken r b before d e = record { before = before; broken = λ holds. false≢true (sym e ∙ d.1 holds) }
 
-  -- if the world keeps the rules of worlds, and rows keep rules 1 to 11, they have what is needed to be exactly the rows
-  -- of the campaign read from them (`RowsKeep`)
+  -- if the world keeps the rules of worlds, and rows keep rules 1 to 11, they have what is needed to be exactly the
+  -- rows of the campaign read from them (`RowsKeep`)
   pub rows_keep : IsWorld w → KeepsRulesBelow f w p 12 → RowsKeep f w p
   rows_keep world k = record {
     world = world;
