@@ -3,7 +3,7 @@ use Rattle.std.proofs.Common.{◌≡◌, ℕ, suc, ◌+◌, ◌<◌, subst, arit
 use Rattle.std.specs.Prelude.{Ok, Err}
 use Rattle.sqlite_trees.specs.declared.store.Store.{Ghosts}
 use Rattle.atl_service.specs.Service.{ServiceValue}
-use Rattle.atl_http.specs.declared.dice.Dice.{Dice}
+use Rattle.atl_requests.specs.declared.dice.Dice.{Dice}
 use Rattle.atl_http.specs.declared.listening.ListenFault.{ListenFault}
 use Rattle.atl_http.specs.declared.listening.ListenFault.TheVariants.{Net, Memory}
 use Rattle.atl_http.specs.Listening.{ServesConnection, ServesInTurn, ServesEach}

@@ -4,18 +4,18 @@ use Rattle.std.specs.Prelude.{Result, Ok, Err, IfOk}
 use Rattle.std.specs.declared.alloc.AllocError.{AllocError}
 use Rattle.atl_service.specs.declared.command.Answer.{Answer}
 use Rattle.atl_service.specs.Runs.{Runs}
-use Rattle.atl_http.specs.declared.problem.Problem.{Problem}
-use Rattle.atl_http.specs.declared.request.Request.{Request}
-use Rattle.atl_http.specs.declared.request.FinalVerdict.TheVariants.{Refused, Asks}
+use Rattle.atl_requests.specs.declared.problem.Problem.{Problem}
+use Rattle.atl_requests.specs.declared.request.Request.{Request}
+use Rattle.atl_requests.specs.declared.request.FinalVerdict.TheVariants.{Refused, Asks}
 use Rattle.atl_http.specs.Answered.{answer_reply}
 use Rattle.sqlite_trees.specs.declared.store.Store.{Ghosts}
 use Rattle.atl_service.specs.Service.{ServiceValue}
-use Rattle.atl_http.specs.declared.dice.Dice.{Dice}
-use Rattle.atl_http.specs.declared.message.Message.{Message}
-use Rattle.atl_http.specs.declared.request.FinalVerdict.{FinalVerdict}
-use Rattle.atl_http.specs.Replies.{problem_reply}
-use Rattle.atl_http.specs.Serving.{IsReply, command_in}
-use Rattle.atl_http.specs.Io.{MatchesReply, RepliesWith}
+use Rattle.atl_requests.specs.declared.dice.Dice.{Dice}
+use Rattle.atl_requests.specs.declared.message.Message.{Message}
+use Rattle.atl_requests.specs.declared.request.FinalVerdict.{FinalVerdict}
+use Rattle.atl_requests.specs.Replies.{problem_reply}
+use Rattle.atl_http.specs.Serving.{IsReply, RepliesWith, command_in}
+use Rattle.atl_requests.specs.Io.{MatchesReply}
 
 -- The message for a problem is right for a request that is refused with this problem (`RepliesWith`). If memory ran out
 -- for the message, there is none.

@@ -1,14 +1,3 @@
-pub mod Dice
-pub mod Routes
-pub mod Routing
-pub mod Fields
-pub mod Checks
-pub mod Heads
-pub mod Replies
 pub mod Answered
 pub mod Serving
-pub mod Calls
-pub mod Io
-pub mod Patience
 pub mod Listening
-pub mod Finding

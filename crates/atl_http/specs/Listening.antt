@@ -4,11 +4,11 @@
 use Rattle.std.specs.Prelude.{◌≡◌, ◌≢◌, ◌<◌, ℕ, zero, suc, None, Result, Ok, Err}
 use Rattle.sqlite_trees.specs.declared.store.Store.{Ghosts}
 use Rattle.atl_service.specs.Service.{ServiceValue}
-use Rattle.atl_http.specs.declared.dice.Dice.{Dice}
+use Rattle.atl_requests.specs.declared.dice.Dice.{Dice}
 use Rattle.atl_http.specs.declared.listening.ListenFault.{ListenFault}
 use Rattle.atl_http.specs.declared.listening.ListenFault.TheVariants.{Net, Memory}
-use Rattle.atl_http.specs.declared.io.HttpFault.{HttpFault}
-use Rattle.atl_http.specs.declared.io.HttpFault.TheVariants as http
+use Rattle.atl_requests.specs.declared.io.HttpFault.{HttpFault}
+use Rattle.atl_requests.specs.declared.io.HttpFault.TheVariants as http
 use Rattle.atl_http.specs.Serving.{IoBytes, Serves}
 
 -- the bytes that a socket has left, and those that it holds: no contract knows them

@@ -3,6 +3,7 @@
 -- (`IoBytes`). `dice` has the club's seed, and `g` is the kind of store, in memory or in files.
 use Rattle.std.specs.Prelude.{◌≡◌, ◌+◌, ◌<◌, ◌⊎◌, ℕ, List, length, take, Option, Some, None, Result, Ok, Err}
 use Rattle.std.specs.FinMap.{len}
+use Rattle.std.specs.declared.alloc.AllocError.{AllocError}
 use Rattle.std.specs.Io.KnownBytes.{Keeps, Appends, Consumes, IsAtEnd}
 use Rattle.sqlite_trees.specs.declared.store.Store.{Ghosts}
 use Rattle.atl_campaign.specs.Campaign.{CampaignValue}
@@ -11,17 +12,19 @@ use Rattle.atl_service.specs.declared.command.Command.TheVariants as command
 use Rattle.atl_service.specs.declared.command.Answer.{Answer}
 use Rattle.atl_service.specs.Service.{ServiceValue}
 use Rattle.atl_service.specs.Runs.{Runs}
-use Rattle.atl_http.specs.declared.dice.Dice.{Dice}
-use Rattle.atl_http.specs.declared.io.HttpFault.{HttpFault}
-use Rattle.atl_http.specs.declared.io.HttpFault.TheVariants.{Cut, ReadFault, WriteFault, Memory}
-use Rattle.atl_http.specs.declared.request.Request.{Request}
-use Rattle.atl_http.specs.declared.request.Request.TheVariants.{Join, Orders, Close, Report}
-use Rattle.atl_http.specs.declared.request.FinalVerdict.{FinalVerdict}
-use Rattle.atl_http.specs.declared.request.FinalVerdict.TheVariants.{Refused, Asks}
-use Rattle.atl_http.specs.declared.request.Verdict.TheVariants.{More}
-use Rattle.atl_http.specs.Dice.{generator, joining_streams, word_of, first_words}
-use Rattle.atl_http.specs.Heads.{Judges, ReadsNoFurther, as_verdict}
-use Rattle.atl_http.specs.Replies.{Reply, bytes_of, problem_reply}
+use Rattle.atl_requests.specs.declared.dice.Dice.{Dice}
+use Rattle.atl_requests.specs.declared.message.Message.{Message}
+use Rattle.atl_requests.specs.declared.io.HttpFault.{HttpFault}
+use Rattle.atl_requests.specs.declared.io.HttpFault.TheVariants.{Cut, ReadFault, WriteFault, Memory}
+use Rattle.atl_requests.specs.declared.request.Request.{Request}
+use Rattle.atl_requests.specs.declared.request.Request.TheVariants.{Join, Orders, Close, Report}
+use Rattle.atl_requests.specs.declared.request.FinalVerdict.{FinalVerdict}
+use Rattle.atl_requests.specs.declared.request.FinalVerdict.TheVariants.{Refused, Asks}
+use Rattle.atl_requests.specs.declared.request.Verdict.TheVariants.{More}
+use Rattle.atl_requests.specs.Dice.{generator, joining_streams, word_of, first_words}
+use Rattle.atl_requests.specs.Heads.{Judges, ReadsNoFurther, as_verdict}
+use Rattle.atl_requests.specs.Io.{MatchesReply}
+use Rattle.atl_requests.specs.Replies.{Reply, bytes_of, problem_reply}
 use Rattle.atl_http.specs.Answered.{answer_reply}
 
 -- the number of the faction that joins next; 0 for a closed service, which takes no command
@@ -49,6 +52,13 @@ IsReply g dice old (Refused problem) reply new = (reply ≡ problem_reply proble
 IsReply g dice old (Asks request) reply new =
     (answer : Answer) × Runs g old (command_in dice old request) answer new × (reply ≡ answer_reply answer)
 
+-- The message is the reply to a request with this final verdict (`IsReply`). If memory ran out there is no message, and
+-- the command has been run or not.
+abbrev pub RepliesWith : {S : Type 0} → Ghosts S → Dice → (old : ServiceValue S) → FinalVerdict
+    → Result Message AllocError → (new : ServiceValue S) → Type 0
+RepliesWith g dice old outcome (Ok message) new = (reply : Reply) × MatchesReply reply message × IsReply g dice old outcome reply new
+RepliesWith g dice old outcome (Err e) new = (new ≡ old) ⊎ ((reply : Reply) × IsReply g dice old outcome reply new)
+
 -- The reply is right for the bytes `seen`: no more were read than needed, and the reply is that to their verdict.
 abbrev pub RepliesTo : {S : Type 0} → Ghosts S → Dice → (old : ServiceValue S) → (seen : List ℕ)
     → Reply → (new : ServiceValue S) → Type 0
@@ -61,13 +71,6 @@ pub record IoBytes : Type 0 where
   pub left : Option (List ℕ)
   -- the bytes that the writer holds; None if they aren't known
   pub held : Option (List ℕ)
-
--- the number of a fault of HTTP, from 1 to 3; Memory has none
-abbrev pub fault_number : HttpFault → Option ℕ
-fault_number Cut = Some 1
-fault_number ReadFault = Some 2
-fault_number WriteFault = Some 3
-fault_number Memory = None
 
 -- What serving one request does, by its result. With Ok the whole reply to the bytes seen was written; with WriteFault
 -- only the first part of it, perhaps nothing. With Cut and ReadFault nothing was written, and the service is unchanged.

@@ -1,10 +1,9 @@
 //! Serves connections of a listener, one after another.
 ghost use Rattle.atl_http.specs.Listening.{ServesConnection, ServesEach};
 
-use crate::dice::Dice;
-use crate::io::HttpFault;
-use crate::patience::Peer;
 use crate::serving::serve_peer;
+use atl_requests::patience::Peer;
+use atl_requests::{Dice, HttpFault};
 use atl_service::Service;
 use sqlite::Alter;
 use std::alloc::Global;

@@ -1,18 +1,17 @@
 //! Serves one request: reads it, runs its command, and writes the reply.
 ghost use Rattle.std.specs.Prelude.{◌≡◌, IfOk, OnErr};
 ghost use Rattle.std.specs.FinMap.{len};
+ghost use Rattle.atl_requests.specs.Calls.{no_reads, no_writes, EndsBy};
 ghost use Rattle.atl_service.specs.Runs.{Runs};
-ghost use Rattle.atl_http.specs.Serving.{command_in, Serves};
-ghost use Rattle.atl_http.specs.Io.{RepliesWith};
+ghost use Rattle.atl_http.specs.Serving.{command_in, Serves, RepliesWith};
 ghost use Rattle.atl_http.specs.Listening.{IsServed};
-ghost use Rattle.atl_http.specs.Calls.{no_reads, no_writes, EndsBy};
 
 use crate::answering::answer_message;
-use crate::calls::{ReadCalls, WriteCalls};
-use crate::dice::Dice;
-use crate::io::{HttpFault, receive, send};
-use crate::message::{Message, problem_message};
-use crate::request::{FinalVerdict, Request};
+use crate::request::IntoCommand;
+use atl_requests::calls::{ReadCalls, WriteCalls};
+use atl_requests::io::{receive, send};
+use atl_requests::message::{Message, problem_message};
+use atl_requests::{Dice, FinalVerdict, HttpFault, Request};
 use atl_service::{Answer, Service};
 use sqlite::Alter;
 use std::alloc::{AllocError, Global};

@@ -63,7 +63,7 @@ test('refusals', () => {
   const [, body] = /pub enum Refusal \{\n([^]*?)\n\}/.exec(read('crates/atl_service/src/command.rt'));
   const refusals = [...body.matchAll(/^ {4}(\w+)/gm)].map(([, name]) => name);
   const faults = ['Memory', 'Store', 'Closed'];
-  const source = read('crates/atl_http/src/problem.rt');
+  const source = read('crates/atl_requests/src/problem.rt');
   const problems = [...source.matchAll(/Problem::\w+(?:\(_\))? => "(\w+)"/g)].map(([, name]) => name);
   const answered = [...refusals, ...faults, ...problems].filter((name) => !OF_CLOSING.includes(name));
   assert.deepEqual(Object.keys(REFUSALS).sort(), answered.sort());
