@@ -52,8 +52,8 @@ IsReply g dice old (Refused problem) reply new = (reply ≡ problem_reply proble
 IsReply g dice old (Asks request) reply new =
     (answer : Answer) × Runs g old (command_in dice old request) answer new × (reply ≡ answer_reply answer)
 
--- The message is the reply to a request with this final verdict (`IsReply`). If memory ran out there is no message, and
--- the command has been run or not.
+-- The message is the reply to a request with the final verdict `outcome` (`IsReply`). If memory ran out there is no
+-- message, and the command has been run or not. `old` and `new` are the service before and after it.
 abbrev pub RepliesWith : {S : Type 0} → Ghosts S → Dice → (old : ServiceValue S) → FinalVerdict
     → Result Message AllocError → (new : ServiceValue S) → Type 0
 RepliesWith g dice old outcome (Ok message) new = (reply : Reply) × MatchesReply reply message × IsReply g dice old outcome reply new
