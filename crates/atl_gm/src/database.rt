@@ -146,22 +146,6 @@ fn open_files<S: Start>(
     }
 }
 
-/// A file that is made has no checksums on its pages, since a `sqlite3` without the extension for
-/// checksums would spoil them.
-fn connect<S: Start>(
-    rt: &HostRuntime,
-    path: &str,
-    start: S,
-    pages: u64,
-) -> Result<Connection<FileStore<FileFrom<S>>>, Failure> {
-    let files = open_files(rt, path, start)?;
-    let options = options_for(rt, pages)?;
-    match Connection::open_files_with(rt.alloc(), files, options, false) {
-        Ok(conn) => Ok(conn),
-        Err((error, _)) => Err(Failure::from(error)),
-    }
-}
-
 fn open_service<S: Alter>(
     alloc: Global,
     conn: Connection<S>,
@@ -207,6 +191,62 @@ fn both_results<T: Drop>(
     Ok(done)
 }
 
+/// A file that is made has no checksums on its pages, since a `sqlite3` without the extension for
+/// checksums would spoil them.
+fn work_in<D: Disk + Drop, W: Work>(
+    alloc: Global,
+    files: Files<D>,
+    options: Options,
+    opening: Opening<'_>,
+    work: &W,
+) -> Result<W::Done, Failure>
+    requires log { IsTrue (D.Disk.is_usable files.log) }
+    requires db { IsTrue (D.Disk.is_usable files.db) }
+{
+    match Connection::open_files_with(alloc, files, options, false) {
+        Ok(conn) => {
+            let (done, conn) = run_work(alloc, conn, opening, work);
+            both_results(done, shut(conn))
+        }
+        Err((error, _)) => Err(Failure::from(error)),
+    }
+}
+
+fn work_from<S: Start, W: Work>(
+    rt: &HostRuntime,
+    path: &str,
+    start: S,
+    pages: u64,
+    opening: Opening<'_>,
+    work: &W,
+) -> Result<W::Done, Failure> {
+    let files = open_files(rt, path, start)?;
+    let options = options_for(rt, pages)?;
+    work_in(rt.alloc(), files, options, opening, work)
+}
+
+/// How many pages are kept in memory, once it is clear that the file may be opened so.
+fn confirmed_pages<W: Work>(
+    rt: &HostRuntime,
+    path: &str,
+    opening: Opening<'_>,
+) -> Result<u64, Failure> {
+    match opening {
+        Opening::Founded { .. } => Ok(MOST_PAGES),
+        Opening::Upgraded { .. } => {
+            confirm_file(rt, path)?;
+            Ok(MOST_PAGES)
+        }
+        Opening::Kept => {
+            confirm_file(rt, path)?;
+            if W::LASTS {
+                return Ok(MOST_PAGES);
+            }
+            Ok(pages_for(length_of(rt, path)?))
+        }
+    }
+}
+
 /// Opens the campaign of the file at the path, does the work on it, and shuts the file. Afterwards
 /// the file alone holds the campaign, whatever came of the work. If shutting it fails, the work may
 /// have been done, and a log is next to the file. Only `found` works on a file that is missing or
@@ -217,14 +257,6 @@ pub fn work_on<W: Work>(
     opening: Opening<'_>,
     work: &W,
 ) -> Result<W::Done, Failure> {
-    if !matches!(&opening, Opening::Founded { .. }) {
-        confirm_file(rt, path)?;
-    }
-    let pages = match &opening {
-        Opening::Kept if !W::LASTS => pages_for(length_of(rt, path)?),
-        _ => MOST_PAGES,
-    };
-    let conn = connect(rt, path, Wary, pages)?;
-    let (done, conn) = run_work(rt.alloc(), conn, opening, work);
-    both_results(done, shut(conn))
+    let pages = confirmed_pages::<W>(rt, path, opening)?;
+    work_from(rt, path, Wary, pages, opening, work)
 }

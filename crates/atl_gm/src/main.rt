@@ -50,10 +50,12 @@ type All = (
 );
 
 fn command_line<'a>(alloc: Global) -> Result<Command<'a>, AllocError> {
-    let line = Command::new(alloc, "atl_gm")
+    let mut parsers = Vec::new(alloc);
+    All::add_to(alloc, &mut parsers)?;
+    Command::new(alloc, "atl_gm")
         .about("Moderates a campaign of Atlantis 1.0, the peaceful profile")
-        .subcommand_required(true);
-    All::add_to(alloc, line)
+        .subcommand_required(true)
+        .subcommands(parsers)
 }
 
 fn dispatch(rt: &HostRuntime, matches: &ArgMatches<'_>) -> Result<(), Failure> {

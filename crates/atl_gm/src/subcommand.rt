@@ -21,8 +21,8 @@ pub trait Subcommand {
 
 /// A list of subcommands: a pair of the first and the rest, or () where there is none.
 pub trait Subcommands {
-    /// Adds the parsers of these subcommands to that of the command line.
-    fn add_to<'a>(alloc: Global, line: Command<'a>) -> Result<Command<'a>, AllocError>;
+    /// Adds the parsers of these subcommands to a list.
+    fn add_to<'a>(alloc: Global, parsers: &mut Vec<Command<'a>>) -> Result<(), AllocError>;
 
     /// Runs the subcommand of this name in the list; NoSubcommand if there is none.
     fn run(rt: &HostRuntime, name: &str, options: &ArgMatches<'_>) -> Result<(), Failure>;
@@ -37,8 +37,8 @@ fn command_of<'a, S: Subcommand>(alloc: Global) -> Result<Command<'a>, AllocErro
 
 /// The empty list: adds no parser, and every name gives NoSubcommand.
 impl Subcommands for () {
-    fn add_to<'a>(_alloc: Global, line: Command<'a>) -> Result<Command<'a>, AllocError> {
-        Ok(line)
+    fn add_to<'a>(_alloc: Global, _parsers: &mut Vec<Command<'a>>) -> Result<(), AllocError> {
+        Ok(())
     }
 
     fn run(_rt: &HostRuntime, _name: &str, _options: &ArgMatches<'_>) -> Result<(), Failure> {
@@ -49,9 +49,9 @@ impl Subcommands for () {
 /// A list of a first subcommand and others: adds its parser before theirs, and runs it if it has
 /// the name.
 impl<First: Subcommand, Rest: Subcommands> Subcommands for (First, Rest) {
-    fn add_to<'a>(alloc: Global, line: Command<'a>) -> Result<Command<'a>, AllocError> {
-        let first = command_of::<First>(alloc)?;
-        Rest::add_to(alloc, line.subcommand(first)?)
+    fn add_to<'a>(alloc: Global, parsers: &mut Vec<Command<'a>>) -> Result<(), AllocError> {
+        parsers.push(command_of::<First>(alloc)?)?;
+        Rest::add_to(alloc, parsers)
     }
 
     fn run(rt: &HostRuntime, name: &str, options: &ArgMatches<'_>) -> Result<(), Failure> {

@@ -7,7 +7,7 @@ use crate::subcommand::Subcommand;
 use atl_service::{Answer, Refused, Service, found};
 use atl_world::Sequence;
 use clap::ArgMatches;
-use sqlite::{Connection, MemStore};
+use sqlite::{Alter, Connection};
 use std::alloc::{AllocError, Global};
 
 fn join(alloc: Global) -> Result<atl_service::Command, Failure> {
@@ -26,8 +26,8 @@ fn report(alloc: Global) -> Result<atl_service::Command, Failure> {
     })
 }
 
-fn report_after_join(
-    service: &mut Service<MemStore>,
+fn report_after_join<S: Alter>(
+    service: &mut Service<S>,
     join: &atl_service::Command,
     report: &atl_service::Command,
 ) -> Answer {
@@ -37,9 +37,9 @@ fn report_after_join(
     }
 }
 
-fn first_report(
+fn first_report<S: Alter + Drop>(
     alloc: Global,
-    conn: Connection<MemStore>,
+    conn: Connection<S>,
     world_text: &str,
     join: &atl_service::Command,
     report: &atl_service::Command,
