@@ -1,8 +1,7 @@
-//! Makes the commands and services of these tests, and names answers.
-use super::serving::Tables;
-use atl_service::{Answer, Command, Fault, Refusal, Service, found, open};
+//! Makes the commands and campaigns of these tests, and names answers.
+use super::serving::AnyDatabase;
+use atl_service::{Answer, Command, Fault, Refusal};
 use atl_world::Sequence;
-use sqlite::{Alter, Connection, MemStore};
 use std::alloc::Global;
 use std::test::Fail;
 
@@ -56,39 +55,31 @@ pub(crate) fn report(alloc: Global, faction: u32, pass: &str) -> Result<Command,
     })
 }
 
-pub(crate) fn found_service<S: Alter + Drop>(
+pub(crate) fn found_world(
     alloc: Global,
-    conn: Connection<S>,
+    database: &mut impl AnyDatabase,
     world: &str,
-) -> Result<Service<S>, Fail> {
-    match found(alloc, conn, world, b"gm") {
-        Ok(service) => Ok(service),
+) -> Result<(), Fail> {
+    match database.found(alloc, world, "gm") {
+        Ok(()) => Ok(()),
         Err(_) => Err(Fail::new("found")),
     }
 }
 
-pub(crate) fn found_in_memory(alloc: Global, world: &str) -> Result<Service<MemStore>, Fail> {
-    found_service(alloc, Connection::open_in_memory(alloc)?, world)
-}
-
-pub(crate) fn opened<S: Alter + Drop>(
-    alloc: Global,
-    conn: Connection<S>,
-) -> Result<Service<S>, Fail> {
-    match open(alloc, conn) {
-        Ok(service) => Ok(service),
+pub(crate) fn open_again(alloc: Global, database: &mut impl AnyDatabase) -> Result<(), Fail> {
+    match database.open(alloc) {
+        Ok(()) => Ok(()),
         Err(_) => Err(Fail::new("open")),
     }
 }
 
-pub(crate) fn open_after_sql<S: Alter + Drop>(
+pub(crate) fn open_after_sql(
     alloc: Global,
-    conn: Connection<S>,
+    database: &mut impl AnyDatabase,
     rows: &str,
-) -> Result<Service<S>, Fail> {
-    let mut conn = conn;
-    conn.change(rows)?;
-    opened(alloc, conn)
+) -> Result<(), Fail> {
+    database.change(rows)?;
+    open_again(alloc, database)
 }
 
 /// An answer in words: its kind, the name of its refusal or fault, or its text.
