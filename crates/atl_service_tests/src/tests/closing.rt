@@ -62,39 +62,41 @@ people joining 1
 people total 1001
 ";
 
-static WITHOUT_MAIL: Course = Course {
-    world: SMALL_WORLD,
-    rows: "",
-    steps: &[
-        Step::Answers(JOIN_OF_AVALON, "joined"),
-        Step::Closed(MONTH_ONE, 1),
-        Step::Answers(CommandSpec::Report(1, "pw"), AFTER_WORK),
-        Step::Books(BOOKS_AFTER_WORK),
-    ],
-    after: &AFTER_MONTH_ONE,
-};
-
-static WITH_FAULTY_MAIL: Course = Course {
-    world: SMALL_WORLD,
-    rows: "",
-    steps: &[
-        Step::Answers(JOIN_OF_AVALON, "joined"),
-        Step::Mailed(CommandSpec::Mail(1, "pw", FAULTY), 1, &[(5, 2)]),
-        Step::Closed(MONTH_ONE, 1),
-        Step::Keeps(None),
-        Step::Answers(CommandSpec::Report(1, "pw"), AFTER_FAULTY),
-    ],
-    after: &AFTER_MONTH_ONE,
-};
+/// Courses of a first month: without mail, and with a faulty mailing.
+static FIRST_MONTHS: [Course; 2] = [
+    Course {
+        world: SMALL_WORLD,
+        rows: "",
+        steps: &[
+            Step::Answers(JOIN_OF_AVALON, "joined"),
+            Step::Closed(MONTH_ONE, 1),
+            Step::Answers(CommandSpec::Report(1, "pw"), AFTER_WORK),
+            Step::Books(BOOKS_AFTER_WORK),
+        ],
+        after: &AFTER_MONTH_ONE,
+    },
+    Course {
+        world: SMALL_WORLD,
+        rows: "",
+        steps: &[
+            Step::Answers(JOIN_OF_AVALON, "joined"),
+            Step::Mailed(CommandSpec::Mail(1, "pw", FAULTY), 1, &[(5, 2)]),
+            Step::Closed(MONTH_ONE, 1),
+            Step::Keeps(None),
+            Step::Answers(CommandSpec::Report(1, "pw"), AFTER_FAULTY),
+        ],
+        after: &AFTER_MONTH_ONE,
+    },
+];
 
 #[test]
 fn a_month_is_closed(rt: HostRuntime) -> Result<(), Fail> {
-    play_course(&rt, rt.alloc(), &WITHOUT_MAIL)
+    play_course(&rt, rt.alloc(), &FIRST_MONTHS[0])
 }
 
 #[test]
 fn a_faulty_line_is_reported_and_the_mail_is_gone(rt: HostRuntime) -> Result<(), Fail> {
-    play_course(&rt, rt.alloc(), &WITH_FAULTY_MAIL)
+    play_course(&rt, rt.alloc(), &FIRST_MONTHS[1])
 }
 
 /// Closings that are refused: wrong pass text, wrong month, and a wrong number of words of the

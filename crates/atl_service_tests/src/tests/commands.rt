@@ -1,9 +1,9 @@
 //! Tests of `Join` and `Report`, and that a list run by `run_all` gets the answers of its commands.
 use super::closing::{AFTER_MONTH_ONE, AFTER_WORK, MONTH_ONE};
 use super::compare::assert_count;
-use super::making::found_world;
+use super::making::found_in_memory;
 use super::script::{CommandSpec, Step, assert_answer, commands_of, play};
-use super::serving::{AnyDatabase, Player, play_in_memory};
+use super::serving::AnyService;
 use super::tables::{
     AFTER_JOINING, BOOKS_SUM, FACTIONS, MAIL_BYTES, MAILINGS, MONEY, NEXT, REPORT_BYTES, UNITS,
     assert_tables,
@@ -126,11 +126,11 @@ fn assert_answers(rt: &impl Abort, answers: &[Answer], steps: &[Step]) {
 
 fn run_in_one_list(
     rt: &impl Abort,
-    database: &mut impl AnyDatabase,
+    service: &mut impl AnyService,
     commands: &[Command],
     steps: &[Step],
 ) {
-    match database.run_all(commands) {
+    match service.run_all(commands) {
         Ok(answers) => assert_answers(rt, &answers, steps),
         Err(_) => assert!(rt; false),
     }
@@ -143,33 +143,21 @@ struct CommandList {
     after: &'static [(&'static str, Option<i64>)],
 }
 
-#[derive(Drop)]
-struct ListRun<'a> {
-    commands: &'a [Command],
-    list: &'a CommandList,
-}
-
-impl<'a> Player for ListRun<'a> {
-    fn play<A: Abort, B: AnyDatabase>(
-        &mut self,
-        rt: &A,
-        alloc: Global,
-        database: &mut B,
-    ) -> Result<(), Fail> {
-        found_world(alloc, database, SMALL_WORLD)?;
-        run_in_one_list(rt, database, self.commands, self.list.steps);
-        assert_tables(rt, database, self.list.after);
-        Ok(())
-    }
+fn run_commands(
+    rt: &impl Abort,
+    alloc: Global,
+    commands: &[Command],
+    list: &CommandList,
+) -> Result<(), Fail> {
+    let mut service = found_in_memory(alloc, SMALL_WORLD)?;
+    run_in_one_list(rt, &mut service, commands, list.steps);
+    assert_tables(rt, &mut service.end(), list.after);
+    Ok(())
 }
 
 fn run_list(rt: &impl Abort, alloc: Global, list: &CommandList) -> Result<(), Fail> {
     let commands = commands_of(alloc, list.steps)?;
-    let mut run = ListRun {
-        commands: &commands,
-        list,
-    };
-    play_in_memory(rt, alloc, &mut run)
+    run_commands(rt, alloc, &commands, list)
 }
 
 /// Steps to run as one list: a join, a closing, the same closing again, which is refused, and a

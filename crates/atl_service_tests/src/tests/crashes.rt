@@ -2,15 +2,15 @@
 //! never a part. The writes are those of founding, a join, mailings and closings.
 use super::compare::assert_text;
 use super::courses::COURSES;
-use super::files::{play_and_close, play_in};
-use super::founding::cause_text;
-use super::making::{answer_text, found_world, open_after_sql};
+use super::files::connected;
+use super::founding::cause_text as cause_of;
+use super::making::{answer_text, found_in_memory, open_after_sql};
 use super::opening::rows_in;
 use super::script::{Course, commands_of};
-use super::serving::{AnyDatabase, Player, play_in_memory};
-use atl_service::{Answer, Cause, Command};
+use super::serving::AnyService;
+use atl_service::{Answer, Command, Refused, Service, found, open};
 use atl_world::let_go;
-use sqlite::{Connection, Options};
+use sqlite::{Alter, Connection, MemStore, Options};
 use sqlite_disk::{Crash, Files, Fuse, Memory};
 use std::alloc::Global;
 use std::process::Abort;
@@ -31,85 +31,51 @@ impl Drop for Plan {
     }
 }
 
-fn note_stage(
-    alloc: Global,
-    database: &impl AnyDatabase,
-    stages: &mut Vec<String>,
-) -> Result<(), Fail> {
-    let rows = rows_in(alloc, database)?;
-    stages.push(rows)?;
-    Ok(())
-}
-
 /// The campaign's rows are appended to `stages` after the founding and, if the course has rows of
 /// its own, after these are added.
 fn set_up(
     alloc: Global,
-    database: &mut impl AnyDatabase,
     course: &Course,
     stages: &mut Vec<String>,
-) -> Result<(), Fail> {
-    found_world(alloc, database, course.world)?;
-    note_stage(alloc, database, stages)?;
+) -> Result<Service<MemStore>, Fail> {
+    let service = found_in_memory(alloc, course.world)?;
+    stages.push(rows_in(alloc, &service)?)?;
     if course.rows.is_empty() {
-        return Ok(());
+        return Ok(service);
     }
-    open_after_sql(alloc, database, course.rows)?;
-    note_stage(alloc, database, stages)
+    let service = open_after_sql(alloc, service.end(), course.rows)?;
+    stages.push(rows_in(alloc, &service)?)?;
+    Ok(service)
 }
 
 fn run_noted(
     alloc: Global,
-    database: &mut impl AnyDatabase,
+    service: &mut impl AnyService,
     commands: &[Command],
     stages: &mut Vec<String>,
 ) -> Result<(), Fail> {
     for command in commands {
-        let _answer = database.run(command);
-        note_stage(alloc, database, stages)?;
+        let _answer = service.run(command);
+        stages.push(rows_in(alloc, service)?)?;
     }
     Ok(())
 }
 
-#[derive(Drop)]
-struct Noting<'a> {
-    course: &'a Course,
-    commands: &'a [Command],
-    stages: &'a mut Vec<String>,
-}
-
-impl<'a> Player for Noting<'a> {
-    fn play<A: Abort, B: AnyDatabase>(
-        &mut self,
-        rt: &A,
-        alloc: Global,
-        database: &mut B,
-    ) -> Result<(), Fail> {
-        self.stages.push(String::new(alloc))?;
-        set_up(alloc, database, self.course, self.stages)?;
-        run_noted(alloc, database, self.commands, self.stages)
-    }
-}
-
-fn noted(
-    rt: &impl Abort,
+fn note_stages(
     alloc: Global,
     course: &Course,
     commands: &[Command],
-) -> Result<Vec<String>, Fail> {
-    let mut stages = Vec::new(alloc);
-    let mut noting = Noting {
-        course,
-        commands,
-        stages: &mut stages,
-    };
-    play_in_memory(rt, alloc, &mut noting)?;
-    Ok(stages)
+    stages: &mut Vec<String>,
+) -> Result<(), Fail> {
+    stages.push(String::new(alloc))?;
+    let mut service = set_up(alloc, course, stages)?;
+    run_noted(alloc, &mut service, commands, stages)
 }
 
-fn planned(rt: &impl Abort, alloc: Global, course: &Course) -> Result<Plan, Fail> {
+fn planned(alloc: Global, course: &Course) -> Result<Plan, Fail> {
     let commands = commands_of(alloc, course.steps)?;
-    let stages = noted(rt, alloc, course, &commands)?;
+    let mut stages = Vec::new(alloc);
+    note_stages(alloc, course, &commands, &mut stages)?;
     Ok(Plan {
         course: *course,
         commands,
@@ -123,11 +89,11 @@ fn is_done(answer: &Answer) -> bool {
 
 /// The command at which the disk stops must be answered Store, and all later ones Closed; then
 /// there is no campaign, and there are no books.
-fn run_each(rt: &impl Abort, database: &mut impl AnyDatabase, commands: &[Command]) -> usize {
+fn run_each(rt: &impl Abort, service: &mut impl AnyService, commands: &[Command]) -> usize {
     let mut done = 0usize;
     let mut stopped = false;
     for command in commands {
-        let answer = database.run(command);
+        let answer = service.run(command);
         if stopped {
             assert_text(rt, answer_text(&answer), "closed");
         } else if is_done(&answer) {
@@ -137,80 +103,63 @@ fn run_each(rt: &impl Abort, database: &mut impl AnyDatabase, commands: &[Comman
             stopped = true;
         }
     }
-    assert!(rt; database.campaign().is_none() == stopped);
-    assert!(rt; database.books().is_none() == stopped);
+    assert!(rt; service.campaign().is_none() == stopped);
+    assert!(rt; service.books().is_none() == stopped);
     done
 }
 
-/// Whether it was done; if the disk stopped, the cause must be Store.
-fn is_served(rt: &impl Abort, tried: Result<(), Cause>) -> bool {
-    match &tried {
-        Ok(()) => true,
-        Err(why) => {
-            assert_text(rt, cause_text(why), "store");
-            false
+/// If the disk stopped, the cause must be Store.
+fn service_or_connection<S: Alter>(
+    rt: &impl Abort,
+    tried: Result<Service<S>, Refused<S>>,
+) -> Result<Service<S>, Connection<S>> {
+    match tried {
+        Ok(service) => Ok(service),
+        Err(Refused { why, conn }) => {
+            assert_text(rt, cause_of(&why), "store");
+            Err(conn)
         }
     }
 }
 
 /// The number of writes done includes the `writings` before the commands.
-fn run_after(
+fn runs<S: Alter>(
     rt: &impl Abort,
-    database: &mut impl AnyDatabase,
+    service: Service<S>,
     plan: &Plan,
     writings: usize,
-) -> usize {
-    run_each(rt, database, &plan.commands).saturating_add(writings)
+) -> (usize, Connection<S>) {
+    let mut service = service;
+    let done = run_each(rt, &mut service, &plan.commands);
+    (done.saturating_add(writings), service.end())
 }
 
-fn reopen_and_run(
+fn reopen_and_run<S: Alter + Drop>(
     rt: &impl Abort,
     alloc: Global,
-    database: &mut impl AnyDatabase,
+    conn: Connection<S>,
     plan: &Plan,
-) -> usize {
-    if !database.is_changed(plan.course.rows) {
-        return 1;
+) -> (usize, Connection<S>) {
+    let mut conn = conn;
+    if conn.execute_batch(plan.course.rows).is_err() {
+        return (1, conn);
     }
-    if is_served(rt, database.open(alloc)) {
-        run_after(rt, database, plan, 2)
-    } else {
-        2
+    match service_or_connection(rt, open(alloc, conn)) {
+        Ok(service) => runs(rt, service, plan, 2),
+        Err(conn) => (2, conn),
     }
 }
 
-fn found_and_run(
+fn found_and_run<S: Alter + Drop>(
     rt: &impl Abort,
     alloc: Global,
-    database: &mut impl AnyDatabase,
+    conn: Connection<S>,
     plan: &Plan,
-) -> usize {
-    if !is_served(rt, database.found(alloc, plan.course.world, "gm")) {
-        return 0;
-    }
-    if plan.course.rows.is_empty() {
-        run_after(rt, database, plan, 1)
-    } else {
-        reopen_and_run(rt, alloc, database, plan)
-    }
-}
-
-/// A run of a plan, and how many of its writes were done.
-#[derive(Drop)]
-struct Run<'a> {
-    plan: &'a Plan,
-    done: usize,
-}
-
-impl<'a> Player for Run<'a> {
-    fn play<A: Abort, B: AnyDatabase>(
-        &mut self,
-        rt: &A,
-        alloc: Global,
-        database: &mut B,
-    ) -> Result<(), Fail> {
-        self.done = found_and_run(rt, alloc, database, self.plan);
-        Ok(())
+) -> (usize, Connection<S>) {
+    match service_or_connection(rt, found(alloc, conn, plan.course.world, b"gm")) {
+        Ok(service) if plan.course.rows.is_empty() => runs(rt, service, plan, 1),
+        Ok(service) => reopen_and_run(rt, alloc, service.end(), plan),
+        Err(conn) => (0, conn),
     }
 }
 
@@ -235,55 +184,17 @@ fn is_stage(plan: &Plan, writings: usize, rows: &str) -> bool {
     }
 }
 
-fn rows_left(
+fn rows_left<S: Alter + Drop>(
     rt: &impl Abort,
     alloc: Global,
-    database: &mut impl AnyDatabase,
+    conn: Connection<S>,
 ) -> Result<String, Fail> {
-    match database.open(alloc) {
-        Ok(()) => rows_in(alloc, database),
-        Err(why) => {
-            assert_text(rt, cause_text(&why), "not a campaign");
+    match open(alloc, conn) {
+        Ok(service) => rows_in(alloc, &service),
+        Err(Refused { why, conn: _ }) => {
+            assert_text(rt, cause_of(&why), "not a campaign");
             Ok(String::new(alloc))
         }
-    }
-}
-
-/// What a crash left of a run: the campaign after the writes done, or after one more.
-#[derive(Drop)]
-struct Left<'a> {
-    plan: &'a Plan,
-    done: usize,
-}
-
-impl<'a> Player for Left<'a> {
-    fn play<A: Abort, B: AnyDatabase>(
-        &mut self,
-        rt: &A,
-        alloc: Global,
-        database: &mut B,
-    ) -> Result<(), Fail> {
-        let rows = rows_left(rt, alloc, database)?;
-        let rows = rows.as_str();
-        let is_left = is_stage(self.plan, self.done, rows)
-            || is_stage(self.plan, self.done.saturating_add(1), rows);
-        assert!(rt; is_left);
-        Ok(())
-    }
-}
-
-fn run_in<D: Crash + Drop>(
-    rt: &impl Abort,
-    alloc: Global,
-    files: Files<D>,
-    run: &mut Run<'_>,
-) -> Result<Files<D>, Fail> {
-    if !files.may_be_used() {
-        return Err(Fail::new("the files can't be used"));
-    }
-    match Connection::open_files(alloc, files, options()) {
-        Ok(conn) => play_and_close(rt, alloc, conn, run),
-        Err((_, left)) => Ok(left.into_files()),
     }
 }
 
@@ -295,10 +206,20 @@ fn stopped<D: Crash + Drop>(
     files: Files<D>,
     plan: &Plan,
 ) -> Result<usize, Fail> {
-    let mut run = Run { plan, done: 0 };
-    let files = run_in(rt, alloc, files, &mut run)?;
-    let done = run.done;
-    play_in(rt, alloc, crashed(files), &mut Left { plan, done })?;
+    if !files.may_be_used() {
+        return Err(Fail::new("the files can't be used"));
+    }
+    let (done, files) = match Connection::open_files(alloc, files, options()) {
+        Ok(conn) => {
+            let (done, conn) = found_and_run(rt, alloc, conn, plan);
+            (done, conn.into_store().close())
+        }
+        Err((_, left)) => (0, left.into_files()),
+    };
+    let conn = connected(alloc, crashed(files))?;
+    let rows = rows_left(rt, alloc, conn)?;
+    let rows = rows.as_str();
+    assert!(rt; is_stage(plan, done, rows) || is_stage(plan, done.saturating_add(1), rows));
     Ok(done)
 }
 
@@ -342,7 +263,7 @@ fn stop_at_each_call(
 
 fn assert_stops_of_all(rt: &impl Abort, alloc: Global, which: WhichDisk) -> Result<(), Fail> {
     for course in COURSES.iter() {
-        let plan = planned(rt, alloc, course)?;
+        let plan = planned(alloc, course)?;
         stop_at_each_call(rt, alloc, &plan, which)?;
     }
     Ok(())

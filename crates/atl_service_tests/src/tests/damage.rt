@@ -1,10 +1,12 @@
 //! Tests of what `open` answers on a database that was changed by hand (docs/FORMATS.md, "Tables").
-use super::files::{new_files, play_in};
-use super::making::found_world;
+use super::files::{connected, new_files};
+use super::making::found_service;
 use super::script::{CommandSpec, Step, follow};
-use super::serving::{AnyDatabase, Player, play_in_memory};
-use atl_service::Cause;
+use super::serving::Tables;
+use atl_service::{Cause, Refused, open};
 use atl_test_worlds::ISLE_WITH_MARKET;
+use sqlite::{Alter, Connection};
+use sqlite_disk::{Disk, Files};
 use std::alloc::Global;
 use std::process::Abort;
 use std::test::Fail;
@@ -37,10 +39,10 @@ fn refusal(why: &Cause) -> Opening {
     }
 }
 
-fn asked(alloc: Global, database: &mut impl AnyDatabase) -> Opening {
-    match database.open(alloc) {
-        Ok(()) => Opening::Opens,
-        Err(why) => refusal(&why),
+fn asked<S: Alter + Drop>(alloc: Global, conn: Connection<S>) -> Opening {
+    match open(alloc, conn) {
+        Ok(_) => Opening::Opens,
+        Err(Refused { why, conn: _ }) => refusal(&why),
     }
 }
 
@@ -258,65 +260,35 @@ static BOTH_JOIN: [Step; 2] = [
     Step::Joined(CommandSpec::Join("Bree", "pb", 1), 2, 2),
 ];
 
-pub(crate) fn changed(
+pub(crate) fn changed<S: Alter + Drop>(
     rt: &impl Abort,
     alloc: Global,
-    database: &mut impl AnyDatabase,
+    conn: Connection<S>,
     sql: &str,
-) -> Result<(), Fail> {
-    found_world(alloc, database, ISLE_WITH_MARKET)?;
-    follow(rt, alloc, database, &BOTH_JOIN)?;
-    database.change(sql)
+) -> Result<Connection<S>, Fail> {
+    let mut service = found_service(alloc, conn, ISLE_WITH_MARKET)?;
+    follow(rt, alloc, &mut service, &BOTH_JOIN)?;
+    let mut conn = service.end();
+    conn.change(sql)?;
+    Ok(conn)
 }
 
-#[derive(Drop)]
-struct Change<'a> {
-    sql: &'a str,
-}
-
-impl<'a> Player for Change<'a> {
-    fn play<A: Abort, B: AnyDatabase>(
-        &mut self,
-        rt: &A,
-        alloc: Global,
-        database: &mut B,
-    ) -> Result<(), Fail> {
-        changed(rt, alloc, database, self.sql)
-    }
-}
-
-#[derive(Drop)]
-struct Judgement<'a> {
-    sql: &'a str,
-    wanted: Opening,
-}
-
-impl<'a> Player for Judgement<'a> {
-    fn play<A: Abort, B: AnyDatabase>(
-        &mut self,
-        rt: &A,
-        alloc: Global,
-        database: &mut B,
-    ) -> Result<(), Fail> {
-        assert_opening(rt, asked(alloc, database), self.wanted, self.sql);
-        Ok(())
-    }
-}
-
-fn assert_judgement(
+fn assert_judgement<D: Disk + Drop>(
     rt: &impl Abort,
     alloc: Global,
+    files: Files<D>,
     sql: &str,
     wanted: Opening,
 ) -> Result<(), Fail> {
-    let files = play_in(rt, alloc, new_files(alloc), &mut Change { sql })?;
-    play_in(rt, alloc, files, &mut Judgement { sql, wanted })?;
+    let conn = changed(rt, alloc, connected(alloc, files)?, sql)?;
+    let conn = connected(alloc, conn.into_store().close())?;
+    assert_opening(rt, asked(alloc, conn), wanted, sql);
     Ok(())
 }
 
 fn assert_openings(rt: &impl Abort, alloc: Global, cases: &[(&str, Opening)]) -> Result<(), Fail> {
     for (sql, wanted) in cases {
-        assert_judgement(rt, alloc, sql, *wanted)?;
+        assert_judgement(rt, alloc, new_files(alloc), sql, *wanted)?;
     }
     Ok(())
 }
@@ -343,11 +315,14 @@ fn of_two_faults_the_first_is_reported(rt: HostRuntime) -> Result<(), Fail> {
 
 #[test]
 fn an_empty_database_is_no_campaign(rt: HostRuntime) -> Result<(), Fail> {
-    let mut judgement = Judgement {
-        sql: "nothing",
-        wanted: Opening::NotACampaign,
-    };
-    play_in_memory(&rt, rt.alloc(), &mut judgement)
+    let conn = Connection::open_in_memory(rt.alloc())?;
+    assert_opening(
+        &rt,
+        asked(rt.alloc(), conn),
+        Opening::NotACampaign,
+        "nothing",
+    );
+    Ok(())
 }
 
 static BEGUN: [&str; 5] = [
@@ -358,27 +333,15 @@ static BEGUN: [&str; 5] = [
     "UPDATE unit SET guard = 1; BEGIN",
 ];
 
-#[derive(Drop)]
-struct InTransaction<'a> {
-    sql: &'a str,
-}
-
-impl<'a> Player for InTransaction<'a> {
-    fn play<A: Abort, B: AnyDatabase>(
-        &mut self,
-        rt: &A,
-        alloc: Global,
-        database: &mut B,
-    ) -> Result<(), Fail> {
-        changed(rt, alloc, database, self.sql)?;
-        assert_opening(rt, asked(alloc, database), Opening::Store, self.sql);
-        Ok(())
-    }
+fn assert_store_in_transaction(rt: &impl Abort, alloc: Global, sql: &str) -> Result<(), Fail> {
+    let conn = changed(rt, alloc, Connection::open_in_memory(alloc)?, sql)?;
+    assert_opening(rt, asked(alloc, conn), Opening::Store, sql);
+    Ok(())
 }
 
 fn assert_store_in_transactions(rt: &impl Abort, alloc: Global) -> Result<(), Fail> {
     for sql in BEGUN.iter() {
-        play_in_memory(rt, alloc, &mut InTransaction { sql })?;
+        assert_store_in_transaction(rt, alloc, sql)?;
     }
     Ok(())
 }

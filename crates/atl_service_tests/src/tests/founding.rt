@@ -3,11 +3,12 @@ use super::commands::JOIN_OF_AVALON;
 use super::compare::assert_text;
 use super::damage::changed;
 use super::script::{Step, play};
-use super::serving::{AnyDatabase, Player, play_in_memory};
+use super::serving::Tables;
 use super::tables::MONEY;
 use super::unchanged::{EVERY_TABLE, all_rows, assert_all_rows};
-use atl_service::Cause;
+use atl_service::{Cause, Refused, Service, found};
 use atl_test_worlds::{NO_START_MONEY, SMALL_WORLD};
+use sqlite::{Alter, Connection};
 use std::alloc::Global;
 use std::process::Abort;
 use std::test::Fail;
@@ -27,11 +28,21 @@ pub(crate) fn cause_text(cause: &Cause) -> &'static str {
     }
 }
 
-/// Asserts that a founding, an opening or an upgrade was refused, and why.
-pub(crate) fn assert_refused(rt: &impl Abort, tried: Result<(), Cause>, words: &str) {
-    match &tried {
-        Ok(()) => assert!(rt; false),
-        Err(why) => assert_text(rt, cause_text(why), words),
+/// Asserts that a founding, an opening or an upgrade was refused, and why; returns the connection.
+pub(crate) fn assert_refused<S: Alter>(
+    rt: &impl Abort,
+    tried: Result<Service<S>, Refused<S>>,
+    words: &str,
+) -> Connection<S> {
+    match tried {
+        Ok(service) => {
+            assert!(rt; false);
+            service.end()
+        }
+        Err(Refused { why, conn }) => {
+            assert_text(rt, cause_text(&why), words);
+            conn
+        }
     }
 }
 
@@ -68,40 +79,34 @@ static REFUSED: [(&str, &str, &str, &str); 8] = [
     ("BEGIN", SMALL_WORLD, "gm", "store"),
 ];
 
-fn assert_refused_founding(
+fn assert_refused_founding<S: Alter + Drop>(
     rt: &impl Abort,
     alloc: Global,
-    database: &mut impl AnyDatabase,
+    conn: Connection<S>,
     by: (&str, &str),
     words: &str,
 ) -> Result<(), Fail> {
     let (world, pass) = by;
-    let rows = all_rows(alloc, database)?;
-    assert_refused(rt, database.found(alloc, world, pass), words);
-    assert_all_rows(rt, alloc, database, rows.as_str())
+    let mut conn = conn;
+    let rows = all_rows(alloc, &mut conn)?;
+    let mut conn = assert_refused(rt, found(alloc, conn, world, pass.as_bytes()), words);
+    assert_all_rows(rt, alloc, &mut conn, rows.as_str())
 }
 
-#[derive(Drop)]
-struct Founding<'a, 'b> {
-    refused: &'a (&'b str, &'b str, &'b str, &'b str),
-}
-
-impl<'a, 'b> Player for Founding<'a, 'b> {
-    fn play<A: Abort, B: AnyDatabase>(
-        &mut self,
-        rt: &A,
-        alloc: Global,
-        database: &mut B,
-    ) -> Result<(), Fail> {
-        let (sql, world, pass, words) = *self.refused;
-        database.change(sql)?;
-        assert_refused_founding(rt, alloc, database, (world, pass), words)
-    }
+fn assert_refusal(
+    rt: &impl Abort,
+    alloc: Global,
+    refused: &(&str, &str, &str, &str),
+) -> Result<(), Fail> {
+    let (sql, world, pass, words) = *refused;
+    let mut conn = Connection::open_in_memory(alloc)?;
+    conn.change(sql)?;
+    assert_refused_founding(rt, alloc, conn, (world, pass), words)
 }
 
 fn assert_refusals(rt: &impl Abort, alloc: Global) -> Result<(), Fail> {
     for refused in REFUSED.iter() {
-        play_in_memory(rt, alloc, &mut Founding { refused })?;
+        assert_refusal(rt, alloc, refused)?;
     }
     Ok(())
 }
@@ -111,24 +116,14 @@ fn the_first_check_that_fails_is_reported(rt: HostRuntime) -> Result<(), Fail> {
     assert_refusals(&rt, rt.alloc())
 }
 
-#[derive(Drop)]
-struct SecondFounding;
-
-impl Player for SecondFounding {
-    fn play<A: Abort, B: AnyDatabase>(
-        &mut self,
-        rt: &A,
-        alloc: Global,
-        database: &mut B,
-    ) -> Result<(), Fail> {
-        changed(rt, alloc, database, EVERY_TABLE)?;
-        assert_refused_founding(rt, alloc, database, (SMALL_WORLD, "gm"), "not empty")
-    }
+fn assert_no_second_founding(rt: &impl Abort, alloc: Global) -> Result<(), Fail> {
+    let conn = changed(rt, alloc, Connection::open_in_memory(alloc)?, EVERY_TABLE)?;
+    assert_refused_founding(rt, alloc, conn, (SMALL_WORLD, "gm"), "not empty")
 }
 
 #[test]
 fn a_campaign_is_founded_once(rt: HostRuntime) -> Result<(), Fail> {
-    play_in_memory(&rt, rt.alloc(), &mut SecondFounding)
+    assert_no_second_founding(&rt, rt.alloc())
 }
 
 const JOINING_MONEY: &str = "SELECT count(*) FROM books WHERE entry = 2 AND thing = 0";

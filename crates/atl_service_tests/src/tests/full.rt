@@ -1,10 +1,11 @@
 //! Tests that `Join` succeeds among 10,000 units, and is refused in a full campaign.
 use super::commands::JOIN_OF_AVALON;
-use super::making::{found_world, open_again};
+use super::making::{found_in_memory, opened};
 use super::script::{CommandSpec, Step, follow};
-use super::serving::{AnyDatabase, Player, play_in_memory};
+use super::serving::Tables;
 use super::tables::{FACTIONS, NEXT, UNITS, assert_tables};
 use atl_test_worlds::SMALL_WORLD;
+use sqlite::{Connection, MemStore, params};
 use std::alloc::Global;
 use std::process::Abort;
 use std::test::Fail;
@@ -106,54 +107,47 @@ static FULL_CASES: [FullCase; 4] = [
 
 static AVALON_JOINS: [Step; 1] = [Step::Answers(JOIN_OF_AVALON, "joined")];
 
-fn doubled(database: &mut impl AnyDatabase, sql: &str, last: i64) -> Result<(), Fail> {
+fn joined(rt: &impl Abort, alloc: Global) -> Result<Connection<MemStore>, Fail> {
+    let mut service = found_in_memory(alloc, SMALL_WORLD)?;
+    follow(rt, alloc, &mut service, &AVALON_JOINS)?;
+    Ok(service.end())
+}
+
+fn doubled(conn: &mut Connection<MemStore>, sql: &str, last: i64) -> Result<(), Fail> {
     for step in DOUBLINGS.iter() {
-        database.change_by(sql, *step, last)?;
+        conn.execute(sql, params![*step, last])?;
     }
     Ok(())
 }
 
-fn fill(database: &mut impl AnyDatabase, filled: &FullCase) -> Result<(), Fail> {
+fn fill(conn: &mut Connection<MemStore>, filled: &FullCase) -> Result<(), Fail> {
     if let Some((sql, last)) = filled.more {
-        doubled(database, sql, last)?;
+        doubled(conn, sql, last)?;
     }
-    database.change(filled.then)
+    conn.change(filled.then)
 }
 
-fn join_after_filling(
+fn run_join(
     rt: &impl Abort,
     alloc: Global,
-    database: &mut impl AnyDatabase,
+    conn: Connection<MemStore>,
     filled: &FullCase,
 ) -> Result<(), Fail> {
-    follow(rt, alloc, database, &AVALON_JOINS)?;
-    fill(database, filled)?;
-    open_again(alloc, database)?;
-    follow(rt, alloc, database, filled.steps)?;
-    assert_tables(rt, database, filled.rows);
-    Ok(())
+    let mut service = opened(alloc, conn)?;
+    let done = follow(rt, alloc, &mut service, filled.steps);
+    assert_tables(rt, &mut service.end(), filled.rows);
+    done
 }
 
-#[derive(Drop)]
-struct Joining<'a> {
-    filled: &'a FullCase,
-}
-
-impl<'a> Player for Joining<'a> {
-    fn play<A: Abort, B: AnyDatabase>(
-        &mut self,
-        rt: &A,
-        alloc: Global,
-        database: &mut B,
-    ) -> Result<(), Fail> {
-        found_world(alloc, database, SMALL_WORLD)?;
-        join_after_filling(rt, alloc, database, self.filled)
-    }
+fn join_is_answered(rt: &impl Abort, alloc: Global, filled: &FullCase) -> Result<(), Fail> {
+    let mut conn = joined(rt, alloc)?;
+    fill(&mut conn, filled)?;
+    run_join(rt, alloc, conn, filled)
 }
 
 fn joins_are_answered(rt: &impl Abort, alloc: Global) -> Result<(), Fail> {
     for filled in FULL_CASES.iter() {
-        play_in_memory(rt, alloc, &mut Joining { filled })?;
+        join_is_answered(rt, alloc, filled)?;
     }
     Ok(())
 }

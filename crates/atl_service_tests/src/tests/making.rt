@@ -1,7 +1,8 @@
-//! Makes the commands and campaigns of these tests, and names answers.
-use super::serving::AnyDatabase;
-use atl_service::{Answer, Command, Fault, Refusal};
+//! Makes the commands and services of these tests, and names answers.
+use super::serving::Tables;
+use atl_service::{Answer, Command, Fault, Refusal, Service, found, open};
 use atl_world::Sequence;
+use sqlite::{Alter, Connection, MemStore};
 use std::alloc::Global;
 use std::test::Fail;
 
@@ -55,31 +56,39 @@ pub(crate) fn report(alloc: Global, faction: u32, pass: &str) -> Result<Command,
     })
 }
 
-pub(crate) fn found_world(
+pub(crate) fn found_service<S: Alter + Drop>(
     alloc: Global,
-    database: &mut impl AnyDatabase,
+    conn: Connection<S>,
     world: &str,
-) -> Result<(), Fail> {
-    match database.found(alloc, world, "gm") {
-        Ok(()) => Ok(()),
+) -> Result<Service<S>, Fail> {
+    match found(alloc, conn, world, b"gm") {
+        Ok(service) => Ok(service),
         Err(_) => Err(Fail::new("found")),
     }
 }
 
-pub(crate) fn open_again(alloc: Global, database: &mut impl AnyDatabase) -> Result<(), Fail> {
-    match database.open(alloc) {
-        Ok(()) => Ok(()),
+pub(crate) fn found_in_memory(alloc: Global, world: &str) -> Result<Service<MemStore>, Fail> {
+    found_service(alloc, Connection::open_in_memory(alloc)?, world)
+}
+
+pub(crate) fn opened<S: Alter + Drop>(
+    alloc: Global,
+    conn: Connection<S>,
+) -> Result<Service<S>, Fail> {
+    match open(alloc, conn) {
+        Ok(service) => Ok(service),
         Err(_) => Err(Fail::new("open")),
     }
 }
 
-pub(crate) fn open_after_sql(
+pub(crate) fn open_after_sql<S: Alter + Drop>(
     alloc: Global,
-    database: &mut impl AnyDatabase,
+    conn: Connection<S>,
     rows: &str,
-) -> Result<(), Fail> {
-    database.change(rows)?;
-    open_again(alloc, database)
+) -> Result<Service<S>, Fail> {
+    let mut conn = conn;
+    conn.change(rows)?;
+    opened(alloc, conn)
 }
 
 /// An answer in words: its kind, the name of its refusal or fault, or its text.

@@ -3,17 +3,19 @@
 use super::closing::{AFTER_WORK, MONTH_ONE};
 use super::commands::{FIRST_REPORT, JOIN_OF_AVALON, REPORT_OF_BREE};
 use super::compare::assert_text;
-use super::files::{new_files, play_in};
+use super::files::{connected, new_files};
 use super::founding::assert_refused;
-use super::making::{found_world, open_again};
+use super::making::{found_service, opened};
 use super::script::{CommandSpec, Step, follow};
-use super::serving::{AnyDatabase, Player, play_in_memory};
+use super::serving::{AnyService, Tables};
 use super::tables::assert_tables;
 use atl_campaign::Campaign;
+use atl_service::{Service, found};
 use atl_state::check;
 use atl_test_worlds::SMALL_WORLD;
 use atl_world::World;
-use sqlite_disk::{Files, Memory};
+use sqlite::{Alter, Connection, MemStore};
+use sqlite_disk::{Disk, Files};
 use std::alloc::Global;
 use std::process::Abort;
 use std::test::Fail;
@@ -66,107 +68,89 @@ fn rows_of(alloc: Global, campaign: &Campaign) -> Result<String, Fail> {
     Ok(format!(in alloc; "{parts:?}")?)
 }
 
-pub(crate) fn rows_in(alloc: Global, database: &impl AnyDatabase) -> Result<String, Fail> {
-    rows_of(alloc, database.campaign().ok_or("closed")?)
+pub(crate) fn rows_in(alloc: Global, service: &impl AnyService) -> Result<String, Fail> {
+    rows_of(alloc, service.campaign().ok_or("closed")?)
+}
+
+fn rows_after(
+    rt: &impl Abort,
+    alloc: Global,
+    service: &mut impl AnyService,
+    steps: &[Step],
+) -> Result<String, Fail> {
+    follow(rt, alloc, service, steps)?;
+    rows_in(alloc, service)
 }
 
 pub(crate) fn assert_rows(
     rt: &impl Abort,
     alloc: Global,
-    database: &impl AnyDatabase,
+    service: &impl AnyService,
     rows: &str,
 ) -> Result<(), Fail> {
-    let actual = rows_in(alloc, database)?;
+    let actual = rows_in(alloc, service)?;
     assert_text(rt, actual.as_str(), rows);
     Ok(())
 }
 
-fn serve(alloc: Global, database: &mut impl AnyDatabase, world: Option<&str>) -> Result<(), Fail> {
+fn service_of<S: Alter + Drop>(
+    alloc: Global,
+    conn: Connection<S>,
+    world: Option<&str>,
+) -> Result<Service<S>, Fail> {
     match world {
-        Some(world) => found_world(alloc, database, world),
-        None => open_again(alloc, database),
+        Some(world) => found_service(alloc, conn, world),
+        None => opened(alloc, conn),
     }
 }
 
-/// The campaign must have the rows of the session before (`rows`, if there are any). The result has
-/// its rows after the steps.
-fn rows_after(
+/// The campaign must have the rows of the session before (`rows`).
+fn played<S: Alter + Drop>(
     rt: &impl Abort,
     alloc: Global,
-    database: &mut impl AnyDatabase,
+    conn: Connection<S>,
     session: &Session,
     rows: &str,
-) -> Result<String, Fail> {
-    serve(alloc, database, session.world)?;
+) -> Result<(String, Connection<S>), Fail> {
+    let mut service = service_of(alloc, conn, session.world)?;
     if !rows.is_empty() {
-        assert_rows(rt, alloc, database, rows)?;
+        assert_rows(rt, alloc, &service, rows)?;
     }
-    follow(rt, alloc, database, session.steps)?;
-    rows_in(alloc, database)
+    let rows = rows_after(rt, alloc, &mut service, session.steps);
+    let mut conn = service.end();
+    let rows = rows?;
+    conn.change(session.by_hand)?;
+    assert_tables(rt, &mut conn, session.after);
+    Ok((rows, conn))
 }
 
-fn change_by_hand(
-    rt: &impl Abort,
-    database: &mut impl AnyDatabase,
-    session: &Session,
-) -> Result<(), Fail> {
-    database.change(session.by_hand)?;
-    assert_tables(rt, database, session.after);
-    Ok(())
-}
-
-/// A session, and the rows of the campaign before it, or after it.
-#[derive(Drop)]
-struct Sitting<'a> {
-    session: &'a Session,
-    rows: &'a mut String,
-}
-
-impl<'a> Player for Sitting<'a> {
-    fn play<A: Abort, B: AnyDatabase>(
-        &mut self,
-        rt: &A,
-        alloc: Global,
-        database: &mut B,
-    ) -> Result<(), Fail> {
-        *self.rows = rows_after(rt, alloc, database, self.session, self.rows.as_str())?;
-        change_by_hand(rt, database, self.session)
-    }
-}
-
-/// Plays sessions on one connection; the result has the campaign's rows after the last one.
-fn play_sessions(
+fn play_on_connection(
     rt: &impl Abort,
     alloc: Global,
-    database: &mut impl AnyDatabase,
     sessions: &[Session],
-) -> Result<String, Fail> {
+) -> Result<(String, Connection<MemStore>), Fail> {
+    let mut conn = Connection::open_in_memory(alloc)?;
     let mut rows = String::new(alloc);
     for session in sessions {
-        let mut sitting = Sitting {
-            session,
-            rows: &mut rows,
-        };
-        sitting.play(rt, alloc, database)?;
+        (rows, conn) = played(rt, alloc, conn, session, rows.as_str())?;
     }
-    Ok(rows)
+    Ok((rows, conn))
 }
 
 /// Plays sessions in files that are closed and opened between one session and the next.
-pub(crate) fn play_in_files(
+pub(crate) fn play_in_files<D: Disk + Drop>(
     rt: &impl Abort,
     alloc: Global,
-    files: Files<Memory>,
+    files: Files<D>,
     sessions: &[Session],
 ) -> Result<(), Fail> {
     let mut files = files;
     let mut rows = String::new(alloc);
     for session in sessions {
-        let mut sitting = Sitting {
-            session,
-            rows: &mut rows,
-        };
-        files = play_in(rt, alloc, files, &mut sitting)?;
+        let conn = connected(alloc, files)?;
+        let (actual, conn) = played(rt, alloc, conn, session, rows.as_str())?;
+        rows = actual;
+        files = conn.into_store().close();
     }
     Ok(())
 }
@@ -194,12 +178,12 @@ fn assert_made_of(
 fn assert_campaign(
     rt: &impl Abort,
     alloc: Global,
-    database: &impl AnyDatabase,
+    conn: Connection<MemStore>,
     rows: &str,
 ) -> Result<(), Fail> {
-    let world = database.world().ok_or("no service")?;
-    let campaign = database.campaign().ok_or("closed")?;
-    assert_made_of(rt, alloc, world, campaign, rows)
+    let service = opened(alloc, conn)?;
+    let campaign = service.campaign().ok_or("closed")?;
+    assert_made_of(rt, alloc, service.world(), campaign, rows)
 }
 
 static MONTH_STAYS_CLOSED: [Session; 2] = [
@@ -217,33 +201,15 @@ static MONTH_STAYS_CLOSED: [Session; 2] = [
     },
 ];
 
-#[derive(Drop)]
-struct Sittings<'a> {
-    sessions: &'a [Session],
-}
-
-impl<'a> Player for Sittings<'a> {
-    fn play<A: Abort, B: AnyDatabase>(
-        &mut self,
-        rt: &A,
-        alloc: Global,
-        database: &mut B,
-    ) -> Result<(), Fail> {
-        let rows = play_sessions(rt, alloc, database, self.sessions)?;
-        let tried = database.found(alloc, SMALL_WORLD, "gm");
-        assert_refused(rt, tried, "not empty");
-        open_again(alloc, database)?;
-        assert_campaign(rt, alloc, database, rows.as_str())
-    }
-}
-
-fn play_on_connection(rt: &impl Abort, alloc: Global, sessions: &[Session]) -> Result<(), Fail> {
-    play_in_memory(rt, alloc, &mut Sittings { sessions })
+fn assert_month_stays_closed(rt: &impl Abort, alloc: Global) -> Result<(), Fail> {
+    let (rows, conn) = play_on_connection(rt, alloc, &MONTH_STAYS_CLOSED)?;
+    let conn = assert_refused(rt, found(alloc, conn, SMALL_WORLD, b"gm"), "not empty");
+    assert_campaign(rt, alloc, conn, rows.as_str())
 }
 
 #[test]
 fn a_closed_month_is_opened_again(rt: HostRuntime) -> Result<(), Fail> {
-    play_on_connection(&rt, rt.alloc(), &MONTH_STAYS_CLOSED)
+    assert_month_stays_closed(&rt, rt.alloc())
 }
 
 /// Sessions in which a campaign is founded and Avalon joins, is opened and Bree joins, and is
@@ -269,9 +235,15 @@ static REOPENED_TWICE: [Session; 3] = [
     },
 ];
 
+fn assert_reopened_twice(rt: &impl Abort, alloc: Global) -> Result<(), Fail> {
+    let (_, conn) = play_on_connection(rt, alloc, &REOPENED_TWICE)?;
+    assert_refused(rt, found(alloc, conn, SMALL_WORLD, b"gm"), "not empty");
+    Ok(())
+}
+
 #[test]
 fn a_campaign_is_opened_on_its_connection(rt: HostRuntime) -> Result<(), Fail> {
-    play_on_connection(&rt, rt.alloc(), &REOPENED_TWICE)
+    assert_reopened_twice(&rt, rt.alloc())
 }
 
 #[test]

@@ -2,9 +2,9 @@
 //! them and asserts each.
 use super::compare::{assert_count, assert_number, assert_text};
 use super::making::{
-    answer_text, close, found_world, join, long_mail, mail, open_after_sql, report,
+    answer_text, close, found_in_memory, join, long_mail, mail, open_after_sql, report,
 };
-use super::serving::{AnyDatabase, Player, play_in_memory};
+use super::serving::AnyService;
 use super::tables::assert_tables;
 use atl_service::{Answer, Command};
 use std::alloc::Global;
@@ -64,20 +64,10 @@ fn command_in(step: &Step) -> Option<&CommandSpec> {
     }
 }
 
-fn push_command(
-    alloc: Global,
-    commands: &mut Vec<Command>,
-    asked: &CommandSpec,
-) -> Result<(), Fail> {
-    let command = command_of(alloc, asked)?;
-    commands.push(command)?;
-    Ok(())
-}
-
 fn fill(alloc: Global, commands: &mut Vec<Command>, steps: &[Step]) -> Result<(), Fail> {
     for step in steps {
         if let Some(asked) = command_in(step) {
-            push_command(alloc, commands, asked)?;
+            commands.push(command_of(alloc, asked)?)?;
         }
     }
     Ok(())
@@ -91,11 +81,11 @@ pub(crate) fn commands_of(alloc: Global, steps: &[Step]) -> Result<Vec<Command>,
 
 fn answered(
     alloc: Global,
-    database: &mut impl AnyDatabase,
+    service: &mut impl AnyService,
     asked: &CommandSpec,
 ) -> Result<Answer, Fail> {
     let command = command_of(alloc, asked)?;
-    Ok(database.run(&command))
+    Ok(service.run(&command))
 }
 
 fn assert_joined(rt: &impl Abort, answer: &Answer, first: u32, member: u32) {
@@ -129,8 +119,8 @@ fn assert_closed(rt: &impl Abort, answer: &Answer, wanted: u32) {
     }
 }
 
-fn assert_month(rt: &impl Abort, database: &impl AnyDatabase, month: u32) {
-    match database.campaign() {
+fn assert_month(rt: &impl Abort, service: &impl AnyService, month: u32) {
+    match service.campaign() {
         Some(campaign) => assert_number(rt, i64::from(campaign.month()), i64::from(month)),
         None => assert!(rt; false),
     }
@@ -138,12 +128,12 @@ fn assert_month(rt: &impl Abort, database: &impl AnyDatabase, month: u32) {
 
 fn assert_next_numbers(
     rt: &impl Abort,
-    database: &impl AnyDatabase,
+    service: &impl AnyService,
     faction: u32,
     unit: u32,
     units: usize,
 ) {
-    match database.campaign() {
+    match service.campaign() {
         Some(campaign) => {
             assert_number(rt, i64::from(campaign.next_faction()), i64::from(faction));
             assert_number(rt, i64::from(campaign.next_unit()), i64::from(unit));
@@ -153,8 +143,8 @@ fn assert_next_numbers(
     }
 }
 
-fn assert_kept_mail(rt: &impl Abort, database: &impl AnyDatabase, text: &Option<&str>) {
-    match database.campaign() {
+fn assert_kept_mail(rt: &impl Abort, service: &impl AnyService, text: &Option<&str>) {
+    match service.campaign() {
         Some(campaign) => match (campaign.mail_of(1), text) {
             (Some(kept), Some(text)) => assert!(rt; kept.as_slice() == text.as_bytes()),
             (None, None) => {}
@@ -164,8 +154,8 @@ fn assert_kept_mail(rt: &impl Abort, database: &impl AnyDatabase, text: &Option<
     }
 }
 
-fn assert_books(rt: &impl Abort, database: &impl AnyDatabase, wanted: &str) -> Result<(), Fail> {
-    match database.books() {
+fn assert_books(rt: &impl Abort, service: &impl AnyService, wanted: &str) -> Result<(), Fail> {
+    match service.books() {
         Some(text) => assert_text(rt, text?.as_str(), wanted),
         None => assert!(rt; false),
     }
@@ -182,14 +172,14 @@ pub(crate) fn assert_answer(rt: &impl Abort, answer: &Answer, step: &Step) {
     }
 }
 
-fn assert_campaign(rt: &impl Abort, database: &impl AnyDatabase, step: &Step) -> Result<(), Fail> {
+fn assert_campaign(rt: &impl Abort, service: &impl AnyService, step: &Step) -> Result<(), Fail> {
     match step {
-        Step::Closed(_, month) | Step::Month(month) => assert_month(rt, database, *month),
+        Step::Closed(_, month) | Step::Month(month) => assert_month(rt, service, *month),
         Step::Numbers(faction, unit, units) => assert_next_numbers(
-            rt, database, *faction, *unit, *units,
+            rt, service, *faction, *unit, *units,
         ),
-        Step::Keeps(text) => assert_kept_mail(rt, database, text),
-        Step::Books(wanted) => return assert_books(rt, database, wanted),
+        Step::Keeps(text) => assert_kept_mail(rt, service, text),
+        Step::Books(wanted) => return assert_books(rt, service, wanted),
         _ => {}
     }
     Ok(())
@@ -198,57 +188,26 @@ fn assert_campaign(rt: &impl Abort, database: &impl AnyDatabase, step: &Step) ->
 fn run_step(
     rt: &impl Abort,
     alloc: Global,
-    database: &mut impl AnyDatabase,
+    service: &mut impl AnyService,
     step: &Step,
 ) -> Result<(), Fail> {
     if let Some(asked) = command_in(step) {
-        let answer = answered(alloc, database, asked)?;
+        let answer = answered(alloc, service, asked)?;
         assert_answer(rt, &answer, step);
     }
-    assert_campaign(rt, database, step)
+    assert_campaign(rt, service, step)
 }
 
 pub(crate) fn follow(
     rt: &impl Abort,
     alloc: Global,
-    database: &mut impl AnyDatabase,
+    service: &mut impl AnyService,
     steps: &[Step],
 ) -> Result<(), Fail> {
     for step in steps {
-        run_step(rt, alloc, database, step)?;
+        run_step(rt, alloc, service, step)?;
     }
     Ok(())
-}
-
-fn play_in(
-    rt: &impl Abort,
-    alloc: Global,
-    database: &mut impl AnyDatabase,
-    steps: &[Step],
-    rows: &[(&str, Option<i64>)],
-) -> Result<(), Fail> {
-    follow(rt, alloc, database, steps)?;
-    assert_tables(rt, database, rows);
-    Ok(())
-}
-
-#[derive(Drop)]
-struct Game<'a, 'b> {
-    world: &'a str,
-    steps: &'a [Step],
-    rows: &'a [(&'b str, Option<i64>)],
-}
-
-impl<'a, 'b> Player for Game<'a, 'b> {
-    fn play<A: Abort, B: AnyDatabase>(
-        &mut self,
-        rt: &A,
-        alloc: Global,
-        database: &mut B,
-    ) -> Result<(), Fail> {
-        found_world(alloc, database, self.world)?;
-        play_in(rt, alloc, database, self.steps, self.rows)
-    }
 }
 
 pub(crate) fn play(
@@ -258,7 +217,10 @@ pub(crate) fn play(
     steps: &[Step],
     rows: &[(&str, Option<i64>)],
 ) -> Result<(), Fail> {
-    play_in_memory(rt, alloc, &mut Game { world, steps, rows })
+    let mut service = found_in_memory(alloc, world)?;
+    let done = follow(rt, alloc, &mut service, steps);
+    assert_tables(rt, &mut service.end(), rows);
+    done
 }
 
 /// A campaign to play: its world, SQL that adds rows after the founding, steps, and what the tables
@@ -271,22 +233,12 @@ pub(crate) struct Course {
     pub(crate) after: &'static [(&'static str, Option<i64>)],
 }
 
-impl Player for Course {
-    fn play<A: Abort, B: AnyDatabase>(
-        &mut self,
-        rt: &A,
-        alloc: Global,
-        database: &mut B,
-    ) -> Result<(), Fail> {
-        found_world(alloc, database, self.world)?;
-        open_after_sql(alloc, database, self.rows)?;
-        play_in(rt, alloc, database, self.steps, self.after)
-    }
-}
-
 /// Plays a course in memory, and asserts all that it wants; the campaign is opened again after the
 /// rows are added.
 pub(crate) fn play_course(rt: &impl Abort, alloc: Global, course: &Course) -> Result<(), Fail> {
-    let mut played = *course;
-    play_in_memory(rt, alloc, &mut played)
+    let conn = found_in_memory(alloc, course.world)?.end();
+    let mut service = open_after_sql(alloc, conn, course.rows)?;
+    let done = follow(rt, alloc, &mut service, course.steps);
+    assert_tables(rt, &mut service.end(), course.after);
+    done
 }

@@ -1,6 +1,6 @@
 //! SELECTs for numbers of a campaign's tables, and what they return after a join.
 use super::compare::assert_amount;
-use super::serving::AnyDatabase;
+use super::serving::Tables;
 use std::process::Abort;
 
 /// The SELECT of the next faction's number times 100,000, plus the next unit's.
@@ -47,11 +47,11 @@ pub(crate) const STOCK: &str = "SELECT sum(stock) FROM market";
 
 pub(crate) fn assert_tables(
     rt: &impl Abort,
-    database: &mut impl AnyDatabase,
+    tables: &mut impl Tables,
     wanted: &[(&str, Option<i64>)],
 ) {
     for (sql, amount) in wanted {
-        assert_amount(rt, database.number(sql), *amount);
+        assert_amount(rt, tables.number(sql), *amount);
     }
 }
 

@@ -1,11 +1,11 @@
 //! Tests that refused commands change no row, neither of the service's campaign nor of its tables.
 use super::compare::assert_text;
 use super::damage::changed;
-use super::making::open_again;
+use super::making::opened;
 use super::opening::{assert_rows, rows_in};
 use super::script::{Step, follow};
-use super::serving::{AnyDatabase, Player, play_in_memory};
-use sqlite::Row;
+use super::serving::AnyService;
+use sqlite::{Alter, Connection, Row};
 use std::alloc::Global;
 use std::process::Abort;
 use std::slice;
@@ -25,91 +25,74 @@ UPDATE campaign SET next_unit = 1000000000, next_structure = 2";
 /// A query that returns, for each table of the database, a SELECT of all its rows.
 const QUERIES: &str = "SELECT 'SELECT * FROM ' || name FROM sqlite_schema WHERE type = 'table'";
 
-fn push_rows(alloc: Global, sql: &str, rows: &[Row], text: &mut String) -> Result<(), Fail> {
-    text.push_str(format!(in alloc; "{sql}: {rows:?}\n")?.as_str())?;
-    Ok(())
-}
-
-fn add_rows(
+fn add_rows<S: Alter>(
     alloc: Global,
-    database: &mut impl AnyDatabase,
+    conn: &mut Connection<S>,
     query: &Row,
     text: &mut String,
 ) -> Result<(), Fail> {
     let sql: String = query.get(0)?;
-    let rows = database.rows(sql.as_str())?;
-    push_rows(alloc, sql.as_str(), &rows, text)
+    let rows = conn.query_all(sql.as_str(), &[])?;
+    text.push_str(format!(in alloc; "{sql}: {rows:?}\n")?.as_str())?;
+    Ok(())
 }
 
-pub(crate) fn all_rows(alloc: Global, database: &mut impl AnyDatabase) -> Result<String, Fail> {
+pub(crate) fn all_rows<S: Alter>(alloc: Global, conn: &mut Connection<S>) -> Result<String, Fail> {
     let mut text = String::new(alloc);
-    for query in database.rows(QUERIES)?.iter() {
-        add_rows(alloc, database, query, &mut text)?;
+    for query in conn.query_all(QUERIES, &[])?.iter() {
+        add_rows(alloc, conn, query, &mut text)?;
     }
     Ok(text)
 }
 
-pub(crate) fn assert_all_rows(
+pub(crate) fn assert_all_rows<S: Alter>(
     rt: &impl Abort,
     alloc: Global,
-    database: &mut impl AnyDatabase,
+    conn: &mut Connection<S>,
     rows: &str,
 ) -> Result<(), Fail> {
-    assert_text(rt, all_rows(alloc, database)?.as_str(), rows);
+    assert_text(rt, all_rows(alloc, conn)?.as_str(), rows);
     Ok(())
 }
 
 fn assert_rows_stay(
     rt: &impl Abort,
     alloc: Global,
-    database: &mut impl AnyDatabase,
+    service: &mut impl AnyService,
     step: &Step,
 ) -> Result<(), Fail> {
-    let rows = rows_in(alloc, database)?;
-    follow(rt, alloc, database, slice::from_ref(step))?;
-    assert_rows(rt, alloc, database, rows.as_str())
+    let rows = rows_in(alloc, service)?;
+    follow(rt, alloc, service, slice::from_ref(step))?;
+    assert_rows(rt, alloc, service, rows.as_str())
 }
 
-fn leaves_all_rows(
+fn leaves_all_rows<S: Alter + Drop>(
     rt: &impl Abort,
     alloc: Global,
-    database: &mut impl AnyDatabase,
+    conn: Connection<S>,
     step: &Step,
-) -> Result<(), Fail> {
-    let rows = all_rows(alloc, database)?;
-    open_again(alloc, database)?;
-    assert_rows_stay(rt, alloc, database, step)?;
-    assert_all_rows(rt, alloc, database, rows.as_str())
+) -> Result<Connection<S>, Fail> {
+    let mut conn = conn;
+    let rows = all_rows(alloc, &mut conn)?;
+    let mut service = opened(alloc, conn)?;
+    let done = assert_rows_stay(rt, alloc, &mut service, step);
+    let mut conn = service.end();
+    done?;
+    assert_all_rows(rt, alloc, &mut conn, rows.as_str())?;
+    Ok(conn)
 }
 
-fn leave_all_rows(
+fn leave_all_rows<S: Alter + Drop>(
     rt: &impl Abort,
     alloc: Global,
-    database: &mut impl AnyDatabase,
+    conn: Connection<S>,
     steps: &[Step],
 ) -> Result<(), Fail> {
+    let mut conn = conn;
     for step in steps {
-        leaves_all_rows(rt, alloc, database, step)?;
+        conn = leaves_all_rows(rt, alloc, conn, step)?;
     }
     Ok(())
-}
-
-#[derive(Drop)]
-struct Refused<'a> {
-    sql: &'a str,
-    steps: &'a [Step],
-}
-
-impl<'a> Player for Refused<'a> {
-    fn play<A: Abort, B: AnyDatabase>(
-        &mut self,
-        rt: &A,
-        alloc: Global,
-        database: &mut B,
-    ) -> Result<(), Fail> {
-        changed(rt, alloc, database, self.sql)?;
-        leave_all_rows(rt, alloc, database, self.steps)
-    }
 }
 
 /// Asserts the answer to each step, and that none changes a row of the campaign or of the tables.
@@ -121,5 +104,6 @@ pub(crate) fn assert_unchanged(
     sql: &str,
     steps: &[Step],
 ) -> Result<(), Fail> {
-    play_in_memory(rt, alloc, &mut Refused { sql, steps })
+    let conn = changed(rt, alloc, Connection::open_in_memory(alloc)?, sql)?;
+    leave_all_rows(rt, alloc, conn, steps)
 }

@@ -2,12 +2,15 @@
 //! (docs/FORMATS.md, "Upgrading a file").
 use super::commands::{FAR_REPORT, JOIN_OF_AVALON};
 use super::founding::assert_refused;
-use super::making::{found_world, open_after_sql, open_again};
+use super::making::{found_in_memory, open_after_sql, opened};
 use super::opening::{assert_rows, rows_in};
 use super::script::{CommandSpec, Step, follow};
-use super::serving::{AnyDatabase, in_memory};
+use super::serving::{AnyService, Tables};
 use super::tables::{FORMAT, STOCK, STOCKED, assert_tables};
+use atl_service::{open, upgrade};
+use atl_test_files::old_file;
 use atl_test_worlds::{ISLE, ISLE_WITH_MARKET, SMALL_WORLD};
+use sqlite::{Connection, MemStore};
 use std::alloc::Global;
 use std::process::Abort;
 use std::test::Fail;
@@ -21,125 +24,91 @@ struct Story {
     after: &'static [(&'static str, Option<i64>)],
 }
 
-/// Plays the story's first steps, and writes the campaign into `old` as a file of the first format.
-fn write_old_file(
+fn written_old(
+    alloc: Global,
+    service: &impl AnyService,
+    by_hand: &str,
+) -> Result<Connection<MemStore>, Fail> {
+    let mut conn = Connection::open_in_memory(alloc)?;
+    old_file(&mut conn, ISLE, service.campaign().ok_or("closed")?)?;
+    conn.change(by_hand)?;
+    Ok(conn)
+}
+
+fn old_file_of(
     rt: &impl Abort,
     alloc: Global,
-    database: &mut impl AnyDatabase,
-    old: &mut impl AnyDatabase,
     story: &Story,
-) -> Result<(), Fail> {
-    found_world(alloc, database, ISLE)?;
-    follow(rt, alloc, database, story.before)?;
-    old.write_old(ISLE, database.campaign().ok_or("closed")?)?;
-    old.change(story.by_hand)
+) -> Result<Connection<MemStore>, Fail> {
+    let mut service = found_in_memory(alloc, ISLE)?;
+    follow(rt, alloc, &mut service, story.before)?;
+    written_old(alloc, &service, story.by_hand)
 }
 
 /// The rows are those that the story's first steps and its SQL make in the second format.
-fn rows_wanted(
+fn rows_wanted(rt: &impl Abort, alloc: Global, story: &Story) -> Result<String, Fail> {
+    let mut service = found_in_memory(alloc, ISLE)?;
+    follow(rt, alloc, &mut service, story.before)?;
+    rows_in(alloc, &open_after_sql(alloc, service.end(), story.by_hand)?)
+}
+
+fn assert_not_opened(
+    rt: &impl Abort,
     alloc: Global,
-    database: &mut impl AnyDatabase,
-    story: &Story,
-) -> Result<String, Fail> {
-    open_after_sql(alloc, database, story.by_hand)?;
-    rows_in(alloc, database)
+    conn: Connection<MemStore>,
+    words: &str,
+) -> Connection<MemStore> {
+    assert_refused(rt, open(alloc, conn), words)
 }
 
 fn assert_not_upgraded(
     rt: &impl Abort,
     alloc: Global,
-    database: &mut impl AnyDatabase,
+    conn: Connection<MemStore>,
     world: &str,
     words: &str,
-) {
-    assert_refused(rt, database.upgrade(alloc, world), words);
-}
-
-fn upgraded(alloc: Global, database: &mut impl AnyDatabase) -> Result<(), Fail> {
-    match database.upgrade(alloc, ISLE_WITH_MARKET) {
-        Ok(()) => Ok(()),
-        Err(_) => Err(Fail::new("upgrade")),
-    }
+) -> Connection<MemStore> {
+    assert_refused(rt, upgrade(alloc, conn, world), words)
 }
 
 fn assert_upgrade(
     rt: &impl Abort,
     alloc: Global,
-    old: &mut impl AnyDatabase,
+    conn: Connection<MemStore>,
     rows: &str,
-) -> Result<(), Fail> {
-    assert_refused(rt, old.open(alloc), "old format");
-    assert_not_upgraded(rt, alloc, old, SMALL_WORLD, "differs");
-    assert_not_upgraded(rt, alloc, old, "a = = b", "world");
-    upgraded(alloc, old)?;
-    assert_rows(rt, alloc, old, rows)
+) -> Result<Connection<MemStore>, Fail> {
+    let conn = assert_not_opened(rt, alloc, conn, "old format");
+    let conn = assert_not_upgraded(rt, alloc, conn, SMALL_WORLD, "differs");
+    let conn = assert_not_upgraded(rt, alloc, conn, "a = = b", "world");
+    match upgrade(alloc, conn, ISLE_WITH_MARKET) {
+        Ok(service) => {
+            assert_rows(rt, alloc, &service, rows)?;
+            Ok(service.end())
+        }
+        Err(_) => Err(Fail::new("upgrade")),
+    }
 }
 
 fn assert_played_on(
     rt: &impl Abort,
     alloc: Global,
-    database: &mut impl AnyDatabase,
+    conn: Connection<MemStore>,
     story: &Story,
     rows: &str,
 ) -> Result<(), Fail> {
-    assert_not_upgraded(rt, alloc, database, ISLE_WITH_MARKET, "not old");
-    open_again(alloc, database)?;
-    assert_rows(rt, alloc, database, rows)?;
-    follow(rt, alloc, database, story.then)?;
-    assert_tables(rt, database, story.after);
-    Ok(())
+    let conn = assert_not_upgraded(rt, alloc, conn, ISLE_WITH_MARKET, "not old");
+    let mut service = opened(alloc, conn)?;
+    assert_rows(rt, alloc, &service, rows)?;
+    let done = follow(rt, alloc, &mut service, story.then);
+    assert_tables(rt, &mut service.end(), story.after);
+    done
 }
 
-fn assert_story(
-    rt: &impl Abort,
-    alloc: Global,
-    database: &mut impl AnyDatabase,
-    old: &mut impl AnyDatabase,
-    story: &Story,
-) -> Result<(), Fail> {
-    let rows = rows_wanted(alloc, database, story)?;
-    assert_upgrade(rt, alloc, old, rows.as_str())?;
-    assert_played_on(rt, alloc, old, story, rows.as_str())
-}
-
-fn assert_shut(
-    rt: &impl Abort,
-    alloc: Global,
-    old: &mut impl AnyDatabase,
-    refused: &(&str, &str, &str),
-) -> Result<(), Fail> {
-    let (sql, opening, upgrade) = *refused;
-    old.change(sql)?;
-    assert_refused(rt, old.open(alloc), opening);
-    assert_not_upgraded(rt, alloc, old, ISLE_WITH_MARKET, upgrade);
-    assert_refused(rt, old.open(alloc), opening);
-    Ok(())
-}
-
-fn assert_old_in(
-    rt: &impl Abort,
-    alloc: Global,
-    database: &mut impl AnyDatabase,
-    old: &mut impl AnyDatabase,
-    case: (&Story, Option<&(&str, &str, &str)>),
-) -> Result<(), Fail> {
-    let (story, refused) = case;
-    write_old_file(rt, alloc, database, old, story)?;
-    match refused {
-        Some(refused) => assert_shut(rt, alloc, old, refused),
-        None => assert_story(rt, alloc, database, old, story),
-    }
-}
-
-/// Writes the file of a story. Asserts what is wanted of it: the story or, after SQL, refusals.
-fn assert_old(
-    rt: &impl Abort,
-    alloc: Global,
-    case: (&Story, Option<&(&str, &str, &str)>),
-) -> Result<(), Fail> {
-    let mut database = in_memory(alloc)?;
-    let mut old = in_memory(alloc)?;
-    assert_old_in(rt, alloc, &mut database, &mut old, case)
+fn assert_upgraded(rt: &impl Abort, alloc: Global, story: &Story) -> Result<(), Fail> {
+    let conn = old_file_of(rt, alloc, story)?;
+    let rows = rows_wanted(rt, alloc, story)?;
+    let conn = assert_upgrade(rt, alloc, conn, rows.as_str())?;
+    assert_played_on(rt, alloc, conn, story, rows.as_str())
 }
 
 const FAR_JOINS: [Step; 1] = [Step::Joined(CommandSpec::Join("Avalon", "pw", 1), 1, 1)];
@@ -237,12 +206,12 @@ static WITH_EARLY_MAIL: Story = Story {
 
 #[test]
 fn a_file_is_upgraded_once(rt: HostRuntime) -> Result<(), Fail> {
-    assert_old(&rt, rt.alloc(), (&FAR_FROM_MARKET, None))
+    assert_upgraded(&rt, rt.alloc(), &FAR_FROM_MARKET)
 }
 
 #[test]
 fn early_mail_is_carried_out(rt: HostRuntime) -> Result<(), Fail> {
-    assert_old(&rt, rt.alloc(), (&WITH_EARLY_MAIL, None))
+    assert_upgraded(&rt, rt.alloc(), &WITH_EARLY_MAIL)
 }
 
 /// SQL statements on a file of the first format, why it then isn't opened, and why it then isn't
@@ -258,9 +227,19 @@ static REFUSED: [(&str, &str, &str); 8] = [
     ("BEGIN", "store", "store"),
 ];
 
+fn assert_shut(rt: &impl Abort, alloc: Global, refused: &(&str, &str, &str)) -> Result<(), Fail> {
+    let (sql, opening, upgrade) = *refused;
+    let mut conn = old_file_of(rt, alloc, &FAR_FROM_MARKET)?;
+    conn.change(sql)?;
+    let conn = assert_not_opened(rt, alloc, conn, opening);
+    let conn = assert_not_upgraded(rt, alloc, conn, ISLE_WITH_MARKET, upgrade);
+    assert_not_opened(rt, alloc, conn, opening);
+    Ok(())
+}
+
 fn assert_all_shut(rt: &impl Abort, alloc: Global) -> Result<(), Fail> {
     for refused in REFUSED.iter() {
-        assert_old(rt, alloc, (&FAR_FROM_MARKET, Some(refused)))?;
+        assert_shut(rt, alloc, refused)?;
     }
     Ok(())
 }
