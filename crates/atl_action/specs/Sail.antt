@@ -7,8 +7,8 @@ use Rattle.atl_world.specs.Worlds.{WorldValue}
 use Rattle.atl_world.specs.declared.direction.Direction.{Direction}
 use Rattle.atl_world.specs.declared.world.Kind.{Kind}
 use Rattle.atl_world.specs.ByNumber.{is_land_at, neighbour, size_of}
-use Rattle.atl_orders.specs.declared.verb.Verb.{Verb}
-use Rattle.atl_orders.specs.declared.verb.Verb.TheVariants as verbs
+use Rattle.atl_world.specs.declared.verb.Verb.{Verb}
+use Rattle.atl_world.specs.declared.verb.Verb.TheVariants as verbs
 use Rattle.atl_records.specs.declared.event.EventFault.{EventFault}
 use Rattle.atl_records.specs.declared.event.EventFault.TheVariants.{NoCrew, NoMen, NotComplete, NotInside, NotOwner, NoWay, TooHeavy}
 use Rattle.atl_records.specs.declared.event.Outcome.TheVariants.{Done}

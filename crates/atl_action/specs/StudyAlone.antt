@@ -6,7 +6,7 @@ use Rattle.std.specs.List.{Contains}
 use Rattle.std.specs.FinMap.{get}
 use Rattle.atl_world.specs.Worlds.{WorldValue}
 use Rattle.atl_orders.specs.declared.order.Operands.TheVariants.{Skill}
-use Rattle.atl_orders.specs.declared.verb.Verb.TheVariants.{Study}
+use Rattle.atl_world.specs.declared.verb.Verb.TheVariants.{Study}
 use Rattle.atl_orders.specs.Orders.{order_of}
 use Rattle.atl_records.specs.declared.records.Unit.{Unit}
 use Rattle.atl_campaign.specs.Campaign.{CampaignValue}

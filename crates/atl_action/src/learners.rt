@@ -2,7 +2,7 @@
 //! See docs/RULES.md, "Learning".
 ghost use Rattle.std.specs.Prelude.{◌≡◌, ◌*◌, IfOk, OnOk, Some};
 ghost use Rattle.atl_orders.specs.Bounds.{shape_of};
-ghost use Rattle.atl_orders.specs.Verbs.{row_of};
+ghost use Rattle.atl_world.specs.Verbs.{row_of};
 ghost use Rattle.atl_phase.specs.Fit.{AreFit};
 ghost use Rattle.atl_phase.specs.PhaseOrders.{task_of};
 ghost use Rattle.atl_action.specs.Learners.{UnitsLearnByOrders, can_learn, is_studying, learners, skill_of, with_learner};

@@ -3,7 +3,7 @@ ghost use Rattle.std.specs.Prelude.{◌≡◌, ◌≤◌, ◌+◌, IfOk, OnOk, f
 ghost use Rattle.std.specs.List.{IsDistinct};
 ghost use Rattle.atl_world.specs.Worlds.{WorldValue};
 ghost use Rattle.atl_orders.specs.Bounds.{shape_of};
-ghost use Rattle.atl_orders.specs.Verbs.{row_of};
+ghost use Rattle.atl_world.specs.Verbs.{row_of};
 ghost use Rattle.atl_records.specs.Holdings.{amount_of};
 ghost use Rattle.atl_records.specs.Limits.{men_limit};
 ghost use Rattle.atl_action.specs.Teach.{NobodyIsTaughtTwice, after_lessons, first_mentions, is_below, is_pupil, is_teaching, lesson, level_at, listed_units, men_at, pupils_of, teach, teach_fault, untaught_men};

@@ -7,8 +7,8 @@ use Rattle.std.specs.FinMap.{FinMap}
 use Rattle.std.specs.Ordering.{nat_cmp}
 use Rattle.atl_world.specs.Worlds.{WorldValue}
 use Rattle.atl_orders.specs.declared.order.Operands.TheVariants as operands
-use Rattle.atl_orders.specs.declared.verb.Verb.{Verb}
-use Rattle.atl_orders.specs.declared.verb.Verb.TheVariants as verbs
+use Rattle.atl_world.specs.declared.verb.Verb.{Verb}
+use Rattle.atl_world.specs.declared.verb.Verb.TheVariants as verbs
 use Rattle.atl_orders.specs.Mailing.{Reading}
 use Rattle.atl_orders.specs.Orders.{OperandsValue}
 use Rattle.atl_campaign.specs.Campaign.{CampaignValue}

@@ -3,7 +3,7 @@ ghost use Rattle.std.specs.Prelude.{◌≡◌, ◌≤◌, IfOk, None, OnOk, map 
 ghost use Rattle.std.specs.FinMap as map;
 ghost use Rattle.atl_world.specs.Worlds.{WorldValue};
 ghost use Rattle.atl_orders.specs.Bounds.{shape_of};
-ghost use Rattle.atl_orders.specs.Verbs.{row_of};
+ghost use Rattle.atl_world.specs.Verbs.{row_of};
 ghost use Rattle.atl_campaign.specs.Covers.{MarksChanges};
 ghost use Rattle.atl_campaign.specs.Good.{IsEarly};
 ghost use Rattle.atl_records.specs.Limits.{last_unit};

@@ -1,7 +1,7 @@
 //! GUARD 1: a unit begins to guard its region. See docs/RULES.md, "Guarding".
 ghost use Rattle.std.specs.Prelude.{◌≡◌, IfOk, OnOk};
 ghost use Rattle.atl_orders.specs.Bounds.{shape_of};
-ghost use Rattle.atl_orders.specs.Verbs.{row_of};
+ghost use Rattle.atl_world.specs.Verbs.{row_of};
 ghost use Rattle.atl_world.specs.Worlds.{WorldValue};
 ghost use Rattle.atl_campaign.specs.Covers.{MarksChanges};
 ghost use Rattle.atl_campaign.specs.Campaign.{CampaignValue};

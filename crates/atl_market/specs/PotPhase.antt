@@ -7,7 +7,7 @@ use Rattle.std.specs.Ordering.{nat_cmp}
 use Rattle.std.specs.FinMap.{FinMap, entries, from_entries, get}
 use Rattle.atl_world.specs.Worlds.{WorldValue}
 use Rattle.atl_orders.specs.declared.order.Operands.TheVariants as operands
-use Rattle.atl_orders.specs.declared.verb.Verb.{Verb}
+use Rattle.atl_world.specs.declared.verb.Verb.{Verb}
 use Rattle.atl_orders.specs.Orders.{OperandsValue}
 use Rattle.atl_records.specs.declared.event.Event.{Event}
 use Rattle.atl_records.specs.declared.event.EventFault.{EventFault}

@@ -3,8 +3,8 @@ use Rattle.std.specs.Prelude.{◌+◌, ◌-◌, ◌*◌, ◌/◌, ℕ, Bool, tru
 use Rattle.std.specs.Option.{option_map_or}
 use Rattle.std.specs.FinMap.{get}
 use Rattle.atl_world.specs.Worlds.{WorldValue}
-use Rattle.atl_orders.specs.declared.verb.Verb.{Verb}
-use Rattle.atl_orders.specs.declared.verb.Verb.TheVariants as verbs
+use Rattle.atl_world.specs.declared.verb.Verb.{Verb}
+use Rattle.atl_world.specs.declared.verb.Verb.TheVariants as verbs
 use Rattle.atl_records.specs.declared.books.BooksEntry.TheVariants.{Recruiting}
 use Rattle.atl_records.specs.declared.books.Thing.TheVariants.{Money}
 use Rattle.atl_records.specs.declared.event.EventFault.{EventFault}

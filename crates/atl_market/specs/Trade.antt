@@ -6,8 +6,8 @@ use Rattle.std.specs.FinMap.{FinMap, get}
 use Rattle.atl_world.specs.ByNumber.{market_of}
 use Rattle.atl_world.specs.Worlds.{WorldValue}
 use Rattle.atl_world.specs.declared.world.Market.{Market}
-use Rattle.atl_orders.specs.declared.verb.Verb.{Verb}
-use Rattle.atl_orders.specs.declared.verb.Verb.TheVariants as verbs
+use Rattle.atl_world.specs.declared.verb.Verb.{Verb}
+use Rattle.atl_world.specs.declared.verb.Verb.TheVariants as verbs
 use Rattle.atl_records.specs.declared.books.BooksEntry.{BooksEntry}
 use Rattle.atl_records.specs.declared.books.BooksEntry.TheVariants.{Bought, Sold}
 use Rattle.atl_records.specs.declared.books.Thing.TheVariants.{Money}

@@ -7,7 +7,7 @@ use Rattle.std.specs.FinMap.{get}
 use Rattle.atl_records.specs.declared.records.Unit.{Unit}
 use Rattle.atl_records.specs.Every.{Every}
 use Rattle.atl_campaign.specs.Campaign.{CampaignValue}
-use Rattle.atl_orders.specs.declared.verb.Verb.{Verb}
+use Rattle.atl_world.specs.declared.verb.Verb.{Verb}
 use Rattle.atl_phase.specs.Meaning.{Frame}
 use Rattle.atl_phase.specs.PhaseOrders.{Task, orders_by_unit}
 use Rattle.atl_phase.specs.NoWorse.{IsNoWorse}

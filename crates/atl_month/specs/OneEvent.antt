@@ -3,8 +3,8 @@ use Rattle.std.specs.Prelude.{ℕ, List}
 use Rattle.std.specs.Ordering.{nat_cmp}
 use Rattle.std.specs.FinMap.{FinMap, empty}
 use Rattle.atl_world.specs.Worlds.{WorldValue}
-use Rattle.atl_orders.specs.declared.verb.Verb.{Verb}
-use Rattle.atl_orders.specs.declared.verb.Verb.TheVariants as verbs
+use Rattle.atl_world.specs.declared.verb.Verb.{Verb}
+use Rattle.atl_world.specs.declared.verb.Verb.TheVariants as verbs
 use Rattle.atl_orders.specs.Mailing.{Reading}
 use Rattle.atl_campaign.specs.Campaign.{CampaignValue}
 use Rattle.atl_phase.specs.Fit.{AreFit}

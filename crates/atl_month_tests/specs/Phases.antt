@@ -1,7 +1,7 @@
 -- For these tests alone: the verbs of two phases that only these tests have, one of WORK and one of STUDY.
 use Rattle.std.specs.Prelude.{Bool, true, false}
-use Rattle.atl_orders.specs.declared.verb.Verb.{Verb}
-use Rattle.atl_orders.specs.declared.verb.Verb.TheVariants.{Study, Work}
+use Rattle.atl_world.specs.declared.verb.Verb.{Verb}
+use Rattle.atl_world.specs.declared.verb.Verb.TheVariants.{Study, Work}
 
 -- Whether a verb is WORK, the only verb of the tests' phase `Working`.
 abbrev pub is_working : Verb → Bool

@@ -8,10 +8,10 @@ use Rattle.atl_world.specs.Worlds.{WorldValue}
 use Rattle.atl_orders.specs.declared.order.UnitRef.{UnitRef}
 use Rattle.atl_orders.specs.declared.order.UnitRef.TheVariants.{Number, Alias}
 use Rattle.atl_orders.specs.declared.order.Operands.TheVariants as operands
-use Rattle.atl_orders.specs.declared.verb.Shape.{Shape}
-use Rattle.atl_orders.specs.declared.verb.Shape.TheVariants as shapes
+use Rattle.atl_world.specs.declared.verb.Shape.{Shape}
+use Rattle.atl_world.specs.declared.verb.Shape.TheVariants as shapes
 use Rattle.atl_orders.specs.Orders.{OperandsValue, OrderValue}
-use Rattle.atl_orders.specs.Verbs.{row_of}
+use Rattle.atl_world.specs.Verbs.{row_of}
 use Rattle.atl_orders.specs.Mailing.{EntryValue, Reading, reading}
 
 -- `IsWithin most n`: the number n is from 1 to `most`

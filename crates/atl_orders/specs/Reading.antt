@@ -19,7 +19,7 @@ use Rattle.atl_orders.specs.Words.{WordText, words, is_word}
 use Rattle.atl_orders.specs.Verbs.{verb_of}
 use Rattle.atl_orders.specs.Operands.{number_at, alias_at}
 use Rattle.atl_orders.specs.declared.order.Operands.TheVariants as operands
-use Rattle.atl_orders.specs.declared.verb.Verb.TheVariants as verbs
+use Rattle.atl_world.specs.declared.verb.Verb.TheVariants as verbs
 use Rattle.atl_orders.specs.Orders.{OrderValue, order_of, read_order}
 
 -- whether a byte may be in a line: tab, and from space to `~`

@@ -9,7 +9,7 @@ use Rattle.atl_orders.specs.declared.order.UnitRef.TheVariants.{Number}
 use Rattle.atl_orders.specs.declared.fault.FaultyLine.{FaultyLine}
 use Rattle.atl_orders.specs.declared.fault.LineFault.{LineFault}
 use Rattle.atl_orders.specs.declared.fault.LineFault.TheVariants.{NoUnit, UnknownOrder, BadByte, BadAlias, NestedForm, EndAlone}
-use Rattle.atl_orders.specs.declared.verb.Verb.{Verb}
+use Rattle.atl_world.specs.declared.verb.Verb.{Verb}
 use Rattle.atl_orders.specs.declared.reading.Keyword.{Keyword}
 use Rattle.atl_orders.specs.declared.reading.Keyword.TheVariants as keywords
 use Rattle.atl_orders.specs.declared.reading.ReaderState.{ReaderState}

@@ -1,6 +1,5 @@
 //! An order: its verb, and the operands that its words name. See docs/RULES.md, "Orders".
-use crate::verb::Verb;
-use atl_world::{Direction, Sequence};
+use atl_world::{Direction, Sequence, Verb};
 
 /// A unit as an order refers to it: by its number, or by an alias.
 /// See docs/RULES.md, "Reading a mailing".

@@ -12,9 +12,8 @@ use crate::operands::{
     units_of, word_at,
 };
 use crate::order::{NameKind, Operands, Order, Span};
-use crate::verb::{Shape, Verb};
 use crate::words::{Cursor, Word, next_word, number};
-use atl_world::{World, word_ok};
+use atl_world::{Shape, Verb, World, word_ok};
 use std::alloc::{AllocError, Global};
 
 fn read_flag(cursor: Cursor) -> Result<Operands, LineFault>

@@ -14,7 +14,7 @@ use crate::letters::TAB;
 use crate::operands::{alias_at, number_at};
 use crate::order::{Operands, Order, UnitRef};
 use crate::orders::order_at;
-use crate::verb::Verb;
+use crate::verb::verb_of_word;
 use crate::words::{Cursor, Word, next_word};
 use LineResult::{Faulty, Nothing, Says};
 use ReaderState::{At, Forming, Nowhere, Skipping};
@@ -71,7 +71,7 @@ fn keyword_of(word: Word) -> Option<Keyword>
     } else if bytes.eq_ignore_ascii_case(b"FORM") {
         Some(Keyword::Form)
     } else {
-        Verb::of_word(word).map(Keyword::Order)
+        verb_of_word(word).map(Keyword::Order)
     }
 }
 

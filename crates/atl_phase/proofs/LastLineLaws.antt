@@ -7,9 +7,9 @@ use Rattle.std.specs.FinMap.{get, insert, empty, get-insert, get-empty}
 use Rattle.atl_world.specs.Groups.{group_of}
 use Rattle.atl_world.proofs.GeneralLaws.{equality_is_symmetric, is_equal}
 use Rattle.atl_orders.specs.declared.mailing.Entry.{Entry}
-use Rattle.atl_orders.specs.declared.verb.Slot.{Slot}
+use Rattle.atl_world.specs.declared.verb.Slot.{Slot}
 use Rattle.atl_orders.specs.Mailing.{entry_value}
-use Rattle.atl_orders.specs.Verbs.{row_of}
+use Rattle.atl_world.specs.Verbs.{row_of}
 use Rattle.atl_campaign.proofs.KeyLaws.{next_of}
 use Rattle.atl_phase.specs.Month.{Aliases}
 use Rattle.atl_phase.specs.PhaseOrders.{unit_of, slot_number, is_same_slot, last_line, tasks_from}

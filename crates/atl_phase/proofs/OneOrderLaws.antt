@@ -14,10 +14,10 @@ use Rattle.atl_world.specs.Worlds.{WorldValue}
 use Rattle.atl_world.proofs.GeneralLaws.{is_equal}
 use Rattle.atl_orders.specs.Bounds.{LinesRise}
 use Rattle.atl_orders.specs.Mailing.{EntryValue, Reading}
-use Rattle.atl_orders.specs.Verbs.{row_of}
-use Rattle.atl_orders.specs.declared.verb.Slot.{Slot}
-use Rattle.atl_orders.specs.declared.verb.Slot.TheVariants.{MonthLong, Selling, Buying, Taxing, Recruiting}
-use Rattle.atl_orders.specs.declared.verb.Verb.{Verb}
+use Rattle.atl_world.specs.Verbs.{row_of}
+use Rattle.atl_world.specs.declared.verb.Slot.{Slot}
+use Rattle.atl_world.specs.declared.verb.Slot.TheVariants.{MonthLong, Selling, Buying, Taxing, Recruiting}
+use Rattle.atl_world.specs.declared.verb.Verb.{Verb}
 use Rattle.atl_campaign.proofs.KeyLaws.{IsDistinct-map}
 use Rattle.atl_phase.specs.declared.phase_order.Arrangement.{Arrangement}
 use Rattle.atl_phase.specs.Month.{Aliases}

@@ -12,7 +12,7 @@ use Rattle.std.proofs.lemmas.List.Folds.{flat_map-map}
 use Rattle.std.proofs.lemmas.List.Sorted.{All-permutation}
 use Rattle.std.proofs.lemmas.Map.Views.{tells_apart}
 use Rattle.atl_orders.specs.declared.mailing.Mailing.{Mailing}
-use Rattle.atl_orders.specs.declared.verb.Verb.{Verb}
+use Rattle.atl_world.specs.declared.verb.Verb.{Verb}
 use Rattle.atl_orders.specs.Mailing.{EntryValue, Reading, reading_of}
 use Rattle.atl_campaign.proofs.GroupLaws.{filter_apart, filter_each}
 use Rattle.atl_campaign.proofs.KeyLaws.{IsDistinct-of_map}

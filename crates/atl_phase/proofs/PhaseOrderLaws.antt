@@ -10,7 +10,7 @@ use Rattle.std.specs.FinMap.{FinMap, IsAntisymmetric, entries, entries-insert, f
 use Rattle.std.specs.FinMap.Entries.{by_order}
 use Rattle.std.proofs.lemmas.Bool.{and_parts}
 use Rattle.std.proofs.lemmas.List.Elements.{All-from_recursion, All-map, recursion_from_All}
-use Rattle.atl_orders.specs.declared.verb.Verb.{Verb}
+use Rattle.atl_world.specs.declared.verb.Verb.{Verb}
 use Rattle.atl_orders.specs.Mailing.{EntryValue, Reading}
 use Rattle.atl_records.specs.Every.{EachEntry}
 use Rattle.atl_records.proofs.EveryLaws.{each-from_every}

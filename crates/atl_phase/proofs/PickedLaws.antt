@@ -8,7 +8,7 @@ use Rattle.std.specs.FinMap.{FinMap, entries, values, from_entries, slice_cmp-Is
 use Rattle.std.proofs.lemmas.List.Elements.{filter-append, filter_agree}
 use Rattle.std.proofs.lemmas.Result.{IfOk-weaker}
 use Rattle.atl_orders.specs.declared.mailing.Mailing.{Mailing}
-use Rattle.atl_orders.specs.declared.verb.Verb.{Verb}
+use Rattle.atl_world.specs.declared.verb.Verb.{Verb}
 use Rattle.atl_orders.specs.Mailing.{Reading, reading_of}
 use Rattle.atl_campaign.proofs.GroupLaws.{filter_both}
 use Rattle.atl_campaign.proofs.KeyLaws.{IsDistinct-map}

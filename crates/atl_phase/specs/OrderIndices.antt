@@ -10,9 +10,9 @@ use Rattle.atl_orders.specs.declared.mailing.Entry.{Entry}
 use Rattle.atl_orders.specs.declared.mailing.Mailing.{Mailing}
 use Rattle.atl_orders.specs.declared.order.Operands.TheVariants.{Nothing}
 use Rattle.atl_orders.specs.declared.order.UnitRef.TheVariants.{Number}
-use Rattle.atl_orders.specs.declared.verb.Slot.{Slot}
-use Rattle.atl_orders.specs.declared.verb.Verb.{Verb}
-use Rattle.atl_orders.specs.declared.verb.Verb.TheVariants.{Work}
+use Rattle.atl_world.specs.declared.verb.Slot.{Slot}
+use Rattle.atl_world.specs.declared.verb.Verb.{Verb}
+use Rattle.atl_world.specs.declared.verb.Verb.TheVariants.{Work}
 use Rattle.atl_orders.specs.Mailing.{reading_of}
 use Rattle.atl_orders.specs.Orders.{order_value}
 use Rattle.atl_phase.specs.declared.order_indices.OrderIndex.{OrderIndex}

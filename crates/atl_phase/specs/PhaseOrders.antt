@@ -6,10 +6,10 @@ use Rattle.std.specs.Cmp.Lexicographic.{slice_cmp}
 use Rattle.std.specs.FinMap.{FinMap, entries, from_entries, get, values}
 use Rattle.atl_orders.specs.declared.order.UnitRef.{UnitRef}
 use Rattle.atl_orders.specs.declared.order.UnitRef.TheVariants.{Number, Alias}
-use Rattle.atl_orders.specs.declared.verb.Slot.{Slot}
-use Rattle.atl_orders.specs.declared.verb.Slot.TheVariants.{MonthLong, Selling, Buying, Taxing, Recruiting}
-use Rattle.atl_orders.specs.declared.verb.Verb.{Verb}
-use Rattle.atl_orders.specs.Verbs.{row_of}
+use Rattle.atl_world.specs.declared.verb.Slot.{Slot}
+use Rattle.atl_world.specs.declared.verb.Slot.TheVariants.{MonthLong, Selling, Buying, Taxing, Recruiting}
+use Rattle.atl_world.specs.declared.verb.Verb.{Verb}
+use Rattle.atl_world.specs.Verbs.{row_of}
 use Rattle.atl_orders.specs.Mailing.{EntryValue, Reading}
 use Rattle.atl_orders.specs.Orders.{OrderValue, order_value}
 use Rattle.atl_phase.specs.Month.{Aliases, MonthValue, alias_unit}

@@ -5,7 +5,7 @@ ghost use Rattle.std.specs.List.{list_any};
 ghost use Rattle.std.specs.List.Sorted.{IsPermutation, IsSortedByKey};
 ghost use Rattle.std.specs.Cmp.Lexicographic.{slice_cmp};
 ghost use Rattle.std.specs.Ordering.{nat_cmp};
-ghost use Rattle.atl_orders.specs.Verbs.{row_of};
+ghost use Rattle.atl_world.specs.Verbs.{row_of};
 ghost use Rattle.atl_phase.specs.OrderIndices.{AddsMailing, AreByFaction, AreIndicesByMailing, AreLastLines, AreOrderIndices, counts_by_lines, key_by, tasks_at};
 
 use crate::last_lines::{LastLines, last_lines, order_counts, unit_of};

@@ -1,7 +1,7 @@
 //! The orders that a phase carries out, in their order. See docs/RULES.md, "Orders of a month".
 ghost use Rattle.std.specs.Prelude.{◌≡◌, map, IfOk, Bool};
 ghost use Rattle.std.specs.List.{All};
-ghost use Rattle.atl_orders.specs.declared.verb.Verb.{Verb};
+ghost use Rattle.atl_world.specs.declared.verb.Verb.{Verb};
 ghost use Rattle.atl_phase.specs.PhaseOrders.{OrdersAreInMailings, is_month_long, task_of};
 ghost use Rattle.atl_phase.specs.OneOrder.{OneOrderCounts};
 ghost use Rattle.atl_phase.specs.OrderIndices.{IsThere, every_verb, task_at, tasks_picked};

@@ -1,6 +1,6 @@
 -- Which verbs events name, and the numbers and names of event faults. See docs/RULES.md, "Events".
 use Rattle.std.specs.Prelude.{ℕ, List, [], ◌∷◌, codes}
-use Rattle.atl_orders.specs.Verbs.{keyword}
+use Rattle.atl_world.specs.Verbs.{keyword}
 use Rattle.atl_records.specs.declared.event.EventVerb.{EventVerb}
 use Rattle.atl_records.specs.declared.event.EventVerb.TheVariants.{Order, Upkeep}
 use Rattle.atl_records.specs.declared.event.EventFault.{EventFault}

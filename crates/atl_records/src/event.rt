@@ -1,8 +1,7 @@
 //! Events: the outcomes of a month's orders, and their faults. See docs/RULES.md, "Events".
 ghost use Rattle.std.specs.Prelude.{◌≡◌};
 
-use atl_orders::Verb;
-use atl_world::{name_of, variants};
+use atl_world::{Verb, name_of, variants};
 use std::error::Error;
 use std::fmt;
 

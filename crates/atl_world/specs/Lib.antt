@@ -14,3 +14,4 @@ pub mod MarkedMaps
 pub mod Tracking
 pub mod RoomySets
 pub mod SortedNumbers
+pub mod Verbs

@@ -20,6 +20,7 @@ mod sorted_numbers;
 mod text;
 mod titled;
 mod variants;
+mod verb;
 mod world;
 
 pub use direction::Direction;
@@ -32,4 +33,5 @@ pub use numbered::{Entries, Numbered};
 pub use sequence::Sequence;
 pub use text::Text;
 pub use titled::Titled;
+pub use verb::{Row, Shape, Slot, Verb};
 pub use world::{Item, Kind, Market, RegionPlan, Rules, Skill, Terrain, World};

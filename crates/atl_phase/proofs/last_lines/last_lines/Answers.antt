@@ -1,6 +1,6 @@
 use Rattle.std.proofs.Common.{◌≡◌, ◌+◌, ◌<◌, max, sym, ap, ◌∙◌, rules, length, drop, map, get_or}
 use Rattle.atl_orders.specs.Mailing.{entry_value}
-use Rattle.atl_orders.specs.Verbs.{Row}
+use Rattle.atl_world.specs.Verbs.{Row}
 use Rattle.atl_phase.specs.PhaseOrders.{slot_number, last_line, tasks_from}
 use Rattle.atl_phase.specs.OrderIndices.{line_in, with_line}
 use Rattle.atl_phase.proofs.LastLineLaws as laws

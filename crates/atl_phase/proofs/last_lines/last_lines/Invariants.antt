@@ -1,5 +1,5 @@
 use Rattle.std.proofs.Common.{◌≡◌, ℕ, map, max, drop}
-use Rattle.atl_orders.specs.declared.verb.Slot.{Slot}
+use Rattle.atl_world.specs.declared.verb.Slot.{Slot}
 use Rattle.atl_orders.specs.Mailing.{entry_value, reading_of}
 use Rattle.atl_phase.specs.PhaseOrders.{last_line, slot_number, tasks_of, tasks_from}
 use Rattle.atl_phase.specs.OrderIndices.{line_in}

@@ -10,7 +10,7 @@ use Rattle.atl_phase.proofs.FoldLaws.{fold_after_step, fold_ended}
 use Rattle.atl_phase.proofs.OrderEffectLaws.{leaves_well, well_same, well_twice}
 use Rattle.atl_instant.proofs.FormLaws.{all_formed, free_number, order_stays, order_well}
 use Rattle.atl_instant.proofs.form.FormPhasePhase.run.Goals as goal
-use Rattle.atl_orders.specs.declared.verb.Verb.TheVariants.{Form}
+use Rattle.atl_world.specs.declared.verb.Verb.TheVariants.{Form}
 use Rattle.atl_instant.specs.Forming.{form_by_copy}
 use Rattle.atl_instant.specs.declared.form.Forming.{Forming}
 

@@ -1,5 +1,5 @@
 use Rattle.std.proofs.Common.{◌≡◌, [], ap, subst, sym, ◌∙◌, map, true, arith}
-use Rattle.atl_orders.specs.declared.verb.Verb.TheVariants as verbs
+use Rattle.atl_world.specs.declared.verb.Verb.TheVariants as verbs
 use Rattle.atl_phase.specs.declared.phase_order.Arrangement.TheVariants.{ByUnit}
 use Rattle.atl_phase.proofs.EventLaws.{Fits}
 use Rattle.atl_instant.proofs.TakenLaws.{guard_shape}
