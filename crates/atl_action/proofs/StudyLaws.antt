@@ -30,7 +30,7 @@ use Rattle.atl_campaign.specs.Campaign.{CampaignValue}
 use Rattle.atl_records.specs.Amounts.{unit_amount}
 use Rattle.atl_campaign.specs.Totals.{Balances, total}
 use Rattle.atl_records.proofs.BookLaws.{booked-after_booking}
-use Rattle.atl_records.proofs.EveryLaws.{get-insert_other}
+use Rattle.atl_world.proofs.EveryLaws.{get-insert_other}
 use Rattle.atl_campaign.proofs.HavingLaws.{may_have}
 use Rattle.atl_campaign.proofs.HoldingLaws.{MayHaveWithoutNewGuard, steady-new_holding, total-new_holding}
 use Rattle.atl_campaign.proofs.RegionLaws.{steady-amount, total-booking}

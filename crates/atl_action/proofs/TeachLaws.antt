@@ -6,7 +6,7 @@ use Rattle.std.proofs.lemmas.Bool.{cases_eq, cond_both, not-true}
 use Rattle.std.proofs.lemmas.List.Elements.{All-filter, All-from_recursion, filter_passes, recursion_from_All}
 use Rattle.std.proofs.lemmas.List.Sums.{sum_by-cons}
 use Rattle.atl_world.proofs.GeneralLaws.{equal_itself, equality_is_symmetric, is_unequal}
-use Rattle.atl_records.proofs.EveryLaws.{other_number}
+use Rattle.atl_world.proofs.EveryLaws.{other_number}
 use Rattle.atl_campaign.specs.Campaign.{CampaignValue}
 use Rattle.atl_action.specs.Teach.{TaughtMen, first_mentions, men_at, taught_in_lesson, untaught_men}
 

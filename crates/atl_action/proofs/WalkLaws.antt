@@ -22,12 +22,12 @@ use Rattle.atl_records.specs.declared.event.EventFault.TheVariants.{AtSea, NoMen
 use Rattle.atl_records.specs.declared.event.Outcome.TheVariants.{Done}
 use Rattle.atl_records.specs.declared.records.Structure.{Structure}
 use Rattle.atl_records.specs.declared.records.Unit.{Unit}
-use Rattle.atl_records.specs.Every.{Every, HasValue}
+use Rattle.atl_world.specs.Every.{Every, HasValue}
 use Rattle.atl_campaign.specs.Good.{IsOwned, IsSteady, is_ship}
 use Rattle.atl_records.specs.Levels.{carried_by, goods_weight}
 use Rattle.atl_campaign.specs.Owners.{after_handover, heir, with_position, with_place, with_place_at}
 use Rattle.atl_campaign.specs.Campaign.{CampaignValue, with_guard}
-use Rattle.atl_records.proofs.EveryLaws.{none_some, other_number}
+use Rattle.atl_world.proofs.EveryLaws.{none_some, other_number}
 use Rattle.atl_campaign.proofs.LeavingLaws.{owned_by}
 use Rattle.atl_phase.specs.Outcomes.{fault_or, first_fault}
 use Rattle.atl_phase.specs.NoWorse.{IsNoWorse}

@@ -16,7 +16,7 @@ use Rattle.atl_campaign.specs.FromRows.{as_u32, is_of_unit_and_sort, put_rows, b
 use Rattle.atl_campaign.proofs.AssemblyLaws.{amount_of, taken_or_not, thing_of}
 use Rattle.atl_world.proofs.GeneralLaws.{is_equal}
 use Rattle.atl_world.proofs.TrackLaws.{get_inserted}
-use Rattle.atl_records.proofs.EveryLaws.{get-insert_other}
+use Rattle.atl_world.proofs.EveryLaws.{get-insert_other}
 
 -- ---- what may be there
 

@@ -16,10 +16,10 @@ use Rattle.atl_campaign.specs.Founding.{thing_count}
 use Rattle.atl_records.specs.Amounts.{region_amount, unit_amount}
 use Rattle.atl_campaign.specs.Totals.{total, Balances}
 use Rattle.atl_records.specs.Books.{booked, AreBooks}
-use Rattle.atl_records.specs.Every.{EachEntry, Every}
+use Rattle.atl_world.specs.Every.{EachEntry, Every}
 use Rattle.atl_campaign.specs.Good.{AreOfMarkets}
 use Rattle.atl_records.proofs.BookLaws.{booked_past}
-use Rattle.atl_records.proofs.EveryLaws.{each-from_every}
+use Rattle.atl_world.proofs.EveryLaws.{each-from_every}
 use Rattle.atl_campaign.proofs.RuleLaws.{free_from}
 use Rattle.atl_campaign.proofs.MarketLaws.{market_known}
 

@@ -15,7 +15,7 @@ use Rattle.atl_campaign.specs.RowRules.{is_from, has_in_range}
 use Rattle.atl_world.proofs.GeneralLaws.{is_equal}
 use Rattle.atl_world.proofs.TrackLaws.{get_inserted}
 use Rattle.atl_world.proofs.SetLaws.{or_without_first_is_second}
-use Rattle.atl_records.proofs.EveryLaws.{get-insert_other}
+use Rattle.atl_world.proofs.EveryLaws.{get-insert_other}
 
 -- ---- what units have, and regions in stock
 

@@ -12,14 +12,14 @@ use Rattle.atl_world.specs.ByNumber.{is_land_at, size_of}
 use Rattle.atl_campaign.specs.Covers.{MarksChanges}
 use Rattle.atl_records.specs.declared.books.Thing.{Thing}
 use Rattle.atl_records.specs.declared.records.Structure.{Structure}
-use Rattle.atl_records.specs.Every.{Every, HasValue}
+use Rattle.atl_world.specs.Every.{Every, HasValue}
 use Rattle.atl_campaign.specs.Good.{AreAfloat, AreInRange, AreKnown, AreNumbered, AreOwned, IsBuilt, IsOwned, IsSteady, is_ship}
 use Rattle.atl_records.specs.Limits.{most_structures}
 use Rattle.atl_campaign.specs.Marking.{mark_structure_begun}
 use Rattle.atl_campaign.specs.Campaign.{MarkedCampaign, CampaignValue, with_done, with_structure_begun}
 use Rattle.atl_campaign.specs.Totals.{total}
 use Rattle.atl_campaign.proofs.CoverLaws.{Row, PartStaysMarked, Structures, KeepsUnmarked, unmarked_differs_from_put, part_by_part, put_stays}
-use Rattle.atl_records.proofs.EveryLaws.{every-insert, get-insert_other, none_some}
+use Rattle.atl_world.proofs.EveryLaws.{every-insert, get-insert_other, none_some}
 use Rattle.atl_campaign.proofs.RegionLaws.{changed-known, get-insert_same, same_len}
 
 -- ---- a structure is begun

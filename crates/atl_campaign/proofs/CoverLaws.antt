@@ -26,7 +26,7 @@ use Rattle.atl_campaign.specs.Marking.{MarksStock, mark_amount, mark_faction, ma
 use Rattle.atl_campaign.specs.Marks.{Marks, MarkedThings, is_thing_marked, thing_marked, with_thing}
 use Rattle.atl_campaign.specs.Stocks.{stock_of}
 use Rattle.atl_campaign.specs.Campaign.{CampaignValue, MarkedCampaign, faction_changed, region_changed, with_booking, with_peasants, with_region_money, with_stock}
-use Rattle.atl_records.proofs.EveryLaws.{get-insert_other}
+use Rattle.atl_world.proofs.EveryLaws.{get-insert_other}
 use Rattle.atl_records.proofs.HoldingLaws.{amount_after_setting, set_other}
 use Rattle.atl_campaign.proofs.RegionLaws.{booking-other_amount}
 

@@ -27,7 +27,7 @@ use Rattle.atl_records.specs.declared.books.BooksEntry.{BooksEntry}
 use Rattle.atl_records.specs.Books.{AreBooks, BooksValue, entry_numbered, no_amounts, thing_at, with_amount}
 use Rattle.atl_campaign.specs.Founding.{thing_count}
 use Rattle.atl_campaign.specs.FromRows.{clamp, as_u32, as_u16, put_rows, by_number, faction_of, stocks_of, region_of, structure_of, unit_of, with_books_row, with_books_rows, campaign_row_of, campaign_of}
-use Rattle.atl_records.specs.Every.{Every}
+use Rattle.atl_world.specs.Every.{Every}
 use Rattle.atl_campaign.specs.Good.{IsRegion, AreInRange, HaveMen}
 use Rattle.atl_records.specs.Holdings.{IsHolding}
 use Rattle.atl_records.specs.Limits.{last_month, most_units, last_unit, men_limit, holding_limit, most_structures, most_u32}
@@ -37,7 +37,7 @@ use Rattle.atl_campaign.proofs.AssemblyLaws.{AreAmounts-had}
 use Rattle.atl_campaign.proofs.ReadBackLaws.{every_by}
 use Rattle.atl_records.proofs.AccountLaws.{index_of_thing_at}
 use Rattle.atl_records.proofs.BookLaws.{AreBooks-no_amounts, AreBooks-with_amount}
-use Rattle.atl_records.proofs.EveryLaws.{every-empty, every-insert}
+use Rattle.atl_world.proofs.EveryLaws.{every-empty, every-insert}
 use Rattle.atl_campaign.proofs.GroupLaws.{kept}
 use Rattle.atl_campaign.proofs.MapOfRowsLaws.{each_passes}
 use Rattle.atl_world.proofs.GeneralLaws.{is_equal, chosen_is_at_most_next}

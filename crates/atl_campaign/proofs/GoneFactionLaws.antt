@@ -9,14 +9,14 @@ use Rattle.atl_world.specs.Sums.{with_changed_option}
 use Rattle.atl_campaign.specs.Covers.{MarksChanges}
 use Rattle.atl_records.specs.declared.books.Thing.{Thing}
 use Rattle.atl_records.specs.declared.records.Faction.{Faction}
-use Rattle.atl_records.specs.Every.{Every, HasValue}
+use Rattle.atl_world.specs.Every.{Every, HasValue}
 use Rattle.atl_campaign.proofs.GoodLaws.{posted-there}
 use Rattle.atl_campaign.specs.Good.{AreInRange, AreKnown, AreNamed, AreNumbered, IsSteady}
 use Rattle.atl_campaign.specs.Marking.{mark_faction}
 use Rattle.atl_campaign.specs.Campaign.{MarkedCampaign, CampaignValue, numbers_of_faction, with_gone}
 use Rattle.atl_campaign.specs.Totals.{total}
 use Rattle.atl_campaign.proofs.CoverLaws.{marks-faction}
-use Rattle.atl_records.proofs.EveryLaws.{every-insert, get-insert_other, none_some, there-insert}
+use Rattle.atl_world.proofs.EveryLaws.{every-insert, get-insert_other, none_some, there-insert}
 use Rattle.atl_campaign.proofs.RegionLaws.{changed-known, get-insert_same, same_len}
 
 -- the faction with its flag `gone` set

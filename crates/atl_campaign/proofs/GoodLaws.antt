@@ -12,11 +12,11 @@ use Rattle.atl_records.specs.declared.records.Faction.{Faction}
 use Rattle.atl_records.specs.Limits.{last_month}
 use Rattle.atl_campaign.specs.Campaign.{CampaignValue, with_mail, with_report}
 use Rattle.atl_campaign.specs.Totals.{total}
-use Rattle.atl_records.specs.Every.{Every, HasValue}
+use Rattle.atl_world.specs.Every.{Every, HasValue}
 use Rattle.atl_campaign.specs.Early.{GoodAreEarly, SoundAreEarly}
 use Rattle.atl_campaign.specs.Good.{IsActive, AreInRange, AreNamed, AreOfFactions, AreKnown, IsSteady, IsSound, IsGood}
 use Rattle.atl_campaign.specs.Joining.{after_join, join_of, name_taken, is_full, new_faction}
-use Rattle.atl_records.proofs.EveryLaws.{every-empty, every-insert, there-new, there-insert}
+use Rattle.atl_world.proofs.EveryLaws.{every-empty, every-insert, there-new, there-insert}
 
 -- ---- mail and reports
 

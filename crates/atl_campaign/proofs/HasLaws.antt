@@ -19,8 +19,8 @@ use Rattle.atl_campaign.specs.Rows.{is_zero, has_row, rows_of_sort, held_rows, h
 use Rattle.atl_campaign.proofs.AssemblyLaws.{amount_of, thing_of}
 use Rattle.atl_campaign.proofs.GroupLaws as group
 use Rattle.atl_campaign.proofs.GroupLaws.{filter_both, filter_each, gathered, lines_order, of_group}
-use Rattle.atl_campaign.proofs.MapOfRowsLaws.{HaveDistinctNumbers, HasNumber, each_follows, flat_order}
-use Rattle.atl_world.proofs.GeneralLaws.{is_equal}
+use Rattle.atl_campaign.proofs.MapOfRowsLaws.{HaveDistinctNumbers, HasNumber, flat_order}
+use Rattle.atl_world.proofs.GeneralLaws.{is_equal, each_follows}
 
 -- a row of `has` is of one of the given units, and of sort 0 (items) or 1 (days)
 abbrev pub IsOfUnits : List StoredUnit → StoredHas → Type 0

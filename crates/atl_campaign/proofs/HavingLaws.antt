@@ -9,11 +9,11 @@ use Rattle.atl_world.specs.Worlds.{WorldValue}
 use Rattle.atl_world.proofs.SumLaws.{numbers_where-insert_known}
 use Rattle.atl_records.specs.Limits.{most_days}
 use Rattle.atl_records.specs.declared.records.Unit.{Unit}
-use Rattle.atl_records.specs.Every.{Every}
+use Rattle.atl_world.specs.Every.{Every}
 use Rattle.atl_campaign.specs.Good.{AreOfOneFaction, IsEarly, IsSteady, guards}
 use Rattle.atl_records.specs.Holdings.{HoldingValue, IsHolding}
 use Rattle.atl_campaign.specs.Campaign.{CampaignValue}
-use Rattle.atl_records.proofs.EveryLaws.{every-insert}
+use Rattle.atl_world.proofs.EveryLaws.{every-insert}
 use Rattle.atl_campaign.proofs.HoldingLaws.{known_kept, next_kept, numbers_kept, of_one_faction_kept, owners_kept}
 
 -- a holding that a unit may have: with a valid name, men, money, items and days within their limits, and only items and

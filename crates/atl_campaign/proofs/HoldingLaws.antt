@@ -16,7 +16,7 @@ use Rattle.atl_records.specs.Limits.{holding_limit, most_days}
 use Rattle.atl_records.specs.declared.books.Thing.{Thing}
 use Rattle.atl_records.specs.declared.records.Region.{Region}
 use Rattle.atl_records.specs.declared.records.Unit.{Unit}
-use Rattle.atl_records.specs.Every.{Every}
+use Rattle.atl_world.specs.Every.{Every}
 use Rattle.atl_campaign.specs.Good.{AreAfloat, AreInRange, AreKnown, AreNumbered, AreOfOneFaction, AreOwned, GoneHaveNone, IsPlaced, IsSteady, guards}
 use Rattle.atl_records.specs.Holdings.{HoldingValue, IsHolding, has_amount, with_amount_of}
 use Rattle.atl_campaign.specs.Marking.{mark_item, mark_skill, mark_unit_row}
@@ -26,7 +26,7 @@ use Rattle.atl_campaign.specs.Campaign.{MarkedCampaign, CampaignValue, unit_chan
 use Rattle.atl_records.specs.Amounts.{region_amount, unit_amount}
 use Rattle.atl_campaign.specs.Totals.{total}
 use Rattle.atl_campaign.proofs.CoverLaws.{Items, Rows, Skills, PartStaysMarked, KeepsUnmarked, Units, unmarked_differs_from_put, apart_by_thing, holds_of_changed, marks-refl, part_by_part, put_stays, shown_still, thing_stays}
-use Rattle.atl_records.proofs.EveryLaws.{every-insert, get-insert_other, none_some, there-insert}
+use Rattle.atl_world.proofs.EveryLaws.{every-insert, get-insert_other, none_some, there-insert}
 use Rattle.atl_records.proofs.HoldingLaws.{get-set_other, set_again}
 use Rattle.atl_campaign.proofs.RegionLaws.{get-insert_same, same_len}
 

@@ -5,10 +5,10 @@ use Rattle.std.specs.FinMap.{FinMap, get}
 use Rattle.atl_world.proofs.GeneralLaws.{is_equal}
 use Rattle.atl_world.specs.Sums.{numbers_where}
 use Rattle.atl_records.specs.declared.records.Unit.{Unit}
-use Rattle.atl_records.specs.Every.{Every}
+use Rattle.atl_world.specs.Every.{Every}
 use Rattle.atl_campaign.specs.Good.{IsNumbered}
 use Rattle.atl_campaign.specs.Campaign.{numbers_inside}
-use Rattle.atl_records.proofs.EveryLaws.{none_some, other_number, same_number}
+use Rattle.atl_world.proofs.EveryLaws.{none_some, other_number, same_number}
 use Rattle.atl_campaign.proofs.NumberListLaws.{IsListed, listed_passing, passing_listed}
 
 -- each number in the list of units inside structure s is that of a unit inside it

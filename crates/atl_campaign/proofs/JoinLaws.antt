@@ -29,15 +29,15 @@ use Rattle.atl_records.specs.Books.{booked, after_booking, amount_in, LeavesRoom
 use Rattle.atl_records.specs.Amounts.{unit_amount}
 use Rattle.atl_campaign.specs.Totals.{total, Balances}
 use Rattle.atl_campaign.specs.Founding.{thing_count}
-use Rattle.atl_records.specs.Every.{Every}
+use Rattle.atl_world.specs.Every.{Every}
 use Rattle.atl_campaign.proofs.GoodLaws.{posted-there}
 use Rattle.atl_campaign.specs.Good.{AreInRange, AreAmountsWithin, HaveMen, AreNamed, IsPlaced, AreKnown, IsNumbered, AreNumbered, AreDays, GoneHaveNone, UnitlessAreGone, AreOwned, IsAboard, AreAfloat, guards, AreOfOneFaction, HasValidMail, IsSteady, IsSound, amount_bound}
 use Rattle.atl_campaign.specs.Joining.{after_join, new_faction, first_unit, home_of, is_full, name_taken}
-use Rattle.atl_campaign.specs.Ordered.{put_number, first_not_below}
+use Rattle.atl_containers.specs.Ordered.{put_number, first_not_below}
 use Rattle.atl_records.proofs.BookLaws.{booked-after_booking, AreBooks-after_booking, IsWithin-after_booking, LeavesRoomForJoining-within, booked_for}
-use Rattle.atl_records.proofs.EveryLaws.{every-empty, every-insert, every-from_none, get-insert_other, there-new, there-insert, passes-listed, none_some}
+use Rattle.atl_world.proofs.EveryLaws.{every-empty, every-insert, every-from_none, get-insert_other, there-new, there-insert, passes-listed, none_some}
 use Rattle.atl_campaign.proofs.NumberedNameLaws.{unit_name_ok}
-use Rattle.atl_campaign.proofs.OrderedLaws.{numbers_where-insert_new}
+use Rattle.atl_containers.proofs.OrderedLaws.{numbers_where-insert_new}
 use Rattle.atl_campaign.proofs.TotalLaws.{total-with_unit}
 
 -- ---- the books

@@ -15,7 +15,7 @@ use Rattle.atl_records.specs.declared.books.Thing.{Thing}
 use Rattle.atl_records.specs.declared.records.Region.{Region}
 use Rattle.atl_records.specs.declared.records.Structure.{Structure}
 use Rattle.atl_records.specs.declared.records.Unit.{Unit}
-use Rattle.atl_records.specs.Every.{Every}
+use Rattle.atl_world.specs.Every.{Every}
 use Rattle.atl_campaign.specs.Good.{AreAfloat, AreInRange, AreKnown, AreNumbered, AreOwned, GoneHaveNone, IsBuilt, IsOwned, IsPlaced, IsSteady, is_ship}
 use Rattle.atl_campaign.specs.Marking.{gone_marked, gone_marked_at, handed_marked, mark_structure, taken_marked, whole_marked}
 use Rattle.atl_campaign.specs.Owners.{after_handover, heir, is_owned_by, without_unit, without_unit_at}
@@ -23,7 +23,7 @@ use Rattle.atl_campaign.specs.Campaign.{MarkedCampaign, CampaignValue, numbers_i
 use Rattle.atl_records.specs.Amounts.{unit_amount}
 use Rattle.atl_campaign.specs.Totals.{total}
 use Rattle.atl_campaign.proofs.CoverLaws.{PartStaysMarked, Structures, KeepsUnmarked, unmarked_differs_from_put, holds_of_changed, marks-refl, marks-trans, marks-unit, part_by_part, put_stays}
-use Rattle.atl_records.proofs.EveryLaws.{every-insert, get-insert_other, none_some}
+use Rattle.atl_world.proofs.EveryLaws.{every-insert, get-insert_other, none_some}
 use Rattle.atl_campaign.proofs.HoldingLaws.{structure_in}
 use Rattle.atl_campaign.proofs.InsideLaws.{inside_is_listed, is_no_zero, listed_is_inside}
 use Rattle.atl_campaign.proofs.OwnerLaws.{gone-what, taken_none}

@@ -1,7 +1,5 @@
 pub mod CoverLaws
 pub mod RegionLaws
-pub mod OrderedLaws
-pub mod SortedLaws
 pub mod AssemblyLaws
 pub mod ReadBackLaws
 pub mod GroupLaws
@@ -15,12 +13,9 @@ pub mod NumberedNameLaws
 pub mod JoinLaws
 pub mod OwnerLaws
 pub mod ListLaws
-pub mod KeyLaws
-pub mod GapVecLaws
 pub mod FromRowLaws
 pub mod HasLaws
 pub mod MapOfRowsLaws
-pub mod SortedMapLaws
 pub mod RowLaws
 pub mod UnitLaws
 pub mod MarkedRegionLaws
@@ -36,7 +31,5 @@ pub mod GoneFactionLaws
 pub mod PostLaws
 pub mod HavingLaws
 pub mod BegunLaws
-pub mod IndexLaws
-pub mod SlotLaws
 pub mod InsideLaws
 pub mod StateLaws

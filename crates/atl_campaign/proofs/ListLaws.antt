@@ -12,13 +12,13 @@ use Rattle.atl_world.proofs.SumLaws.{numbers_where-insert_other, numbers_where-i
 use Rattle.atl_world.specs.Sums.{with_changed_value, with_changed_option, numbers_where}
 use Rattle.atl_world.proofs.Maps.{entries-empty}
 use Rattle.atl_world.proofs.GeneralLaws.{key_itself}
-use Rattle.atl_campaign.specs.Ordered.{put_number, take_number}
+use Rattle.atl_containers.specs.Ordered.{put_number, take_number}
 use Rattle.atl_campaign.specs.KeptLists.{AreInsideLists, AreLists, AreUnitLists, SameLists, ListsUnit, UnlistsUnit, list_of, list_keys_of, listed_unless, relisted_inside, unlisted_unless}
 use Rattle.atl_campaign.specs.declared.lists.ListKeys.{ListKeys}
 use Rattle.atl_campaign.specs.declared.lists.UnitLists.{UnitLists}
 use Rattle.atl_records.specs.declared.records.Unit.{Unit}
-use Rattle.atl_campaign.proofs.OrderedLaws.{numbers_where-insert_new, numbers_where-lost, numbers_where-gained, taken_put}
-use Rattle.atl_records.proofs.EveryLaws.{same_number, other_number}
+use Rattle.atl_containers.proofs.OrderedLaws.{numbers_where-insert_new, numbers_where-lost, numbers_where-gained, taken_put}
+use Rattle.atl_world.proofs.EveryLaws.{same_number, other_number}
 
 removed_unit_is_absent : (units : FinMap nat_cmp Unit) (k : ℕ) → get (remove units k) k ≡ None
 removed_unit_is_absent units k = get-remove nat_cmp_total units k k ∙ ap (λ b. cond b None (get units k)) (key_itself k)

@@ -17,8 +17,8 @@ use Rattle.atl_world.proofs.Maps.{entries-empty}
 use Rattle.atl_world.proofs.TrackLaws.{get_inserted}
 use Rattle.atl_campaign.specs.FromRows.{put_rows, by_number}
 use Rattle.atl_campaign.specs.Rows.{rows_by}
-use Rattle.atl_records.specs.Every.{Every, HasValue}
-use Rattle.atl_records.proofs.EveryLaws.{none_some, there-new, there-insert, get-insert_other}
+use Rattle.atl_world.specs.Every.{Every, HasValue}
+use Rattle.atl_world.proofs.EveryLaws.{none_some, there-new, there-insert, get-insert_other}
 
 -- no two of the rows have the same number, which `number` reads
 abbrev pub HaveDistinctNumbers : {R : Type 0} → (R → ℕ) → List R → Type 0
@@ -223,15 +223,3 @@ module _ {R V : Type 0} (number : R → ℕ) (value : R → V) where
       flat_same : (es : List (ℕ × V)) → flat_map (λ e. e ∷ []) es ≡ es
       flat_same [] = refl
       flat_same (e ∷ es) = ap (λ xs. e ∷ xs) (flat_same es)
-
--- ---- facts of each row
-
-pub each_follows_from_two : {R : Type 0} (P Q S : R → Type 0) → ((r : R) → P r → Q r → S r) → (rows : List R)
-    → AllByRecursion P rows → AllByRecursion Q rows → AllByRecursion S rows
-each_follows_from_two P Q S f [] p q = tt
-each_follows_from_two P Q S f (r ∷ rows) p q = (f r p.0 q.0, each_follows_from_two P Q S f rows p.1 q.1)
-
-pub each_follows : {R : Type 0} (P Q : R → Type 0) → ((r : R) → P r → Q r) → (rows : List R) → AllByRecursion P rows
-    → AllByRecursion Q rows
-each_follows P Q f [] p = tt
-each_follows P Q f (r ∷ rows) p = (f r p.0, each_follows P Q f rows p.1)

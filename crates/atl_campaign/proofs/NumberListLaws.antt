@@ -6,9 +6,9 @@ use Rattle.std.specs.FinMap.{FinMap, entries, get}
 use Rattle.std.proofs.lemmas.Bool.{false_from_ne_true}
 use Rattle.atl_world.specs.Sums.{numbers_where}
 use Rattle.atl_world.proofs.SumLaws.{chosen-cons}
-use Rattle.atl_records.specs.Every.{EachEntry, Every}
+use Rattle.atl_world.specs.Every.{EachEntry, Every}
 use Rattle.atl_campaign.specs.Owners.{first_or_zero}
-use Rattle.atl_records.proofs.EveryLaws.{every-from_each, passes-listed}
+use Rattle.atl_world.proofs.EveryLaws.{every-from_each, passes-listed}
 
 -- a number is on a list of numbers
 abbrev pub IsListed : ℕ → List ℕ → Type 0

@@ -8,7 +8,7 @@ use Rattle.atl_campaign.specs.Covers.{MarksChanges, SameBut, StaysMarked}
 use Rattle.atl_campaign.specs.Marking.{mark_all_mail, mark_campaign_row, mark_report}
 use Rattle.atl_campaign.specs.Campaign.{MarkedCampaign, with_month, with_report, without_mail}
 use Rattle.atl_campaign.proofs.CoverLaws.{Mail, Reports, Row, PartStaysMarked, KeepsUnmarked, unmarked_differs_from_put, part_by_part, put_stays}
-use Rattle.atl_records.proofs.EveryLaws.{get-insert_other}
+use Rattle.atl_world.proofs.EveryLaws.{get-insert_other}
 
 -- setting the month, with the campaign row marked, marks all that changes
 pub marks-month : (c : MarkedCampaign) (n : ℕ)

@@ -16,15 +16,15 @@ use Rattle.std.proofs.lemmas.List.Sorted.{All-permutation, IsPermutation-sym, le
 use Rattle.std.proofs.lemmas.Map.Keys.{IsDistinct-IsPermutation}
 use Rattle.std.proofs.lemmas.Cmp.{eq_by_cmp_equiv, int_cmp_total, on_total, then_total}
 use Rattle.atl_records.specs.Limits.{most_u32}
-use Rattle.atl_records.specs.Every.{EachEntry, Every}
+use Rattle.atl_world.specs.Every.{EachEntry, Every}
 use Rattle.atl_campaign.specs.FromRows.{as_u32, put_rows, by_number}
 use Rattle.atl_campaign.specs.RowRules.{Key, one_key, HaveDistinctKeys}
 use Rattle.atl_campaign.specs.Rows.{rows_by}
 use Rattle.atl_campaign.proofs.AssemblyLaws.{min_small}
-use Rattle.atl_records.proofs.EveryLaws.{none_some, every-empty, every-insert, every-from_each, each-from_every, sorted}
+use Rattle.atl_world.proofs.EveryLaws.{none_some, every-empty, every-insert, every-from_each, each-from_every, sorted}
 use Rattle.atl_records.proofs.AmountListLaws.{all_append}
 use Rattle.atl_campaign.proofs.HasLaws.{FitsU32, is_same_key}
-use Rattle.atl_campaign.proofs.KeyLaws.{IsDistinct-map}
+use Rattle.atl_containers.proofs.KeyLaws.{IsDistinct-map}
 use Rattle.atl_campaign.proofs.MapOfRowsLaws.{HaveDistinctNumbers, rows_found}
 use Rattle.atl_world.proofs.EntryOrderLaws.{less_by_comparison}
 

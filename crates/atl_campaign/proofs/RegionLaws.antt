@@ -15,14 +15,14 @@ use Rattle.atl_records.specs.declared.records.Region.{Region}
 use Rattle.atl_records.specs.declared.records.Unit.{Unit}
 use Rattle.atl_records.specs.Books.{Account, AreBooks, BooksValue, amount_in, thing_index, after_booking, amount_number}
 use Rattle.atl_campaign.specs.Founding.{thing_count}
-use Rattle.atl_records.specs.Every.{Every, HasValue}
+use Rattle.atl_world.specs.Every.{Every, HasValue}
 use Rattle.atl_campaign.specs.Good.{IsRegion, AreInRange, AreKnown, AreOfMarkets, IsSteady}
 use Rattle.atl_campaign.specs.Campaign.{CampaignValue, region_changed, with_booking}
 use Rattle.atl_records.specs.Amounts.{region_amount, unit_amount}
 use Rattle.atl_campaign.specs.Totals.{total}
 use Rattle.atl_records.proofs.AccountLaws.{cases_account}
 use Rattle.atl_records.proofs.BookLaws.{AreBooks-after_booking, other_amount}
-use Rattle.atl_records.proofs.EveryLaws.{every-insert, there-insert}
+use Rattle.atl_world.proofs.EveryLaws.{every-insert, there-insert}
 
 -- ---- other regions, other books
 

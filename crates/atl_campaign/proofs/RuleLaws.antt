@@ -14,9 +14,9 @@ use Rattle.std.specs.Option.{MatchOption}
 use denote.Param.Members.{Mut}
 use Rattle.std.specs.Ordering.{nat_cmp}
 use Rattle.std.specs.FinMap.{FinMap, get, entries, len}
-use Rattle.atl_records.specs.Every.{Every, HasValue, EachEntry}
+use Rattle.atl_world.specs.Every.{Every, HasValue, EachEntry}
 use Rattle.atl_campaign.specs.Good.{IsNumbered}
-use Rattle.atl_records.proofs.EveryLaws.{none_some, every-from_each, each-from_every}
+use Rattle.atl_world.proofs.EveryLaws.{none_some, every-from_each, each-from_every}
 
 -- whether a look-up of number n gives a value decides whether the map has one there
 pub Decides-there : {V : Type 0} (m : FinMap nat_cmp V) (n : ℕ) (b : Bool) → b ≡ is_some (get m n)

@@ -24,7 +24,7 @@ use Rattle.atl_records.specs.Holdings.{IsHolding}
 use Rattle.atl_campaign.specs.Campaign.{CampaignValue, numbers_of_faction}
 use Rattle.atl_campaign.specs.Stocks.{stock_limit}
 use Rattle.atl_campaign.specs.Totals.{Balances}
-use Rattle.atl_records.specs.Every.{Every, HasValue}
+use Rattle.atl_world.specs.Every.{Every, HasValue}
 
 -- there is a faction n, and it is not gone
 abbrev pub IsActive : CampaignValue → ℕ → Type 0

@@ -8,7 +8,7 @@ use Rattle.atl_world.specs.Sums.{numbers_where}
 use Rattle.atl_records.specs.Limits.{entry_count}
 use Rattle.atl_campaign.specs.Marks.{AreOfThings}
 use Rattle.atl_records.specs.declared.records.Unit.{Unit}
-use Rattle.atl_campaign.specs.Ordered.{put_number, take_number}
+use Rattle.atl_containers.specs.Ordered.{put_number, take_number}
 use Rattle.atl_campaign.specs.Campaign.{numbers_inside}
 use Rattle.atl_campaign.specs.declared.lists.ListKeys.{ListKeys}
 use Rattle.atl_campaign.specs.declared.lists.UnitLists.{UnitLists}

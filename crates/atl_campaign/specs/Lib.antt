@@ -10,7 +10,6 @@ pub mod Joining
 pub mod Lending
 pub mod Marking
 pub mod Marks
-pub mod Ordered
 pub mod Regions
 pub mod RegionLending
 pub mod Rows
@@ -21,7 +20,4 @@ pub mod Campaign
 pub mod Totals
 pub mod UnitMarks
 pub mod UnitRoom
-pub mod Index
-pub mod Slots
-pub mod SlotLending
 pub mod Stocks

@@ -3,7 +3,7 @@ ghost use Rattle.std.specs.Prelude.{◌≡◌, ◌<◌, ℕ, length, pos, ◌↔
 ghost use Rattle.atl_world.specs.Worlds.{IsWorld};
 ghost use Rattle.atl_records.specs.Books.{booked, thing_index, AreBooks};
 ghost use Rattle.atl_campaign.specs.Founding.{thing_count};
-ghost use Rattle.atl_records.specs.Every.{Every};
+ghost use Rattle.atl_world.specs.Every.{Every};
 ghost use Rattle.atl_campaign.specs.Good.{AreOfMarkets};
 ghost use Rattle.atl_campaign.specs.Totals.{total, Balances, IsCountable};
 ghost use Rattle.atl_records.specs.declared.books.Thing.TheVariants.{Money, People, Item};

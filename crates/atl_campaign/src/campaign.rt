@@ -19,7 +19,7 @@ mod marking;
 mod placing;
 mod setting;
 
-use crate::arena::SlotEntries;
+use atl_containers::SlotEntries;
 use crate::lists::{UnitLists, numbers_under};
 use crate::regions::Regions;
 use crate::totals::{regions_total, units_total};

@@ -1,22 +1,18 @@
 //! A campaign: factions, units, regions, structures, mail, reports and books; and its rows.
 #![tactic(auto)]
 
-mod arena;
 mod assembly;
 mod balances;
 pub mod campaign;
 mod early;
-mod gap_vec;
-mod index;
 mod lists;
-mod numbers;
 mod regions;
 mod row_values;
 mod rows;
 mod totals;
 mod units;
 
-pub use arena::SlotEntries;
+pub use atl_containers::SlotEntries;
 pub use atl_records::{
     Books, BooksEntry, ENTRY_COUNT, Event, EventFault, EventVerb, FIRST_ITEM, Faction,
     HOLDING_LIMIT, Holding, JoinFault, LAST_MONTH, LAST_UNIT, MEN_LIMIT, MOST_DAYS,

@@ -2,9 +2,9 @@
 ghost use Rattle.std.specs.Prelude.{◌≡◌, OnOk, OnErr};
 ghost use Rattle.std.specs.FinMap as map;
 ghost use Rattle.atl_campaign.specs.KeptLists.{list_of, list_keys_of, listed_unless, unlisted_unless, relisted_inside, AreUnitLists, SameLists, ListsUnit, KeepsLists, KeepsAll, UnlistsUnit, RelistsUnit};
-ghost use Rattle.atl_campaign.specs.Ordered.{put_number, take_number};
+ghost use Rattle.atl_containers.specs.Ordered.{put_number, take_number};
 
-use crate::numbers::Numbers;
+use atl_containers::Numbers;
 use atl_records::Unit;
 use atl_world::{Numbered, let_go};
 use std::alloc::{AllocError, Global};

@@ -9,7 +9,7 @@ ghost use Rattle.atl_records.specs.Holdings.{with_amount_of};
 ghost use Rattle.atl_campaign.specs.Marks.{AreUnitPartsWithin};
 ghost use Rattle.atl_campaign.specs.Roster.{no_units, unmarked_units, with_unit_at, with_unit_row, with_item_at, with_skill_at, without_unit_at, item_marked_at, skill_marked_at};
 
-use crate::arena::{Arena, SlotEntries};
+use atl_containers::{Arena, SlotEntries};
 use atl_records::Unit;
 use atl_world::{Entries, MarkedNumbers, Marks, Numbered, Text, let_go};
 use std::alloc::{AllocError, Global};

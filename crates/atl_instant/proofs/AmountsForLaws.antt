@@ -8,9 +8,9 @@ use Rattle.std.specs.Ordering.{nat_cmp, eq_by_cmp}
 use Rattle.std.specs.Cmp.{nat_cmp_total}
 use Rattle.std.specs.FinMap.{FinMap, find, get, get-from_entries, nat_cmp-IsAntisymmetric, same_map}
 use Rattle.atl_world.proofs.GeneralLaws.{is_equal, same_key}
-use Rattle.atl_records.specs.Every.{EachEntry, Every}
+use Rattle.atl_world.specs.Every.{EachEntry, Every}
 use Rattle.atl_records.specs.Holdings.{amount_of}
-use Rattle.atl_records.proofs.EveryLaws.{found_of}
+use Rattle.atl_world.proofs.EveryLaws.{found_of}
 use Rattle.atl_instant.specs.Amounts.{amounts_for}
 
 at_least_one : (n : ℕ) → (n == 0) ≡ false → 1 ≤ n

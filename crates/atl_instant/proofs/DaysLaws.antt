@@ -7,9 +7,9 @@ use Rattle.std.specs.FinMap.{FinMap, contains_key-keys, empty, entries, get, get
 use Rattle.std.specs.List.{list_any}
 use Rattle.std.proofs.lemmas.List.Folds.{list_any-append}
 use Rattle.std.proofs.lemmas.Bool.{or_parts}
-use Rattle.atl_records.specs.Every.{EachEntry, Every}
+use Rattle.atl_world.specs.Every.{EachEntry, Every}
 use Rattle.atl_records.specs.Holdings.{HoldingValue, amount_of, with_amount_of}
-use Rattle.atl_records.proofs.EveryLaws.{each-from_every, every-empty}
+use Rattle.atl_world.proofs.EveryLaws.{each-from_every, every-empty}
 use Rattle.atl_phase.specs.Holdings.{with_days}
 use Rattle.atl_instant.specs.SkillDays.{left_list, raised_list}
 use Rattle.atl_instant.specs.Transfer.{DaysGoWithMen, days_going, going_of, raised_of, staying_of, after_sending, after_receiving}

@@ -6,11 +6,11 @@ use Rattle.std.specs.FinMap.{FinMap, get, insert, len}
 use Rattle.atl_world.specs.Names.{name_ok, pass_ok}
 use Rattle.atl_world.specs.Worlds.{WorldValue}
 use Rattle.atl_records.specs.declared.records.Faction.{Faction}
-use Rattle.atl_records.specs.Every.{Every, HasValue}
+use Rattle.atl_world.specs.Every.{Every, HasValue}
 use Rattle.atl_campaign.proofs.GoodLaws.{posted-there}
 use Rattle.atl_campaign.specs.Good.{AreInRange, AreKnown, AreNamed, AreNumbered, IsSteady}
 use Rattle.atl_campaign.specs.Campaign.{CampaignValue, numbers_of_faction, with_faction_name}
-use Rattle.atl_records.proofs.EveryLaws.{every-insert, get-insert_other, none_some, there-insert}
+use Rattle.atl_world.proofs.EveryLaws.{every-insert, get-insert_other, none_some, there-insert}
 use Rattle.atl_campaign.proofs.RegionLaws.{changed-known, same_len}
 
 -- faction n (x) of campaign c shows another name, given by its bytes (`name`)

@@ -15,7 +15,7 @@ use Rattle.atl_records.specs.Limits.{holding_limit, last_unit, most_days, most_u
 use Rattle.atl_records.specs.declared.books.Thing.{Thing}
 use Rattle.atl_records.specs.declared.books.Thing.TheVariants.{Item, Money, People}
 use Rattle.atl_records.specs.declared.records.Unit.{Unit}
-use Rattle.atl_records.specs.Every.{Every}
+use Rattle.atl_world.specs.Every.{Every}
 use Rattle.atl_campaign.specs.Good.{AreAfloat, AreInRange, AreKnown, AreNamed, AreNumbered, AreOfOneFaction, AreOwned, GoneHaveNone, IsAboard, IsEarly, IsPlaced, IsSteady, guards}
 use Rattle.atl_records.specs.Holdings.{IsHolding}
 use Rattle.atl_campaign.specs.Marking.{mark_unit_added, mark_unit_begun}
@@ -23,7 +23,7 @@ use Rattle.atl_campaign.specs.Campaign.{MarkedCampaign, CampaignValue, with_unit
 use Rattle.atl_records.specs.Amounts.{unit_amount}
 use Rattle.atl_campaign.specs.Totals.{total}
 use Rattle.atl_campaign.proofs.CoverLaws.{Row, PartStaysMarked, KeepsUnmarked, marks-trans, marks-unit, part_by_part}
-use Rattle.atl_records.proofs.EveryLaws.{every-empty, every-insert, get-insert_other, there-insert}
+use Rattle.atl_world.proofs.EveryLaws.{every-empty, every-insert, get-insert_other, there-insert}
 use Rattle.atl_campaign.proofs.NumberListLaws.{none_passing}
 use Rattle.atl_campaign.proofs.TotalLaws.{total-with_unit}
 use Rattle.atl_phase.specs.Bounds.{StepsWell, nothing_remaining}

@@ -18,7 +18,7 @@ use Rattle.atl_records.specs.declared.books.Thing.TheVariants.{Item, Money, Peop
 use Rattle.atl_records.specs.declared.event.EventFault.TheVariants.{Guarded, NoMen}
 use Rattle.atl_records.specs.declared.event.Outcome.TheVariants.{Done}
 use Rattle.atl_records.specs.declared.records.Unit.{Unit}
-use Rattle.atl_records.specs.Every.{Every}
+use Rattle.atl_world.specs.Every.{Every}
 use Rattle.atl_campaign.specs.Good.{AreOfOneFaction, IsSteady, guards}
 use Rattle.atl_records.specs.Holdings.{HoldingValue}
 use Rattle.atl_campaign.specs.Lending.{with_holding_at}
@@ -26,7 +26,7 @@ use Rattle.atl_campaign.specs.Marking.{mark_unit_row}
 use Rattle.atl_campaign.specs.Campaign.{MarkedCampaign, CampaignValue, numbers_in_region, with_guard}
 use Rattle.atl_records.specs.Amounts.{unit_amount}
 use Rattle.atl_campaign.specs.Totals.{total}
-use Rattle.atl_records.proofs.EveryLaws.{every-insert}
+use Rattle.atl_world.proofs.EveryLaws.{every-insert}
 use Rattle.atl_campaign.proofs.HoldingLaws.{marks-unit_row, total-new_holding}
 use Rattle.atl_campaign.proofs.NumberListLaws.{IsListed, passing_listed}
 use Rattle.atl_phase.specs.NoWorse.{IsNoWorse}

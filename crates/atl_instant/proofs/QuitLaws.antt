@@ -28,7 +28,7 @@ use Rattle.atl_records.specs.declared.event.EventFault.TheVariants.{WrongNumber}
 use Rattle.atl_records.specs.declared.event.Outcome.TheVariants.{Done}
 use Rattle.atl_records.specs.declared.records.Faction.{Faction}
 use Rattle.atl_records.specs.declared.records.Unit.{Unit}
-use Rattle.atl_records.specs.Every.{EachEntry, Every, HasValue}
+use Rattle.atl_world.specs.Every.{EachEntry, Every, HasValue}
 use Rattle.atl_campaign.specs.Founding.{thing_count}
 use Rattle.atl_campaign.specs.Good.{IsSteady}
 use Rattle.atl_records.specs.Holdings.{HoldingValue}
@@ -40,7 +40,7 @@ use Rattle.atl_campaign.specs.Totals.{Balances, total}
 use Rattle.atl_records.proofs.BookLaws.{booked-after_booking, plus_zero}
 use Rattle.atl_records.proofs.EveryEntryLaws.{entry_small}
 use Rattle.atl_campaign.proofs.CoverLaws.{marks-amount}
-use Rattle.atl_records.proofs.EveryLaws.{same_number, each-from_every, not_below, sorted}
+use Rattle.atl_world.proofs.EveryLaws.{same_number, each-from_every, not_below, sorted}
 use Rattle.atl_campaign.proofs.LeavingLaws.{only_reduced, steady-without, total-without}
 use Rattle.atl_campaign.proofs.RegionLaws.{steady-amount}
 use Rattle.atl_records.proofs.RemovedLaws.{get-remove_other, sum_over-remove, every-remove}

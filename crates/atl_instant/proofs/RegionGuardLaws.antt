@@ -10,10 +10,10 @@ use Rattle.std.specs.Ordering.{nat_cmp}
 use Rattle.atl_world.proofs.GeneralLaws.{equal_itself, is_equal}
 use Rattle.atl_records.specs.declared.event.EventFault.TheVariants.{Guarded, NoMen}
 use Rattle.atl_records.specs.declared.records.Unit.{Unit}
-use Rattle.atl_records.specs.Every.{EachEntry, Every}
+use Rattle.atl_world.specs.Every.{EachEntry, Every}
 use Rattle.atl_campaign.specs.Good.{AreOfOneFaction, guards}
 use Rattle.atl_campaign.specs.Campaign.{CampaignValue, numbers_in_region, with_guard}
-use Rattle.atl_records.proofs.EveryLaws.{each-from_every, every-from_each, every-insert, get-insert_other, none_some}
+use Rattle.atl_world.proofs.EveryLaws.{each-from_every, every-from_each, every-insert, get-insert_other, none_some}
 use Rattle.atl_campaign.proofs.RegionLaws.{get-insert_same}
 use Rattle.atl_campaign.proofs.NumberListLaws.{IsListed, listed_passing, passing_listed}
 use Rattle.atl_phase.specs.Outcomes.{first_fault}

@@ -11,7 +11,7 @@ use Rattle.atl_records.specs.declared.event.EventFault.TheVariants.{NotYours, Un
 use Rattle.atl_records.specs.declared.event.Outcome.{Outcome}
 use Rattle.atl_records.specs.declared.event.Outcome.TheVariants.{Done}
 use Rattle.atl_records.specs.declared.records.Unit.{Unit}
-use Rattle.atl_records.specs.Every.{Every}
+use Rattle.atl_world.specs.Every.{Every}
 use Rattle.atl_records.specs.Limits.{last_unit, most_units}
 use Rattle.atl_campaign.specs.Campaign.{CampaignValue, with_unit_begun}
 use Rattle.atl_phase.specs.Month.{Aliases, MonthValue, with_alias}

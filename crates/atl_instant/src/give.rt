@@ -5,7 +5,7 @@ ghost use Rattle.std.specs.Prelude.{◌≡◌, ◌≢◌, ◌≤◌, ◌+◌, If
 ghost use Rattle.std.specs.FinMap as map;
 ghost use Rattle.std.specs.Option.{option_copied};
 ghost use Rattle.atl_campaign.specs.Covers.{MarksChanges};
-ghost use Rattle.atl_records.specs.Every.{Every};
+ghost use Rattle.atl_world.specs.Every.{Every};
 ghost use Rattle.atl_campaign.specs.Good.{IsEarly};
 ghost use Rattle.atl_records.specs.Holdings.{IsHolding};
 ghost use Rattle.atl_records.specs.declared.records.Unit.{Unit};

@@ -4,7 +4,7 @@
 ghost use Rattle.std.specs.Prelude.{◌≡◌, ◌<◌, IfOk, OnOk, fold, length, true};
 ghost use Rattle.atl_records.specs.Books.{amount_in, thing_index};
 ghost use Rattle.atl_campaign.specs.Covers.{MarksChanges};
-ghost use Rattle.atl_records.specs.Every.{EachEntry};
+ghost use Rattle.atl_world.specs.Every.{EachEntry};
 ghost use Rattle.atl_campaign.specs.Founding.{thing_count};
 ghost use Rattle.atl_campaign.specs.Good.{IsSteady};
 ghost use Rattle.atl_campaign.specs.Marking.{mark_amount};

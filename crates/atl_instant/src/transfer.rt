@@ -5,7 +5,7 @@ ghost use Rattle.std.specs.Prelude.{◌≡◌, ◌≢◌, ◌≤◌, ◌+◌, �
 ghost use Rattle.std.specs.FinMap as map;
 ghost use Rattle.std.specs.Option.{option_copied};
 ghost use Rattle.atl_campaign.specs.Covers.{MarksChanges};
-ghost use Rattle.atl_records.specs.Every.{Every};
+ghost use Rattle.atl_world.specs.Every.{Every};
 ghost use Rattle.atl_campaign.specs.Good.{AreDays, IsEarly};
 ghost use Rattle.atl_records.specs.Limits.{men_limit, most_days};
 ghost use Rattle.atl_records.specs.declared.records.Unit.{Unit};

@@ -11,12 +11,12 @@ use Rattle.atl_world.specs.declared.world.Market.{Market}
 use Rattle.atl_records.specs.declared.books.BooksEntry.{BooksEntry}
 use Rattle.atl_records.specs.declared.records.Region.{Region}
 use Rattle.atl_records.specs.declared.records.Unit.{Unit}
-use Rattle.atl_records.specs.Every.{Every}
+use Rattle.atl_world.specs.Every.{Every}
 use Rattle.atl_records.specs.Holdings.{HoldingValue, amount_of, with_amount_of}
 use Rattle.atl_campaign.specs.Campaign.{CampaignValue}
 use Rattle.atl_campaign.specs.Lending.{with_holding_at}
 use Rattle.atl_campaign.specs.Stocks.{stock_of}
-use Rattle.atl_records.proofs.EveryLaws.{each-from_every, first, other_number, same_number}
+use Rattle.atl_world.proofs.EveryLaws.{each-from_every, first, other_number, same_number}
 use Rattle.atl_records.proofs.HoldingLaws.{set_other, set_same}
 use Rattle.atl_campaign.proofs.ReadBackLaws.{Rise, entries_rise}
 use Rattle.atl_campaign.proofs.RegionLaws.{changed-known, get-insert_same}

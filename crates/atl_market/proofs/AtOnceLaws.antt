@@ -10,10 +10,10 @@ use Rattle.std.proofs.Math.Nat.{zero-add}
 use Rattle.atl_world.specs.Worlds.{WorldValue}
 use Rattle.atl_records.specs.declared.records.Region.{Region}
 use Rattle.atl_records.specs.declared.records.Unit.{Unit}
-use Rattle.atl_records.specs.Every.{HasValue}
+use Rattle.atl_world.specs.Every.{HasValue}
 use Rattle.atl_campaign.specs.Campaign.{CampaignValue}
 use Rattle.atl_campaign.proofs.ReadBackLaws.{Rise, entries_rise}
-use Rattle.atl_records.proofs.EveryLaws.{each-from_every, first, other_number, same_number}
+use Rattle.atl_world.proofs.EveryLaws.{each-from_every, first, other_number, same_number}
 use Rattle.atl_phase.specs.PhaseOrders.{Task}
 use Rattle.atl_pots.proofs.PotLaws.{found_other}
 use Rattle.atl_market.specs.AtOnce.{PaysAtOnce, RegionChange, UnitChange, paid_unit, is_in_region}

@@ -34,7 +34,7 @@ use Rattle.atl_records.specs.Holdings.{HoldingValue, IsHolding, amount_of}
 use Rattle.atl_records.specs.Limits.{holding_limit, most_structures, most_units}
 use Rattle.atl_campaign.specs.Owners.{with_place}
 use Rattle.atl_campaign.specs.Campaign.{CampaignValue, with_done}
-use Rattle.atl_records.proofs.EveryLaws.{each-from_every}
+use Rattle.atl_world.proofs.EveryLaws.{each-from_every}
 use Rattle.atl_phase.specs.Meaning.{LeavesWell, most_moved}
 use Rattle.atl_phase.specs.Bounds.{HaveRoom, IsOrderly, StepsWell}
 use Rattle.atl_phase.specs.Outcomes.{fault_or}

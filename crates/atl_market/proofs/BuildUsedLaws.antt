@@ -20,7 +20,7 @@ use Rattle.atl_records.specs.Holdings.{HoldingValue, amount_of, with_amount_of}
 use Rattle.atl_records.specs.Limits.{entry_count}
 use Rattle.atl_campaign.specs.Campaign.{CampaignValue, with_booking}
 use Rattle.atl_records.proofs.EveryEntryLaws.{entry_small}
-use Rattle.atl_records.proofs.EveryLaws.{get-insert_other}
+use Rattle.atl_world.proofs.EveryLaws.{get-insert_other}
 use Rattle.atl_campaign.proofs.RegionLaws.{get-insert_same}
 use Rattle.atl_records.proofs.RemovedLaws.{sum_over-remove}
 use Rattle.atl_phase.specs.Meaning.{LeavesWell, moves_only}

@@ -10,11 +10,11 @@ use Rattle.std.proofs.Math.Nat.{add-zero}
 use Rattle.atl_world.specs.Worlds.{WorldValue}
 use Rattle.atl_records.specs.declared.records.Region.{Region}
 use Rattle.atl_records.specs.declared.records.Unit.{Unit}
-use Rattle.atl_records.specs.Every.{EachEntry, HasValue}
+use Rattle.atl_world.specs.Every.{EachEntry, HasValue}
 use Rattle.atl_campaign.specs.Good.{IsEarly}
 use Rattle.atl_campaign.specs.Campaign.{CampaignValue, region_changed}
 use Rattle.atl_campaign.proofs.ReadBackLaws.{Rise, entries_rise}
-use Rattle.atl_records.proofs.EveryLaws.{each-from_every, get-insert_other, other_number, same_number}
+use Rattle.atl_world.proofs.EveryLaws.{each-from_every, get-insert_other, other_number, same_number}
 use Rattle.atl_campaign.proofs.RegionLaws.{changed-known, get-insert_same}
 use Rattle.atl_pots.specs.Pots.{amount_given, pot_shares, takers_in, wants_in}
 use Rattle.atl_pots.proofs.PotLaws.{IsRisen, gives_each_pot, only_takers_get, taker_listed, takers_risen}

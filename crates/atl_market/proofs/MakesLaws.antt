@@ -9,7 +9,7 @@ use Rattle.std.proofs.lemmas.Bool.{cases_eq}
 use Rattle.atl_world.specs.Worlds.{WorldValue}
 use Rattle.atl_campaign.specs.Campaign.{CampaignValue}
 use Rattle.atl_campaign.proofs.ReadBackLaws.{Rise, entries_rise}
-use Rattle.atl_records.proofs.EveryLaws.{first, none_some}
+use Rattle.atl_world.proofs.EveryLaws.{first, none_some}
 use Rattle.atl_pots.specs.Puts.{with_entries}
 use Rattle.atl_pots.proofs.ItemPotLaws.{items_give}
 use Rattle.atl_pots.proofs.PotLaws.{found_other, risen_put}

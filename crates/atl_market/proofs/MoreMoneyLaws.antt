@@ -5,7 +5,7 @@ use Rattle.std.proofs.lemmas.Bool.{cases_eq}
 use Rattle.atl_records.specs.Holdings.{HoldingValue}
 use Rattle.atl_campaign.specs.Campaign.{CampaignValue, with_money}
 use Rattle.atl_records.specs.declared.records.Unit.{Unit}
-use Rattle.atl_records.proofs.EveryLaws.{get-insert_other}
+use Rattle.atl_world.proofs.EveryLaws.{get-insert_other}
 use Rattle.atl_campaign.proofs.RegionLaws.{changed-known, get-insert_same}
 use Rattle.atl_phase.specs.NoWorse.{AreNoWorse, IsNoWorse}
 use Rattle.atl_phase.proofs.NoWorseLaws.{no_worse}

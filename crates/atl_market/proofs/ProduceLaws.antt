@@ -19,14 +19,14 @@ use Rattle.atl_records.specs.declared.books.Thing.TheVariants as things
 use Rattle.atl_records.specs.declared.event.EventFault.TheVariants.{NoMen, NoSkill}
 use Rattle.atl_records.specs.declared.records.Unit.{Unit}
 use Rattle.atl_records.specs.Books.{amount_in, amount_number}
-use Rattle.atl_records.specs.Every.{Every}
+use Rattle.atl_world.specs.Every.{Every}
 use Rattle.atl_campaign.specs.Good.{IsSteady}
 use Rattle.atl_records.specs.Holdings.{HoldingValue, amount_of, with_amount_of}
 use Rattle.atl_records.specs.Levels.{level_in_any}
 use Rattle.atl_records.specs.Limits.{holding_limit, most_units}
 use Rattle.atl_campaign.specs.Campaign.{CampaignValue}
 use Rattle.atl_campaign.proofs.ReadBackLaws.{Rise, entries_rise}
-use Rattle.atl_records.proofs.EveryLaws.{each-from_every, none_some, same_number}
+use Rattle.atl_world.proofs.EveryLaws.{each-from_every, none_some, same_number}
 use Rattle.atl_phase.specs.Outcomes.{first_fault}
 use Rattle.atl_phase.specs.Meaning.{BookBound, LeavesWell, both_move, most_moved, moves_only}
 use Rattle.atl_phase.specs.Bounds.{HasRoom, HaveRoom, moved_times}

@@ -14,14 +14,14 @@ use Rattle.atl_records.specs.declared.books.Thing.{Thing}
 use Rattle.atl_records.specs.declared.books.Thing.TheVariants.{Money}
 use Rattle.atl_records.specs.declared.records.Region.{Region}
 use Rattle.atl_records.specs.declared.records.Unit.{Unit}
-use Rattle.atl_records.specs.Every.{Every}
+use Rattle.atl_world.specs.Every.{Every}
 use Rattle.atl_campaign.specs.Good.{IsEarly}
 use Rattle.atl_records.specs.Holdings.{HoldingValue}
 use Rattle.atl_campaign.specs.Lending.{with_holding_at, with_holding}
 use Rattle.atl_records.specs.Limits.{holding_limit, men_limit, most_units}
 use Rattle.atl_campaign.specs.Campaign.{CampaignValue, region_changed, with_booking, with_peasants}
 use Rattle.atl_campaign.proofs.ReadBackLaws.{entries_rise}
-use Rattle.atl_records.proofs.EveryLaws.{each-from_every, get-insert_other}
+use Rattle.atl_world.proofs.EveryLaws.{each-from_every, get-insert_other}
 use Rattle.atl_campaign.proofs.RegionLaws.{IsRegion-peasants, steady-region}
 use Rattle.atl_phase.specs.Meaning.{LeavesWell, BookBound, most_moved}
 use Rattle.atl_phase.specs.Bounds.{HaveRoom, moved_times}

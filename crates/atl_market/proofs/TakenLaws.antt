@@ -13,7 +13,7 @@ use Rattle.atl_world.specs.declared.verb.Verb.TheVariants as verbs
 use Rattle.atl_orders.specs.Bounds.{AreOperandsOf}
 use Rattle.atl_orders.specs.Orders.{OperandsValue}
 use Rattle.atl_records.specs.declared.records.Unit.{Unit}
-use Rattle.atl_records.proofs.EveryLaws.{other_number}
+use Rattle.atl_world.proofs.EveryLaws.{other_number}
 use Rattle.atl_campaign.specs.Campaign.{CampaignValue}
 use Rattle.atl_phase.specs.declared.phase_order.Arrangement.TheVariants.{ByUnit}
 use Rattle.atl_phase.specs.Month.{Aliases, MonthValue}

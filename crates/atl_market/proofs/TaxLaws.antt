@@ -12,7 +12,7 @@ use Rattle.atl_records.specs.declared.books.Thing.TheVariants.{Money, People, It
 use Rattle.atl_records.specs.declared.records.Region.{Region}
 use Rattle.atl_records.specs.declared.records.Unit.{Unit}
 use Rattle.atl_records.specs.Books.{amount_in}
-use Rattle.atl_records.specs.Every.{Every}
+use Rattle.atl_world.specs.Every.{Every}
 use Rattle.atl_campaign.specs.Good.{IsEarly}
 use Rattle.atl_records.specs.Holdings.{amount_of}
 use Rattle.atl_records.specs.Limits.{holding_limit}
@@ -20,7 +20,7 @@ use Rattle.atl_campaign.specs.Campaign.{CampaignValue, region_changed, with_mone
 use Rattle.atl_records.specs.Amounts.{region_amount, unit_amount}
 use Rattle.atl_campaign.specs.Totals.{total}
 use Rattle.atl_campaign.proofs.ReadBackLaws.{entries_rise}
-use Rattle.atl_records.proofs.EveryLaws.{each-from_every}
+use Rattle.atl_world.proofs.EveryLaws.{each-from_every}
 use Rattle.atl_campaign.proofs.HoldingLaws.{may_hold_money, of_one_faction_kept, steady-new_holding, total-new_holding}
 use Rattle.atl_campaign.proofs.RegionLaws.{IsRegion-money, steady-region, total-region}
 use Rattle.atl_phase.specs.Meaning.{LeavesWell}

@@ -24,7 +24,7 @@ use Rattle.atl_records.specs.declared.records.Region.{Region}
 use Rattle.atl_records.specs.declared.records.Unit.{Unit}
 use Rattle.atl_records.specs.Books.{IsWithin, amount_in}
 use Rattle.atl_campaign.specs.Covers.{MarksChanges}
-use Rattle.atl_records.specs.Every.{Every}
+use Rattle.atl_world.specs.Every.{Every}
 use Rattle.atl_campaign.specs.Good.{IsEarly}
 use Rattle.atl_records.specs.Holdings.{HoldingValue, IsHolding, amount_of, with_amount_of}
 use Rattle.atl_campaign.specs.Lending.{with_holding_at, with_holding}
@@ -34,7 +34,7 @@ use Rattle.atl_campaign.specs.Stocks.{stock_limit, stock_of}
 use Rattle.atl_campaign.specs.Campaign.{MarkedCampaign, CampaignValue, region_changed, with_booking, with_stock}
 use Rattle.atl_campaign.proofs.ReadBackLaws.{entries_rise}
 use Rattle.atl_campaign.proofs.CoverLaws.{marks-stock, marks-trans}
-use Rattle.atl_records.proofs.EveryLaws.{each-from_every, get-insert_other, none_some, other_number, same_number}
+use Rattle.atl_world.proofs.EveryLaws.{each-from_every, get-insert_other, none_some, other_number, same_number}
 use Rattle.atl_campaign.proofs.HavingLaws.{MayHave, may_have}
 use Rattle.atl_records.proofs.HoldingLaws.{compared_equal_is_equal, amount_within, every_amount, amount_after_setting}
 use Rattle.atl_campaign.proofs.StockLaws.{restocked, steady-stock}

@@ -14,7 +14,7 @@ use Rattle.atl_records.specs.declared.books.Thing.TheVariants.{Money}
 use Rattle.atl_records.specs.declared.event.Event.{Event}
 use Rattle.atl_records.specs.declared.records.Unit.{Unit}
 use Rattle.atl_campaign.specs.Campaign.{CampaignValue, with_booking, with_money, with_region_money}
-use Rattle.atl_records.proofs.EveryLaws.{other_number}
+use Rattle.atl_world.proofs.EveryLaws.{other_number}
 use Rattle.atl_phase.specs.Month.{MonthValue}
 use Rattle.atl_phase.specs.Meaning.{Frame, Meaning}
 use Rattle.atl_phase.specs.PhaseOrders.{Task, orders_by_unit}

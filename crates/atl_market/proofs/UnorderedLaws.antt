@@ -11,7 +11,7 @@ use Rattle.atl_world.specs.Worlds.{WorldValue}
 use Rattle.atl_records.specs.declared.event.EventFault.{EventFault}
 use Rattle.atl_records.specs.declared.records.Unit.{Unit}
 use Rattle.atl_campaign.specs.Campaign.{CampaignValue}
-use Rattle.atl_records.proofs.EveryLaws.{each-from_every, get-insert_other, none_some}
+use Rattle.atl_world.proofs.EveryLaws.{each-from_every, get-insert_other, none_some}
 use Rattle.atl_phase.specs.PhaseOrders.{Task}
 use Rattle.atl_phase.proofs.NoWorseLaws.{no_worse}
 use Rattle.atl_pots.specs.Puts.{with_entry_if_some, with_entries}

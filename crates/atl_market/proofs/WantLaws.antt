@@ -18,10 +18,10 @@ use Rattle.atl_world.specs.Limits.{most_amount}
 use Rattle.atl_world.specs.Worlds.{WorldValue}
 use Rattle.atl_records.specs.declared.event.EventFault.{EventFault}
 use Rattle.atl_records.specs.declared.records.Unit.{Unit}
-use Rattle.atl_records.specs.Every.{Every}
+use Rattle.atl_world.specs.Every.{Every}
 use Rattle.atl_campaign.specs.Campaign.{CampaignValue}
 use Rattle.atl_campaign.proofs.ReadBackLaws.{Rise, entries_rise}
-use Rattle.atl_records.proofs.EveryLaws.{every-empty, every-insert, get-insert_other, none_some}
+use Rattle.atl_world.proofs.EveryLaws.{every-empty, every-insert, get-insert_other, none_some}
 use Rattle.atl_campaign.proofs.RegionLaws.{get-insert_same}
 use Rattle.atl_phase.specs.PhaseOrders.{Task}
 use Rattle.atl_phase.specs.OrderEffects.{of_faction}

@@ -11,15 +11,14 @@ use Rattle.std.specs.List.Sorted.{IsSortedByKey}
 use Rattle.std.specs.FinMap.{FinMap, IsAntisymmetric, empty, entries, entries-insert, entries_sorted, from_entries, get, get-empty, get-insert, insert, is_sorted, put, values, slice_cmp-IsAntisymmetric, nat_cmp-IsAntisymmetric}
 use Rattle.std.specs.FinMap.Entries.{below_all, by_order}
 use Rattle.std.proofs.lemmas.Bool.{and_parts, cases_eq, false_from_ne_true, false≢true, not-true, eq-eqb}
-use Rattle.atl_world.proofs.GeneralLaws.{equality_is_symmetric, is_true}
-use Rattle.atl_records.specs.Every.{EachEntry}
+use Rattle.atl_world.proofs.GeneralLaws.{equality_is_symmetric, is_true, each_follows}
+use Rattle.atl_world.specs.Every.{EachEntry}
 use Rattle.atl_campaign.specs.Campaign.{CampaignValue}
 use Rattle.atl_records.specs.declared.records.Unit.{Unit}
 use Rattle.atl_campaign.proofs.ReadBackLaws.{append_apart, entries_rise, flat_apart}
 use Rattle.atl_campaign.proofs.GroupLaws.{filter_apart, filter_each}
-use Rattle.atl_records.proofs.EveryLaws.{each-from_every, get-insert_other, other_number, same_number}
+use Rattle.atl_world.proofs.EveryLaws.{each-from_every, get-insert_other, other_number, same_number}
 use Rattle.atl_records.proofs.AmountListLaws.{all_append}
-use Rattle.atl_campaign.proofs.MapOfRowsLaws.{each_follows}
 use Rattle.atl_campaign.proofs.RegionLaws.{get-insert_same}
 use Rattle.atl_phase.specs.Month.{MonthValue}
 use Rattle.atl_phase.specs.PhaseOrders.{Task, is_month_long, key_of, orders_by_unit, task_of, sorted_by}

@@ -4,8 +4,8 @@ use Rattle.std.specs.Prelude.{is_some}
 use Rattle.std.specs.Ordering.{nat_cmp}
 use Rattle.std.specs.Cmp.{nat_cmp_total}
 use Rattle.std.specs.FinMap.{FinMap, empty_of_len, entries, find, get, get-empty, get-entries, len, len-entries, len-remove, remove}
-use Rattle.atl_records.specs.Every.{HasValue}
-use Rattle.atl_records.proofs.EveryLaws.{first, none_some}
+use Rattle.atl_world.specs.Every.{HasValue}
+use Rattle.atl_world.proofs.EveryLaws.{first, none_some}
 use Rattle.atl_records.proofs.RemovedLaws.{get-remove_other, still}
 
 -- the values of a map may be of any type `V`; only its numbers matter

@@ -8,13 +8,13 @@ use Rattle.std.proofs.lemmas.Int.{ints}
 use Rattle.atl_world.specs.Worlds.{WorldValue}
 use Rattle.atl_records.specs.declared.event.Event.{Event}
 use Rattle.atl_records.specs.Books.{IsWithin, amount_in}
-use Rattle.atl_records.specs.Every.{HasValue, Every}
+use Rattle.atl_world.specs.Every.{HasValue, Every}
 use Rattle.atl_campaign.specs.Good.{AreAmountsWithin, IsGood, IsSound, IsSteady, amount_bound}
 use Rattle.atl_records.specs.Limits.{last_month}
 use Rattle.atl_campaign.specs.Campaign.{CampaignValue}
 use Rattle.atl_campaign.specs.Totals.{Balances, total}
 use Rattle.atl_orders.specs.Mailing.{Reading, reading_of}
-use Rattle.atl_records.proofs.EveryLaws.{every-empty}
+use Rattle.atl_world.proofs.EveryLaws.{every-empty}
 use Rattle.atl_campaign.proofs.GoodLaws.{posted-steady, posted-unsent}
 use Rattle.atl_phase.specs.Month.{MonthValue, by_faction}
 use Rattle.atl_phase.specs.Meaning.{BookBound, Condition, IsNear, IsSameMonth, LeavesWell, Meaning, Frame}

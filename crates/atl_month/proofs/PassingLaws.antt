@@ -15,7 +15,7 @@ use Rattle.atl_records.specs.declared.books.BooksEntry.TheVariants.{Lost}
 use Rattle.atl_records.specs.declared.books.Thing.{Thing}
 use Rattle.atl_records.specs.declared.books.Thing.TheVariants.{Item, Money, People}
 use Rattle.atl_records.specs.declared.records.Unit.{Unit}
-use Rattle.atl_records.specs.Every.{EachEntry, Every}
+use Rattle.atl_world.specs.Every.{EachEntry, Every}
 use Rattle.atl_campaign.specs.Founding.{thing_count}
 use Rattle.atl_campaign.specs.Good.{IsSteady}
 use Rattle.atl_records.specs.Holdings.{HoldingValue, amount_of, with_amount_of}
@@ -25,7 +25,7 @@ use Rattle.atl_campaign.specs.Campaign.{CampaignValue, with_item, with_money}
 use Rattle.atl_records.specs.Amounts.{unit_amount}
 use Rattle.atl_campaign.specs.Totals.{total}
 use Rattle.atl_records.proofs.BookLaws.{booked-after_booking}
-use Rattle.atl_records.proofs.EveryLaws.{every-insert, get-insert_other, same_number}
+use Rattle.atl_world.proofs.EveryLaws.{every-insert, get-insert_other, same_number}
 use Rattle.atl_campaign.proofs.HoldingLaws.{MayHaveWithoutNewGuard, may_hold_money, steady-new_holding, total-new_holding}
 use Rattle.atl_campaign.proofs.RegionLaws.{changed-known, get-insert_same, steady-amount, total-booking}
 use Rattle.atl_phase.specs.Meaning.{BookBound, IsNear, IsSameMonth, both_move, moves_only}

@@ -13,11 +13,11 @@ use Rattle.atl_world.specs.Sums.{numbers_among, numbers_where}
 use Rattle.atl_world.proofs.SumLaws.{chosen-cons}
 use Rattle.atl_world.specs.Groups.{group_of}
 use Rattle.atl_records.specs.declared.records.Unit.{Unit}
-use Rattle.atl_records.specs.Every.{Every}
+use Rattle.atl_world.specs.Every.{Every}
 use Rattle.atl_campaign.specs.Good.{IsSteady}
 use Rattle.atl_campaign.specs.Owners.{first_or_zero}
 use Rattle.atl_campaign.specs.Campaign.{CampaignValue}
-use Rattle.atl_records.proofs.EveryLaws.{sorted}
+use Rattle.atl_world.proofs.EveryLaws.{sorted}
 use Rattle.atl_campaign.proofs.NumberListLaws.{IsListed, listed_passing, passing_listed}
 use Rattle.atl_month.specs.Receivers.{AreReceivers, ReceiverMap, or_if_zero, receiver_in, with_receiver, with_receiver_of}
 use Rattle.atl_month.specs.Sweep.{IsKept, after_sweeping_unit, receiver, receives}

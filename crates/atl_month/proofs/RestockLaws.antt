@@ -23,7 +23,7 @@ use Rattle.atl_records.specs.declared.records.Region.{Region}
 use Rattle.atl_records.specs.Books.{amount_in, booked, thing_at, thing_index, amount_number}
 use Rattle.atl_campaign.specs.Campaign.{MarkedCampaign, CampaignValue, with_booking, with_stock}
 use Rattle.atl_campaign.specs.Covers.{MarksChanges}
-use Rattle.atl_records.specs.Every.{EachEntry, HasValue}
+use Rattle.atl_world.specs.Every.{EachEntry, HasValue}
 use Rattle.atl_campaign.specs.Founding.{thing_count}
 use Rattle.atl_campaign.specs.Good.{IsSteady}
 use Rattle.atl_records.specs.Holdings.{amount_of}
@@ -34,7 +34,7 @@ use Rattle.atl_records.proofs.AccountLaws.{thing_at_index}
 use Rattle.atl_records.proofs.BookLaws.{booked-after_booking}
 use Rattle.atl_campaign.proofs.CoverLaws.{marks-stock}
 use Rattle.atl_records.proofs.EveryEntryLaws.{entry_small}
-use Rattle.atl_records.proofs.EveryLaws.{each-from_every, sorted, same_number}
+use Rattle.atl_world.proofs.EveryLaws.{each-from_every, sorted, same_number}
 use Rattle.atl_campaign.proofs.RegionLaws.{steady-amount, total-booking}
 use Rattle.atl_campaign.proofs.StockLaws.{steady-stock, total-stock, total-stock_other}
 use Rattle.atl_phase.specs.Meaning.{BookBound, LeavesWell, moves_only}

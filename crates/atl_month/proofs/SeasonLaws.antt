@@ -28,7 +28,7 @@ use Rattle.atl_campaign.specs.Totals.{Balances, total}
 use Rattle.atl_records.proofs.BookLaws.{booked-after_booking, booked_for}
 use Rattle.atl_campaign.proofs.CoverLaws.{marks-peasants, marks-region-money, marks-trans}
 use Rattle.atl_campaign.proofs.RegionLaws.{IsRegion-money, IsRegion-peasants, region-changed, steady-amount, steady-region, total-booking, total-region}
-use Rattle.atl_records.proofs.EveryLaws.{none_some}
+use Rattle.atl_world.proofs.EveryLaws.{none_some}
 use Rattle.atl_phase.specs.Meaning.{IsNear, LeavesWell, both_move, most_moved, moves_only}
 use Rattle.atl_phase.specs.Bounds.{HaveRoom, moved_times}
 use Rattle.atl_phase.specs.There.{at_region}

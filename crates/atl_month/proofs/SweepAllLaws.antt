@@ -16,11 +16,11 @@ use Rattle.atl_records.specs.declared.books.BooksEntry.{BooksEntry}
 use Rattle.atl_records.specs.declared.books.Thing.{Thing}
 use Rattle.atl_records.specs.declared.records.Faction.{Faction}
 use Rattle.atl_records.specs.declared.records.Unit.{Unit}
-use Rattle.atl_records.specs.Every.{Every}
+use Rattle.atl_world.specs.Every.{Every}
 use Rattle.atl_campaign.specs.Good.{HaveMen, IsSteady, UnitlessAreGone}
 use Rattle.atl_campaign.specs.Owners.{without_unit}
 use Rattle.atl_campaign.specs.Campaign.{CampaignValue, active, numbers_of_faction, with_gone}
-use Rattle.atl_records.proofs.EveryLaws.{none_some}
+use Rattle.atl_world.proofs.EveryLaws.{none_some}
 use Rattle.atl_phase.specs.Meaning.{LeavesWell, both_move, most_moved}
 use Rattle.atl_phase.specs.Bounds.{moved_times}
 use Rattle.atl_phase.proofs.MeaningLaws.{both_leave_well, fold_leaves_well, near_same, same_month_among, well_unchanged, well_within}

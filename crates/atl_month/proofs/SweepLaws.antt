@@ -17,7 +17,7 @@ use Rattle.atl_records.specs.declared.books.Thing.{Thing}
 use Rattle.atl_records.specs.declared.books.Thing.TheVariants.{Item, Money, People}
 use Rattle.atl_records.specs.declared.records.Faction.{Faction}
 use Rattle.atl_records.specs.declared.records.Unit.{Unit}
-use Rattle.atl_records.specs.Every.{EachEntry, Every, HasValue}
+use Rattle.atl_world.specs.Every.{EachEntry, Every, HasValue}
 use Rattle.atl_campaign.specs.Good.{IsSteady}
 use Rattle.atl_records.specs.Holdings.{HoldingValue, amount_of}
 use Rattle.atl_records.specs.Limits.{holding_limit}
@@ -25,7 +25,7 @@ use Rattle.atl_campaign.specs.Owners.{first_or_zero, without_unit}
 use Rattle.atl_campaign.specs.Campaign.{CampaignValue, with_item}
 use Rattle.atl_records.specs.Amounts.{unit_amount}
 use Rattle.atl_campaign.specs.Totals.{Balances, total}
-use Rattle.atl_records.proofs.EveryLaws.{each-from_every, sorted}
+use Rattle.atl_world.proofs.EveryLaws.{each-from_every, sorted}
 use Rattle.atl_phase.specs.Meaning.{BookBound, IsNear, LeavesWell, both_move, moves_only}
 use Rattle.atl_records.proofs.HoldingLaws.{amount_within}
 use Rattle.atl_phase.proofs.MeaningLaws.{near_more, near_room, room_less}

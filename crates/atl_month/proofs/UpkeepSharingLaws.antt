@@ -15,7 +15,7 @@ use Rattle.atl_world.specs.Limits.{most_per_head}
 use Rattle.atl_world.specs.Groups.{group_of}
 use Rattle.atl_world.proofs.GeneralLaws.{is_equal}
 use Rattle.atl_records.specs.Limits.{holding_limit, men_limit}
-use Rattle.atl_records.proofs.EveryLaws.{same_number}
+use Rattle.atl_world.proofs.EveryLaws.{same_number}
 use Rattle.atl_month.specs.declared.accounts.Account.{Account}
 use Rattle.atl_month.specs.declared.upkeep_sharing.UpkeepInput.{UpkeepInput}
 use Rattle.atl_month.specs.declared.upkeep_sharing.UpkeepResult.{UpkeepResult}

@@ -9,7 +9,7 @@ use Rattle.atl_records.specs.declared.event.Event.{Event}
 use Rattle.atl_records.specs.declared.event.EventVerb.TheVariants as verb
 use Rattle.atl_records.specs.declared.event.Outcome.TheVariants as outcome
 use Rattle.atl_records.specs.declared.records.Unit.{Unit}
-use Rattle.atl_records.specs.Every.{Every}
+use Rattle.atl_world.specs.Every.{Every}
 use Rattle.atl_records.specs.Holdings.{HoldingValue}
 use Rattle.atl_campaign.specs.Lending.{with_holding_at}
 use Rattle.atl_campaign.specs.Campaign.{CampaignValue, with_booking}

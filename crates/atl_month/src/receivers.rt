@@ -1,7 +1,7 @@
 //! Finds the units that receive, in the sweep, what units without men leave. See docs/RULES.md,
 //! "Sweep".
 ghost use Rattle.std.specs.Prelude.{◌≡◌, ◌≤◌, IfOk, OnOk};
-ghost use Rattle.atl_records.specs.Every.{Every};
+ghost use Rattle.atl_world.specs.Every.{Every};
 ghost use Rattle.atl_month.specs.Receivers.{AreReceivers, receiver_in, with_receiver_of};
 
 use atl_campaign::{Campaign, Unit};

@@ -5,7 +5,7 @@ ghost use Rattle.atl_world.specs.ByNumber.{market_of};
 ghost use Rattle.atl_world.specs.Limits.{most_amount};
 ghost use Rattle.atl_world.specs.Worlds.{IsMarket, IsWorld};
 ghost use Rattle.atl_campaign.specs.Covers.{MarksChanges};
-ghost use Rattle.atl_records.specs.Every.{HasValue};
+ghost use Rattle.atl_world.specs.Every.{HasValue};
 ghost use Rattle.atl_campaign.specs.Good.{IsSteady};
 ghost use Rattle.atl_records.specs.declared.books.BooksEntry.TheVariants.{Stocked};
 ghost use Rattle.atl_records.specs.declared.books.Thing.TheVariants.{Item};

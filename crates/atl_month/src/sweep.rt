@@ -4,7 +4,7 @@ ghost use Rattle.std.specs.Prelude.{◌≡◌, ◌≤◌, ◌<◌, ◌+◌, ◌-
 ghost use Rattle.atl_world.specs.Limits.{most_amount};
 ghost use Rattle.atl_records.specs.Books.{amount_in};
 ghost use Rattle.atl_campaign.specs.Covers.{MarksChanges};
-ghost use Rattle.atl_records.specs.Every.{EachEntry};
+ghost use Rattle.atl_world.specs.Every.{EachEntry};
 ghost use Rattle.atl_campaign.specs.Good.{IsSteady};
 ghost use Rattle.atl_records.specs.declared.books.BooksEntry.TheVariants.{Lost};
 ghost use Rattle.atl_records.specs.declared.books.Thing.TheVariants.{Item, Money};

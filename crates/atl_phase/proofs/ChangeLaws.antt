@@ -13,7 +13,7 @@ use Rattle.atl_campaign.specs.Marking.{mark_item, mark_skill, mark_unit_row}
 use Rattle.atl_campaign.specs.Marks.{Marks}
 use Rattle.atl_campaign.specs.Campaign.{MarkedCampaign, CampaignValue, unit_changed, with_item, with_men, with_money, with_skill}
 use Rattle.atl_campaign.proofs.CoverLaws.{marks-refl, marks-trans}
-use Rattle.atl_records.proofs.EveryLaws.{get-insert_other}
+use Rattle.atl_world.proofs.EveryLaws.{get-insert_other}
 use Rattle.atl_campaign.proofs.HoldingLaws.{marks-item, marks-skill, marks-unit_row}
 use Rattle.atl_campaign.proofs.RegionLaws.{get-insert_same}
 use Rattle.atl_phase.specs.Holdings.{ChangesHolding}

@@ -6,7 +6,7 @@ use Rattle.atl_orders.proofs.BoundLaws.{readings_keep_bounds}
 use Rattle.atl_orders.specs.Bounds.{IsReading}
 use Rattle.atl_orders.specs.Mailing.{IsReadWith, reading_of}
 use Rattle.atl_orders.specs.declared.mailing.Mailing.{Mailing}
-use Rattle.atl_records.proofs.EveryLaws.{every-empty, every-insert}
+use Rattle.atl_world.proofs.EveryLaws.{every-empty, every-insert}
 use Rattle.atl_phase.specs.Month.{by_faction}
 use Rattle.atl_phase.specs.Fit.{AreFit}
 

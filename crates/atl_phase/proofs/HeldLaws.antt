@@ -9,10 +9,10 @@ use Rattle.atl_records.specs.declared.books.Thing.{Thing}
 use Rattle.atl_records.specs.declared.books.Thing.TheVariants.{Item, Money, People}
 use Rattle.atl_records.specs.declared.records.Unit.{Unit}
 use Rattle.atl_records.specs.Amounts.{unit_amount}
-use Rattle.atl_records.specs.Every.{EachEntry}
+use Rattle.atl_world.specs.Every.{EachEntry}
 use Rattle.atl_records.specs.Holdings.{HoldingValue, IsHolding}
 use Rattle.atl_records.specs.Limits.{holding_limit, most_units}
-use Rattle.atl_records.proofs.EveryLaws.{each-from_every}
+use Rattle.atl_world.proofs.EveryLaws.{each-from_every}
 use Rattle.atl_records.proofs.HoldingLaws.{amount_within}
 use Rattle.atl_campaign.specs.Campaign.{CampaignValue}
 use Rattle.atl_campaign.specs.Good.{IsSteady}

@@ -14,7 +14,7 @@ use Rattle.atl_records.specs.declared.books.BooksEntry.{BooksEntry}
 use Rattle.atl_records.specs.declared.books.Thing.{Thing}
 use Rattle.atl_records.specs.Books.{IsWithin, amount_in}
 use Rattle.atl_records.specs.declared.records.Faction.{Faction}
-use Rattle.atl_records.specs.Every.{HasValue}
+use Rattle.atl_world.specs.Every.{HasValue}
 use Rattle.atl_campaign.specs.Good.{IsSound, amount_bound}
 use Rattle.atl_phase.specs.Month.{MonthValue}
 use Rattle.atl_phase.specs.Meaning.{BookBound, Condition, Frame, IsNear, IsSameMonth, LeavesWell, Meaning, both_keep, both_move}

@@ -15,8 +15,7 @@ use Rattle.atl_orders.specs.declared.mailing.Mailing.{Mailing}
 use Rattle.atl_world.specs.declared.verb.Verb.{Verb}
 use Rattle.atl_orders.specs.Mailing.{EntryValue, Reading, reading_of}
 use Rattle.atl_campaign.proofs.GroupLaws.{filter_apart, filter_each}
-use Rattle.atl_campaign.proofs.KeyLaws.{IsDistinct-of_map}
-use Rattle.atl_campaign.proofs.MapOfRowsLaws.{each_follows}
+use Rattle.atl_containers.proofs.KeyLaws.{IsDistinct-of_map}
 use Rattle.atl_campaign.proofs.ReadBackLaws.{entries_rise, flat_apart}
 use Rattle.atl_phase.specs.declared.order_indices.OrderIndex.{OrderIndex}
 use Rattle.atl_phase.specs.declared.phase_order.Arrangement.{Arrangement}
@@ -27,6 +26,7 @@ use Rattle.atl_phase.specs.PhaseOrders.{Task, key_of, sorted_by, task_of, tasks_
 use Rattle.atl_phase.specs.OrderIndices.{AreByFaction, AreIndicesByMailing, AreOrderIndices, IsThere, all_tasks, key_by, task_at}
 use Rattle.atl_phase.proofs.MapOfListLaws.{entries-sorted, entries_of}
 use Rattle.atl_phase.proofs.MonthLaws.{by_faction_is, under_faction}
+use Rattle.atl_world.proofs.GeneralLaws.{each_follows}
 
 -- ---- keys that differ
 

@@ -6,7 +6,7 @@ use Rattle.std.specs.FinMap.{get}
 use Rattle.atl_world.proofs.GeneralLaws.{is_equal, is_unequal}
 use Rattle.atl_records.specs.declared.records.Structure.{Structure}
 use Rattle.atl_records.specs.declared.records.Unit.{Unit}
-use Rattle.atl_records.specs.Every.{Every}
+use Rattle.atl_world.specs.Every.{Every}
 use Rattle.atl_campaign.specs.Good.{IsOwned}
 use Rattle.atl_campaign.specs.Owners.{heir}
 use Rattle.atl_campaign.specs.Campaign.{CampaignValue, numbers_inside}

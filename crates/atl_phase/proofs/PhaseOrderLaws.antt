@@ -12,15 +12,15 @@ use Rattle.std.proofs.lemmas.Bool.{and_parts}
 use Rattle.std.proofs.lemmas.List.Elements.{All-from_recursion, All-map, recursion_from_All}
 use Rattle.atl_world.specs.declared.verb.Verb.{Verb}
 use Rattle.atl_orders.specs.Mailing.{EntryValue, Reading}
-use Rattle.atl_records.specs.Every.{EachEntry}
-use Rattle.atl_records.proofs.EveryLaws.{each-from_every}
+use Rattle.atl_world.specs.Every.{EachEntry}
+use Rattle.atl_world.proofs.EveryLaws.{each-from_every}
 use Rattle.atl_records.proofs.AmountListLaws.{all_append}
 use Rattle.atl_campaign.proofs.GroupLaws.{kept}
-use Rattle.atl_campaign.proofs.MapOfRowsLaws.{each_follows}
 use Rattle.atl_phase.specs.declared.phase_order.Arrangement.{Arrangement}
 use Rattle.atl_phase.specs.Month.{Aliases}
 use Rattle.atl_phase.specs.PhaseOrders.{IsInMailing, OrdersAreInMailings, Task, key_of, order_counts, orders_of, tasks_for, tasks_from, tasks_of, tasks_of_phase, under_keys}
 use Rattle.atl_phase.proofs.MappedLaws.{no_entries}
+use Rattle.atl_world.proofs.GeneralLaws.{each_follows}
 
 -- ---- what is so of each entry is so of each that a map lists
 

@@ -12,13 +12,13 @@ use Rattle.atl_world.specs.ByNumber.{is_land_at}
 use Rattle.atl_world.proofs.GeneralLaws.{is_equal, is_unequal}
 use Rattle.atl_records.specs.declared.records.Structure.{Structure}
 use Rattle.atl_records.specs.declared.records.Unit.{Unit}
-use Rattle.atl_records.specs.Every.{Every}
+use Rattle.atl_world.specs.Every.{Every}
 use Rattle.atl_campaign.specs.Good.{IsEarly, IsOwned, IsSteady, is_ship}
 use Rattle.atl_records.specs.declared.books.Thing.{Thing}
 use Rattle.atl_campaign.specs.Owners.{after_handover, heir, with_position, with_place, with_place_at}
 use Rattle.atl_campaign.specs.Campaign.{CampaignValue}
 use Rattle.atl_campaign.specs.Totals.{total}
-use Rattle.atl_records.proofs.EveryLaws.{get-insert_other, other_number}
+use Rattle.atl_world.proofs.EveryLaws.{get-insert_other, other_number}
 use Rattle.atl_campaign.proofs.InsideLaws.{is_no_zero}
 use Rattle.atl_campaign.proofs.LeavingLaws.{owned_by}
 use Rattle.atl_campaign.proofs.RegionLaws.{changed-known, get-insert_same}

@@ -15,13 +15,13 @@ use Rattle.atl_records.specs.declared.books.Thing.{Thing}
 use Rattle.atl_records.specs.declared.records.Region.{Region}
 use Rattle.atl_records.specs.declared.records.Structure.{Structure}
 use Rattle.atl_records.specs.declared.records.Unit.{Unit}
-use Rattle.atl_records.specs.Every.{Every}
+use Rattle.atl_world.specs.Every.{Every}
 use Rattle.atl_campaign.specs.Good.{AreAfloat, AreInRange, AreKnown, AreNamed, AreNumbered, AreOfOneFaction, GoneHaveNone, IsAboard, IsBuilt, IsEarly, IsOwned, IsPlaced, IsSteady, guards, is_ship}
 use Rattle.atl_records.specs.Holdings.{IsHolding}
 use Rattle.atl_campaign.specs.Campaign.{CampaignValue}
 use Rattle.atl_records.specs.Amounts.{region_amount, unit_amount}
 use Rattle.atl_campaign.specs.Totals.{total}
-use Rattle.atl_records.proofs.EveryLaws.{every-insert, get-insert_other, none_some}
+use Rattle.atl_world.proofs.EveryLaws.{every-insert, get-insert_other, none_some}
 use Rattle.atl_campaign.proofs.RegionLaws.{same_len}
 
 -- The structure after is the structure before, but for owner and name; the name follows the name rule if it did before.

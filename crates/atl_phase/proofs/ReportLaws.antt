@@ -14,7 +14,7 @@ use Rattle.atl_world.specs.Worlds.{WorldValue}
 use Rattle.atl_orders.specs.Bounds.{LinesRise}
 use Rattle.atl_orders.specs.Mailing.{EntryValue, Reading}
 use Rattle.atl_world.specs.declared.verb.Verb.{Verb}
-use Rattle.atl_records.proofs.EveryLaws.{other_number, same_number}
+use Rattle.atl_world.proofs.EveryLaws.{other_number, same_number}
 use Rattle.atl_campaign.proofs.GroupLaws.{filter_both}
 use Rattle.atl_campaign.proofs.ReadBackLaws.{Rise, entries_rise}
 use Rattle.atl_phase.specs.declared.phase_order.Arrangement.{Arrangement}

@@ -9,7 +9,7 @@ use Rattle.atl_records.specs.declared.records.Structure.{Structure}
 use Rattle.atl_records.specs.declared.records.Unit.{Unit}
 use Rattle.atl_campaign.specs.Owners.{after_handover, heir, is_owned_by, with_position, with_place, with_place_at}
 use Rattle.atl_campaign.specs.Campaign.{CampaignValue, with_owner}
-use Rattle.atl_records.proofs.EveryLaws.{get-insert_other, other_number}
+use Rattle.atl_world.proofs.EveryLaws.{get-insert_other, other_number}
 use Rattle.atl_campaign.proofs.LeavingLaws.{owned_by}
 use Rattle.atl_campaign.proofs.RegionLaws.{get-insert_same, same_len}
 

@@ -17,11 +17,11 @@ use Rattle.atl_records.specs.declared.event.Event.{Event}
 use Rattle.atl_records.specs.declared.event.EventFault.{EventFault}
 use Rattle.atl_records.specs.declared.event.Outcome.{Outcome}
 use Rattle.atl_records.specs.declared.records.Unit.{Unit}
-use Rattle.atl_records.specs.Every.{Every}
+use Rattle.atl_world.specs.Every.{Every}
 use Rattle.atl_records.specs.Holdings.{amount_of}
 use Rattle.atl_campaign.specs.Campaign.{CampaignValue, with_guard}
 use Rattle.atl_campaign.specs.Owners.{after_handover, with_position, with_place}
-use Rattle.atl_records.proofs.EveryLaws.{get-insert_other, none_some}
+use Rattle.atl_world.proofs.EveryLaws.{get-insert_other, none_some}
 use Rattle.atl_campaign.proofs.RegionLaws.{get-insert_same}
 use Rattle.atl_phase.specs.Month.{Aliases, MonthValue}
 use Rattle.atl_phase.specs.Meaning.{Frame, Meaning, both_keep, then_also}

@@ -5,7 +5,7 @@ use Rattle.atl_world.specs.Worlds.{WorldValue}
 use Rattle.atl_records.specs.declared.books.BooksEntry.{BooksEntry}
 use Rattle.atl_records.specs.declared.books.Thing.{Thing}
 use Rattle.atl_records.specs.Books.{amount_in, amount_number}
-use Rattle.atl_records.specs.Every.{HasValue}
+use Rattle.atl_world.specs.Every.{HasValue}
 use Rattle.atl_campaign.specs.Campaign.{CampaignValue}
 use Rattle.atl_campaign.specs.Totals.{Balances}
 use Rattle.atl_phase.specs.Month.{MonthValue}

@@ -1,7 +1,7 @@
 //! A list of the items that a unit holds.
 ghost use Rattle.std.specs.Prelude.{◌≡◌, ◌<◌, IfOk, length};
 ghost use Rattle.std.specs.FinMap.{entries};
-ghost use Rattle.atl_records.specs.Every.{Every};
+ghost use Rattle.atl_world.specs.Every.{Every};
 
 use atl_campaign::Holding;
 use atl_world::World;

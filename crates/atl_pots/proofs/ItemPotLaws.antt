@@ -7,15 +7,15 @@ use Rattle.std.specs.Ordering.{nat_cmp}
 use Rattle.std.specs.Cmp.{nat_cmp_total}
 use Rattle.std.specs.FinMap.{FinMap, empty, entries, find, get, get-entries, get-from_entries, keys, nat_cmp-IsAntisymmetric, same_map}
 use Rattle.std.proofs.lemmas.Bool.{cases_eq}
-use Rattle.atl_records.proofs.EveryLaws.{first, none_some}
+use Rattle.atl_world.proofs.EveryLaws.{first, none_some}
 use Rattle.atl_campaign.specs.Campaign.{CampaignValue}
-use Rattle.atl_campaign.proofs.MapOfRowsLaws.{each_follows}
 use Rattle.atl_pots.specs.ItemPots.{item_share, item_shares, share_for}
 use Rattle.atl_pots.specs.Pots.{share_of, wants_for}
 use Rattle.atl_pots.specs.Puts.{with_entries}
 use Rattle.atl_pots.specs.WantGroups.{all_region_shares, grouped, shares_of_item}
 use Rattle.atl_pots.proofs.PotLaws.{AgreeWith, Entries, agreeing_put, asking, each_flat, found_among, found_other, pots_give}
 use Rattle.atl_pots.proofs.WantGroupLaws.{each_if_all, from_groups, group_listed, region_shares_agree, region_shares_whole}
+use Rattle.atl_world.proofs.GeneralLaws.{each_follows}
 
 choice_of_equals : (b : Bool) (o : Option ℕ) → cond b o o ≡ o
 choice_of_equals true o = refl

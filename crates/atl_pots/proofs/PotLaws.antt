@@ -11,12 +11,12 @@ use Rattle.std.proofs.lemmas.Option.{same_Some}
 use Rattle.std.proofs.lemmas.List.{reverse-append, length-map}
 use Rattle.std.proofs.lemmas.List.Elements.{All-from_recursion}
 use Rattle.atl_world.specs.Limits.{most_amount}
-use Rattle.atl_records.specs.Every.{HasValue, EachEntry}
+use Rattle.atl_world.specs.Every.{HasValue, EachEntry}
 use Rattle.atl_campaign.specs.Campaign.{CampaignValue}
 use Rattle.atl_records.specs.declared.records.Unit.{Unit}
 use Rattle.atl_campaign.proofs.NumberListLaws.{IsListed}
 use Rattle.atl_campaign.proofs.ReadBackLaws.{InOrder, Rise, entries_rise}
-use Rattle.atl_records.proofs.EveryLaws.{each-from_every, every-from_each, first, found_of, get-insert_other, none_some, other_number, same_number}
+use Rattle.atl_world.proofs.EveryLaws.{each-from_every, every-from_each, first, found_of, get-insert_other, none_some, other_number, same_number}
 use Rattle.atl_records.proofs.AmountListLaws.{all_append}
 use Rattle.atl_campaign.proofs.RegionLaws.{get-insert_same}
 use Rattle.atl_shares.specs.Share.{shares}

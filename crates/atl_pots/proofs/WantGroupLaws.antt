@@ -10,9 +10,9 @@ use Rattle.std.specs.FinMap.Entries.{find-where_key}
 use Rattle.std.specs.FinMap.{FinMap, contains_key-keys, empty, entries, find, get, get-empty, get-entries, insert, keys, nat_cmp-IsAntisymmetric, same_map}
 use Rattle.std.proofs.lemmas.Bool.{cases_eq}
 use Rattle.atl_world.specs.Groups.{group_of}
-use Rattle.atl_records.specs.Every.{EachEntry}
+use Rattle.atl_world.specs.Every.{EachEntry}
 use Rattle.atl_records.specs.declared.records.Region.{Region}
-use Rattle.atl_records.proofs.EveryLaws.{each-from_every, get-insert_other, none_some, other_number, same_number}
+use Rattle.atl_world.proofs.EveryLaws.{each-from_every, get-insert_other, none_some, other_number, same_number}
 use Rattle.atl_campaign.specs.Campaign.{CampaignValue}
 use Rattle.atl_campaign.proofs.GroupLaws.{filter_each}
 use Rattle.atl_campaign.proofs.ReadBackLaws.{Rise, entries_rise}

@@ -16,7 +16,7 @@ use Rattle.atl_records.specs.Books.{Account, BooksValue, account_cmp, all_entrie
 use Rattle.atl_records.specs.Grids.{accounts, accounts_under, listed_of}
 use Rattle.atl_records.proofs.AccountLaws.{account_itself, account_same, account_total, cases_account, index_of_thing_at}
 use Rattle.atl_records.proofs.BookLaws.{get-listed, listing_of, none_past, zero_is}
-use Rattle.atl_records.proofs.EveryLaws.{none_some}
+use Rattle.atl_world.proofs.EveryLaws.{none_some}
 use Rattle.atl_records.proofs.GridLaws.{any_accounts}
 use Rattle.atl_world.proofs.GeneralLaws.{is_true}
 

@@ -11,7 +11,7 @@ use Rattle.atl_records.specs.declared.books.BooksEntry.TheVariants.{Founding}
 use Rattle.atl_records.specs.declared.books.Thing.{Thing}
 use Rattle.atl_records.specs.Books.{Account, BooksValue, account_cmp, all_entries, entry_index, is_zero, thing_index, amount_in, with_amount, after_booking, sum_of, booked, no_amounts, AreBooks, IsWithin, LeavesRoomForJoining}
 use Rattle.atl_records.proofs.AccountLaws.{account_total, account_same, account_itself, cases_account, apart_entries, apart_things, same_account}
-use Rattle.atl_records.proofs.EveryLaws.{none_some}
+use Rattle.atl_world.proofs.EveryLaws.{none_some}
 
 -- ---- amounts of 0
 

@@ -8,10 +8,10 @@ use Rattle.std.specs.Cmp.{nat_cmp_total, unsigned_ties}
 use Rattle.std.specs.FinMap.{FinMap, get, get-insert, get-remove, insert, remove}
 use Rattle.atl_world.proofs.SumLaws.{put_same}
 use Rattle.atl_world.proofs.TrackLaws.{remove_none}
-use Rattle.atl_records.specs.Every.{Every}
+use Rattle.atl_world.specs.Every.{Every}
 use Rattle.atl_records.specs.Holdings.{AreAmounts, HoldingValue, IsHolding, amount_of, has_amount, is_listed, with_amount_of}
 use Rattle.atl_records.specs.Limits.{holding_limit}
-use Rattle.atl_records.proofs.EveryLaws.{every-insert, get-insert_other}
+use Rattle.atl_world.proofs.EveryLaws.{every-insert, get-insert_other}
 use Rattle.atl_records.proofs.RemovedLaws.{every-remove, get-remove_other}
 
 pub every_amount : (P : ℕ → ℕ → Type 0) (items : FinMap nat_cmp ℕ) (i amount : ℕ) → (1 ≤ amount → P i amount)

@@ -1,7 +1,6 @@
 pub mod AccountLaws
 pub mod BookLaws
 pub mod EveryEntryLaws
-pub mod EveryLaws
 pub mod GridLaws
 pub mod HoldingLaws
 pub mod LevelLaws

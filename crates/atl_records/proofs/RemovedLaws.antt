@@ -6,8 +6,8 @@ use Rattle.std.specs.Cmp.{nat_cmp_total, ranked}
 use Rattle.std.specs.FinMap.{FinMap, contains_key, get, get-insert, get-remove, insert, len, len-remove, nat_cmp-IsAntisymmetric, remove}
 use Rattle.atl_world.specs.Sums.{sum_over}
 use Rattle.atl_world.proofs.SumLaws.{put_back_keeps_map, sum_over-insert_new}
-use Rattle.atl_records.specs.Every.{Every}
-use Rattle.atl_records.proofs.EveryLaws.{none_some}
+use Rattle.atl_world.specs.Every.{Every}
+use Rattle.atl_world.proofs.EveryLaws.{none_some}
 
 -- ---- a value that is taken out
 

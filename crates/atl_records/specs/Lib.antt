@@ -1,7 +1,6 @@
 pub mod Amounts
 pub mod Books
 pub mod Events
-pub mod Every
 pub mod Grids
 pub mod Holdings
 pub mod Levels

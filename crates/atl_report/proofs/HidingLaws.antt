@@ -14,8 +14,8 @@ use Rattle.atl_world.specs.Worlds.{WorldValue}
 use Rattle.atl_world.proofs.SumLaws.{chosen-cons}
 use Rattle.atl_world.proofs.GeneralLaws.{key_itself, same_key, equal_itself}
 use Rattle.atl_records.specs.declared.records.Unit.{Unit}
-use Rattle.atl_records.specs.Every.{EachEntry}
-use Rattle.atl_records.proofs.EveryLaws.{each-from_every}
+use Rattle.atl_world.specs.Every.{EachEntry}
+use Rattle.atl_world.proofs.EveryLaws.{each-from_every}
 use Rattle.atl_campaign.specs.Good.{guards}
 use Rattle.atl_campaign.specs.Campaign.{CampaignValue, numbers_in_region, numbers_of_faction}
 use Rattle.atl_campaign.specs.KeptLists.{list_of}

@@ -14,13 +14,13 @@ use Rattle.atl_world.proofs.TrackLaws.{is_true}
 use Rattle.atl_world.proofs.GeneralLaws.{key_equality_is_symmetric, key_itself}
 use Rattle.atl_records.specs.declared.records.Region.{Region}
 use Rattle.atl_records.specs.declared.records.Unit.{Unit}
-use Rattle.atl_records.specs.Every.{EachEntry}
+use Rattle.atl_world.specs.Every.{EachEntry}
 use Rattle.atl_campaign.specs.Campaign.{CampaignValue, numbers_of_faction}
-use Rattle.atl_records.proofs.EveryLaws.{each-from_every}
+use Rattle.atl_world.proofs.EveryLaws.{each-from_every}
 use Rattle.atl_report.specs.Watching.{is_watching, sees_region}
 use Rattle.atl_report.specs.Gathering.{with_region, with_watched, with_all_watched}
 use mathlib.Core.Bool.{or-false}
-use Rattle.atl_campaign.proofs.SortedMapLaws.{above_compares_unequal}
+use Rattle.atl_containers.proofs.SortedMapLaws.{above_compares_unequal}
 
 -- ---- what holds of some entry
 

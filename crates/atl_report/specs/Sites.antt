@@ -6,7 +6,7 @@ use Rattle.std.specs.FinMap.{FinMap, get, insert}
 use Rattle.atl_world.specs.Worlds.{WorldValue}
 use Rattle.atl_records.specs.declared.records.Structure.{Structure}
 use Rattle.atl_records.specs.declared.records.Unit.{Unit}
-use Rattle.atl_records.specs.Every.{Every}
+use Rattle.atl_world.specs.Every.{Every}
 use Rattle.atl_campaign.specs.Campaign.{CampaignValue, numbers_in_region}
 use Rattle.atl_campaign.specs.KeptLists.{list_of}
 use Rattle.atl_report.specs.Sight.{structures_in}

@@ -23,17 +23,17 @@ use Rattle.atl_orders.specs.Mailing.{IsMailingOf, IsReadWith, Reading, AgreesOrM
 use Rattle.atl_records.specs.declared.event.Event.{Event}
 use Rattle.atl_records.specs.declared.records.Faction.{Faction}
 use Rattle.atl_campaign.specs.Covers.{MarksChanges}
-use Rattle.atl_records.specs.Every.{EachEntry, HasValue}
+use Rattle.atl_world.specs.Every.{EachEntry, HasValue}
 use Rattle.atl_campaign.specs.Good.{IsGood}
 use Rattle.atl_records.specs.Limits.{most_things}
 use Rattle.atl_campaign.specs.Marking.{mark_all_mail, mark_campaign_row, mark_report}
 use Rattle.atl_campaign.specs.Marks.{Marks}
 use Rattle.atl_campaign.specs.Campaign.{CampaignValue, MarkedCampaign, active, with_month, without_mail}
 use Rattle.atl_campaign.proofs.CoverLaws.{marks-trans}
-use Rattle.atl_records.proofs.EveryLaws.{each-from_every, sorted}
+use Rattle.atl_world.proofs.EveryLaws.{each-from_every, sorted}
 use Rattle.atl_campaign.proofs.GoodLaws.{IsGood-with_report}
 use Rattle.atl_campaign.proofs.PostLaws.{marks-month, marks-no_mail, marks-report}
-use Rattle.atl_campaign.proofs.SlotLaws.{keys_rise}
+use Rattle.atl_containers.proofs.SlotLaws.{keys_rise}
 use Rattle.atl_phase.specs.Month.{HaveOwnFactions, by_faction}
 use Rattle.atl_month.specs.Month.{after_month, month_of}
 use Rattle.atl_report.specs.Report.{report_of}

@@ -8,7 +8,7 @@ use Rattle.atl_world.specs.Sums.{map_values}
 use Rattle.atl_orders.specs.declared.fault.FaultyLine.{FaultyLine}
 use Rattle.atl_orders.specs.declared.mailing.Mailing.{Mailing}
 use Rattle.atl_orders.specs.Mailing.{IsMailingOf, IsReadWith, reading, reading_of}
-use Rattle.atl_records.specs.Every.{EachEntry, HasValue}
+use Rattle.atl_world.specs.Every.{EachEntry, HasValue}
 use Rattle.atl_records.specs.Limits.{last_month}
 use Rattle.atl_campaign.specs.Campaign.{CampaignValue}
 use Rattle.atl_service.specs.declared.closing.ReadMail.{ReadMail}

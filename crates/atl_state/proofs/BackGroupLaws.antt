@@ -5,11 +5,11 @@ use Rattle.std.specs.List.Sorted.{IsPermutation}
 use Rattle.std.specs.Ordering.{nat_cmp}
 use Rattle.std.specs.FinMap.{FinMap, get, entries}
 use Rattle.std.proofs.lemmas.Bool.{not-true, not_from_false}
-use Rattle.atl_records.specs.Every.{EachEntry, Every}
+use Rattle.atl_world.specs.Every.{EachEntry, Every}
 use Rattle.atl_campaign.specs.FromRows.{by_number}
 use Rattle.atl_campaign.specs.Rows.{rows_by}
 use Rattle.atl_campaign.proofs.ReadBackLaws.{each_permuted, each_back, by_number_is, each_appended, every_row, rows_every, rows_apart, entries_rise}
-use Rattle.atl_records.proofs.EveryLaws.{every-from_each, each-from_every}
+use Rattle.atl_world.proofs.EveryLaws.{every-from_each, each-from_every}
 use Rattle.atl_records.proofs.AmountListLaws.{all_append}
 use Rattle.atl_campaign.proofs.GroupLaws.{filter_apart, kept, unkept}
 use Rattle.atl_campaign.proofs.MapOfRowsLaws.{HaveDistinctNumbers, rows_found}

@@ -12,7 +12,7 @@ use Rattle.atl_records.specs.Limits.{most_u32}
 use Rattle.atl_rows.specs.declared.parts.StoredHas.{StoredHas}
 use Rattle.atl_records.specs.declared.records.Unit.{Unit}
 use Rattle.atl_campaign.specs.FromRows.{as_u32, is_of_unit_and_sort, things_had}
-use Rattle.atl_records.specs.Every.{Every}
+use Rattle.atl_world.specs.Every.{Every}
 use Rattle.atl_campaign.specs.RowRules.{has_key, HaveDistinctKeys}
 use Rattle.atl_campaign.specs.Rows.{is_zero, has_row, rows_of_sort, held_rows, has_rows}
 use Rattle.atl_campaign.proofs.ReadBackLaws.{each_permuted, written_is_read, written_fits_u32, apart_keys, each_appended, append_apart, flat_apart, entries_rise, keys_permuted, pos_is_injective}

@@ -11,7 +11,7 @@ use Rattle.atl_records.specs.Limits.{most_u32}
 use Rattle.atl_rows.specs.declared.parts.StoredMarket.{StoredMarket}
 use Rattle.atl_records.specs.declared.records.Region.{Region}
 use Rattle.atl_campaign.specs.FromRows.{as_u32, stocks_of}
-use Rattle.atl_records.specs.Every.{Every}
+use Rattle.atl_world.specs.Every.{Every}
 use Rattle.atl_campaign.specs.RowRules.{market_key, HaveDistinctKeys}
 use Rattle.atl_campaign.specs.Rows.{is_zero, market_row, stock_rows, market_rows}
 use Rattle.atl_state.proofs.BackGroupLaws.{groups_each, each_group, lines_each, each_line, lines_apart, amounts_back}

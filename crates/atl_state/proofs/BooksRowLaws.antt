@@ -22,7 +22,7 @@ use Rattle.atl_campaign.specs.Rows.{amounts_rows, books_row, books_rows}
 use Rattle.atl_records.proofs.AccountLaws.{account_total, cases_account, index_of_thing_at}
 use Rattle.atl_records.proofs.BookLaws.{AreBooks-no_amounts, AreBooks-with_amount, get-with_amount, listing_of, nonzero_fails_is_zero}
 use Rattle.atl_records.proofs.EveryEntryLaws.{entry_at, numbered_entry}
-use Rattle.atl_records.proofs.EveryLaws.{none_some}
+use Rattle.atl_world.proofs.EveryLaws.{none_some}
 use Rattle.atl_records.proofs.AmountListLaws.{entries-none}
 use Rattle.atl_campaign.proofs.HasLaws.{FitsU32, is_same_key, ties_itself}
 

@@ -5,8 +5,8 @@ use Rattle.std.specs.Ordering.{nat_cmp}
 use Rattle.std.specs.FinMap.{FinMap, find, entries, get-entries, is_sorted}
 use Rattle.atl_records.specs.declared.records.Faction.{Faction}
 use Rattle.atl_state.specs.Deciding.{JoinedNamesDiffer}
-use Rattle.atl_records.specs.Every.{Every}
-use Rattle.atl_records.proofs.EveryLaws.{none_some, each_of, later, first, not_below, sorted}
+use Rattle.atl_world.specs.Every.{Every}
+use Rattle.atl_world.proofs.EveryLaws.{none_some, each_of, later, first, not_below, sorted}
 
 names_in_entries_differ : (es : List (ℕ × Faction)) → is_sorted nat_cmp es ≡ true
     → ((n k : ℕ) (f g : Faction) → find nat_cmp n es ≡ Some f → find nat_cmp k es ≡ Some g → f.joined_as ≡ g.joined_as → n ≡ k)

@@ -24,7 +24,7 @@ use Rattle.atl_records.specs.Books.{no_amounts}
 use Rattle.atl_state.specs.Checking.{Fits}
 use Rattle.atl_campaign.specs.Founding.{thing_count}
 use Rattle.atl_campaign.specs.FromRows.{as_u32, as_u16, is_set, faction_of, stocks_of, region_of, structure_of, unit_of, by_number, with_books_rows, things_had, no_campaign_row, campaign_row_of, campaign_of}
-use Rattle.atl_records.specs.Every.{Every, HasValue}
+use Rattle.atl_world.specs.Every.{Every, HasValue}
 use Rattle.atl_campaign.specs.Good.{IsNumbered, IsGood}
 use Rattle.atl_records.specs.Holdings.{AreAmounts}
 use Rattle.atl_records.specs.Limits.{last_month, last_unit, men_limit, holding_limit, most_structures, most_days, most_u16, most_u32}
@@ -36,7 +36,7 @@ use Rattle.atl_campaign.proofs.ReadBackLaws.{each_permuted, written_is_read, wri
 use Rattle.atl_state.proofs.BackBooksLaws.{books_back}
 use Rattle.atl_state.proofs.BackHasLaws.{AreHad, goods_of, goods_back}
 use Rattle.atl_state.proofs.BackStockRowLaws.{AreStocked, stocks_each, market_keys, stocks_back}
-use Rattle.atl_records.proofs.EveryLaws.{every-from_each}
+use Rattle.atl_world.proofs.EveryLaws.{every-from_each}
 use Rattle.atl_campaign.proofs.HasLaws.{FitsU32, is_same_key}
 use Rattle.atl_campaign.proofs.MapOfRowsLaws.{HaveDistinctNumbers-keys}
 use Rattle.atl_campaign.proofs.RuleLaws.{each_numbered, every_before}

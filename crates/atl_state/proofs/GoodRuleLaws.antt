@@ -30,7 +30,7 @@ use Rattle.atl_rows.specs.declared.parts.StoredFaction.{StoredFaction}
 use Rattle.atl_records.specs.declared.records.Faction.{Faction}
 use Rattle.atl_records.specs.Books.{amount_in, entry_index, thing_index, IsWithin}
 use Rattle.atl_state.specs.Checking.{KeepsRule, IsWithoutMarkets, Fits, Checks, GivesBack}
-use Rattle.atl_records.specs.Every.{EachEntry}
+use Rattle.atl_world.specs.Every.{EachEntry}
 use Rattle.atl_state.specs.Deciding.{JoinedNamesDiffer}
 use Rattle.atl_campaign.specs.Founding.{thing_count}
 use Rattle.atl_campaign.specs.FromRows.{as_u32, faction_of, region_of, structure_of, unit_of, campaign_row_of, campaign_of}
@@ -50,7 +50,7 @@ use Rattle.atl_state.proofs.BackBooksLaws.{listed_amount_is_amount_in, lines_eac
 use Rattle.atl_state.proofs.BackHasLaws.{has_each, has_keys, goods_of}
 use Rattle.atl_state.proofs.DifferLaws.{entries_differ}
 use Rattle.atl_state.proofs.GoodRowLaws as row
-use Rattle.atl_campaign.proofs.KeyLaws.{IsDistinct-map}
+use Rattle.atl_containers.proofs.KeyLaws.{IsDistinct-map}
 
 -- ---- tests that pass
 

@@ -14,10 +14,10 @@ use Rattle.atl_world.specs.Sums.{numbers_where}
 use Rattle.atl_world.proofs.SumLaws.{chosen-cons}
 use Rattle.atl_records.specs.declared.records.Unit.{Unit}
 use Rattle.atl_campaign.specs.Campaign.{CampaignValue, numbers_in_region}
-use Rattle.atl_records.specs.Every.{Every, HasValue}
+use Rattle.atl_world.specs.Every.{Every, HasValue}
 use Rattle.atl_campaign.specs.Good.{AreOfOneFaction, guards}
 use Rattle.atl_state.specs.Deciding.{agree, guard_of, one_holder}
-use Rattle.atl_records.proofs.EveryLaws.{none_some, passes-listed}
+use Rattle.atl_world.proofs.EveryLaws.{none_some, passes-listed}
 
 -- ---- a number that is listed
 

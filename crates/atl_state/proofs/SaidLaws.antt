@@ -33,7 +33,7 @@ use Rattle.atl_records.specs.declared.records.Unit.{Unit}
 use Rattle.atl_records.specs.Books.{no_amounts}
 use Rattle.atl_campaign.specs.Founding.{thing_count}
 use Rattle.atl_campaign.specs.FromRows.{as_u32, as_u16, is_set, is_of_unit_and_sort, faction_of, region_of, structure_of, unit_of, things_had, by_number, with_books_rows, no_campaign_row, campaign_row_of, campaign_of}
-use Rattle.atl_records.specs.Every.{Every, HasValue}
+use Rattle.atl_world.specs.Every.{Every, HasValue}
 use Rattle.atl_campaign.specs.Good.{IsPlaced, IsBuilt, AreKnown, AreDays}
 use Rattle.atl_records.specs.Limits.{last_month, last_unit, men_limit, holding_limit, most_structures, entry_count, entries_in, most_u16, most_u32}
 use Rattle.atl_campaign.specs.RowRules.{one_key, is_from, is_one_campaign_row, are_of_format, campaign_row_in_range, faction_in_range, region_in_range, unit_in_range, has_in_range, structure_in_range, books_in_range, books_bound, market_in_range, is_within, faction_key, region_key, unit_key, structure_key, mail_key, report_key, AreRowsInRange, is_of_unit, is_of_market, is_entry_in, is_booked}
@@ -47,7 +47,8 @@ use Rattle.atl_campaign.proofs.GroupLaws.{unkept}
 use Rattle.atl_campaign.proofs.HasLaws.{FitsU32, KeyFitsU32, IsExactGoods, IsOfUnits, is_same_key, ties_itself, things_apart, has_rows_are_rewritten}
 use Rattle.atl_campaign.proofs.MarketLaws.{market_known}
 use Rattle.atl_state.proofs.StockRowLaws as market
-use Rattle.atl_campaign.proofs.MapOfRowsLaws.{HaveDistinctNumbers, HasNumber, HaveDistinctNumbers-keys, rows_order, rows_there, rows_found, each_row, row_of, each_passes, each_follows_from_two, each_follows}
+use Rattle.atl_campaign.proofs.MapOfRowsLaws.{HaveDistinctNumbers, HasNumber, HaveDistinctNumbers-keys, rows_order, rows_there, rows_found, each_row, row_of, each_passes}
+use Rattle.atl_world.proofs.GeneralLaws.{each_follows_from_two, each_follows}
 
 -- ---- numbers that are read as they are
 

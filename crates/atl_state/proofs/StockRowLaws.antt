@@ -15,8 +15,8 @@ use Rattle.atl_campaign.specs.Rows.{is_zero, market_row, stock_rows, market_rows
 use Rattle.atl_campaign.proofs.GroupLaws as group
 use Rattle.atl_campaign.proofs.GroupLaws.{gathered, lines_order}
 use Rattle.atl_campaign.proofs.HasLaws.{FitsU32, is_same_key, ties_itself}
-use Rattle.atl_campaign.proofs.MapOfRowsLaws.{HaveDistinctNumbers, HasNumber, each_follows, flat_order}
-use Rattle.atl_world.proofs.GeneralLaws.{is_equal}
+use Rattle.atl_campaign.proofs.MapOfRowsLaws.{HaveDistinctNumbers, HasNumber, flat_order}
+use Rattle.atl_world.proofs.GeneralLaws.{is_equal, each_follows}
 
 -- the region and the item of a row of `market` fit 32 bits, so both are read as they are
 pub record HasWholeKey (m : StoredMarket) : Type 0 where

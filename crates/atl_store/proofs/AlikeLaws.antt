@@ -10,7 +10,7 @@ use Rattle.atl_world.specs.Worlds.{WorldValue}
 use Rattle.atl_records.specs.Books.{Account, amount_in, AreBooks, BooksValue, entry_index, thing_index}
 use Rattle.atl_campaign.specs.Founding as founding
 use Rattle.atl_campaign.specs.Rows.{flag}
-use Rattle.atl_records.specs.Every.{Every}
+use Rattle.atl_world.specs.Every.{Every}
 use Rattle.atl_campaign.specs.Good.{IsGood}
 use Rattle.atl_campaign.specs.Campaign.{CampaignValue}
 use Rattle.atl_records.specs.declared.books.BooksEntry.{BooksEntry}

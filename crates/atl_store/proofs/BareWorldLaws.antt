@@ -9,7 +9,7 @@ use Rattle.atl_world.specs.Worlds.{WorldValue, is_land, without_market, without_
 use Rattle.atl_world.specs.declared.world.RegionPlan.{RegionPlan}
 use Rattle.atl_world.proofs.MappedLaws.{get-mapped}
 use Rattle.atl_campaign.specs.Campaign.{CampaignValue}
-use Rattle.atl_records.specs.Every.{HasValue}
+use Rattle.atl_world.specs.Every.{HasValue}
 use Rattle.atl_campaign.specs.Good.{HasNoStocks, IsGood}
 use Rattle.atl_records.specs.declared.records.Region.{Region}
 

@@ -18,7 +18,7 @@ use Rattle.atl_sql.proofs.KeepLaws.{on_ok, if_err}
 use Rattle.atl_sql.proofs.CauseLaws.{gives, gives_after, gives_until, gives_begun, property_of_equal_error}
 use Rattle.atl_sql.proofs.CarryLaws.{carries_then}
 use Rattle.atl_sql.proofs.WriteLaws.{on_ok_of_error, HandsOn, weaker, two_steps}
-use Rattle.atl_campaign.proofs.SlotLaws.{on_err}
+use Rattle.atl_containers.proofs.SlotLaws.{on_err}
 
 -- two steps inside a transaction, one after the other, are one step that does both
 pub inside_then : (Before : Database → Type 0) (First Second : Database → Database → Type 0) (a b c : State)

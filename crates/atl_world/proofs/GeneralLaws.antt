@@ -1,5 +1,6 @@
--- General laws of truth values, numbers and keys of maps, which other crates use, too.
-use Rattle.std.proofs.Common.{◌≡◌, ◌≢◌, ◌==◌, ◌∙◌, ◌+◌, ◌≤◌, ℕ, Bool, cond, true, false, T, nat_eq, refl, sym, arith}
+-- General laws of truth values, numbers, keys of maps and lists, which other crates use, too.
+use Rattle.std.proofs.Common.{◌≡◌, ◌≢◌, ◌==◌, ◌∙◌, ◌+◌, ◌≤◌, ℕ, Bool, cond, true, false, T, List, [], ◌∷◌, nat_eq, refl, sym, arith}
+use Rattle.std.specs.List.{AllByRecursion}
 use Rattle.std.specs.Ordering.{nat_cmp, eq_by_cmp}
 use Rattle.std.specs.Cmp.{nat_cmp_total, unsigned_tied}
 use Rattle.std.specs.FinMap.{FinMap, insert, len, len-insert, contains_key}
@@ -36,3 +37,13 @@ chosen_is_at_most_next false n = omega arith
 
 pub insert_adds_at_most_one : {V : Type 0} (m : FinMap nat_cmp V) (k : ℕ) (v : V) → len (insert m k v) ≤ len m + 1
 insert_adds_at_most_one m k v = rw (len-insert nat_cmp_total m k v) (chosen_is_at_most_next (contains_key m k) (len m))
+
+pub each_follows_from_two : {R : Type 0} (P Q S : R → Type 0) → ((r : R) → P r → Q r → S r) → (rows : List R)
+    → AllByRecursion P rows → AllByRecursion Q rows → AllByRecursion S rows
+each_follows_from_two P Q S f [] p q = tt
+each_follows_from_two P Q S f (r ∷ rows) p q = (f r p.0 q.0, each_follows_from_two P Q S f rows p.1 q.1)
+
+pub each_follows : {R : Type 0} (P Q : R → Type 0) → ((r : R) → P r → Q r) → (rows : List R) → AllByRecursion P rows
+    → AllByRecursion Q rows
+each_follows P Q f [] p = tt
+each_follows P Q f (r ∷ rows) p = (f r p.0, each_follows P Q f rows p.1)

@@ -12,3 +12,4 @@ pub mod NameLaws
 pub mod MappedLaws
 pub mod TrackLaws
 pub mod SameLaws
+pub mod EveryLaws

@@ -15,3 +15,4 @@ pub mod Tracking
 pub mod RoomySets
 pub mod SortedNumbers
 pub mod Verbs
+pub mod Every

@@ -1,6 +1,6 @@
 //! Rule 6: days of study. See docs/RULES.md, "Levels and loads".
 ghost use Rattle.std.specs.Prelude.{◌≤◌, ◌*◌, ◌↔◌, IsTrue};
-ghost use Rattle.atl_records.specs.Every.{Every};
+ghost use Rattle.atl_world.specs.Every.{Every};
 ghost use Rattle.atl_campaign.specs.Good.{AreDays};
 ghost use Rattle.atl_records.specs.Limits.{most_days};
 

@@ -1,7 +1,7 @@
 //! Rule 10: at most one faction guards a region.
 ghost use Rattle.std.specs.Prelude.{◌≡◌, None, ◌↔◌, IsTrue};
 ghost use Rattle.atl_state.specs.Deciding.{agree, guard_of, one_holder};
-ghost use Rattle.atl_records.specs.Every.{Every, HasValue};
+ghost use Rattle.atl_world.specs.Every.{Every, HasValue};
 ghost use Rattle.atl_campaign.specs.Good.{AreOfOneFaction, guards};
 ghost use Rattle.atl_campaign.specs.Campaign.{numbers_in_region};
 

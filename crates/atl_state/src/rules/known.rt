@@ -3,7 +3,7 @@ ghost use Rattle.std.specs.Prelude.{◌≡◌, ◌≢◌, ◌<◌, ◌↔◌, �
 ghost use Rattle.std.specs.FinMap as map;
 ghost use Rattle.atl_world.specs.ByNumber.{market_of};
 ghost use Rattle.atl_records.specs.declared.records.Structure as builds;
-ghost use Rattle.atl_records.specs.Every.{EachEntry, Every, HasValue};
+ghost use Rattle.atl_world.specs.Every.{EachEntry, Every, HasValue};
 ghost use Rattle.atl_campaign.specs.Good.{IsPlaced, IsBuilt, ArePosted, AreKnown, AreOfMarkets};
 
 use atl_campaign::Campaign;

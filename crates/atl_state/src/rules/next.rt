@@ -1,7 +1,7 @@
 //! Rule 5: the numbers that factions, structures and units get next.
 ghost use Rattle.std.specs.Prelude.{◌≡◌, ◌≤◌, ◌<◌, ◌+◌, ℕ, None, ◌↔◌, IsTrue};
 ghost use Rattle.std.specs.FinMap as map;
-ghost use Rattle.atl_records.specs.Every.{EachEntry};
+ghost use Rattle.atl_world.specs.Every.{EachEntry};
 ghost use Rattle.atl_campaign.specs.Good.{AreNumbered, IsNumbered};
 
 use atl_campaign::Campaign;

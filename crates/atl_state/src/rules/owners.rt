@@ -3,7 +3,7 @@ ghost use Rattle.std.specs.Prelude.{◌≡◌, ◌≢◌, Some, ◌↔◌, IsTru
 ghost use Rattle.std.specs.FinMap as map;
 ghost use Rattle.atl_records.specs.declared.records.Structure as builds;
 ghost use Rattle.atl_state.specs.Deciding.{HasOwnerInside};
-ghost use Rattle.atl_records.specs.Every.{Every};
+ghost use Rattle.atl_world.specs.Every.{Every};
 ghost use Rattle.atl_campaign.specs.Good.{AreOwned};
 
 use atl_campaign::Campaign;

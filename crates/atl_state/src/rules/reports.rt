@@ -1,6 +1,6 @@
 //! The part of rule 12 that every faction has a report.
 ghost use Rattle.std.specs.Prelude.{◌↔◌, IsTrue};
-ghost use Rattle.atl_records.specs.Every.{HasValue};
+ghost use Rattle.atl_world.specs.Every.{HasValue};
 ghost use Rattle.atl_campaign.specs.Good.{AreReported};
 
 use atl_campaign::Campaign;

@@ -1,6 +1,6 @@
 //! Rule 9: units on water are inside ships, and structures on water are complete ships.
 ghost use Rattle.std.specs.Prelude.{◌≡◌, false, true, ◌↔◌, IsTrue};
-ghost use Rattle.atl_records.specs.Every.{Every};
+ghost use Rattle.atl_world.specs.Every.{Every};
 ghost use Rattle.atl_campaign.specs.Good.{AreAfloat, IsAboard, is_ship};
 ghost use Rattle.atl_world.specs.ByNumber.{is_land_at, size_of};
 

@@ -1,7 +1,7 @@
 use Rattle.std.proofs.Common.{sym, ◌∙◌}
 use Rattle.std.specs.Ordering.{nat_cmp}
 use Rattle.std.specs.FinMap.{get-empty}
-use Rattle.atl_records.proofs.EveryLaws.{none_some}
+use Rattle.atl_world.proofs.EveryLaws.{none_some}
 use Rattle.atl_instant.proofs.form.new_unit.Goals as goal
 
 -- a new unit holds no items, so what `Holding::new` requires of its items holds

@@ -1,5 +1,5 @@
 use Rattle.std.proofs.Common.{◌==◌, true, false, sym, ap, ◌∙◌}
-use Rattle.atl_records.proofs.EveryLaws.{other_number}
+use Rattle.atl_world.proofs.EveryLaws.{other_number}
 use Rattle.atl_instant.proofs.RegionGuardLaws.{found_fault_is}
 use Rattle.atl_instant.proofs.guard.guard_fault.Goals as goal
 

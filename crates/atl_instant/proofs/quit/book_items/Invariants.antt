@@ -1,7 +1,7 @@
 use Rattle.std.proofs.Common.{◌≡◌, ◌<◌, length, drop}
 use Rattle.std.specs.Prelude.{fold}
 use Rattle.atl_campaign.specs.Covers.{MarksChanges}
-use Rattle.atl_records.specs.Every.{EachEntry}
+use Rattle.atl_world.specs.Every.{EachEntry}
 use Rattle.atl_campaign.specs.Founding.{thing_count}
 use Rattle.atl_phase.specs.Bounds.{HaveRoom, items_bound}
 use Rattle.atl_instant.specs.Quit.{with_item_loss}

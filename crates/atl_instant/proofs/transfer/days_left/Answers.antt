@@ -1,7 +1,7 @@
 use Rattle.std.proofs.Common.{◌≡◌, ◌≤◌, ◌*◌, rules}
 use Rattle.std.specs.FinMap.{entries}
 use Rattle.atl_records.specs.Limits.{most_days}
-use Rattle.atl_records.proofs.EveryLaws.{each-from_every}
+use Rattle.atl_world.proofs.EveryLaws.{each-from_every}
 use Rattle.atl_instant.proofs.transfer.days_left.Goals as goal
 
 pub loop-skill-init : goal.loop-skill-init

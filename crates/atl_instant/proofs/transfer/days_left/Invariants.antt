@@ -1,5 +1,5 @@
 use Rattle.std.proofs.Common.{◌≡◌, ◌≤◌, ◌-◌, ◌*◌, ◌++◌, map}
-use Rattle.atl_records.specs.Every.{EachEntry}
+use Rattle.atl_world.specs.Every.{EachEntry}
 use Rattle.atl_records.specs.Limits.{most_days}
 use Rattle.atl_instant.specs.SkillDays.{left_list}
 use Rattle.atl_instant.specs.Transfer.{days_going}

@@ -1,7 +1,7 @@
 use Rattle.std.proofs.Common.{◌≡◌, ◌≤◌, ◌*◌, rules, arith}
 use Rattle.std.specs.FinMap.{entries}
 use Rattle.atl_records.specs.Limits.{most_days}
-use Rattle.atl_records.proofs.EveryLaws.{each-from_every}
+use Rattle.atl_world.proofs.EveryLaws.{each-from_every}
 use Rattle.atl_instant.proofs.TransferLaws.{days_within}
 use Rattle.atl_instant.proofs.transfer.days_raised.Goals as goal
 

@@ -3,7 +3,7 @@ use Rattle.atl_phase.specs.PhaseOrders.{Task, task_of}
 use Rattle.atl_phase.proofs.FoldLaws.{each_mapped}
 use Rattle.std.specs.List.{filter_map}
 use Rattle.atl_world.specs.Limits.{most_amount}
-use Rattle.atl_records.proofs.EveryLaws.{every-empty}
+use Rattle.atl_world.proofs.EveryLaws.{every-empty}
 use Rattle.atl_pots.specs.Puts.{with_entries}
 use Rattle.atl_pots.proofs.PotLaws.{put_in_turn}
 use Rattle.atl_market.specs.PotPhase.{item_by, want_by}

@@ -2,9 +2,9 @@ use Rattle.std.proofs.Common.{rules, ◌≡◌, ◌∷◌, ◌≤◌, ℕ, List,
 use Rattle.std.specs.FinMap.{entries}
 use Rattle.atl_world.specs.Sums.{numbers_among}
 use Rattle.atl_records.specs.declared.records.Unit.{Unit}
-use Rattle.atl_records.specs.Every.{EachEntry}
+use Rattle.atl_world.specs.Every.{EachEntry}
 use Rattle.atl_campaign.specs.Owners.{first_or_zero}
-use Rattle.atl_records.proofs.EveryLaws.{each-from_every}
+use Rattle.atl_world.proofs.EveryLaws.{each-from_every}
 use Rattle.atl_month.specs.Receivers.{or_if_zero, receiver_in, with_receiver_of}
 use Rattle.atl_month.specs.Sweep.{receives}
 use Rattle.atl_month.proofs.ReceiverLaws.{all_noted, noted_goes_on, nothing_noted}

@@ -1,6 +1,6 @@
 use Rattle.std.proofs.Common.{◌≡◌, ◌≤◌, ℕ}
 use Rattle.atl_world.specs.Sums.{numbers_among}
-use Rattle.atl_records.specs.Every.{EachEntry}
+use Rattle.atl_world.specs.Every.{EachEntry}
 use Rattle.atl_campaign.specs.Owners.{first_or_zero}
 use Rattle.atl_month.specs.Receivers.{or_if_zero, receiver_in}
 use Rattle.atl_month.specs.Sweep.{receiver, receives}

@@ -3,9 +3,9 @@ use Rattle.std.specs.Prelude.{List, fold}
 use Rattle.std.specs.FinMap.{entries, get}
 use Rattle.atl_world.specs.Limits.{most_amount}
 use Rattle.atl_world.specs.declared.world.Market.{Market}
-use Rattle.atl_records.specs.Every.{EachEntry, HasValue}
+use Rattle.atl_world.specs.Every.{EachEntry, HasValue}
 use Rattle.atl_campaign.proofs.CoverLaws.{marks-refl, marks-trans}
-use Rattle.atl_records.proofs.EveryLaws.{sorted}
+use Rattle.atl_world.proofs.EveryLaws.{sorted}
 use Rattle.atl_phase.specs.Bounds.{HaveRoom}
 use Rattle.atl_phase.proofs.MeaningLaws.{room_less}
 use Rattle.atl_month.specs.Restock.{after_market_restock, after_restock, stocks_by}

@@ -2,7 +2,7 @@ use Rattle.std.proofs.Common.{◌≡◌}
 use Rattle.std.specs.Prelude.{fold}
 use Rattle.std.specs.FinMap.{entries}
 use Rattle.atl_campaign.specs.Covers.{MarksChanges}
-use Rattle.atl_records.specs.Every.{EachEntry}
+use Rattle.atl_world.specs.Every.{EachEntry}
 use Rattle.atl_campaign.specs.Good.{IsSteady}
 use Rattle.atl_phase.specs.Bounds.{HaveRoom}
 use Rattle.atl_month.specs.Restock.{after_market_restock, after_restock, markets_of}

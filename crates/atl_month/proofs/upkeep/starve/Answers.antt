@@ -2,7 +2,7 @@ use Rattle.std.proofs.Common.{◌≡◌, ◌≤◌, ◌-◌, Some, sym, ap, subs
 use Rattle.std.specs.FinMap.{get}
 use Rattle.std.proofs.lemmas.Option.{same_Some}
 use Rattle.std.proofs.lemmas.Result.{on_ok_weaker}
-use Rattle.atl_records.specs.Every.{Every}
+use Rattle.atl_world.specs.Every.{Every}
 use Rattle.atl_records.specs.Holdings.{HoldingValue}
 use Rattle.atl_campaign.specs.Lending.{with_holding_at}
 use Rattle.atl_campaign.specs.Marks.{Marks}

@@ -1,6 +1,6 @@
 use Rattle.std.proofs.Common.{◌≡◌, ◌<◌, ◌++◌, length}
 use Rattle.std.specs.FinMap.{entries}
-use Rattle.atl_records.specs.Every.{EachEntry}
+use Rattle.atl_world.specs.Every.{EachEntry}
 use Rattle.atl_phase.proofs.items.items_of.Given as goal
 
 -- before each item: the list and the items still to come are all items of the holding, and those to come are of the

@@ -8,7 +8,7 @@ use Rattle.atl_campaign.specs.Lending.{with_holding_at, with_holding}
 use Rattle.atl_records.specs.Limits.{most_days}
 use Rattle.atl_campaign.specs.Campaign.{CampaignValue}
 use Rattle.atl_records.specs.declared.records.Unit.{Unit}
-use Rattle.atl_records.proofs.EveryLaws.{every-empty}
+use Rattle.atl_world.proofs.EveryLaws.{every-empty}
 use Rattle.atl_campaign.proofs.HoldingLaws.{MayHaveWithoutNewGuard, of_one_faction_kept, steady-new_holding}
 use Rattle.atl_phase_tests.proofs.settings.empty_unit.Goals as goal
 

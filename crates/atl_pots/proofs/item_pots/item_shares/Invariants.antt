@@ -1,7 +1,7 @@
 use Rattle.std.proofs.Common.{◌≡◌}
 use Rattle.std.specs.FinMap.{empty, entries}
 use Rattle.std.specs.List.{flat_map}
-use Rattle.atl_records.specs.Every.{EachEntry}
+use Rattle.atl_world.specs.Every.{EachEntry}
 use Rattle.atl_pots.specs.Pots.{AreWants}
 use Rattle.atl_pots.specs.Puts.{with_entries}
 use Rattle.atl_pots.specs.WantGroups.{grouped, shares_of_item}

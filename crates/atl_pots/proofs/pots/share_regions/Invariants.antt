@@ -1,6 +1,6 @@
 use Rattle.std.proofs.Common.{◌≡◌}
 use Rattle.std.specs.List.{flat_map}
-use Rattle.atl_records.specs.Every.{EachEntry}
+use Rattle.atl_world.specs.Every.{EachEntry}
 use Rattle.atl_pots.specs.Pots.{AreWants}
 use Rattle.atl_pots.specs.Puts.{with_entries}
 use Rattle.atl_pots.specs.WantGroups.{all_region_shares, region_shares}

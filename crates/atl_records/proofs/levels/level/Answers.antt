@@ -3,7 +3,7 @@ use Rattle.std.specs.Prelude.{if◌then◌else◌}
 use Rattle.atl_world.specs.Limits.{last_level}
 use Rattle.atl_records.specs.Levels.{greatest, days_for, level_of}
 use Rattle.atl_records.proofs.LevelLaws.{greatest_here, greatest_below, unreached_level_is_above_0}
-use Rattle.atl_records.proofs.EveryLaws.{other_number}
+use Rattle.atl_world.proofs.EveryLaws.{other_number}
 use Rattle.atl_records.proofs.levels.level.Goals as goal
 
 pub loop-level-preserved : goal.loop-level-preserved

@@ -1,7 +1,7 @@
 use Rattle.std.proofs.Common.{rules, ◌≡◌, subst, sym}
 use Rattle.std.specs.FinMap.{empty, insert}
-use Rattle.atl_records.specs.Every.{Every}
-use Rattle.atl_records.proofs.EveryLaws.{every-empty, every-insert}
+use Rattle.atl_world.specs.Every.{Every}
+use Rattle.atl_world.proofs.EveryLaws.{every-empty, every-insert}
 use Rattle.atl_report.specs.Sites.{AreLevels}
 use Rattle.atl_report.proofs.region_units.levels_of.Goals as goal
 

@@ -1,4 +1,4 @@
-use Rattle.atl_records.specs.Every.{Every}
+use Rattle.atl_world.specs.Every.{Every}
 use Rattle.atl_report.specs.Sites.{AreLevels}
 use Rattle.atl_report.proofs.region_units.levels_of.Given as goal
 

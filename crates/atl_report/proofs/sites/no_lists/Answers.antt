@@ -1,7 +1,7 @@
 use Rattle.std.proofs.Common.{rules, ◌≡◌, subst, sym}
 use Rattle.std.specs.FinMap.{empty}
-use Rattle.atl_records.specs.Every.{Every}
-use Rattle.atl_records.proofs.EveryLaws.{every-empty}
+use Rattle.atl_world.specs.Every.{Every}
+use Rattle.atl_world.proofs.EveryLaws.{every-empty}
 use Rattle.atl_report.specs.Sites.{AreLevels}
 use Rattle.atl_report.proofs.sites.no_lists.Goals as goal
 

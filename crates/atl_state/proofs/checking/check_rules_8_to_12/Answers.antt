@@ -1,5 +1,5 @@
 use Rattle.std.proofs.Common.{sym, subst}
-use Rattle.atl_records.specs.Every.{Every, HasValue}
+use Rattle.atl_world.specs.Every.{Every, HasValue}
 use Rattle.atl_campaign.specs.Good.{AreOwned, AreAfloat, AreOfOneFaction, guards, HasValidMail, AreReported}
 use Rattle.atl_campaign.specs.Campaign.{CampaignValue}
 use Rattle.atl_state.specs.declared.checking.Rule.TheVariants.{Owners, Water, Guards, Books, Mail}

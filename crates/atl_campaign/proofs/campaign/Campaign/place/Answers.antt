@@ -2,7 +2,7 @@ use Rattle.std.proofs.Common.{◌≡◌, ◌==◌, Some, sym, ap, ◌∙◌}
 use Rattle.std.specs.FinMap.{get}
 use Rattle.atl_campaign.specs.Marking.{handed_marked, put_marked}
 use Rattle.atl_campaign.specs.Campaign.{MarkedCampaign}
-use Rattle.atl_records.proofs.EveryLaws.{same_number, other_number}
+use Rattle.atl_world.proofs.EveryLaws.{same_number, other_number}
 use Rattle.atl_campaign.proofs.OwnerLaws.{place-what, place_none, place_stays, place_leaves}
 use Rattle.atl_campaign.proofs.campaign.Campaign.place.Goals as goal
 

@@ -4,7 +4,7 @@ use Rattle.std.specs.Ordering.{nat_cmp}
 use Rattle.atl_world.proofs.TrackLaws.{fits-marked, remove_none}
 use Rattle.atl_records.specs.declared.records.Unit.{Unit}
 use Rattle.atl_campaign.specs.Roster.{Roster, without_unit_found}
-use Rattle.atl_campaign.proofs.IndexLaws.{not_some_is_none}
+use Rattle.atl_containers.proofs.IndexLaws.{not_some_is_none}
 use Rattle.atl_campaign.proofs.UnitLaws.{AreUnits-gone}
 use Rattle.atl_campaign.proofs.units.Units.remove.Goals as goal
 

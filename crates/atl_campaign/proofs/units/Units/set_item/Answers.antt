@@ -7,7 +7,7 @@ use Rattle.atl_world.specs.Groups.{group_of}
 use Rattle.atl_world.proofs.SumLaws.{put_same, put_same_err}
 use Rattle.atl_world.proofs.TrackLaws.{fits-marked}
 use Rattle.atl_records.specs.Holdings.{HoldingValue}
-use Rattle.atl_campaign.proofs.SlotLaws.{on_err}
+use Rattle.atl_containers.proofs.SlotLaws.{on_err}
 use Rattle.atl_campaign.specs.Marks.{with_thing}
 use Rattle.atl_campaign.specs.Roster.{Roster}
 use Rattle.atl_campaign.proofs.UnitLaws.{same_values, with_item_again, AreUnits-item}

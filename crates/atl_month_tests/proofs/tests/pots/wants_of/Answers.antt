@@ -2,7 +2,7 @@ use Rattle.std.proofs.Common.{◌≤◌, ℕ, subst, sym, ◌∙◌, arith}
 use Rattle.std.specs.Ordering.{nat_cmp}
 use Rattle.std.specs.FinMap.{FinMap}
 use Rattle.atl_pots.specs.Pots.{AreWants}
-use Rattle.atl_records.proofs.EveryLaws.{every-empty, every-insert}
+use Rattle.atl_world.proofs.EveryLaws.{every-empty, every-insert}
 use Rattle.atl_month_tests.proofs.tests.pots.wants_of.Goals as goal
 use Rattle.atl_month_tests.proofs.tests.pots.wants_of.Goals.{in-Some+in_ok-insert, in_default}
 

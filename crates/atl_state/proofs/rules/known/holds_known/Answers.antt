@@ -1,6 +1,6 @@
 use Rattle.std.proofs.Common.{◌≡◌, ◌<◌, ℕ, false, length, sym, ◌∙◌, rules}
 use Rattle.std.proofs.lemmas.Bool.{false≢true}
-use Rattle.atl_records.proofs.EveryLaws.{every-from_each, each-from_every}
+use Rattle.atl_world.proofs.EveryLaws.{every-from_each, each-from_every}
 use Rattle.atl_state.proofs.rules.known.holds_known.Goals as goal
 
 abbrev IsBelow : ℕ → ℕ → ℕ → Type 0

@@ -1,7 +1,7 @@
 use Rattle.std.proofs.Common.{◌<◌, rules}
 use Rattle.std.specs.Bool.{Decides}
 use borrow.Author.Tests.{tests}
-use Rattle.atl_records.specs.Every.{Every}
+use Rattle.atl_world.specs.Every.{Every}
 use Rattle.atl_campaign.proofs.RuleLaws.{every_by_all, free_from_next, every_before}
 use Rattle.atl_state.proofs.rules.next.are_units_before.Goals as goal
 

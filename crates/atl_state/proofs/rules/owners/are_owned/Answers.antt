@@ -4,7 +4,7 @@ use Rattle.std.specs.FinMap.{get}
 use Rattle.atl_records.specs.declared.records.Structure.{Structure}
 use Rattle.atl_campaign.specs.Campaign.{CampaignValue}
 use Rattle.atl_state.specs.Deciding.{HasOwnerInside}
-use Rattle.atl_records.specs.Every.{Every}
+use Rattle.atl_world.specs.Every.{Every}
 use Rattle.atl_campaign.specs.Good.{AreOwned}
 use Rattle.atl_state.proofs.rules.owners.are_owned.Goals as goal
 

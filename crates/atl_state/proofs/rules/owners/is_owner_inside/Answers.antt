@@ -2,7 +2,7 @@ use Rattle.std.proofs.Common.{◌≡◌, Some, refl, sym, ap, ◌∙◌}
 use Rattle.std.proofs.lemmas.Bool.{false≢true}
 use Rattle.std.proofs.lemmas.Bool.Decides.{Decides-eqb}
 use Rattle.atl_records.specs.declared.records.Unit.{Unit}
-use Rattle.atl_records.proofs.EveryLaws.{none_some}
+use Rattle.atl_world.proofs.EveryLaws.{none_some}
 use Rattle.atl_state.proofs.rules.owners.is_owner_inside.Goals as goal
 
 same_unit : (u v : Unit) → Some u ≡ Some v → u ≡ v

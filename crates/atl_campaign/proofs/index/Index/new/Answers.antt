@@ -1,5 +1,0 @@
-use Rattle.atl_campaign.proofs.IndexLaws.{sorted-none}
-use Rattle.atl_campaign.proofs.index.Index.new.Goals as goal
-
-pub invariant_of-result : goal.invariant_of-result
-invariant_of-result c = rw c.new.ensures sorted-none

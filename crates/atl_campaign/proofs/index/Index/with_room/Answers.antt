@@ -1,5 +1,0 @@
-use Rattle.atl_campaign.proofs.IndexLaws.{sorted-none}
-use Rattle.atl_campaign.proofs.index.Index.with_room.Goals as goal
-
-pub invariant_of-result : goal.invariant_of-result
-invariant_of-result c = rw c.in_ok-with_room.ensures sorted-none

@@ -1,0 +1,7 @@
+pub mod GapVecLaws
+pub mod IndexLaws
+pub mod SlotLaws
+pub mod OrderedLaws
+pub mod SortedLaws
+pub mod KeyLaws
+pub mod SortedMapLaws

@@ -1,0 +1,4 @@
+pub mod Ordered
+pub mod Index
+pub mod Slots
+pub mod SlotLending
