@@ -8,7 +8,7 @@ use Rattle.std.proofs.lemmas.Bool.Decides.{nat_tests}
 use Rattle.std.proofs.lemmas.List.Sorted.{IsPermutation-refl, IsPermutation-sym, IsPermutation-trans, IsPermutation-append, IsPermutation-append_right, IsPermutation-filter_both}
 use Rattle.atl_campaign.specs.FromRows.{by_number}
 use Rattle.atl_campaign.specs.Rows.{rows_by}
-use Rattle.atl_containers.proofs.KeyLaws.{IsDistinct-map, IsDistinct-of_map}
+use Rattle.atl_world.proofs.KeyLaws.{IsDistinct-map, IsDistinct-of_map}
 use Rattle.atl_campaign.proofs.MapOfRowsLaws.{HaveDistinctNumbers, HaveDistinctNumbers-keys, HasNumber, flat_order}
 use Rattle.atl_world.proofs.GeneralLaws.{each_follows}
 

@@ -24,7 +24,7 @@ use Rattle.atl_campaign.proofs.AssemblyLaws.{min_small}
 use Rattle.atl_world.proofs.EveryLaws.{none_some, every-empty, every-insert, every-from_each, each-from_every, sorted}
 use Rattle.atl_records.proofs.AmountListLaws.{all_append}
 use Rattle.atl_campaign.proofs.HasLaws.{FitsU32, is_same_key}
-use Rattle.atl_containers.proofs.KeyLaws.{IsDistinct-map}
+use Rattle.atl_world.proofs.KeyLaws.{IsDistinct-map}
 use Rattle.atl_campaign.proofs.MapOfRowsLaws.{HaveDistinctNumbers, rows_found}
 use Rattle.atl_world.proofs.EntryOrderLaws.{less_by_comparison}
 

@@ -3,5 +3,3 @@ pub mod IndexLaws
 pub mod SlotLaws
 pub mod OrderedLaws
 pub mod SortedLaws
-pub mod KeyLaws
-pub mod SortedMapLaws

@@ -10,7 +10,7 @@ use Rattle.atl_orders.specs.declared.mailing.Entry.{Entry}
 use Rattle.atl_world.specs.declared.verb.Slot.{Slot}
 use Rattle.atl_orders.specs.Mailing.{entry_value}
 use Rattle.atl_world.specs.Verbs.{row_of}
-use Rattle.atl_containers.proofs.KeyLaws.{next_of}
+use Rattle.atl_world.proofs.KeyLaws.{next_of}
 use Rattle.atl_phase.specs.Month.{Aliases}
 use Rattle.atl_phase.specs.PhaseOrders.{unit_of, slot_number, is_same_slot, last_line, tasks_from}
 use Rattle.atl_phase.specs.OrderIndices.{LastLineMap, line_in, with_line}

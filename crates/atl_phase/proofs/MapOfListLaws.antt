@@ -17,7 +17,7 @@ use Rattle.std.proofs.lemmas.Map.Keys.{IsDistinct-IsPermutation, IsDistinct-from
 use Rattle.std.proofs.lemmas.Map.Views.{Contains-from_lookup, lookup-from_Contains, tells_apart}
 use Rattle.atl_world.proofs.GeneralLaws.{is_true}
 use Rattle.atl_world.proofs.MappedLaws.{is_less}
-use Rattle.atl_containers.proofs.KeyLaws.{IsDistinct-map}
+use Rattle.atl_world.proofs.KeyLaws.{IsDistinct-map}
 use Rattle.atl_phase.proofs.MappedLaws.{no_entries}
 
 alike : {X : Type 0} (a b : Option X) → ((v : X) → a ≡ Some v → b ≡ Some v) → ((v : X) → b ≡ Some v → a ≡ Some v)

@@ -16,7 +16,7 @@ use Rattle.std.proofs.lemmas.Map.Keys.{IsDistinct-from_sorted, Less-from_sorted}
 use Rattle.std.proofs.lemmas.Map.Views.{lookup-from_Contains}
 use Rattle.atl_orders.specs.declared.mailing.Mailing.{Mailing}
 use Rattle.atl_orders.specs.Mailing.{Reading, reading_of}
-use Rattle.atl_containers.proofs.KeyLaws.{IsDistinct-map, IsDistinct-of_map}
+use Rattle.atl_world.proofs.KeyLaws.{IsDistinct-map, IsDistinct-of_map}
 use Rattle.atl_phase.specs.Month.{HaveOwnFactions, HaveNoOrder, by_faction}
 use Rattle.atl_phase.specs.OrderIndices.{AreByFaction, no_mailing}
 use Rattle.atl_phase.proofs.MapOfListLaws.{find_is, from_entries-permutation, sorted_strictly}

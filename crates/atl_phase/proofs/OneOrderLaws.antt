@@ -18,7 +18,7 @@ use Rattle.atl_world.specs.Verbs.{row_of}
 use Rattle.atl_world.specs.declared.verb.Slot.{Slot}
 use Rattle.atl_world.specs.declared.verb.Slot.TheVariants.{MonthLong, Selling, Buying, Taxing, Recruiting}
 use Rattle.atl_world.specs.declared.verb.Verb.{Verb}
-use Rattle.atl_containers.proofs.KeyLaws.{IsDistinct-map}
+use Rattle.atl_world.proofs.KeyLaws.{IsDistinct-map}
 use Rattle.atl_phase.specs.declared.phase_order.Arrangement.{Arrangement}
 use Rattle.atl_phase.specs.Month.{Aliases}
 use Rattle.atl_phase.specs.Fit.{AreFit}

@@ -15,7 +15,7 @@ use Rattle.atl_orders.specs.declared.mailing.Mailing.{Mailing}
 use Rattle.atl_world.specs.declared.verb.Verb.{Verb}
 use Rattle.atl_orders.specs.Mailing.{EntryValue, Reading, reading_of}
 use Rattle.atl_campaign.proofs.GroupLaws.{filter_apart, filter_each}
-use Rattle.atl_containers.proofs.KeyLaws.{IsDistinct-of_map}
+use Rattle.atl_world.proofs.KeyLaws.{IsDistinct-of_map}
 use Rattle.atl_campaign.proofs.ReadBackLaws.{entries_rise, flat_apart}
 use Rattle.atl_phase.specs.declared.order_indices.OrderIndex.{OrderIndex}
 use Rattle.atl_phase.specs.declared.phase_order.Arrangement.{Arrangement}

@@ -11,7 +11,7 @@ use Rattle.atl_orders.specs.declared.mailing.Mailing.{Mailing}
 use Rattle.atl_world.specs.declared.verb.Verb.{Verb}
 use Rattle.atl_orders.specs.Mailing.{Reading, reading_of}
 use Rattle.atl_campaign.proofs.GroupLaws.{filter_both}
-use Rattle.atl_containers.proofs.KeyLaws.{IsDistinct-map}
+use Rattle.atl_world.proofs.KeyLaws.{IsDistinct-map}
 use Rattle.atl_phase.specs.declared.order_indices.OrderIndex.{OrderIndex}
 use Rattle.atl_phase.specs.declared.phase_order.Arrangement.{Arrangement}
 use Rattle.atl_phase.specs.declared.phase_order.PhaseOrder.{PhaseOrder}

@@ -20,7 +20,7 @@ use Rattle.atl_world.proofs.EveryLaws.{each-from_every}
 use Rattle.atl_report.specs.Watching.{is_watching, sees_region}
 use Rattle.atl_report.specs.Gathering.{with_region, with_watched, with_all_watched}
 use mathlib.Core.Bool.{or-false}
-use Rattle.atl_containers.proofs.SortedMapLaws.{above_compares_unequal}
+use Rattle.atl_world.proofs.SortedMapLaws.{above_compares_unequal}
 
 -- ---- what holds of some entry
 

@@ -50,7 +50,7 @@ use Rattle.atl_state.proofs.BackBooksLaws.{listed_amount_is_amount_in, lines_eac
 use Rattle.atl_state.proofs.BackHasLaws.{has_each, has_keys, goods_of}
 use Rattle.atl_state.proofs.DifferLaws.{entries_differ}
 use Rattle.atl_state.proofs.GoodRowLaws as row
-use Rattle.atl_containers.proofs.KeyLaws.{IsDistinct-map}
+use Rattle.atl_world.proofs.KeyLaws.{IsDistinct-map}
 
 -- ---- tests that pass
 

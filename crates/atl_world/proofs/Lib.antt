@@ -13,3 +13,5 @@ pub mod MappedLaws
 pub mod TrackLaws
 pub mod SameLaws
 pub mod EveryLaws
+pub mod KeyLaws
+pub mod SortedMapLaws

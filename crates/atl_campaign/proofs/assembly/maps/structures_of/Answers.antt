@@ -5,7 +5,7 @@ use Rattle.std.specs.FinMap.{FinMap, insert}
 use Rattle.atl_rows.specs.declared.parts.StoredStructure.{StoredStructure}
 use Rattle.atl_records.specs.declared.records.Structure.{Structure}
 use Rattle.atl_campaign.specs.FromRows.{as_u32, structure_of, put_rows}
-use Rattle.atl_containers.proofs.KeyLaws.{next_of}
+use Rattle.atl_world.proofs.KeyLaws.{next_of}
 use Rattle.atl_campaign.proofs.assembly.maps.structures_of.Goals as goal
 
 pub loop-row-preserved : goal.loop-row-preserved

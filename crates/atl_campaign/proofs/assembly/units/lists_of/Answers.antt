@@ -6,7 +6,7 @@ use Rattle.atl_world.proofs.Maps.{entries-empty}
 use Rattle.atl_world.proofs.MappedLaws.{insert_last}
 use Rattle.atl_campaign.specs.KeptLists.{AreUnitLists}
 use Rattle.atl_records.specs.declared.records.Unit.{Unit}
-use Rattle.atl_containers.proofs.SortedMapLaws.{comes_new}
+use Rattle.atl_world.proofs.SortedMapLaws.{comes_new}
 use Rattle.atl_campaign.proofs.assembly.units.lists_of.Goals as goal
 
 pub loop-number-init : goal.loop-number-init

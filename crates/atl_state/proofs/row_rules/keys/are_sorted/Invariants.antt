@@ -1,4 +1,4 @@
-use Rattle.atl_containers.proofs.KeyLaws.{RisesTo}
+use Rattle.atl_world.proofs.KeyLaws.{RisesTo}
 use Rattle.atl_state.proofs.row_rules.keys.are_sorted.Given as goal
 
 -- the values before index `i` rise

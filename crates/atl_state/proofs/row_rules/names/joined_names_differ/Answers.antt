@@ -2,7 +2,7 @@ use Rattle.std.proofs.Common.{◌≡◌, map, sym, subst, ap, ◌∙◌}
 use Rattle.std.specs.List.{IsDistinct}
 use Rattle.std.specs.Ordering.{eq_by_cmp, nat_cmp}
 use Rattle.std.specs.Cmp.Lexicographic.{slice_cmp}
-use Rattle.atl_containers.proofs.KeyLaws.{IsDistinct-map, IsDistinct-of_map, IfOk-decided}
+use Rattle.atl_world.proofs.KeyLaws.{IsDistinct-map, IsDistinct-of_map, IfOk-decided}
 use Rattle.atl_state.proofs.row_rules.names.joined_names_differ.Goals as goal
 
 pub returns : goal.returns
