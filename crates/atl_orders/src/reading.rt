@@ -18,7 +18,7 @@ use crate::verb::verb_of_word;
 use crate::words::{Cursor, Word, next_word};
 use LineResult::{Faulty, Nothing, Says};
 use ReaderState::{At, Forming, Nowhere, Skipping};
-use atl_world::World;
+use atl_world::{Verb, World};
 use atl_world::letters::{SPACE, TILDE};
 use std::alloc::{AllocError, Global};
 
