@@ -18,7 +18,7 @@ use Rattle.atl_store.specs.declared.fault.CreateFault.TheVariants.{NotEmpty, Sto
 use Rattle.atl_store.proofs.WorldTextLaws.{world_text_is}
 use Rattle.atl_sql.specs.Causes.{IsFaultOfError}
 use Rattle.atl_store.specs.Faults.{create_fault}
-use Rattle.atl_store.specs.OwnStatements.{OfFounding}
+use Rattle.atl_writing.specs.OwnStatements.{OfFounding}
 use Rattle.atl_sql.proofs.CauseLaws.{gives_among}
 use Rattle.atl_service.specs.Causes.{OfFoundingBy}
 use Rattle.atl_service.specs.Service.{IsConsistent}

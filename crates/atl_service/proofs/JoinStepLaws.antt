@@ -10,7 +10,7 @@ use Rattle.atl_campaign.specs.Joining.{join_of, after_join, name_taken, is_full,
 use Rattle.atl_report.specs.Report.{report_of}
 use Rattle.atl_report.specs.Sight.{view_of}
 use Rattle.atl_store.specs.Keeps.{IsJoining}
-use Rattle.atl_store.specs.Arriving.{HasArrival}
+use Rattle.atl_writing.specs.Arriving.{HasArrival}
 use Rattle.atl_service.specs.declared.command.Command.TheVariants.{Join}
 use Rattle.atl_service.specs.declared.command.Answer.TheVariants.{Joined, Refused}
 use Rattle.atl_service.specs.declared.command.Refusal.TheVariants as why

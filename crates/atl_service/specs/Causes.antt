@@ -15,7 +15,7 @@ use Rattle.atl_sql.specs.Causes.{Gives}
 use Rattle.atl_sql.specs.Errors.{is_memory}
 use Rattle.atl_store.specs.Keeps.{Keeps}
 use Rattle.atl_descriptions.specs.Statements.{Statements}
-use Rattle.atl_store.specs.OwnStatements.{OfChange, OfFounding, OfJoining, OfMail}
+use Rattle.atl_writing.specs.OwnStatements.{OfChange, OfFounding, OfJoining, OfMail}
 use Rattle.atl_service.specs.declared.command.Command.{Command}
 use Rattle.atl_service.specs.declared.command.Command.TheVariants.{Join, Mail, Close, Report}
 use Rattle.atl_service.specs.declared.command.Fault.{Fault}

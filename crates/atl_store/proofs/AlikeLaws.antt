@@ -23,7 +23,7 @@ use Rattle.atl_campaign.proofs.ReadBackLaws.{equal_by_values}
 use Rattle.atl_records.proofs.AccountLaws.{same_account}
 use Rattle.atl_records.proofs.BookLaws.{same_books}
 use Rattle.atl_store.specs.OneCampaign.{HoldsOneCampaign}
-use Rattle.atl_store.specs.Rows.{RowsOf, HasRowsOf, BooksRowsOf, MarketRowsOf, Holds, row_of_campaign, row_of_faction, row_of_region, row_of_unit, row_of_structure, things_of}
+use Rattle.atl_writing.specs.Rows.{RowsOf, HasRowsOf, BooksRowsOf, MarketRowsOf, Holds, row_of_campaign, row_of_faction, row_of_region, row_of_unit, row_of_structure, things_of}
 use Rattle.atl_descriptions.specs.Sets.{HasExactly}
 use Rattle.atl_descriptions.specs.Tables.{Own, Factions, Regions, Units, Goods, Structures, Mail, Reports, Books, Markets}
 use Rattle.atl_sql.specs.Shown.{mail_row, report_row, has_row, books_row, market_row}
@@ -31,7 +31,7 @@ use Rattle.atl_sql.specs.Written.{sort_number}
 use Rattle.atl_sql.specs.declared.rows.has.ThingKind.{ThingKind}
 use Rattle.atl_sql.specs.declared.rows.has.ThingKind.TheVariants.{Item, Skill}
 use Rattle.atl_campaign.proofs.StateLaws.{same_state}
-use Rattle.atl_store.proofs.ThingLaws.{same_sort}
+use Rattle.atl_writing.proofs.ThingLaws.{same_sort}
 
 -- ---- maps whose rows determine their numbers and values
 

@@ -27,12 +27,12 @@ use Rattle.atl_descriptions.specs.Sets.{HasExactly, rows_in}
 use Rattle.atl_descriptions.specs.Tables.{Part, Own, Factions, Regions, Units, Goods, Structures, Mail, Reports, Books, Markets, table_of}
 use Rattle.atl_sql.specs.Shown.{CampaignRowValue, campaign_row, has_row, mail_row, report_row, books_row}
 use Rattle.atl_sql.specs.Written.{sort_number}
-use Rattle.atl_store.specs.Rows.{RowsOf, HasRowsOf, BooksRowsOf, MarketRowsOf, rows_for, campaign_row_of, row_of_campaign, row_of_faction, row_of_region, row_of_unit, row_of_structure, things_under, amount_under, Holds}
-use Rattle.atl_store.specs.Marked.{begins_marked, has_thing, goods_marked, stocks_marked, amount_marked, is_marked}
-use Rattle.atl_store.specs.Changing.{IfElse, rows_after_rewrite, campaign_row_after, HasUnmarked, WritesChanges, HoldsUnmarked}
-use Rattle.atl_store.specs.Rewriting.{marked_things}
-use Rattle.atl_store.proofs.HasTableLaws.{row_has_amount, amount_has_row}
-use Rattle.atl_store.proofs.MarketLaws.{row_has_stock, stock_has_row}
+use Rattle.atl_writing.specs.Rows.{RowsOf, HasRowsOf, BooksRowsOf, MarketRowsOf, rows_for, campaign_row_of, row_of_campaign, row_of_faction, row_of_region, row_of_unit, row_of_structure, things_under, amount_under, Holds}
+use Rattle.atl_writing.specs.Marked.{begins_marked, has_thing, goods_marked, stocks_marked, amount_marked, is_marked}
+use Rattle.atl_writing.specs.Changing.{IfElse, rows_after_rewrite, campaign_row_after, HasUnmarked, WritesChanges, HoldsUnmarked}
+use Rattle.atl_writing.specs.Rewriting.{marked_things}
+use Rattle.atl_writing.proofs.HasTableLaws.{row_has_amount, amount_has_row}
+use Rattle.atl_writing.proofs.MarketLaws.{row_has_stock, stock_has_row}
 
 -- ---- a table whose unmarked rows are the campaign's
 

@@ -27,15 +27,15 @@ use Rattle.atl_sql.specs.declared.rows.has.ThingKind.TheVariants.{Item, Skill}
 use Rattle.atl_descriptions.specs.Sets.{HasExactly, Set, put, visible_row, rows_in}
 use Rattle.atl_descriptions.specs.Tables.{Part, Own, Factions, Units, Goods, Mail, Reports, Books, table_of, campaign_table, faction_table, unit_table, has_table, mail_table, report_table, books_table, all_tables}
 use Rattle.atl_sql.specs.Shown.{CampaignRowValue, campaign_row, mail_row, report_row}
-use Rattle.atl_store.specs.Rows.{campaign_row_of, row_of_campaign, row_of_faction, row_of_unit, RowsOf, HasRowsOf, rows_for, things_of, Holds}
+use Rattle.atl_writing.specs.Rows.{campaign_row_of, row_of_campaign, row_of_faction, row_of_unit, RowsOf, HasRowsOf, rows_for, things_of, Holds}
 use Rattle.atl_sql.specs.PutsCampaignRow.{PutsCampaignRow}
 use Rattle.atl_sql.specs.Inside.{DoesInside, HasTables, DoesBoth, Puts}
 use Rattle.atl_store.specs.Keeps.{IsJoining}
-use Rattle.atl_store.specs.Arriving.{HasArrivalWith, AddsJoin, rows_with_amount, WritesAmount, HasPut, WritesJoin, WritesMail}
+use Rattle.atl_writing.specs.Arriving.{HasArrivalWith, AddsJoin, rows_with_amount, WritesAmount, HasPut, WritesJoin, WritesMail}
 use Rattle.atl_sql.proofs.PartLaws.{listed, same_part, is_among, not_among}
-use Rattle.atl_store.proofs.TurnLaws.{stays_is}
-use Rattle.atl_store.proofs.ArriveLaws.{put_rows, no_goods, written_amount_changes_books}
-use Rattle.atl_store.proofs.WholeLaws.{inside_then, inside_weaker}
+use Rattle.atl_writing.proofs.TurnLaws.{stays_is}
+use Rattle.atl_writing.proofs.ArriveLaws.{put_rows, no_goods, written_amount_changes_books}
+use Rattle.atl_writing.proofs.WholeLaws.{inside_then, inside_weaker}
 use Rattle.atl_world.proofs.TrackLaws.{get_inserted}
 
 -- ---- one booking changes one amount

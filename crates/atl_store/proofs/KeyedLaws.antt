@@ -22,14 +22,14 @@ use Rattle.atl_rows.specs.declared.parts.StoredCampaignRow.{StoredCampaignRow}
 use Rattle.atl_store.specs.Gathering.{HaveDistinctRowids, AllHaveDistinctRowids, HaveDistinctIntegers, IsMadeOf, FailsWithout, ReadRows, without_ids, column_count}
 use Rattle.atl_store.specs.Loading.{shows_rowids, has_row_values, books_values, market_values, other_parts, rows_read}
 use Rattle.atl_descriptions.specs.PartSelects.{select_of_part}
-use Rattle.atl_store.specs.Rows.{rows_in_order}
+use Rattle.atl_writing.specs.Rows.{rows_in_order}
 use Rattle.atl_descriptions.specs.Sets.{AreKeyedByRowid, visible_row, rows_in}
 use Rattle.atl_sql.specs.Shown.{has_stored, books_stored, market_stored}
 use Rattle.atl_descriptions.specs.Tables.{Part, Own, Goods, Books, Markets, table_of}
 use Rattle.atl_store.specs.declared.fault.LoadFault.{LoadFault}
 use Rattle.atl_store.specs.declared.fault.LoadFault.TheVariants.{Store, Damaged, NotACampaign, OtherFormat, Memory}
 use Rattle.atl_sql.specs.declared.rows.stored.RowWithId.{RowWithId}
-use Rattle.atl_store.proofs.EntryLaws.{below_has, less_apart, in_order}
+use Rattle.atl_writing.proofs.EntryLaws.{below_has, less_apart, in_order}
 use Rattle.atl_sql.proofs.ListLaws.{map_has}
 use Rattle.atl_store.proofs.LoadLaws.{keyed_by, keyed_shown}
 

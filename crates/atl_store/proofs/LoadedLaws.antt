@@ -30,7 +30,7 @@ use Rattle.atl_store.specs.Faults.{fault_of_check}
 use Rattle.atl_store.specs.Gathering.{IsCommitted, FailsWithout, FoundBySelects, FailsToRead, FailsToConfirm, ReadRows, AreOfFormat, AllHaveDistinctRowids, HaveDistinctIntegers, without_ids, column_count, OwnRead, IsMadeOf, ReadsSome, GathersAll, IsConfirmed, IsLoaded}
 use Rattle.atl_store.specs.Keeps.{Keeps, Stores}
 use Rattle.atl_store.specs.Loading.{HaveRows, rows_read, own_stored, KeepsOneRow, BreaksRule, MayReturnDamaged, RefusesToLoadIn, KeepsIn, LoadsIn, Loads, LeavesAlone, AfterReads, AreMade, AllSelectsShowTyped, MayReturnMemory, FailedMeanwhile, RefusesAgain, shows_rowids, tables_with_rowids, other_parts, other_selects}
-use Rattle.atl_store.specs.Rows.{HoldsIn}
+use Rattle.atl_writing.specs.Rows.{HoldsIn}
 use Rattle.atl_descriptions.specs.Statements.{selection}
 use Rattle.atl_descriptions.specs.PartSelects.{select_of_part}
 use Rattle.atl_descriptions.specs.Sets.{AreKeyedByRowid, rows_in}

@@ -38,14 +38,14 @@ use Rattle.atl_sql.specs.declared.rows.has.ThingKind.{ThingKind}
 use Rattle.atl_sql.specs.declared.rows.has.ThingKind.TheVariants.{Item, Skill}
 use Rattle.atl_store.specs.Gathering.{HaveDistinctIntegers}
 use Rattle.atl_store.specs.Loading.{HaveRows, rows_read, own_stored, has_row_values, books_values, market_values, shows_rowids, tables_with_rowids}
-use Rattle.atl_store.specs.Rows.{RowsOf, rows_in_order, HasRowsOf, BooksRowsOf, MarketRowsOf, rows_for, Holds, HoldsIn, campaign_row_of, row_of_faction, row_of_region, row_of_unit, row_of_structure, things_of}
+use Rattle.atl_writing.specs.Rows.{RowsOf, rows_in_order, HasRowsOf, BooksRowsOf, MarketRowsOf, rows_for, Holds, HoldsIn, campaign_row_of, row_of_faction, row_of_region, row_of_unit, row_of_structure, things_of}
 use Rattle.atl_descriptions.specs.Sets.{HasExactly, AreKeyedByRowid, rows_in}
 use Rattle.atl_sql.specs.Shown.{campaign_row_in, mail_row, report_row, faction_stored, region_stored, unit_stored, structure_stored, mail_stored, report_stored}
 use Rattle.atl_descriptions.specs.Tables.{Part, Own, Factions, Regions, Units, Goods, Structures, Mail, Reports, Books, Markets, table_of, all_parts, parts_in}
 use Rattle.atl_sql.specs.Written.{sort_number}
 use Rattle.atl_sql.proofs.EditLaws.{has_permuted}
-use Rattle.atl_store.proofs.EntryLaws.{got_entry, entry_got, flat_has, has_flat}
-use Rattle.atl_store.proofs.HasTableLaws.{is_not_zero}
+use Rattle.atl_writing.proofs.EntryLaws.{got_entry, entry_got, flat_has, has_flat}
+use Rattle.atl_writing.proofs.HasTableLaws.{is_not_zero}
 use Rattle.atl_store.proofs.KeyedLaws.{mapped_twice, lines_keys, one_keys, numbers_keyed}
 use Rattle.atl_sql.proofs.ListLaws.{has_map, map_has}
 use Rattle.atl_sql.proofs.PartLaws.{all_among, is_among, not_among}

@@ -12,11 +12,11 @@ use Rattle.atl_sql.specs.Making.{has_campaign}
 use Rattle.sqlite.specs.Effect.{Database}
 use Rattle.sqlite.specs.State.{State, HasCleanDisk, Survives}
 use Rattle.atl_campaign.specs.Campaign.{CampaignValue}
-use Rattle.atl_store.specs.Rows.{Holds}
+use Rattle.atl_writing.specs.Rows.{Holds}
 use Rattle.atl_sql.specs.Inside.{HasTables, Carries, Commits, LeavesOff, MayLeave}
 use Rattle.atl_store.specs.Keeps.{Stores, Keeps, IsLater, IsReadyToCreate, FailsToCreate, BreaksOffCreation, RefusesToCreate, LeavesAfterFault, ChangesNothing, LeavesOthersAlone, MayLeaveCampaign}
 use Rattle.atl_descriptions.specs.Statements.{Statements}
-use Rattle.atl_store.specs.OwnStatements.{OfFounding}
+use Rattle.atl_writing.specs.OwnStatements.{OfFounding}
 use Rattle.atl_sql.specs.Causes.{Gives, IsFaultOfError}
 use Rattle.atl_sql.specs.Errors.{is_memory}
 use Rattle.atl_store.specs.Faults.{create_fault}

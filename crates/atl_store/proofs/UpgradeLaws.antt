@@ -13,7 +13,7 @@ use Rattle.atl_world.specs.declared.format.Format.TheVariants.{First}
 use Rattle.atl_campaign.specs.Campaign.{CampaignValue}
 use Rattle.atl_campaign.specs.Good.{HasNoStocks}
 use Rattle.atl_sql.specs.Inside.{DoesInside, HasTables, Carries, DoesBoth, Puts}
-use Rattle.atl_store.specs.Rows.{campaign_row_of, rows_for, row_of_campaign, Holds, HoldsIn, MarketRowsOf}
+use Rattle.atl_writing.specs.Rows.{campaign_row_of, rows_for, row_of_campaign, Holds, HoldsIn, MarketRowsOf}
 use Rattle.atl_descriptions.specs.Sets.{HasExactly, AreKeyedByRowid, rows_in, put, visible_row}
 use Rattle.atl_sql.specs.Shown.{campaign_row, campaign_row_in}
 use Rattle.atl_descriptions.specs.Tables.{Part, Own, Markets, campaign_table, market_table, all_tables, all_indexes, creation_of, first_tables, parts_in, table_of}
@@ -24,7 +24,7 @@ use Rattle.atl_sql.proofs.CreateTexts.{is_made, makes_table}
 use Rattle.atl_sql.proofs.ListLaws.{has_map}
 use Rattle.atl_sql.proofs.Made.{CreatesTable}
 use Rattle.atl_sql.proofs.PartLaws.{all_among, listed, same_part}
-use Rattle.atl_store.proofs.WholeLaws.{inside_then, inside_weaker}
+use Rattle.atl_writing.proofs.WholeLaws.{inside_then, inside_weaker}
 
 abbrev old_schema : Schema
 old_schema = first_tables 9 3

@@ -20,8 +20,8 @@ use Rattle.atl_store.specs.Faults.{first_format_fault, new_world_fault, upgrade_
 use Rattle.atl_sql.specs.Inside.{Commits, LeavesOff, MayLeave}
 use Rattle.atl_store.specs.Keeps.{ChangesNothing, IsLater}
 use Rattle.atl_store.specs.Loading.{LeavesAlone, LoadsIn, RefusesToLoadIn}
-use Rattle.atl_store.specs.OwnStatements.{OfUpgrade}
-use Rattle.atl_store.specs.Rows.{Holds, HoldsIn}
+use Rattle.atl_writing.specs.OwnStatements.{OfUpgrade}
+use Rattle.atl_writing.specs.Rows.{Holds, HoldsIn}
 use Rattle.atl_descriptions.specs.Tables.{HasTablesOf, IsFirstFormatOnly}
 use Rattle.atl_store.specs.UpgradeSteps.{IsFirstFormat, WritesUpgrade}
 use Rattle.atl_store.specs.Upgrading.{BreaksOffUpgrade, FailsCheck, FailsInTransaction, HasMoreTables, HasOld, HasOtherWorld, HoldsOld, IsReadyToUpgrade, MatchesNewText, MayUpgrade, RefusesToUpgrade, Upgrades}

@@ -9,7 +9,7 @@ use Rattle.atl_world.specs.declared.format.Format.TheVariants.{First, Second}
 use Rattle.sqlite_rules.specs.Lists.{Has}
 use Rattle.atl_descriptions.specs.Tables.{Own, campaign_table, parts_in}
 use Rattle.atl_sql.specs.Shown.{campaign_row_in}
-use Rattle.atl_store.specs.Rows.{campaign_row_of}
+use Rattle.atl_writing.specs.Rows.{campaign_row_of}
 use Rattle.atl_store.specs.Keeps.{Keeps}
 use Rattle.atl_store.specs.Loading.{KeepsIn}
 use Rattle.atl_store.specs.WorldText.{world_text_in_rows, world_text}

@@ -15,10 +15,10 @@ use Rattle.atl_campaign.specs.Good.{IsGood}
 use Rattle.atl_descriptions.specs.Tables.{HasAll, IsSoundDatabase}
 use Rattle.atl_sql.specs.Inside.{HasTables, Carries, IsBlank}
 use Rattle.atl_sql.specs.Making.{has_campaign}
-use Rattle.atl_store.specs.Rows.{Holds}
+use Rattle.atl_writing.specs.Rows.{Holds}
 use Rattle.atl_store.specs.Faults.{create_fault}
 use Rattle.atl_sql.specs.Causes.{IsFaultOfError}
-use Rattle.atl_store.specs.OwnStatements.{OfFounding}
+use Rattle.atl_writing.specs.OwnStatements.{OfFounding}
 use Rattle.atl_store.specs.declared.fault.CreateFault.{CreateFault}
 use Rattle.atl_store.specs.declared.fault.CreateFault.TheVariants.{NotEmpty, Store, Memory}
 

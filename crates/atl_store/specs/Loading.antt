@@ -33,7 +33,7 @@ use Rattle.atl_sql.specs.Errors.{is_memory}
 use Rattle.atl_store.specs.Keeps.{ChangesNothing, HoldsCampaign}
 use Rattle.atl_sql.specs.Reading.{Selects, RefusesToSelect}
 use Rattle.atl_descriptions.specs.PartSelects.{select_of_part}
-use Rattle.atl_store.specs.Rows.{HoldsIn}
+use Rattle.atl_writing.specs.Rows.{HoldsIn}
 use Rattle.atl_sql.specs.Shown.{int, campaign_row_stored, faction_stored, region_stored, unit_stored, structure_stored, mail_stored, report_stored, campaign_forms, faction_forms, region_forms, unit_forms, has_forms, structure_forms, mail_forms, report_forms, books_forms, market_forms}
 use Rattle.atl_descriptions.specs.Statements.{selection, selection_with_ids}
 use Rattle.atl_descriptions.specs.Sets.{rows_in, AreKeyedByRowid}

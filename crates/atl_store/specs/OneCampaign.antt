@@ -4,7 +4,7 @@ use Rattle.sqlite_trees.specs.Tree.{Trees}
 use Rattle.atl_world.specs.Worlds.{WorldValue}
 use Rattle.atl_campaign.specs.Good.{IsGood}
 use Rattle.atl_campaign.specs.Campaign.{CampaignValue}
-use Rattle.atl_store.specs.Rows.{Holds}
+use Rattle.atl_writing.specs.Rows.{Holds}
 
 -- The law that a database holds one campaign: two world texts, and two good campaigns of one world, that its tables
 -- hold are equal.

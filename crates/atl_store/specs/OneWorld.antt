@@ -4,7 +4,7 @@ use Rattle.sqlite_trees.specs.Tree.{Trees}
 use Rattle.atl_world.specs.Worlds.{WorldValue}
 use Rattle.atl_tables.specs.World.{world_of}
 use Rattle.atl_campaign.specs.Campaign.{CampaignValue}
-use Rattle.atl_store.specs.Rows.{Holds}
+use Rattle.atl_writing.specs.Rows.{Holds}
 
 -- The law that a database holds the text of one world: if its tables hold two texts with two campaigns, and each text
 -- reads as a world, the worlds are equal.

@@ -8,7 +8,7 @@ use Rattle.sqlite_rules.specs.Lists.{Has}
 use Rattle.atl_world.specs.declared.format.Format.TheVariants.{First}
 use Rattle.atl_campaign.specs.Campaign.{CampaignValue}
 use Rattle.atl_campaign.specs.Good.{HasNoStocks}
-use Rattle.atl_store.specs.Rows.{Holds, HoldsIn}
+use Rattle.atl_writing.specs.Rows.{Holds, HoldsIn}
 use Rattle.atl_descriptions.specs.Sets.{AreKeyedByRowid}
 use Rattle.atl_descriptions.specs.Tables.{IsFirstFormatOnly, market_table, parts_in, table_of}
 

@@ -21,8 +21,8 @@ use Rattle.atl_sql.specs.Causes.{Gives}
 use Rattle.atl_sql.specs.Errors.{is_memory}
 use Rattle.atl_store.specs.Keeps.{HoldsCampaign, Stores, ChangesNothing}
 use Rattle.atl_store.specs.Loading.{LeavesAlone, LoadsIn, RefusesToLoadIn}
-use Rattle.atl_store.specs.OwnStatements.{OfUpgrade}
-use Rattle.atl_store.specs.Rows.{HoldsIn}
+use Rattle.atl_writing.specs.OwnStatements.{OfUpgrade}
+use Rattle.atl_writing.specs.Rows.{HoldsIn}
 use Rattle.atl_descriptions.specs.Tables.{HasTablesOf, IsFirstFormatOnly}
 
 -- the tables hold this campaign, which is good, in the first format, with a text of this world

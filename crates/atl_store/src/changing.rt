@@ -7,16 +7,16 @@ ghost use Rattle.atl_records.specs.Limits.{most_things};
 ghost use Rattle.atl_campaign.specs.Marks.{no_marks};
 ghost use Rattle.atl_campaign.specs.Campaign.{CampaignValue};
 ghost use Rattle.atl_sql.specs.Causes.{IsFaultOfError};
-ghost use Rattle.atl_store.specs.Changing.{WritesChanges, HoldsUnmarked};
+ghost use Rattle.atl_writing.specs.Changing.{WritesChanges, HoldsUnmarked};
 ghost use Rattle.atl_store.specs.Faults.{write_fault};
-ghost use Rattle.atl_store.specs.OwnStatements.{OfChange};
+ghost use Rattle.atl_writing.specs.OwnStatements.{OfChange};
 ghost use Rattle.atl_sql.specs.Writes.{Writes, Transacts};
 ghost use Rattle.atl_sql.specs.Inside.{DoesInside, HasTables, LeavesOff};
 ghost use Rattle.atl_store.specs.Keeps.{Keeps, LeavesAfterFault, IsLater, MayLeaveCampaign, LeavesOthersAlone};
 
-use crate::campaign_row::rewrite_campaign_row;
+use atl_writing::rewrite_campaign_row;
 use crate::fault::WriteFault;
-use crate::write_parts::{OtherParts, WrittenPart};
+use atl_writing::{OtherParts, WrittenPart};
 use atl_campaign::Campaign;
 use sqlite::{Alter, Connection, Error, Transaction};
 

@@ -7,20 +7,20 @@ ghost use Rattle.atl_records.specs.declared.books.BooksEntry.TheVariants.{Joinin
 ghost use Rattle.atl_records.specs.declared.books.Thing.TheVariants.{Money, People};
 ghost use Rattle.atl_descriptions.specs.Tables.{faction_table, unit_table, report_table};
 ghost use Rattle.atl_sql.specs.Shown.{report_row};
-ghost use Rattle.atl_store.specs.Rows.{campaign_row_of, row_of_faction, row_of_unit};
+ghost use Rattle.atl_writing.specs.Rows.{campaign_row_of, row_of_faction, row_of_unit};
 ghost use Rattle.atl_sql.specs.PutsCampaignRow.{PutsCampaignRow};
 ghost use Rattle.atl_sql.specs.Causes.{IsFaultOfError};
 ghost use Rattle.atl_store.specs.Faults.{write_fault};
-ghost use Rattle.atl_store.specs.OwnStatements.{OfJoining};
+ghost use Rattle.atl_writing.specs.OwnStatements.{OfJoining};
 ghost use Rattle.atl_sql.specs.Writes.{Writes, Transacts};
 ghost use Rattle.atl_sql.specs.Inside.{DoesInside, HasTables, DoesBoth, Puts, LeavesOff};
-ghost use Rattle.atl_store.specs.Arriving.{HasArrival, HasArrivalWith, WritesAmount, WritesJoin};
+ghost use Rattle.atl_writing.specs.Arriving.{HasArrival, HasArrivalWith, WritesAmount, WritesJoin};
 ghost use Rattle.atl_store.specs.Keeps.{Keeps, LeavesAfterFault, IsLater, LeavesOthersAlone, IsJoining};
 
-use crate::campaign_row::put_campaign_row;
+use atl_writing::put_campaign_row;
 use crate::fault::WriteFault;
-use crate::ledger::write_amount;
-use crate::numbered_rows::NumberedRow;
+use atl_writing::write_amount;
+use atl_writing::NumberedRow;
 use atl_campaign::{BooksEntry, Campaign, Faction, Thing, Unit};
 use atl_world::Text;
 use sqlite::{Alter, Connection, Error, Transaction};

@@ -3,26 +3,15 @@
 //! docs/FORMATS.md, "Tables".
 #![tactic(auto)]
 
-mod amounts;
-mod campaign_row;
 mod changing;
 pub mod fault;
 mod founding;
-mod goods;
-mod grouped;
 mod joining;
-mod ledger;
 mod loading;
 mod mailing;
-mod markets;
-mod numbered_rows;
 mod one_campaign;
 mod reopening;
-mod rewriting;
-mod singles;
-mod things;
 mod upgrading;
-mod write_parts;
 
 pub use atl_sql::{rows, schema, tables};
 pub use changing::write_changes;

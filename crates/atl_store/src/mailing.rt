@@ -5,30 +5,15 @@ ghost use Rattle.sqlite.specs.State.{HasCleanDisk};
 ghost use Rattle.atl_campaign.specs.Campaign.{CampaignValue, with_mail};
 ghost use Rattle.atl_sql.specs.Causes.{IsFaultOfError};
 ghost use Rattle.atl_store.specs.Faults.{write_fault};
-ghost use Rattle.atl_store.specs.OwnStatements.{OfMail};
-ghost use Rattle.atl_descriptions.specs.Tables.{mail_table};
-ghost use Rattle.atl_sql.specs.Shown.{mail_row};
-ghost use Rattle.atl_sql.specs.Writes.{Transacts, WritesRow};
+ghost use Rattle.atl_writing.specs.OwnStatements.{OfMail};
+ghost use Rattle.atl_sql.specs.Writes.{Transacts};
 ghost use Rattle.atl_sql.specs.Inside.{HasTables, LeavesOff};
-ghost use Rattle.atl_store.specs.Arriving.{WritesMail};
+ghost use Rattle.atl_writing.specs.Arriving.{WritesMail};
 ghost use Rattle.atl_store.specs.Keeps.{Keeps, LeavesAfterFault, IsLater, LeavesOthersAlone};
 
 use crate::fault::WriteFault;
-use atl_rows::parts::StoredMail;
-use atl_sql::rows::put;
-use sqlite::{Alter, Connection, Error, Transaction, params};
-
-/// Inserts the row of a faction's mailing into `mail`, or replaces the text of the faction's row.
-pub(crate) fn put_mail<S: Alter>(
-    tx: &mut Transaction<'_, S>,
-    faction: u32,
-    text: &[u8],
-) -> Result<(), Error>
-    ensures { WritesRow S.Store mail_table 1 (mail_row faction text.now) result tx.old.conn
-        tx.new.conn }
-{
-    put::<StoredMail, S>(tx, params![faction, text])
-}
+use atl_writing::put_mail;
+use sqlite::{Alter, Connection, Error};
 
 fn write_mailing<S: Alter>(conn: &mut Connection<S>, faction: u32, text: &[u8]) -> Result<(), Error>
     requires { conn.old.in_transaction ≡ false }

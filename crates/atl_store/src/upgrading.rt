@@ -5,12 +5,12 @@ ghost use Rattle.sqlite.specs.State.{HasCleanDisk};
 ghost use Rattle.atl_sql.specs.Inside.{DoesInside};
 ghost use Rattle.atl_store.specs.Keeps.{IsLater};
 ghost use Rattle.atl_store.specs.Loading.{LeavesAlone};
-ghost use Rattle.atl_store.specs.OwnStatements.{OfUpgrade};
+ghost use Rattle.atl_writing.specs.OwnStatements.{OfUpgrade};
 ghost use Rattle.atl_store.specs.UpgradeSteps.{IsFirstFormat, WritesUpgrade};
 ghost use Rattle.atl_store.specs.Upgrading.{FailsCheck, IsReadyToUpgrade, RefusesToUpgrade, Upgrades};
 ghost use Rattle.atl_sql.specs.Writes.{Writes, Transacts};
 
-use crate::campaign_row::upgrade_campaign_row;
+use atl_writing::upgrade_campaign_row;
 use crate::fault::UpgradeFault;
 use crate::loading::load_as;
 use atl_campaign::Campaign;

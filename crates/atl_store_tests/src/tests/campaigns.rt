@@ -2,7 +2,7 @@
 ghost use Rattle.std.specs.Prelude.{◌≤◌, IsTrue, IfOk};
 ghost use Rattle.atl_campaign.specs.Good.{IsGood};
 ghost use Rattle.atl_records.specs.Limits.{most_things};
-ghost use Rattle.atl_store.specs.Arriving.{HasArrival};
+ghost use Rattle.atl_writing.specs.Arriving.{HasArrival};
 
 use atl_campaign::{Campaign, founded};
 use atl_tables::read_world;

@@ -4,7 +4,7 @@ use Rattle.atl_campaign.specs.Campaign.{CampaignValue, MarkedCampaign}
 use Rattle.atl_sql.specs.Causes.{IsFaultOfError}
 use Rattle.atl_store.specs.Faults.{write_fault}
 use Rattle.atl_campaign.specs.Good.{IsGood}
-use Rattle.atl_store.specs.OwnStatements.{OfJoining}
+use Rattle.atl_writing.specs.OwnStatements.{OfJoining}
 use Rattle.atl_store.proofs.StayLaws.{on_err}
 use Rattle.atl_service.specs.declared.command.Command.TheVariants.{Join}
 use Rattle.atl_service.specs.declared.command.Refusal.TheVariants as why

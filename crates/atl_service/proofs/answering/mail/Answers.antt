@@ -3,7 +3,7 @@ use Rattle.sqlite.specs.Held.{state}
 use Rattle.atl_campaign.specs.Campaign.{CampaignValue, MarkedCampaign, with_mail}
 use Rattle.atl_sql.specs.Causes.{IsFaultOfError}
 use Rattle.atl_store.specs.Faults.{write_fault}
-use Rattle.atl_store.specs.OwnStatements.{OfMail}
+use Rattle.atl_writing.specs.OwnStatements.{OfMail}
 use Rattle.atl_store.proofs.StayLaws.{on_err}
 use Rattle.atl_service.specs.declared.command.Command.TheVariants.{Mail}
 use Rattle.atl_service.specs.Answering.{CommandLeavesAfterFault}

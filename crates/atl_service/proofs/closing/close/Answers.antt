@@ -4,7 +4,7 @@ use Rattle.atl_campaign.specs.Campaign.{CampaignValue, MarkedCampaign}
 use Rattle.atl_campaign.proofs.CoverLaws.{marks-trans}
 use Rattle.atl_sql.specs.Causes.{IsFaultOfError}
 use Rattle.atl_store.specs.Faults.{write_fault}
-use Rattle.atl_store.specs.OwnStatements.{OfChange}
+use Rattle.atl_writing.specs.OwnStatements.{OfChange}
 use Rattle.atl_store.proofs.StayLaws.{on_err}
 use Rattle.atl_service.specs.declared.command.Command.TheVariants.{Close}
 use Rattle.atl_service.specs.Answering.{CommandLeavesAfterFault}

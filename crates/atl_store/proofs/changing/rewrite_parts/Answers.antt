@@ -1,9 +1,9 @@
 use Rattle.std.proofs.Common.{[], ◌∷◌, refl}
 use Rattle.atl_descriptions.specs.Tables.{Own, written_parts}
-use Rattle.atl_store.specs.Rewriting.{Becomes}
-use Rattle.atl_store.proofs.TurnLaws.{in_turn_changed}
-use Rattle.atl_store.proofs.RewriteAllLaws.{own_rewritten, own_then_rewritten, all_rewritten}
-use Rattle.atl_store.proofs.WholeLaws.{done_as, then_done}
+use Rattle.atl_writing.specs.Rewriting.{Becomes}
+use Rattle.atl_writing.proofs.TurnLaws.{in_turn_changed}
+use Rattle.atl_writing.proofs.RewriteAllLaws.{own_rewritten, own_then_rewritten, all_rewritten}
+use Rattle.atl_writing.proofs.WholeLaws.{done_as, then_done}
 use Rattle.atl_sql.proofs.WriteLaws.{stops}
 use Rattle.atl_store.proofs.changing.rewrite_parts.Goals as goal
 

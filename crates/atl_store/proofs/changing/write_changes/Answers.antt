@@ -1,7 +1,7 @@
 use Rattle.sqlite.specs.Held.{state}
-use Rattle.atl_store.specs.Changing.{WritesChanges}
+use Rattle.atl_writing.specs.Changing.{WritesChanges}
 use Rattle.atl_store.specs.Faults.{write_fault}
-use Rattle.atl_store.specs.OwnStatements.{OfChange}
+use Rattle.atl_writing.specs.OwnStatements.{OfChange}
 use Rattle.atl_sql.specs.Inside.{HasTables}
 use Rattle.atl_store.proofs.ChangeLaws.{changes_held, unmarked_held}
 use Rattle.atl_store.proofs.StayLaws.{commits_keeps, leaves_stops, may_found, commit_leaves_others, leaves_others, survives_is_later, on_err, error_of}

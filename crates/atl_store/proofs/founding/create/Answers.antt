@@ -1,7 +1,7 @@
 use Rattle.std.proofs.Common.{inl, refl, sym, ◌∙◌, true≢false}
 use Rattle.sqlite.specs.Held.{state}
 use Rattle.atl_sql.specs.Inside.{IsBlank}
-use Rattle.atl_store.specs.Filling.{WritesFounding}
+use Rattle.atl_writing.specs.Filling.{WritesFounding}
 use Rattle.atl_store.proofs.StayLaws.{commits_keeps, may_found, failed_changes_nothing, refused_with, not_there, unchanged_itself, survives_is_later}
 use Rattle.atl_store.specs.Keeps.{FailsToCreate}
 use Rattle.atl_store.proofs.founding.create.Goals as goal

@@ -1,10 +1,10 @@
 use Rattle.std.proofs.Common.{[], ◌∷◌, refl}
 use Rattle.atl_descriptions.specs.Tables.{Own, written_parts}
-use Rattle.atl_store.specs.Filling.{Fills}
-use Rattle.atl_store.specs.OwnStatements.{founds_tables, founds_head, founds_row}
-use Rattle.atl_store.proofs.FillLaws.{own_filled, own_then_filled, founding_done}
-use Rattle.atl_store.proofs.TurnLaws.{in_turn_changed}
-use Rattle.atl_store.proofs.WholeLaws.{done_as, then_done}
+use Rattle.atl_writing.specs.Filling.{Fills}
+use Rattle.atl_writing.specs.OwnStatements.{founds_tables, founds_head, founds_row}
+use Rattle.atl_writing.proofs.FillLaws.{own_filled, own_then_filled, founding_done}
+use Rattle.atl_writing.proofs.TurnLaws.{in_turn_changed}
+use Rattle.atl_writing.proofs.WholeLaws.{done_as, then_done}
 use Rattle.atl_sql.proofs.WriteLaws.{writes_among_more, among_only, two_steps, stops, stops_second}
 use Rattle.atl_store.proofs.founding.put_founding.Goals as goal
 

@@ -1,5 +1,5 @@
 use Rattle.std.proofs.Common.{[]}
-use Rattle.atl_store.specs.OwnStatements.{joins_head, joins_faction, joins_unit}
+use Rattle.atl_writing.specs.OwnStatements.{joins_head, joins_faction, joins_unit}
 use Rattle.atl_store.proofs.JoinLaws.{enrolling_done}
 use Rattle.atl_sql.proofs.WriteLaws.{among_only, three_steps, stops, stops_second}
 use Rattle.atl_store.proofs.joining.put_newcomer.Goals as goal

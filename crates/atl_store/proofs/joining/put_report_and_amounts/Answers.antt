@@ -1,4 +1,4 @@
-use Rattle.atl_store.specs.OwnStatements.{joins_report, joins_money, joins_people}
+use Rattle.atl_writing.specs.OwnStatements.{joins_report, joins_money, joins_people}
 use Rattle.atl_store.proofs.JoinLaws.{reporting_done}
 use Rattle.atl_sql.proofs.WriteLaws.{writes_among_more, among_only, three_steps, stops, stops_second}
 use Rattle.atl_store.proofs.joining.put_report_and_amounts.Goals as goal

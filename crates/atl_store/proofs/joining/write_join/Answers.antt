@@ -1,10 +1,10 @@
 use Rattle.std.proofs.Common.{IfErr, subst, sym}
 use Rattle.sqlite.specs.Held.{state}
 use Rattle.atl_sql.specs.Inside.{HasTables}
-use Rattle.atl_store.specs.Arriving.{WritesJoin}
+use Rattle.atl_writing.specs.Arriving.{WritesJoin}
 use Rattle.atl_store.specs.Faults.{write_fault}
 use Rattle.atl_sql.specs.Causes.{IsFaultOfError}
-use Rattle.atl_store.specs.OwnStatements.{OfJoining}
+use Rattle.atl_writing.specs.OwnStatements.{OfJoining}
 use Rattle.atl_store.specs.Keeps.{IsJoining}
 use Rattle.atl_store.proofs.JoinLaws.{join_held}
 use Rattle.atl_store.proofs.StayLaws.{commits_keeps, leaves_stops, commit_leaves_others, leaves_others, survives_is_later, on_err, error_of}

@@ -1,7 +1,7 @@
 use Rattle.std.proofs.Common.{rules}
 use Rattle.atl_sql.specs.Inside.{HasTables}
-use Rattle.atl_store.specs.Arriving.{WritesJoin}
-use Rattle.atl_store.proofs.WholeLaws.{committed, left_off}
+use Rattle.atl_writing.specs.Arriving.{WritesJoin}
+use Rattle.atl_writing.proofs.WholeLaws.{committed, left_off}
 use Rattle.atl_store.proofs.joining.write_joining.Goals as goal
 
 pub returns : goal.returns

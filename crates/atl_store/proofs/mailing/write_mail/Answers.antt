@@ -1,9 +1,9 @@
 use Rattle.sqlite.specs.Held.{state}
 use Rattle.atl_campaign.specs.Campaign.{with_mail}
 use Rattle.atl_sql.specs.Inside.{HasTables}
-use Rattle.atl_store.specs.Arriving.{WritesMail}
+use Rattle.atl_writing.specs.Arriving.{WritesMail}
 use Rattle.atl_store.specs.Faults.{write_fault}
-use Rattle.atl_store.specs.OwnStatements.{OfMail}
+use Rattle.atl_writing.specs.OwnStatements.{OfMail}
 use Rattle.atl_store.proofs.JoinLaws.{mail_held}
 use Rattle.atl_store.proofs.StayLaws.{commits_keeps, leaves_stops, commit_leaves_others, leaves_others, survives_is_later, on_err, error_of}
 use Rattle.atl_store.proofs.mailing.write_mail.Goals as goal

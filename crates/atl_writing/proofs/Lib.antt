@@ -1,0 +1,16 @@
+pub mod RewriteLaws
+pub mod GroupRowLaws
+pub mod BooksRewriteLaws
+pub mod RewriteAllLaws
+pub mod SingleLaws
+pub mod EntryLaws
+pub mod HasTableLaws
+pub mod ThingLaws
+pub mod MarketLaws
+pub mod LedgerLaws
+pub mod WholeLaws
+pub mod FillLaws
+pub mod KeptLaws
+pub mod ArriveLaws
+pub mod TurnLaws
+pub mod FlagLaws

@@ -1,0 +1,36 @@
+-- For proofs and for private functions: what writing a whole campaign into empty tables does.
+-- `old` is the database before the write, and `new` after it.
+use Rattle.std.specs.Prelude.{◌≡◌, [], ◌∷◌, List, ℕ}
+use Rattle.sqlite.specs.Effect.{Database}
+use Rattle.sqlite.specs.Order.{Row}
+use Rattle.atl_campaign.specs.Campaign.{CampaignValue}
+use Rattle.atl_descriptions.specs.Sets.{HasExactly, rows_in}
+use Rattle.atl_descriptions.specs.Tables.{Part, campaign_table}
+use Rattle.atl_sql.specs.Inside.{Changes}
+use Rattle.atl_writing.specs.Rows.{row_of_campaign, rows_for, Holds}
+
+-- one part is filled: if its table had no row (`before`), it has exactly the campaign's rows afterwards (`after`);
+-- `own` is the campaign row
+abbrev pub Fills : CampaignValue → Row → Part → List Row → List Row → Type 0
+Fills c own part before after = before ≡ [] → HasExactly after (rows_for own c part)
+
+-- The table of each listed part, if it was empty, gets exactly the campaign's rows.
+-- The campaign row isn't among the parts; the tables of all other parts stay.
+abbrev pub FillsParts : CampaignValue → List Part → Database → Database → Type 0
+FillsParts c parts old new = (own : Row) → Changes (Fills c own) parts old new
+
+-- The table of this part, if it was empty, gets exactly the campaign's rows; the tables of all other parts stay.
+-- The part isn't the campaign row.
+abbrev pub FillsPart : CampaignValue → Part → Database → Database → Type 0
+FillsPart c part = FillsParts c (part ∷ [])
+
+-- The listed parts, the campaign row among them, are filled: each of their tables that was empty gets exactly the
+-- campaign's rows.
+-- This is so if the table `campaign` was empty. The campaign row has this world text; the tables of all other parts
+-- stay.
+abbrev pub FillsWithOwn : List ℕ → CampaignValue → List Part → Database → Database → Type 0
+FillsWithOwn text c parts old new = rows_in campaign_table old.trees ≡ [] → Changes (Fills c (row_of_campaign text c)) parts old new
+
+-- a founding is written: the tables hold the world text and the campaign, whatever they held before
+abbrev pub WritesFounding : List ℕ → CampaignValue → Database → Database → Type 0
+WritesFounding text c old new = Holds new.trees text c

@@ -1,0 +1,75 @@
+//! Writes the campaign row: in a founding, a join, a change, and an upgrade.
+ghost use Rattle.std.specs.Prelude.{◌≡◌};
+ghost use Rattle.atl_writing.specs.Rows.{campaign_row_of};
+ghost use Rattle.atl_sql.specs.PutsCampaignRow.{PutsCampaignRow, UpgradesCampaignRow};
+ghost use Rattle.atl_writing.specs.Rewriting.{RewritesCampaignRow};
+ghost use Rattle.atl_sql.specs.Shown.{campaign_row_values};
+ghost use Rattle.atl_sql.specs.Written.{head_shown};
+ghost use Rattle.atl_descriptions.specs.Statements.{campaign_upsert, upgrading_upsert, OneStatement};
+ghost use Rattle.atl_writing.specs.OwnStatements.{OfChange};
+ghost use Rattle.atl_sql.specs.Writes.{Writes};
+ghost use Rattle.atl_sql.specs.Inside.{DoesInside, HasTables};
+
+use atl_campaign::Campaign;
+use atl_sql::rows::campaign::{CampaignRow, put_campaign, put_upgraded};
+use sqlite::{Alter, Error, Transaction};
+
+fn own_row(campaign: &Campaign) -> CampaignRow<'_>
+    ensures { head_shown result ≡ campaign_row_of campaign.now.value }
+{
+    CampaignRow {
+        month: campaign.month(),
+        next_faction: campaign.next_faction(),
+        next_unit: campaign.next_unit(),
+        next_structure: campaign.next_structure(),
+        pass: campaign.pass().as_str(),
+    }
+}
+
+/// Inserts the campaign row with this world text, or changes the row that is there; its own world
+/// text stays.
+pub fn put_campaign_row<S: Alter>(
+    tx: &mut Transaction<'_, S>,
+    campaign: &Campaign,
+    world: &str,
+) -> Result<(), Error>
+    ensures { Writes S.Store
+        (OneStatement campaign_upsert (campaign_row_values (campaign_row_of campaign.now.value)
+        world.now))
+        (DoesInside HasTables (PutsCampaignRow (campaign_row_of campaign.now.value) world.now))
+        result
+        tx.old.conn tx.new.conn }
+{
+    let row = own_row(campaign);
+    put_campaign(tx, &row, world)
+}
+
+/// Gives the campaign row the second format and this world text.
+pub fn upgrade_campaign_row<S: Alter>(
+    tx: &mut Transaction<'_, S>,
+    campaign: &Campaign,
+    world: &str,
+) -> Result<(), Error>
+    ensures { Writes S.Store
+        (OneStatement upgrading_upsert (campaign_row_values (campaign_row_of campaign.now.value)
+        world.now))
+        (DoesInside HasTables (UpgradesCampaignRow (campaign_row_of campaign.now.value) world.now))
+        result tx.old.conn tx.new.conn }
+{
+    let row = own_row(campaign);
+    put_upgraded(tx, &row, world)
+}
+
+/// Puts the campaign row if it is marked; the world text that is in the table stays.
+pub fn rewrite_campaign_row<S: Alter>(
+    tx: &mut Transaction<'_, S>,
+    campaign: &Campaign,
+) -> Result<(), Error>
+    ensures { Writes S.Store (OfChange campaign.now.value)
+        (DoesInside HasTables (RewritesCampaignRow campaign.now)) result tx.old.conn tx.new.conn }
+{
+    if campaign.is_row_marked() {
+        return put_campaign_row(tx, campaign, "");
+    }
+    Ok(())
+}
