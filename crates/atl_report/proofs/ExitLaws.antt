@@ -5,7 +5,7 @@ use Rattle.std.specs.Prelude.{Bool, true, false, codes, if◌then◌else◌, is_
 use Rattle.std.specs.List.{cons_option}
 use Rattle.std.specs.Option.{option_map_or}
 use Rattle.atl_world.specs.declared.world.RegionPlan.{RegionPlan}
-use Rattle.atl_report.specs.Each.{each_text, separated_texts}
+use Rattle.atl_sight.specs.Each.{each_text, separated_texts}
 use Rattle.atl_report.specs.Report.{exit_text, exit_texts, joined_or_none}
 
 -- an exit as it is written: direction and number, after a comma unless it is the first; nothing without an exit

@@ -21,10 +21,11 @@ use Rattle.atl_campaign.specs.Campaign.{CampaignValue, numbers_in_region, number
 use Rattle.atl_campaign.specs.KeptLists.{list_of}
 use Rattle.atl_campaign.proofs.NumberListLaws.{IsListed, passing_listed, listed_passing}
 use Rattle.atl_records.specs.Levels.{level_in_any}
-use Rattle.atl_report.specs.declared.watch.Watch.{Watch}
-use Rattle.atl_report.specs.declared.views.UnitView.{UnitView}
-use Rattle.atl_report.specs.Watching.{is_in, own_units_in, hiding_level, is_seen, is_seen_there}
-use Rattle.atl_report.specs.Sight.{seen_unit, unit_view, unit_views}
+use Rattle.atl_sight.specs.declared.watch.Watch.{Watch}
+use Rattle.atl_sight.specs.declared.views.UnitView.{UnitView}
+use Rattle.atl_sight.specs.Watching.{is_in, own_units_in, hiding_level, is_seen, is_seen_there}
+use Rattle.atl_sight.specs.Units.{unit_view}
+use Rattle.atl_report.specs.Sight.{seen_unit, unit_views}
 use Rattle.atl_report.specs.Sites.{AreLevels, hides_at}
 use Rattle.atl_report.specs.Gathering.{with_numbers, with_level, with_levels, numbers_seen}
 use Rattle.atl_report.proofs.SightLaws.{chosen_numbers, values_looked_up}

@@ -17,7 +17,7 @@ use Rattle.atl_records.specs.declared.records.Unit.{Unit}
 use Rattle.atl_world.specs.Every.{EachEntry}
 use Rattle.atl_campaign.specs.Campaign.{CampaignValue, numbers_of_faction}
 use Rattle.atl_world.proofs.EveryLaws.{each-from_every}
-use Rattle.atl_report.specs.Watching.{is_watching, sees_region}
+use Rattle.atl_sight.specs.Watching.{is_watching, sees_region}
 use Rattle.atl_report.specs.Gathering.{with_region, with_watched, with_all_watched}
 use mathlib.Core.Bool.{or-false}
 use Rattle.atl_world.proofs.SortedMapLaws.{above_compares_unequal}

@@ -14,7 +14,7 @@ use Rattle.atl_records.specs.declared.books.Thing.TheVariants.{Money, People, It
 use Rattle.atl_records.specs.Books.{BooksValue, all_entries, amount_in, thing_index}
 use Rattle.atl_campaign.specs.Campaign.{CampaignValue}
 use Rattle.atl_campaign.specs.Totals.{total}
-use Rattle.atl_report.specs.Each.{each_text}
+use Rattle.atl_sight.specs.Each.{each_text}
 
 -- the name of an entry (a cause for which the books count an amount), as the text of the books prints it
 abbrev pub entry_name : BooksEntry → List ℕ

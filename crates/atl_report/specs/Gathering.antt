@@ -7,7 +7,7 @@ use Rattle.std.specs.FinMap.{FinMap, get, insert, empty, entries}
 use Rattle.atl_records.specs.declared.records.Region.{Region}
 use Rattle.atl_records.specs.declared.records.Unit.{Unit}
 use Rattle.atl_campaign.specs.Campaign.{CampaignValue}
-use Rattle.atl_report.specs.Watching.{is_watching}
+use Rattle.atl_sight.specs.Watching.{is_watching}
 use Rattle.atl_report.specs.Sites.{with_listed}
 
 -- `with_region seen n region`: the set `seen` of region numbers with `n` added, if the campaign has a region of number

@@ -14,18 +14,18 @@ use Rattle.atl_world.specs.declared.world.Kind.{Kind}
 use Rattle.atl_orders.specs.declared.fault.FaultyLine.{FaultyLine}
 use Rattle.atl_records.specs.declared.event.Event.{Event}
 use Rattle.atl_campaign.specs.Campaign.{CampaignValue}
-use Rattle.atl_report.specs.Each.{each_text, separated_texts}
-use Rattle.atl_report.specs.Events.{own_events, orders_part}
+use Rattle.atl_sight.specs.Each.{each_text, separated_texts}
+use Rattle.atl_sight.specs.Events.{own_events, orders_part}
 use Rattle.atl_report.specs.Sight.{view_of}
-use Rattle.atl_report.specs.declared.views.View.{View}
-use Rattle.atl_report.specs.declared.views.RegionView.{RegionView}
-use Rattle.atl_report.specs.declared.views.MarketView.{MarketView}
-use Rattle.atl_report.specs.declared.views.StructureView.{StructureView}
-use Rattle.atl_report.specs.declared.views.UnitView.{UnitView}
-use Rattle.atl_report.specs.declared.views.ItemView.{ItemView}
-use Rattle.atl_report.specs.declared.views.SkillView.{SkillView}
-use Rattle.atl_report.specs.declared.views.Side.{Side}
-use Rattle.atl_report.specs.declared.views.Side.TheVariants.{Own, Other}
+use Rattle.atl_sight.specs.declared.views.View.{View}
+use Rattle.atl_sight.specs.declared.views.RegionView.{RegionView}
+use Rattle.atl_sight.specs.declared.views.MarketView.{MarketView}
+use Rattle.atl_sight.specs.declared.views.StructureView.{StructureView}
+use Rattle.atl_sight.specs.declared.views.UnitView.{UnitView}
+use Rattle.atl_sight.specs.declared.views.ItemView.{ItemView}
+use Rattle.atl_sight.specs.declared.views.SkillView.{SkillView}
+use Rattle.atl_sight.specs.declared.views.Side.{Side}
+use Rattle.atl_sight.specs.declared.views.Side.TheVariants.{Own, Other}
 
 -- the first line of a report: month, and the faction's number and name
 unfoldable pub header_line : View → List ℕ

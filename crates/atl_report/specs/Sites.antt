@@ -10,7 +10,7 @@ use Rattle.atl_world.specs.Every.{Every}
 use Rattle.atl_campaign.specs.Campaign.{CampaignValue, numbers_in_region}
 use Rattle.atl_campaign.specs.KeptLists.{list_of}
 use Rattle.atl_report.specs.Sight.{structures_in}
-use Rattle.atl_report.specs.Watching.{hiding_level}
+use Rattle.atl_sight.specs.Watching.{hiding_level}
 use Rattle.atl_report.specs.declared.sites.RegionLists.{RegionLists}
 
 -- the condition that lists of structures by region are right: each region's list has the numbers of its structures,

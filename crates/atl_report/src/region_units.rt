@@ -6,10 +6,10 @@ ghost use Rattle.atl_world.specs.Every.{Every};
 ghost use Rattle.atl_campaign.specs.KeptLists.{list_of};
 ghost use Rattle.atl_report.specs.Gathering.{with_numbers, numbers_seen};
 ghost use Rattle.atl_report.specs.Sites.{AreLevels};
-ghost use Rattle.atl_report.specs.Watching.{is_seen_there, own_units_in};
+ghost use Rattle.atl_sight.specs.Watching.{is_seen_there, own_units_in};
 
 use crate::sites::add_listed;
-use crate::watch::{Watch, hiding_level};
+use atl_sight::watch::{Watch, hiding_level};
 use atl_campaign::Campaign;
 use atl_world::{Numbered, Sequence, World};
 use std::alloc::{AllocError, Global};

@@ -1,97 +1,18 @@
 //! Collects what a faction sees into a view. See docs/RULES.md, "Sight".
 ghost use Rattle.std.specs.Prelude.{◌≡◌, IfOk, OnOk, Some, filter, map};
 ghost use Rattle.std.specs.FinMap.{get, entries};
-ghost use Rattle.atl_report.specs.Watching.{sees_region, own_units_in};
-ghost use Rattle.atl_report.specs.Sight.{side_of, item_views, skill_views, unit_view, unit_views, shown_owner, structure_view, structure_views, structures_in, market_view, market_views, region_market_views, region_view, region_views, view_of, shown_name};
+ghost use Rattle.atl_sight.specs.Watching.{sees_region, own_units_in};
+ghost use Rattle.atl_report.specs.Sight.{unit_views, shown_owner, structure_view, structure_views, structures_in, market_view, market_views, region_market_views, region_view, region_views, view_of};
 ghost use Rattle.atl_report.specs.Sites.{AreRegionLists};
 ghost use Rattle.atl_report.specs.Gathering.{with_region};
 
 use crate::region_units::{own_by_region, units_seen};
 use crate::sites::{RegionLists, listed_under, no_lists, sites_in};
-use crate::views::{
-    ItemView, MarketView, RegionView, Side, SkillView, StructureView, UnitView, View,
-};
-use crate::watch::{Watch, is_guard, is_seen_there, is_watching, watch_over};
-use atl_campaign::{Campaign, Holding, Region, Structure, Unit, level};
-use atl_world::{Market, Numbered, RegionPlan, Sequence, Text, World};
+use atl_campaign::{Campaign, Region, Structure};
+use atl_sight::watch::{Watch, is_seen_there, is_watching, watch_over};
+use atl_sight::{MarketView, RegionView, StructureView, UnitView, View, shown_name, unit_view};
+use atl_world::{Market, Numbered, RegionPlan, Sequence, World};
 use std::alloc::{AllocError, Global};
-
-fn shown_name(alloc: Global, campaign: &Campaign, faction: u32) -> Result<Text, AllocError>
-    ensures { IfOk result (λ name. name ≡ shown_name (get campaign.now.value.factions faction)) }
-{
-    match campaign.faction(faction) {
-        Some(known) => known.name.copy(alloc),
-        None => Text::from_str(alloc, ""),
-    }
-}
-
-fn item_views(alloc: Global, holding: &Holding) -> Result<Sequence<ItemView>, AllocError>
-    ensures { IfOk result (λ items. items ≡ item_views holding.now) }
-{
-    let mut items = Sequence::new(alloc);
-    for (item, amount) in holding.items() {
-        items.push(ItemView {
-            item,
-            amount: *amount,
-        })?;
-    }
-    Ok(items)
-}
-
-fn skill_views(alloc: Global, holding: &Holding) -> Result<Sequence<SkillView>, AllocError>
-    ensures { IfOk result (λ skills. skills ≡ skill_views holding.now) }
-{
-    let men = holding.men();
-    let mut skills = Sequence::new(alloc);
-    for (skill, days) in holding.days() {
-        skills.push(SkillView {
-            skill,
-            level: level(*days, men),
-            days: *days,
-        })?;
-    }
-    Ok(skills)
-}
-
-fn side_of(
-    alloc: Global,
-    campaign: &Campaign,
-    faction: u32,
-    unit: &Unit,
-) -> Result<Side, AllocError>
-    ensures { IfOk result (λ side. side ≡ side_of campaign.now.value faction unit.now) }
-{
-    if unit.faction == faction {
-        return Ok(Side::Own {
-            money: unit.holding.money(),
-            items: item_views(alloc, &unit.holding)?,
-            skills: skill_views(alloc, &unit.holding)?,
-        });
-    }
-    Ok(Side::Other {
-        faction: unit.faction,
-        name: shown_name(alloc, campaign, unit.faction)?,
-    })
-}
-
-fn unit_view(
-    alloc: Global,
-    campaign: &Campaign,
-    faction: u32,
-    number: u32,
-    unit: &Unit,
-) -> Result<UnitView, AllocError>
-    ensures { IfOk result (λ seen. seen ≡ unit_view campaign.now.value faction number unit.now) }
-{
-    Ok(UnitView {
-        number,
-        name: unit.holding.name().copy(alloc)?,
-        men: unit.holding.men(),
-        guard: is_guard(unit),
-        structure: unit.structure,
-        side: side_of(alloc, campaign, faction, unit)?,
-    })
-}
 
 fn unit_views(
     alloc: Global,

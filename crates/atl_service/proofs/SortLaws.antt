@@ -10,7 +10,7 @@ use Rattle.atl_world.proofs.GeneralLaws.{key_equality_is_symmetric, is_equal}
 use Rattle.atl_orders.specs.declared.fault.FaultyLine.{FaultyLine}
 use Rattle.atl_records.specs.declared.event.Event.{Event}
 use Rattle.atl_campaign.specs.Campaign.{CampaignValue, with_report}
-use Rattle.atl_report.specs.Events.{own_events}
+use Rattle.atl_sight.specs.Events.{own_events}
 use Rattle.atl_report.proofs.EventLaws.{only_what_is_seen_is_reported}
 use Rattle.atl_service.specs.Closing.{reported_with}
 use Rattle.atl_service.specs.Sorting.{events_of, with_event}

@@ -3,7 +3,7 @@ use Rattle.std.specs.Prelude.{◌≡◌, ◌++◌, ℕ, List, [], ◌∷◌, unw
 use Rattle.std.specs.Ordering.{nat_cmp}
 use Rattle.std.specs.FinMap.{FinMap, get, insert}
 use Rattle.atl_records.specs.declared.event.Event.{Event}
-use Rattle.atl_report.specs.Events.{own_events}
+use Rattle.atl_sight.specs.Events.{own_events}
 
 -- the events listed under a faction's number; none if there is no list
 abbrev pub events_of : FinMap nat_cmp (List Event) → ℕ → List Event

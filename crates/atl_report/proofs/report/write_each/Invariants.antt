@@ -1,5 +1,5 @@
 use Rattle.std.proofs.Common.{◌≡◌, ◌++◌, drop, string_bytes}
-use Rattle.atl_report.specs.Each.{each_text}
+use Rattle.atl_sight.specs.Each.{each_text}
 use Rattle.atl_report.proofs.report.write_each.Given as goal
 
 -- the text so far, with the texts of the elements still to come, is the text before the loop with those of all elements

@@ -3,7 +3,7 @@ use Rattle.std.specs.Prelude.{option_map}
 use Rattle.std.specs.FinMap.{entries, get}
 use Rattle.std.specs.List.{filter_map}
 use Rattle.atl_report.specs.Sight.{region_view}
-use Rattle.atl_report.specs.Watching.{sees_region, watch_over}
+use Rattle.atl_sight.specs.Watching.{sees_region, watch_over}
 use Rattle.atl_report.proofs.SightLaws.{values_looked_up}
 use Rattle.atl_report.proofs.sight.region_views.Goals as goal
 

@@ -2,7 +2,7 @@ use Rattle.std.proofs.Common.{◌≡◌, ◌++◌}
 use Rattle.std.specs.Prelude.{option_map}
 use Rattle.std.specs.FinMap.{get}
 use Rattle.std.specs.List.{filter_map}
-use Rattle.atl_report.specs.Watching.{watch_over}
+use Rattle.atl_sight.specs.Watching.{watch_over}
 use Rattle.atl_report.specs.Sight.{region_view, region_views}
 use Rattle.atl_report.proofs.sight.region_views.Given as goal
 

@@ -2,8 +2,8 @@ use Rattle.std.proofs.Common.{◌≡◌, ℕ, [], ◌++◌, map, filter, ap, ◌
 use Rattle.std.specs.Prelude.{option_map}
 use Rattle.std.specs.FinMap.{entries, get}
 use Rattle.std.specs.List.{filter_map}
-use Rattle.atl_report.specs.Sight.{unit_view}
-use Rattle.atl_report.specs.Watching.{is_seen_there}
+use Rattle.atl_sight.specs.Units.{unit_view}
+use Rattle.atl_sight.specs.Watching.{is_seen_there}
 use Rattle.atl_report.proofs.HidingLaws.{views_of_seen}
 use Rattle.atl_report.proofs.sight.unit_views.Goals as goal
 

@@ -2,7 +2,8 @@ use Rattle.std.proofs.Common.{◌≡◌, ◌++◌}
 use Rattle.std.specs.Prelude.{option_map}
 use Rattle.std.specs.FinMap.{get}
 use Rattle.std.specs.List.{filter_map}
-use Rattle.atl_report.specs.Sight.{unit_view, unit_views}
+use Rattle.atl_sight.specs.Units.{unit_view}
+use Rattle.atl_report.specs.Sight.{unit_views}
 use Rattle.atl_report.proofs.sight.unit_views.Given as goal
 
 -- the views made so far, followed by those of the units still to come, are the views of all units seen in the region

@@ -1,5 +1,5 @@
 use Rattle.std.proofs.Common.{ap, ◌++◌}
-use Rattle.atl_report.specs.Events.{own_events}
+use Rattle.atl_sight.specs.Events.{own_events}
 use Rattle.atl_service.proofs.SortLaws.{none_sorted, sorted_on}
 use Rattle.atl_service.proofs.sorting.events_by_faction.Goals as goal
 

@@ -1,5 +1,5 @@
 use Rattle.std.proofs.Common.{◌≡◌, ◌++◌, ℕ, drop}
-use Rattle.atl_report.specs.Events.{own_events}
+use Rattle.atl_sight.specs.Events.{own_events}
 use Rattle.atl_service.specs.Sorting.{events_of}
 use Rattle.atl_service.proofs.sorting.events_by_faction.Given as goal
 

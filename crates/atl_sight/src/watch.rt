@@ -3,28 +3,28 @@ ghost use Rattle.std.specs.Prelude.{◌≡◌, Some, nat_le};
 ghost use Rattle.std.specs.Option.{option_copied};
 ghost use Rattle.atl_campaign.specs.Good.{guards};
 ghost use Rattle.atl_records.specs.Levels.{level_in_any};
-ghost use Rattle.atl_report.specs.Watching.{is_watching, own_units_in, best_observation, watch_over, hiding_level, is_seen, is_seen_there};
+ghost use Rattle.atl_sight.specs.Watching.{is_watching, own_units_in, best_observation, watch_over, hiding_level, is_seen, is_seen_there};
 
 use atl_campaign::{Campaign, Unit, level_in_any};
 use atl_world::World;
 
 /// A faction in a region that it sees, with the best observation level of its units there.
 #[derive(Drop, Clone, Copy)]
-pub(crate) struct Watch {
-    pub(crate) faction: u32,
-    pub(crate) region: u32,
-    pub(crate) observation: u32,
+pub struct Watch {
+    pub faction: u32,
+    pub region: u32,
+    pub observation: u32,
 }
 
 /// Whether a unit is a given faction's and has men, so that the faction sees its region.
-pub(crate) fn is_watching(unit: &Unit, faction: u32) -> bool
+pub fn is_watching(unit: &Unit, faction: u32) -> bool
     ensures { result ≡ is_watching faction (Some unit.now) }
 {
     unit.faction == faction && unit.holding.men() > 0
 }
 
 /// Whether a unit guards: it has the guard flag set, and men.
-pub(crate) fn is_guard(unit: &Unit) -> bool
+pub fn is_guard(unit: &Unit) -> bool
     ensures { result ≡ guards unit.now }
 {
     unit.holding.guard() && unit.holding.men() > 0
@@ -44,7 +44,7 @@ fn best_observation(world: &World, campaign: &Campaign, numbers: &[u32]) -> u32
 
 /// A faction's watch in a region, with the best observation level of the faction's units there,
 /// whose numbers are `own`.
-pub(crate) fn watch_over(
+pub fn watch_over(
     world: &World,
     campaign: &Campaign,
     faction: u32,
@@ -63,7 +63,7 @@ pub(crate) fn watch_over(
 
 /// The observation level from which other factions see a unit: 0 if it guards, else its stealth
 /// level.
-pub(crate) fn hiding_level(world: &World, unit: &Unit) -> u32
+pub fn hiding_level(world: &World, unit: &Unit) -> u32
     ensures { result ≡ hiding_level world.now unit.now }
 {
     if is_guard(unit) {
@@ -87,7 +87,7 @@ fn is_seen(world: &World, watch: Watch, unit: &Unit) -> bool
 }
 
 /// Whether a unit exists, is in the watched region, and is seen.
-pub(crate) fn is_seen_there(world: &World, watch: Watch, unit: Option<&Unit>) -> bool
+pub fn is_seen_there(world: &World, watch: Watch, unit: Option<&Unit>) -> bool
     ensures { result ≡ is_seen_there world.now watch (option_copied unit.entry) }
 {
     match unit {

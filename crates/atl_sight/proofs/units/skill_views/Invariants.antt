@@ -1,5 +1,5 @@
 use Rattle.std.proofs.Common.{◌≡◌, ◌++◌, map}
-use Rattle.atl_report.specs.Sight.{skill_view, skill_views}
+use Rattle.atl_sight.specs.Units.{skill_view, skill_views}
 use Rattle.atl_report.proofs.sight.skill_views.Given as goal
 
 abbrev pub invariant-loop-skill : goal.invariant-loop-skill

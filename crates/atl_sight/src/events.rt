@@ -2,7 +2,7 @@
 //! docs/FORMATS.md, "Reports".
 ghost use Rattle.std.specs.Prelude.{◌≡◌, ◌==◌, ◌++◌, ◌&&◌, not, length, OnOk, string_bytes};
 ghost use Rattle.std.specs.List.{list_any};
-ghost use Rattle.atl_report.specs.Events.{faulty_line, faulty_lines, name_of_number, event_line, event_lines, own_events, results_text, orders_part};
+ghost use Rattle.atl_sight.specs.Events.{faulty_line, faulty_lines, name_of_number, event_line, event_lines, own_events, results_text, orders_part};
 
 use atl_campaign::{Event, EventFault, Outcome};
 use atl_orders::FaultyLine;
@@ -82,7 +82,7 @@ fn has_no_results(faction: u32, faults: &[FaultyLine], events: &[Event]) -> bool
     faults.is_empty() && !has_own_event(faction, events)
 }
 
-#[tactic(auto, using(crate::proofs::EventLaws::results_none))]
+#[tactic(auto, using(crate::proofs::ResultLaws::results_none))]
 fn write_results(
     out: &mut String,
     faction: u32,
@@ -102,7 +102,7 @@ fn write_results(
 
 /// Writes the part headed `Orders:`, with the mailing's faulty lines and the faction's own events.
 #[tactic(auto, unfolding(crate::specs::Events::orders_part))]
-pub(crate) fn write_orders(
+pub fn write_orders(
     out: &mut String,
     faction: u32,
     faults: &[FaultyLine],

@@ -1,5 +1,5 @@
 use Rattle.std.proofs.Common.{◌≡◌, ◌++◌, map}
-use Rattle.atl_report.specs.Sight.{item_view, item_views}
+use Rattle.atl_sight.specs.Units.{item_view, item_views}
 use Rattle.atl_report.proofs.sight.item_views.Given as goal
 
 abbrev pub invariant-loop-item : goal.invariant-loop-item

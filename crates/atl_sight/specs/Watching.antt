@@ -8,7 +8,7 @@ use Rattle.atl_records.specs.declared.records.Unit.{Unit}
 use Rattle.atl_campaign.specs.Good.{guards}
 use Rattle.atl_records.specs.Levels.{level_in_any}
 use Rattle.atl_campaign.specs.Campaign.{CampaignValue, numbers_in_region, numbers_of_faction}
-use Rattle.atl_report.specs.declared.watch.Watch.{Watch}
+use Rattle.atl_sight.specs.declared.watch.Watch.{Watch}
 
 -- whether a unit exists, is the given faction's, and has men, so that the faction sees its region
 abbrev pub is_watching : ℕ → Option Unit → Bool

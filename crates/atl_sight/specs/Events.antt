@@ -9,7 +9,7 @@ use Rattle.atl_records.specs.declared.event.Event.{Event}
 use Rattle.atl_records.specs.declared.event.Outcome.{Outcome}
 use Rattle.atl_records.specs.declared.event.Outcome.TheVariants.{Done, Fault, Starved}
 use Rattle.atl_records.specs.Events.{event_keyword, event_fault_number, event_fault_name, event_faults}
-use Rattle.atl_report.specs.Each.{each_text}
+use Rattle.atl_sight.specs.Each.{each_text}
 
 -- ---- a line of the mailing that isn't read
 

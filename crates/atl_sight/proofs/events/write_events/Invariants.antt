@@ -1,5 +1,5 @@
 use Rattle.std.proofs.Common.{◌≡◌, ◌++◌, drop, string_bytes}
-use Rattle.atl_report.specs.Events.{event_lines, own_events}
+use Rattle.atl_sight.specs.Events.{event_lines, own_events}
 use Rattle.atl_report.proofs.events.write_events.Given as goal
 
 -- the text so far, with the lines of own events still to come, is the text before the loop with those of all own events

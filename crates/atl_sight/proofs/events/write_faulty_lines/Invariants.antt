@@ -1,5 +1,5 @@
 use Rattle.std.proofs.Common.{◌≡◌, ◌++◌, drop, string_bytes}
-use Rattle.atl_report.specs.Events.{faulty_lines}
+use Rattle.atl_sight.specs.Events.{faulty_lines}
 use Rattle.atl_report.proofs.events.write_faulty_lines.Given as goal
 
 abbrev pub invariant-loop-faulty : goal.invariant-loop-faulty

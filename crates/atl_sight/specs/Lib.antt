@@ -1,0 +1,4 @@
+pub mod Watching
+pub mod Units
+pub mod Each
+pub mod Events
