@@ -1,6 +1,6 @@
 use Rattle.std.proofs.Common.{◌≡◌, ◌++◌, drop, string_bytes}
 use Rattle.atl_sight.specs.Events.{faulty_lines}
-use Rattle.atl_report.proofs.events.write_faulty_lines.Given as goal
+use Rattle.atl_sight.proofs.events.write_faulty_lines.Given as goal
 
 abbrev pub invariant-loop-faulty : goal.invariant-loop-faulty
 invariant-loop-faulty l =

@@ -1,7 +1,7 @@
 use Rattle.std.proofs.Common.{rules, sym, ◌∙◌}
 use Rattle.std.proofs.lemmas.List.{append_assoc}
 use Rattle.atl_sight.proofs.ResultLaws.{results_lines}
-use Rattle.atl_report.proofs.events.write_results.Goals as goal
+use Rattle.atl_sight.proofs.events.write_results.Goals as goal
 
 pub returns : goal.returns
 returns c =
