@@ -18,8 +18,8 @@ use crate::verb::verb_of_word;
 use crate::words::{Cursor, Word, next_word};
 use LineResult::{Faulty, Nothing, Says};
 use ReaderState::{At, Forming, Nowhere, Skipping};
-use atl_world::{Verb, World};
 use atl_world::letters::{SPACE, TILDE};
+use atl_world::{Verb, World};
 use std::alloc::{AllocError, Global};
 
 /// The keyword that a line of a mailing begins with: UNIT, END, FORM, or that of another order.

@@ -9,8 +9,8 @@ ghost use Rattle.atl_report.specs.Sites.{AreLevels};
 ghost use Rattle.atl_sight.specs.Watching.{is_seen_there, own_units_in};
 
 use crate::sites::add_listed;
-use atl_sight::watch::{Watch, hiding_level};
 use atl_campaign::Campaign;
+use atl_sight::watch::{Watch, hiding_level};
 use atl_world::{Numbered, Sequence, World};
 use std::alloc::{AllocError, Global};
 

@@ -14,10 +14,9 @@ ghost use Rattle.atl_sql.specs.Writes.{Writes, Transacts};
 ghost use Rattle.atl_sql.specs.Inside.{DoesInside, HasTables, LeavesOff};
 ghost use Rattle.atl_store.specs.Keeps.{Keeps, LeavesAfterFault, IsLater, MayLeaveCampaign, LeavesOthersAlone};
 
-use atl_writing::rewrite_campaign_row;
 use crate::fault::WriteFault;
-use atl_writing::{OtherParts, WrittenPart};
 use atl_campaign::Campaign;
+use atl_writing::{OtherParts, WrittenPart, rewrite_campaign_row};
 use sqlite::{Alter, Connection, Error, Transaction};
 
 fn rewrite_parts<S: Alter>(tx: &mut Transaction<'_, S>, campaign: &Campaign) -> Result<(), Error>

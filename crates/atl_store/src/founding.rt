@@ -11,11 +11,10 @@ ghost use Rattle.atl_sql.specs.Making.{has_campaign};
 ghost use Rattle.atl_writing.specs.Filling.{WritesFounding};
 ghost use Rattle.atl_store.specs.Keeps.{Creates, IsReadyToCreate, RefusesToCreate, IsLater};
 
-use atl_writing::put_campaign_row;
 use crate::fault::CreateFault;
-use atl_writing::{OtherParts, WrittenPart};
 use atl_campaign::Campaign;
 use atl_sql::tables::create_tables;
+use atl_writing::{OtherParts, WrittenPart, put_campaign_row};
 use sqlite::{Alter, Connection, Error, Transaction};
 use sqlite_schema::schema::Schema;
 

@@ -17,12 +17,10 @@ ghost use Rattle.atl_sql.specs.Inside.{DoesInside, HasTables, DoesBoth, Puts, Le
 ghost use Rattle.atl_writing.specs.Arriving.{HasArrival, HasArrivalWith, WritesAmount, WritesJoin};
 ghost use Rattle.atl_store.specs.Keeps.{Keeps, LeavesAfterFault, IsLater, LeavesOthersAlone, IsJoining};
 
-use atl_writing::put_campaign_row;
 use crate::fault::WriteFault;
-use atl_writing::write_amount;
-use atl_writing::NumberedRow;
 use atl_campaign::{BooksEntry, Campaign, Faction, Thing, Unit};
 use atl_world::Text;
+use atl_writing::{NumberedRow, put_campaign_row, write_amount};
 use sqlite::{Alter, Connection, Error, Transaction};
 
 /// A faction that joined, with its report and the unit numbered last, whose number is

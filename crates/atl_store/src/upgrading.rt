@@ -10,7 +10,6 @@ ghost use Rattle.atl_store.specs.UpgradeSteps.{IsFirstFormat, WritesUpgrade};
 ghost use Rattle.atl_store.specs.Upgrading.{FailsCheck, IsReadyToUpgrade, RefusesToUpgrade, Upgrades};
 ghost use Rattle.atl_sql.specs.Writes.{Writes, Transacts};
 
-use atl_writing::upgrade_campaign_row;
 use crate::fault::UpgradeFault;
 use crate::loading::load_as;
 use atl_campaign::Campaign;
@@ -18,6 +17,7 @@ use atl_sql::schema::is_first_format_only;
 use atl_sql::tables::create_market;
 use atl_tables::read_world;
 use atl_world::{Format, World};
+use atl_writing::upgrade_campaign_row;
 use sqlite::{Alter, Connection, Error, Transaction};
 use std::alloc::Global;
 

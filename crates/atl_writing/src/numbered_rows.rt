@@ -22,10 +22,9 @@ mod report;
 mod structure;
 mod unit;
 
-pub use mail::put_mail;
-
 use atl_campaign::{Campaign, SlotEntries, Unit};
 use atl_world::{Entries, MarkedNumbers};
+pub use mail::put_mail;
 use sqlite::{Alter, Error, Transaction};
 
 /// A type, such as `Faction`, each of whose values has a number and one row in a table, with the

@@ -7,9 +7,9 @@ ghost use Rattle.atl_campaign.specs.Assembling.{with_has_row, with_market_row, w
 ghost use Rattle.atl_campaign.specs.FromRows.{as_u32};
 ghost use Rattle.atl_campaign.specs.RowRules.{has_in_range};
 
-use atl_containers::Arena;
 use crate::row_values::as_u32;
 use crate::rows::{ITEM_SORT, SKILL_SORT};
+use atl_containers::Arena;
 use atl_records::{Region, Unit};
 use atl_rows::parts::{StoredHas, StoredMarket};
 use atl_world::Numbered;

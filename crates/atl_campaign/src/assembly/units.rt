@@ -11,10 +11,10 @@ ghost use Rattle.atl_campaign.specs.RowRules.{unit_in_range, has_in_range};
 
 use super::goods::put_things;
 use super::records::moved_name;
-use atl_containers::Arena;
 use crate::lists::{UnitLists, list_keys_of};
 use crate::row_values::{as_u32, is_set};
 use crate::units::Units;
+use atl_containers::Arena;
 use atl_records::{Holding, Unit};
 use atl_rows::parts::{StoredHas, StoredUnit};
 use atl_world::{Numbered, Sequence};
