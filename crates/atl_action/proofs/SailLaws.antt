@@ -19,8 +19,8 @@ use Rattle.atl_world.specs.declared.world.RegionPlan.{RegionPlan}
 use Rattle.atl_world.specs.declared.direction.Direction.{Direction}
 use Rattle.atl_world.specs.ByNumber.{is_land_at, neighbour, size_of}
 use Rattle.atl_world.proofs.GeneralLaws.{is_equal, is_unequal}
-use Rattle.atl_orders.specs.declared.order.Operands.TheVariants as operands
-use Rattle.atl_orders.specs.Orders.{OperandsValue}
+use Rattle.atl_lines.specs.declared.order.Operands.TheVariants as operands
+use Rattle.atl_lines.specs.Orders.{OperandsValue}
 use Rattle.atl_records.specs.declared.event.EventFault.{EventFault}
 use Rattle.atl_records.specs.declared.event.EventFault.TheVariants.{NoCrew, NoMen, NotComplete, NotInside, NotOwner, NoWay, TooHeavy}
 use Rattle.atl_records.specs.declared.event.Outcome.{Outcome}

@@ -9,10 +9,10 @@ use Rattle.std.specs.FinMap.{get}
 use Rattle.atl_world.specs.Worlds.{WorldValue}
 use Rattle.atl_world.specs.ByNumber.{fee_of}
 use Rattle.atl_world.proofs.GeneralLaws.{equal_itself}
-use Rattle.atl_orders.specs.declared.order.Operands.TheVariants as operands
+use Rattle.atl_lines.specs.declared.order.Operands.TheVariants as operands
 use Rattle.atl_world.specs.declared.verb.Verb.{Verb}
 use Rattle.atl_world.specs.declared.verb.Verb.TheVariants as verbs
-use Rattle.atl_orders.specs.Orders.{OrderValue, order_of}
+use Rattle.atl_lines.specs.Orders.{OrderValue, order_of}
 use Rattle.atl_records.specs.declared.event.EventFault.{EventFault}
 use Rattle.atl_records.specs.declared.event.Outcome.{Outcome}
 use Rattle.atl_records.specs.declared.event.Outcome.TheVariants.{Done}

@@ -11,8 +11,8 @@ use Rattle.atl_world.specs.Sums.{sum_over}
 use Rattle.atl_world.proofs.SumLaws.{sum_over-insert_known}
 use Rattle.atl_world.specs.ByNumber.{fee_of}
 use Rattle.atl_orders.specs.Bounds.{AreOperandsOf}
-use Rattle.atl_orders.specs.declared.order.Operands.TheVariants as operands
-use Rattle.atl_orders.specs.Orders.{OperandsValue}
+use Rattle.atl_lines.specs.declared.order.Operands.TheVariants as operands
+use Rattle.atl_lines.specs.Orders.{OperandsValue}
 use Rattle.atl_records.specs.Books.{amount_in, thing_index}
 use Rattle.atl_records.specs.declared.books.BooksEntry.{BooksEntry}
 use Rattle.atl_records.specs.declared.books.BooksEntry.TheVariants.{Study}

@@ -2,10 +2,10 @@
 use Rattle.std.proofs.Common.{◌≡◌, ◌&&◌, ◌++◌, true, map, filter, is_some, refl, ap, ◌∙◌, append_assoc}
 use Rattle.std.proofs.lemmas.List.{map-append}
 use Rattle.std.proofs.lemmas.List.Elements.{filter-append}
-use Rattle.atl_orders.specs.declared.order.Operands.TheVariants as operands
+use Rattle.atl_lines.specs.declared.order.Operands.TheVariants as operands
 use Rattle.atl_world.specs.declared.verb.Verb.{Verb}
 use Rattle.atl_world.specs.declared.verb.Verb.TheVariants as verbs
-use Rattle.atl_orders.specs.Orders.{OperandsValue}
+use Rattle.atl_lines.specs.Orders.{OperandsValue}
 use Rattle.atl_world.specs.declared.direction.Direction.{Direction}
 use Rattle.atl_campaign.specs.Campaign.{CampaignValue}
 use Rattle.atl_phase.specs.declared.phase_order.Arrangement.TheVariants.{ByUnit}

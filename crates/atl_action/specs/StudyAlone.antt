@@ -5,9 +5,9 @@ use Rattle.std.specs.Prelude.{◌≡◌, ℕ, Option, Some}
 use Rattle.std.specs.List.{Contains}
 use Rattle.std.specs.FinMap.{get}
 use Rattle.atl_world.specs.Worlds.{WorldValue}
-use Rattle.atl_orders.specs.declared.order.Operands.TheVariants.{Skill}
+use Rattle.atl_lines.specs.declared.order.Operands.TheVariants.{Skill}
 use Rattle.atl_world.specs.declared.verb.Verb.TheVariants.{Study}
-use Rattle.atl_orders.specs.Orders.{order_of}
+use Rattle.atl_lines.specs.Orders.{order_of}
 use Rattle.atl_records.specs.declared.records.Unit.{Unit}
 use Rattle.atl_campaign.specs.Campaign.{CampaignValue}
 use Rattle.atl_phase.specs.Month.{MonthValue}

@@ -6,11 +6,11 @@ use Rattle.std.specs.Prelude.{IfSome, IsTrue, if◌then◌else◌}
 use Rattle.std.specs.FinMap.{get}
 use Rattle.atl_world.specs.Names.{name_ok}
 use Rattle.atl_world.specs.Worlds.{WorldValue}
-use Rattle.atl_orders.specs.declared.order.NameKind.{NameKind}
-use Rattle.atl_orders.specs.declared.order.NameKind.TheVariants as kinds
-use Rattle.atl_orders.specs.declared.order.Operands.TheVariants as operands
+use Rattle.atl_lines.specs.declared.order.NameKind.{NameKind}
+use Rattle.atl_lines.specs.declared.order.NameKind.TheVariants as kinds
+use Rattle.atl_lines.specs.declared.order.Operands.TheVariants as operands
 use Rattle.atl_orders.specs.Bounds.{AreOperandsOf}
-use Rattle.atl_orders.specs.Orders.{OperandsValue}
+use Rattle.atl_lines.specs.Orders.{OperandsValue}
 use Rattle.atl_records.specs.declared.event.Outcome.TheVariants.{Done}
 use Rattle.atl_records.specs.declared.records.Structure.{Structure}
 use Rattle.atl_records.specs.declared.records.Unit.{Unit}

@@ -9,9 +9,9 @@ use Rattle.std.specs.FinMap.{get}
 use Rattle.atl_world.specs.Worlds.{WorldValue}
 use Rattle.atl_world.specs.ByNumber.{is_land_at}
 use Rattle.atl_world.proofs.GeneralLaws.{is_equal, is_unequal}
-use Rattle.atl_orders.specs.declared.order.Operands.TheVariants as operands
+use Rattle.atl_lines.specs.declared.order.Operands.TheVariants as operands
 use Rattle.atl_orders.specs.Bounds.{AreOperandsOf}
-use Rattle.atl_orders.specs.Orders.{OperandsValue}
+use Rattle.atl_lines.specs.Orders.{OperandsValue}
 use Rattle.atl_records.specs.declared.event.EventFault.TheVariants.{AtSea, NotHere, NotInside, NotOwner}
 use Rattle.atl_records.specs.declared.event.Outcome.TheVariants.{Done}
 use Rattle.atl_records.specs.declared.records.Structure.{Structure}

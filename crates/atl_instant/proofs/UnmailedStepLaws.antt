@@ -1,8 +1,8 @@
 -- Laws of the phases from FORM to QUIT: in each, units of a faction that sent no mailing keep their men and items.
 use Rattle.std.proofs.Common.{◌≡◌, ℕ, List, [], ◌∷◌, refl, sym, ◌∙◌, arith}
 use Rattle.std.specs.Prelude.{IfSome, fold}
-use Rattle.atl_orders.specs.declared.order.Operands.TheVariants as operands
-use Rattle.atl_orders.specs.Orders.{OperandsValue}
+use Rattle.atl_lines.specs.declared.order.Operands.TheVariants as operands
+use Rattle.atl_lines.specs.Orders.{OperandsValue}
 use Rattle.atl_campaign.specs.Good.{IsEarly, IsSteady}
 use Rattle.atl_campaign.specs.Campaign.{CampaignValue}
 use Rattle.atl_phase.specs.Month.{MonthValue}

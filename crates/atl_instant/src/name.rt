@@ -4,7 +4,7 @@
 ghost use Rattle.std.specs.Prelude.{◌≡◌, IfOk, IsTrue, OnOk};
 ghost use Rattle.std.specs.FinMap as map;
 ghost use Rattle.atl_world.specs.Names.{name_ok};
-ghost use Rattle.atl_orders.specs.Orders.{name_in};
+ghost use Rattle.atl_lines.specs.Orders.{name_in};
 ghost use Rattle.atl_campaign.specs.Covers.{MarksChanges};
 ghost use Rattle.atl_campaign.specs.Good.{IsEarly};
 ghost use Rattle.atl_phase.specs.OrderEffects.{faction_effect};

@@ -1,9 +1,9 @@
 -- Laws of what orders ask for: those of RECRUIT, SELL and BUY ask for a count.
 use Rattle.std.proofs.Common.{◌≡◌, true, refl}
-use Rattle.atl_orders.specs.declared.order.Operands.TheVariants as operands
+use Rattle.atl_lines.specs.declared.order.Operands.TheVariants as operands
 use Rattle.atl_world.specs.declared.verb.Verb.{Verb}
 use Rattle.atl_world.specs.declared.verb.Verb.TheVariants as verbs
-use Rattle.atl_orders.specs.Orders.{OperandsValue}
+use Rattle.atl_lines.specs.Orders.{OperandsValue}
 use Rattle.atl_phase.proofs.EventLaws.{Fits}
 use Rattle.atl_market.specs.PotPhase.{asks_count}
 use Rattle.atl_market.specs.Recruit.{is_recruit}

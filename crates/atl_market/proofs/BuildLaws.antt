@@ -14,8 +14,8 @@ use Rattle.atl_world.specs.Worlds.{IsKind, WorldValue}
 use Rattle.atl_world.specs.Sums.{sum_over}
 use Rattle.atl_world.specs.declared.world.Kind.{Kind}
 use Rattle.atl_world.specs.ByNumber.{is_land_at, size_of}
-use Rattle.atl_orders.specs.declared.order.Operands.TheVariants as operands
-use Rattle.atl_orders.specs.Orders.{OperandsValue}
+use Rattle.atl_lines.specs.declared.order.Operands.TheVariants as operands
+use Rattle.atl_lines.specs.Orders.{OperandsValue}
 use Rattle.atl_records.specs.declared.event.EventFault.{EventFault}
 use Rattle.atl_records.specs.declared.event.EventFault.TheVariants.{AtSea, Complete, NoMaterial, NoMen, NoSkill, NotInside, StructureLimit}
 use Rattle.atl_records.specs.declared.event.Outcome.{Outcome}

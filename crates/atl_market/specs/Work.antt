@@ -5,10 +5,10 @@ use Rattle.std.specs.FinMap.{entries}
 use Rattle.atl_world.specs.Worlds.{WorldValue}
 use Rattle.atl_world.specs.declared.world.Terrain.{Terrain}
 use Rattle.atl_world.specs.ByNumber.{terrain_of}
-use Rattle.atl_orders.specs.declared.order.Operands.TheVariants.{Nothing}
+use Rattle.atl_lines.specs.declared.order.Operands.TheVariants.{Nothing}
 use Rattle.atl_world.specs.declared.verb.Verb.{Verb}
 use Rattle.atl_world.specs.declared.verb.Verb.TheVariants as verbs
-use Rattle.atl_orders.specs.Orders.{order_of}
+use Rattle.atl_lines.specs.Orders.{order_of}
 use Rattle.atl_records.specs.declared.books.BooksEntry.TheVariants.{Wages}
 use Rattle.atl_records.specs.declared.books.Thing.TheVariants.{Money}
 use Rattle.atl_records.specs.declared.event.EventFault.{EventFault}

@@ -9,7 +9,7 @@ ghost use Rattle.atl_world.specs.Worlds.{WorldValue};
 ghost use Rattle.atl_campaign.specs.Covers.{MarksChanges};
 ghost use Rattle.atl_campaign.specs.Campaign.{CampaignValue};
 ghost use Rattle.std.specs.Ordering.{nat_cmp};
-ghost use Rattle.atl_orders.specs.Orders.{OperandsValue};
+ghost use Rattle.atl_lines.specs.Orders.{OperandsValue};
 ghost use Rattle.atl_phase.specs.PhaseOrders.{task_of};
 ghost use Rattle.atl_pots.specs.Pots.{AreWants};
 ghost use Rattle.atl_pots.specs.Puts.{with_entry_if_some};

@@ -11,7 +11,7 @@ ghost use Rattle.atl_phase.specs.Meaning.{most_moved};
 ghost use Rattle.atl_phase.specs.NoWorse.{all_no_worse};
 ghost use Rattle.atl_world.specs.ByNumber.{terrain_of};
 ghost use Rattle.atl_market.specs.Work.{places_at, wages_for, work_meaning, work_moves, work_orders, work_pots, written_work};
-ghost use Rattle.atl_orders.specs.declared.order.Operands.TheVariants.{Nothing};
+ghost use Rattle.atl_lines.specs.declared.order.Operands.TheVariants.{Nothing};
 ghost use Rattle.atl_world.specs.declared.verb.Verb.TheVariants.{Work};
 ghost use Rattle.atl_phase.specs.PhaseOrders.{key_of, task_of};
 ghost use Rattle.atl_phase.specs.declared.phase_order.Arrangement.TheVariants.{ByUnit};

@@ -1,6 +1,3 @@
-pub mod WordLaws
-pub mod LineLaws
-pub mod UnitLaws
 pub mod RuleLaws
 pub mod TextLaws
 pub mod OperandLaws

@@ -4,19 +4,19 @@ use Rattle.std.proofs.Common.{◌≡◌, ℕ, ◌+◌, ◌++◌, Bool, true, Lis
 use Rattle.std.specs.List.{list_all, flat_map}
 use Rattle.std.proofs.lemmas.Bool.{cond_both}
 use Rattle.atl_world.specs.Worlds.{WorldValue}
-use Rattle.atl_orders.specs.declared.order.UnitRef.{UnitRef}
-use Rattle.atl_orders.specs.declared.fault.FaultyLine.{FaultyLine}
-use Rattle.atl_orders.specs.declared.fault.LineFault.{LineFault}
-use Rattle.atl_orders.specs.declared.fault.LineFault.TheVariants.{EndAlone, NestedForm}
+use Rattle.atl_lines.specs.declared.order.UnitRef.{UnitRef}
+use Rattle.atl_lines.specs.declared.fault.FaultyLine.{FaultyLine}
+use Rattle.atl_lines.specs.declared.fault.LineFault.{LineFault}
+use Rattle.atl_lines.specs.declared.fault.LineFault.TheVariants.{EndAlone, NestedForm}
 use Rattle.atl_world.specs.declared.verb.Verb.{Verb}
-use Rattle.atl_orders.specs.declared.reading.Keyword.{Keyword}
-use Rattle.atl_orders.specs.declared.reading.Keyword.TheVariants as keywords
-use Rattle.atl_orders.specs.declared.reading.ReaderState.{ReaderState}
-use Rattle.atl_orders.specs.declared.reading.ReaderState.TheVariants.{Nowhere, At, Forming, Skipping}
-use Rattle.atl_orders.specs.Words.{WordText, words, begins}
-use Rattle.atl_orders.specs.Operands.{number_at, alias_at}
-use Rattle.atl_orders.specs.Orders.{OrderValue, read_order}
-use Rattle.atl_orders.specs.Reading.{is_plain, state_naming_unit, Effect, nothing, faulty, keyword_of, target, order_effect, LineStep, step, unit_step, end_step, block_step, form_step, keyword_step, words_step, line_step}
+use Rattle.atl_lines.specs.declared.reading.Keyword.{Keyword}
+use Rattle.atl_lines.specs.declared.reading.Keyword.TheVariants as keywords
+use Rattle.atl_lines.specs.declared.reading.ReaderState.{ReaderState}
+use Rattle.atl_lines.specs.declared.reading.ReaderState.TheVariants.{Nowhere, At, Forming, Skipping}
+use Rattle.atl_lines.specs.Words.{WordText, words, begins}
+use Rattle.atl_lines.specs.Operands.{number_at, alias_at}
+use Rattle.atl_lines.specs.Orders.{OrderValue, read_order}
+use Rattle.atl_lines.specs.Reading.{is_plain, state_naming_unit, Effect, nothing, faulty, keyword_of, target, order_effect, LineStep, step, unit_step, end_step, block_step, form_step, keyword_step, words_step, line_step}
 use Rattle.atl_orders.specs.Mailing.{EntryValue, entry_of, fault_of, effects}
 use Rattle.atl_orders.specs.Rules.{state_after_block, WordsSay, unit_named, unit_faulty, block_closed, end_alone, form_nested, form_nowhere, form_faulty, form_again, form_new, order_nowhere, order_faulty, order_said, unknown, LineSays, bad_byte, no_word, some_words, BodySays, text_ended, orders_ended, one_line, entries_from, faults_from}
 

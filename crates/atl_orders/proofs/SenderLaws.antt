@@ -2,10 +2,10 @@
 use Rattle.std.proofs.Common.{◌≡◌, ◌≤◌, List, ℕ, length, Result, Ok, Err, nat_lt, refl, ap, ◌∙◌, arith}
 use Rattle.std.proofs.lemmas.Bool.{cond_both}
 use Rattle.std.proofs.lemmas.Bool.Decides.{nat_tests}
-use Rattle.atl_orders.specs.Limits.{most_bytes}
+use Rattle.atl_lines.specs.Limits.{most_bytes}
 use Rattle.atl_world.specs.Worlds.{WorldValue}
-use Rattle.atl_orders.specs.declared.fault.MailFault.{MailFault}
-use Rattle.atl_orders.specs.TextLines.{lines}
+use Rattle.atl_lines.specs.declared.fault.MailFault.{MailFault}
+use Rattle.atl_lines.specs.TextLines.{lines}
 use Rattle.atl_orders.specs.Mailing.{HeaderValue, header_from, Reading, after_header, reading, IsMailingOf}
 
 one_reading : (a b : Reading) → ◌≡◌ {A = Result Reading MailFault} (Ok a) (Ok b) → a ≡ b

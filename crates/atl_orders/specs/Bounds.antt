@@ -2,15 +2,15 @@
 -- of the world.
 use Rattle.std.specs.Prelude.{◌≡◌, ◌≤◌, ◌<◌, ℕ, true, List, [], ◌∷◌, length, Some, None, Ok}
 use Rattle.std.specs.List.{All}
-use Rattle.atl_orders.specs.Limits.{most_number, last_alias, last_faction}
+use Rattle.atl_lines.specs.Limits.{most_number, last_alias, last_faction}
 use Rattle.atl_world.specs.Names.{name_ok}
 use Rattle.atl_world.specs.Worlds.{WorldValue}
-use Rattle.atl_orders.specs.declared.order.UnitRef.{UnitRef}
-use Rattle.atl_orders.specs.declared.order.UnitRef.TheVariants.{Number, Alias}
-use Rattle.atl_orders.specs.declared.order.Operands.TheVariants as operands
+use Rattle.atl_lines.specs.declared.order.UnitRef.{UnitRef}
+use Rattle.atl_lines.specs.declared.order.UnitRef.TheVariants.{Number, Alias}
+use Rattle.atl_lines.specs.declared.order.Operands.TheVariants as operands
 use Rattle.atl_world.specs.declared.verb.Shape.{Shape}
 use Rattle.atl_world.specs.declared.verb.Shape.TheVariants as shapes
-use Rattle.atl_orders.specs.Orders.{OperandsValue, OrderValue}
+use Rattle.atl_lines.specs.Orders.{OperandsValue, OrderValue}
 use Rattle.atl_world.specs.Verbs.{row_of}
 use Rattle.atl_orders.specs.Mailing.{EntryValue, Reading, reading}
 

@@ -1,22 +1,22 @@
 -- The reading of a mailing: its faction, orders and faulty lines. See docs/RULES.md, "Reading a mailing".
 use Rattle.std.specs.Prelude.{◌≡◌, ◌≤◌, ℕ, ◌+◌, Bool, List, [], ◌∷◌, length, map, codes, Option, Some, None, Result, Ok, Err, nat_lt, if◌then◌else◌}
 use Rattle.std.specs.List.{flat_map}
-use Rattle.atl_orders.specs.Limits.{last_faction, most_bytes}
+use Rattle.atl_lines.specs.Limits.{last_faction, most_bytes}
 use Rattle.atl_world.specs.Worlds.{WorldValue}
-use Rattle.atl_orders.specs.declared.order.UnitRef.{UnitRef}
-use Rattle.atl_orders.specs.declared.reading.ReaderState.{ReaderState}
-use Rattle.atl_orders.specs.declared.reading.ReaderState.TheVariants.{Nowhere}
-use Rattle.atl_orders.specs.declared.fault.FaultyLine.{FaultyLine}
-use Rattle.atl_orders.specs.declared.fault.MailFault.{MailFault}
-use Rattle.atl_orders.specs.declared.fault.MailFault.TheVariants.{TooLong, NoHeader, BadHeader, Memory}
+use Rattle.atl_lines.specs.declared.order.UnitRef.{UnitRef}
+use Rattle.atl_lines.specs.declared.reading.ReaderState.{ReaderState}
+use Rattle.atl_lines.specs.declared.reading.ReaderState.TheVariants.{Nowhere}
+use Rattle.atl_lines.specs.declared.fault.FaultyLine.{FaultyLine}
+use Rattle.atl_lines.specs.declared.fault.MailFault.{MailFault}
+use Rattle.atl_lines.specs.declared.fault.MailFault.TheVariants.{TooLong, NoHeader, BadHeader, Memory}
 use Rattle.atl_orders.specs.declared.mailing.Entry.{Entry}
 use Rattle.atl_orders.specs.declared.mailing.Mailing.{Mailing}
-use Rattle.atl_orders.specs.Aliasing.{no_alias}
-use Rattle.atl_orders.specs.Words.{WordText, words, begins, number_of}
-use Rattle.atl_orders.specs.TextLines.{lines}
-use Rattle.atl_orders.specs.Operands.{not_zero}
-use Rattle.atl_orders.specs.Orders.{OrderValue, order_value}
-use Rattle.atl_orders.specs.Reading.{Effect, nothing, faulty, says, line_step}
+use Rattle.atl_lines.specs.Aliasing.{no_alias}
+use Rattle.atl_lines.specs.Words.{WordText, words, begins, number_of}
+use Rattle.atl_lines.specs.TextLines.{lines}
+use Rattle.atl_lines.specs.Operands.{not_zero}
+use Rattle.atl_lines.specs.Orders.{OrderValue, order_value}
+use Rattle.atl_lines.specs.Reading.{Effect, nothing, faulty, says, line_step}
 
 -- an order of a mailing: its line's number, the unit that it is for, and the order
 pub record EntryValue : Type 0 where

@@ -4,25 +4,25 @@
 use Rattle.std.specs.Prelude.{◌≡◌, ℕ, ◌+◌, ◌<◌, ◌≤◌, ◌++◌, Bool, true, false, List, [], ◌∷◌, length, codes, Option, Some, None, Result, Ok, Err}
 use Rattle.std.specs.List.{All, list_all, flat_map}
 use Rattle.atl_world.specs.Worlds.{WorldValue}
-use Rattle.atl_orders.specs.declared.order.UnitRef.{UnitRef}
-use Rattle.atl_orders.specs.declared.order.UnitRef.TheVariants.{Number}
-use Rattle.atl_orders.specs.declared.fault.FaultyLine.{FaultyLine}
-use Rattle.atl_orders.specs.declared.fault.LineFault.{LineFault}
-use Rattle.atl_orders.specs.declared.fault.LineFault.TheVariants.{NoUnit, UnknownOrder, BadByte, BadAlias, NestedForm, EndAlone}
+use Rattle.atl_lines.specs.declared.order.UnitRef.{UnitRef}
+use Rattle.atl_lines.specs.declared.order.UnitRef.TheVariants.{Number}
+use Rattle.atl_lines.specs.declared.fault.FaultyLine.{FaultyLine}
+use Rattle.atl_lines.specs.declared.fault.LineFault.{LineFault}
+use Rattle.atl_lines.specs.declared.fault.LineFault.TheVariants.{NoUnit, UnknownOrder, BadByte, BadAlias, NestedForm, EndAlone}
 use Rattle.atl_world.specs.declared.verb.Verb.{Verb}
-use Rattle.atl_orders.specs.declared.reading.Keyword.{Keyword}
-use Rattle.atl_orders.specs.declared.reading.Keyword.TheVariants as keywords
-use Rattle.atl_orders.specs.declared.reading.ReaderState.{ReaderState}
-use Rattle.atl_orders.specs.declared.reading.ReaderState.TheVariants.{Nowhere, At, Forming, Skipping}
-use Rattle.atl_orders.specs.declared.fault.MailFault.{MailFault}
-use Rattle.atl_orders.specs.declared.fault.MailFault.TheVariants.{TooLong, NoHeader, BadHeader}
-use Rattle.atl_orders.specs.Limits.{most_bytes}
-use Rattle.atl_orders.specs.Aliasing.{no_alias, with_alias}
-use Rattle.atl_orders.specs.TextLines.{lines}
-use Rattle.atl_orders.specs.Words.{WordText, words, begins}
-use Rattle.atl_orders.specs.Operands.{number_at, alias_at}
-use Rattle.atl_orders.specs.Orders.{OrderValue, read_order}
-use Rattle.atl_orders.specs.Reading.{is_plain, keyword_of, nothing, faulty, says, LineStep, step, form_value, target, state_naming_unit, line_step}
+use Rattle.atl_lines.specs.declared.reading.Keyword.{Keyword}
+use Rattle.atl_lines.specs.declared.reading.Keyword.TheVariants as keywords
+use Rattle.atl_lines.specs.declared.reading.ReaderState.{ReaderState}
+use Rattle.atl_lines.specs.declared.reading.ReaderState.TheVariants.{Nowhere, At, Forming, Skipping}
+use Rattle.atl_lines.specs.declared.fault.MailFault.{MailFault}
+use Rattle.atl_lines.specs.declared.fault.MailFault.TheVariants.{TooLong, NoHeader, BadHeader}
+use Rattle.atl_lines.specs.Limits.{most_bytes}
+use Rattle.atl_lines.specs.Aliasing.{no_alias, with_alias}
+use Rattle.atl_lines.specs.TextLines.{lines}
+use Rattle.atl_lines.specs.Words.{WordText, words, begins}
+use Rattle.atl_lines.specs.Operands.{number_at, alias_at}
+use Rattle.atl_lines.specs.Orders.{OrderValue, read_order}
+use Rattle.atl_lines.specs.Reading.{is_plain, keyword_of, nothing, faulty, says, LineStep, step, form_value, target, state_naming_unit, line_step}
 use Rattle.atl_orders.specs.Mailing.{EntryValue, entry_of, fault_of, effects, faction_of, Reading, reading}
 
 -- the reader's state once the open block is closed, None if no block is open

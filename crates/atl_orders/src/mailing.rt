@@ -2,21 +2,19 @@
 ghost use Rattle.std.specs.Prelude.{IfSome, ◌≡◌, ◌≢◌, ◌+◌, ◌<◌, ◌≤◌, ◌^◌, length, Ok, IfOk, IfErr, OnOk, ◌↔◌, IsTrue};
 ghost use Rattle.std.specs.List.{slice_range};
 ghost use Rattle.std.specs.Option.{option_copied};
-ghost use Rattle.atl_orders.specs.declared.fault.MailFault.TheVariants.{Memory};
-ghost use Rattle.atl_orders.specs.Limits.{most_bytes};
-ghost use Rattle.atl_orders.specs.Words.{words};
-ghost use Rattle.atl_orders.specs.Positions.{EndsWith};
-ghost use Rattle.atl_orders.specs.TextLines.{lines};
-ghost use Rattle.atl_orders.specs.Views.{rest_size, effect_of, header_value, with_line};
+ghost use Rattle.atl_lines.specs.declared.fault.MailFault.TheVariants.{Memory};
+ghost use Rattle.atl_lines.specs.Limits.{most_bytes};
+ghost use Rattle.atl_lines.specs.Words.{words};
+ghost use Rattle.atl_lines.specs.Positions.{EndsWith};
+ghost use Rattle.atl_lines.specs.TextLines.{lines};
+ghost use Rattle.atl_lines.specs.Views.{rest_size, effect_of};
+ghost use Rattle.atl_orders.specs.Views.{header_value, with_line};
 ghost use Rattle.atl_orders.specs.Mailing.{faction_of, header_from, after_header, reading, reading_of, IsMailingOf, IsReadWith, AgreesOrMemory};
 
-use crate::aliases::Aliases;
-use crate::fault::{FaultyLine, MailFault};
-use crate::limits::{LAST_FACTION, MOST_BYTES};
-use crate::lines::next_line;
-use crate::order::{Order, Span, UnitRef};
-use crate::reading::{LineResult, ReaderState, read_line};
-use crate::words::{Cursor, begins, next_word, number};
+use atl_lines::{
+    Aliases, Cursor, FaultyLine, LAST_FACTION, LineResult, MOST_BYTES, MailFault, Order,
+    ReaderState, Span, UnitRef, begins, next_line, next_word, number, read_line,
+};
 use atl_world::lookup::letter_of;
 use atl_world::{Sequence, World, let_go};
 use std::alloc::{AllocError, Global};
@@ -52,7 +50,7 @@ impl Drop for Mailing {
 }
 
 impl Mailing {
-    ghost use Rattle.atl_orders.specs.Orders.{name_in};
+    ghost use Rattle.atl_lines.specs.Orders.{name_in};
 
     /// The text, the orders and the faulty lines, taken out of the mailing.
     pub fn into_parts(self) -> (Sequence<u8>, Sequence<Entry>, Sequence<FaultyLine>)
@@ -130,7 +128,7 @@ struct Header<'a> {
     rest: Option<&'a [u8]>,
 }
 
-#[tactic(auto, using(crate::proofs::WordLaws::ends_further, crate::proofs::WordLaws::ends_with_all), unfolding(crate::specs::Mailing::header_from))]
+#[tactic(auto, using(atl_lines::proofs::WordLaws::ends_further, atl_lines::proofs::WordLaws::ends_with_all), unfolding(crate::specs::Mailing::header_from))]
 fn find_header(text: &[u8]) -> Result<Header<'_>, MailFault>
     requires { length text.now ≤ most_bytes }
     ensures exact { AgreesOrMemory header_value result (header_from 1 (lines text.now)) }
@@ -164,7 +162,7 @@ pub fn is_mailing_of(faction: u32, text: &[u8]) -> bool
     text.len() <= MOST_BYTES && find_header(text).is_ok_and(|header| header.faction == faction)
 }
 
-#[tactic(auto, using(crate::proofs::LineLaws::line_ends_at, crate::proofs::WordLaws::ends_further, crate::proofs::LineLaws::starts_shorter, crate::proofs::WordLaws::ends_shorter), unfolding(crate::specs::Mailing::effects))]
+#[tactic(auto, using(atl_lines::proofs::LineLaws::line_ends_at, atl_lines::proofs::WordLaws::ends_further, atl_lines::proofs::LineLaws::starts_shorter, atl_lines::proofs::WordLaws::ends_shorter), unfolding(crate::specs::Mailing::effects))]
 fn read_body(
     alloc: Global,
     world: &World,

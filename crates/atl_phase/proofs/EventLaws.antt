@@ -9,7 +9,7 @@ use Rattle.std.specs.Ordering.{nat_cmp}
 use Rattle.atl_world.specs.Worlds.{WorldValue}
 use Rattle.atl_orders.specs.Bounds.{IsOrderOf, shape_of}
 use Rattle.atl_orders.specs.Mailing.{Reading}
-use Rattle.atl_orders.specs.Orders.{OperandsValue}
+use Rattle.atl_lines.specs.Orders.{OperandsValue}
 use Rattle.atl_world.specs.Verbs.{row_of}
 use Rattle.atl_world.specs.declared.verb.Verb.{Verb}
 use Rattle.atl_records.specs.declared.event.Event.{Event}

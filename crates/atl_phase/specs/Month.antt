@@ -9,13 +9,13 @@ use Rattle.std.specs.FinMap.{FinMap, code, from_entries, get, insert}
 use Rattle.atl_world.specs.contracts.sequence.Sequence as sequence
 use Rattle.atl_world.specs.Groups.{group_of}
 use Rattle.atl_orders.specs.declared.mailing.Mailing.{Mailing}
-use Rattle.atl_orders.specs.declared.fault.FaultyLine.{FaultyLine}
-use Rattle.atl_orders.specs.declared.order.UnitRef.{UnitRef}
-use Rattle.atl_orders.specs.contracts.fault.FaultyLine as faulty
-use Rattle.atl_orders.specs.contracts.order.Order as order
-use Rattle.atl_orders.specs.contracts.order.UnitRef as target
+use Rattle.atl_lines.specs.declared.fault.FaultyLine.{FaultyLine}
+use Rattle.atl_lines.specs.declared.order.UnitRef.{UnitRef}
+use Rattle.atl_lines.specs.contracts.fault.FaultyLine as faulty
+use Rattle.atl_lines.specs.contracts.order.Order as order
+use Rattle.atl_lines.specs.contracts.order.UnitRef as target
 use Rattle.atl_orders.specs.Mailing.{EntryValue, Reading, reading_of}
-use Rattle.atl_orders.specs.Orders.{OrderValue}
+use Rattle.atl_lines.specs.Orders.{OrderValue}
 use Rattle.atl_records.specs.declared.event.Event.{Event}
 use Rattle.atl_records.specs.contracts.event.Event as event
 

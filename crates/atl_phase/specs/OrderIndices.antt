@@ -8,13 +8,13 @@ use Rattle.std.specs.FinMap.{FinMap, get, insert}
 use Rattle.atl_world.specs.Groups.{group_of}
 use Rattle.atl_orders.specs.declared.mailing.Entry.{Entry}
 use Rattle.atl_orders.specs.declared.mailing.Mailing.{Mailing}
-use Rattle.atl_orders.specs.declared.order.Operands.TheVariants.{Nothing}
-use Rattle.atl_orders.specs.declared.order.UnitRef.TheVariants.{Number}
+use Rattle.atl_lines.specs.declared.order.Operands.TheVariants.{Nothing}
+use Rattle.atl_lines.specs.declared.order.UnitRef.TheVariants.{Number}
 use Rattle.atl_world.specs.declared.verb.Slot.{Slot}
 use Rattle.atl_world.specs.declared.verb.Verb.{Verb}
 use Rattle.atl_world.specs.declared.verb.Verb.TheVariants.{Work}
 use Rattle.atl_orders.specs.Mailing.{reading_of}
-use Rattle.atl_orders.specs.Orders.{order_value}
+use Rattle.atl_lines.specs.Orders.{order_value}
 use Rattle.atl_phase.specs.declared.order_indices.OrderIndex.{OrderIndex}
 use Rattle.atl_phase.specs.declared.phase_order.Arrangement.{Arrangement}
 use Rattle.atl_phase.specs.declared.phase_order.Arrangement.TheVariants.{ByUnit, ByFaction}

@@ -4,14 +4,14 @@ use Rattle.std.specs.List.{All, flat_map, slice_get}
 use Rattle.std.specs.Ordering.{nat_cmp}
 use Rattle.std.specs.Cmp.Lexicographic.{slice_cmp}
 use Rattle.std.specs.FinMap.{FinMap, entries, from_entries, get, values}
-use Rattle.atl_orders.specs.declared.order.UnitRef.{UnitRef}
-use Rattle.atl_orders.specs.declared.order.UnitRef.TheVariants.{Number, Alias}
+use Rattle.atl_lines.specs.declared.order.UnitRef.{UnitRef}
+use Rattle.atl_lines.specs.declared.order.UnitRef.TheVariants.{Number, Alias}
 use Rattle.atl_world.specs.declared.verb.Slot.{Slot}
 use Rattle.atl_world.specs.declared.verb.Slot.TheVariants.{MonthLong, Selling, Buying, Taxing, Recruiting}
 use Rattle.atl_world.specs.declared.verb.Verb.{Verb}
 use Rattle.atl_world.specs.Verbs.{row_of}
 use Rattle.atl_orders.specs.Mailing.{EntryValue, Reading}
-use Rattle.atl_orders.specs.Orders.{OrderValue, order_value}
+use Rattle.atl_lines.specs.Orders.{OrderValue, order_value}
 use Rattle.atl_phase.specs.Month.{Aliases, MonthValue, alias_unit}
 use Rattle.atl_phase.specs.declared.phase_order.PhaseOrder.{PhaseOrder}
 use Rattle.atl_phase.specs.declared.phase_order.Arrangement.{Arrangement}

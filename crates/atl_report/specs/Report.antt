@@ -11,7 +11,7 @@ use Rattle.atl_world.specs.declared.world.Market.{Market}
 use Rattle.atl_world.specs.declared.world.RegionPlan.{RegionPlan}
 use Rattle.atl_world.specs.declared.world.Item.{Item}
 use Rattle.atl_world.specs.declared.world.Kind.{Kind}
-use Rattle.atl_orders.specs.declared.fault.FaultyLine.{FaultyLine}
+use Rattle.atl_lines.specs.declared.fault.FaultyLine.{FaultyLine}
 use Rattle.atl_records.specs.declared.event.Event.{Event}
 use Rattle.atl_campaign.specs.Campaign.{CampaignValue}
 use Rattle.atl_sight.specs.Each.{each_text, separated_texts}

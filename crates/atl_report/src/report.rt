@@ -5,7 +5,7 @@ ghost use Rattle.atl_sight.specs.Each.{each_text, separated_texts};
 ghost use Rattle.atl_report.specs.Report.{header_line, unit_head, guard_text, inside_text, item_text, skill_text, goods_text, unit_line, structure_text, structure_line, region_line, exit_text, exit_texts, exits_text, exits_line, market_text, market_line, market_lines, region_part, report_of, OthersEventsAreNotReported, OnlyWhatIsSeenIsReported};
 
 use atl_campaign::Event;
-use atl_orders::FaultyLine;
+use atl_lines::FaultyLine;
 use atl_sight::{
     ItemView, MarketView, RegionView, Side, SkillView, StructureView, UnitView, View, write_orders,
 };

@@ -5,7 +5,7 @@ ghost use Rattle.atl_requests.specs.Bodies.{joined_body, pair, more_pairs, pairs
 ghost use Rattle.atl_requests.specs.Io.{MatchesReply};
 
 use crate::message::{Message, reply_message};
-use atl_orders::FaultyLine;
+use atl_lines::FaultyLine;
 use http::StatusCode;
 use std::alloc::{AllocError, Global};
 use std::fmt::Write;

@@ -71,7 +71,7 @@ fn first_question(bytes: &[u8]) -> Option<usize>
     bytes.iter().position(|byte| *byte == b'?')
 }
 
-#[tactic(auto, using(atl_orders::proofs::WordLaws::found_or_len, atl_orders::proofs::WordLaws::found_within))]
+#[tactic(auto, using(atl_lines::proofs::WordLaws::found_or_len, atl_lines::proofs::WordLaws::found_within))]
 fn end_of_path(target: &[u8]) -> usize
     ensures value { result ≡ position_or_len is_question target.now }
     ensures within { result ≤ length target.now }

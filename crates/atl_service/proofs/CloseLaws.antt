@@ -13,12 +13,12 @@ use Rattle.atl_world.specs.Worlds.{WorldValue, IsWorld}
 use Rattle.atl_world.specs.Sums.{map_values, numbers_among}
 use Rattle.atl_world.proofs.MappedLaws.{entries-mapped, get-mapped, insert_last}
 use Rattle.atl_world.proofs.Maps.{entries-empty}
-use Rattle.atl_orders.specs.declared.fault.FaultyLine.{FaultyLine}
-use Rattle.atl_orders.specs.declared.fault.MailFault.{MailFault}
-use Rattle.atl_orders.specs.declared.fault.MailFault.TheVariants.{TooLong, NoHeader, BadHeader, Memory}
+use Rattle.atl_lines.specs.declared.fault.FaultyLine.{FaultyLine}
+use Rattle.atl_lines.specs.declared.fault.MailFault.{MailFault}
+use Rattle.atl_lines.specs.declared.fault.MailFault.TheVariants.{TooLong, NoHeader, BadHeader, Memory}
 use Rattle.atl_orders.specs.declared.mailing.Mailing.{Mailing}
-use Rattle.atl_orders.specs.Limits.{most_bytes}
-use Rattle.atl_orders.specs.TextLines.{lines}
+use Rattle.atl_lines.specs.Limits.{most_bytes}
+use Rattle.atl_lines.specs.TextLines.{lines}
 use Rattle.atl_orders.specs.Mailing.{IsMailingOf, IsReadWith, Reading, AgreesOrMemory, after_header, header_from, reading, reading_of}
 use Rattle.atl_records.specs.declared.event.Event.{Event}
 use Rattle.atl_records.specs.declared.records.Faction.{Faction}

@@ -7,7 +7,7 @@ use Rattle.std.specs.FinMap.{FinMap, get, get-insert, get-empty, empty}
 use Rattle.std.proofs.lemmas.List.{append_assoc, drop_more}
 use Rattle.atl_world.specs.Worlds.{WorldValue}
 use Rattle.atl_world.proofs.GeneralLaws.{key_equality_is_symmetric, is_equal}
-use Rattle.atl_orders.specs.declared.fault.FaultyLine.{FaultyLine}
+use Rattle.atl_lines.specs.declared.fault.FaultyLine.{FaultyLine}
 use Rattle.atl_records.specs.declared.event.Event.{Event}
 use Rattle.atl_campaign.specs.Campaign.{CampaignValue, with_report}
 use Rattle.atl_sight.specs.Events.{own_events}

@@ -5,7 +5,7 @@ use Rattle.std.specs.Ordering.{nat_cmp}
 use Rattle.std.specs.FinMap.{FinMap, entries, get, len}
 use Rattle.atl_world.specs.Worlds.{WorldValue, IsWorld}
 use Rattle.atl_world.specs.Sums.{map_values}
-use Rattle.atl_orders.specs.declared.fault.FaultyLine.{FaultyLine}
+use Rattle.atl_lines.specs.declared.fault.FaultyLine.{FaultyLine}
 use Rattle.atl_orders.specs.declared.mailing.Mailing.{Mailing}
 use Rattle.atl_orders.specs.Mailing.{IsMailingOf, IsReadWith, reading, reading_of}
 use Rattle.atl_world.specs.Every.{EachEntry, HasValue}

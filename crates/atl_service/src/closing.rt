@@ -2,7 +2,7 @@
 //! docs/RULES.md, "Closing a month".
 ghost use Rattle.std.specs.Prelude.{◌≡◌, ◌<◌, ℕ, IfOk, IfErr, OnOk, length};
 ghost use Rattle.std.specs.FinMap as map;
-ghost use Rattle.atl_orders.specs.declared.fault.MailFault.TheVariants.{Memory};
+ghost use Rattle.atl_lines.specs.declared.fault.MailFault.TheVariants.{Memory};
 ghost use Rattle.atl_orders.specs.Mailing.{IsMailingOf, IsReadWith};
 ghost use Rattle.atl_campaign.specs.Covers.{MarksChanges};
 ghost use Rattle.atl_campaign.specs.Good.{IsGood};

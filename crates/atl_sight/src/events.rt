@@ -5,7 +5,7 @@ ghost use Rattle.std.specs.List.{list_any};
 ghost use Rattle.atl_sight.specs.Events.{faulty_line, faulty_lines, name_of_number, event_line, event_lines, own_events, results_text, orders_part};
 
 use atl_campaign::{Event, EventFault, Outcome};
-use atl_orders::FaultyLine;
+use atl_lines::FaultyLine;
 use std::alloc::AllocError;
 use std::fmt::Write;
 

@@ -1,8 +1,8 @@
 use Rattle.std.proofs.Common.{IfSome, ◌≡◌, ◌+◌, ◌≤◌, length}
 use Rattle.std.specs.Option.{option_copied}
-use Rattle.atl_orders.specs.Positions.{EndsWith}
-use Rattle.atl_orders.specs.TextLines.{lines}
-use Rattle.atl_orders.specs.Views.{lines_of_rest, rest_size}
+use Rattle.atl_lines.specs.Positions.{EndsWith}
+use Rattle.atl_lines.specs.TextLines.{lines}
+use Rattle.atl_lines.specs.Views.{lines_of_rest, rest_size}
 use Rattle.atl_orders.specs.Mailing.{header_from}
 use Rattle.atl_orders.proofs.mailing.find_header.Given as goal
 

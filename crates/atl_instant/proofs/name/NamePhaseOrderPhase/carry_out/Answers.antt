@@ -1,4 +1,4 @@
-use Rattle.atl_orders.specs.Orders.{name_in}
+use Rattle.atl_lines.specs.Orders.{name_in}
 use Rattle.atl_phase.proofs.OrderEffectLaws.{result_of_effect}
 use Rattle.atl_instant.specs.Name.{naming}
 use Rattle.atl_instant.proofs.name.NamePhaseOrderPhase.carry_out.Goals as goal

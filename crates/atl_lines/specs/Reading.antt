@@ -1,0 +1,127 @@
+-- The effect of one line of a mailing. See docs/RULES.md, "Reading a mailing". Where a comment says nothing else,
+-- `state` is the reader's state before the line, and `given` says which aliases earlier FORM lines gave.
+use Rattle.std.specs.Prelude.{ℕ, Bool, ◌&&◌, ◌||◌, List, [], ◌∷◌, codes, Option, Some, None, Result, Ok, Err, nat_le, ◌==◌, if◌then◌else◌}
+use Rattle.std.specs.List.{list_all}
+use Rattle.std.specs.Option.{option_map}
+use Rattle.atl_world.specs.Letters.{space, tilde}
+use Rattle.atl_world.specs.Worlds.{WorldValue}
+use Rattle.atl_lines.specs.Letters.{tab}
+use Rattle.atl_lines.specs.declared.order.UnitRef.{UnitRef}
+use Rattle.atl_lines.specs.declared.order.UnitRef.TheVariants.{Number, Alias}
+use Rattle.atl_lines.specs.declared.fault.LineFault.{LineFault}
+use Rattle.atl_lines.specs.declared.fault.LineFault.TheVariants.{NoUnit, UnknownOrder, BadByte, BadAlias, NestedForm, EndAlone}
+use Rattle.atl_lines.specs.declared.reading.Keyword.{Keyword}
+use Rattle.atl_lines.specs.declared.reading.Keyword.TheVariants as keywords
+use Rattle.atl_lines.specs.declared.reading.ReaderState.{ReaderState}
+use Rattle.atl_lines.specs.declared.reading.ReaderState.TheVariants.{Nowhere, At, Forming, Skipping}
+use Rattle.atl_lines.specs.Aliasing.{with_alias}
+use Rattle.atl_lines.specs.Words.{WordText, words, is_word}
+use Rattle.atl_lines.specs.Verbs.{verb_of}
+use Rattle.atl_lines.specs.Operands.{number_at, alias_at}
+use Rattle.atl_lines.specs.declared.order.Operands.TheVariants as operands
+use Rattle.atl_world.specs.declared.verb.Verb.TheVariants as verbs
+use Rattle.atl_lines.specs.Orders.{OrderValue, order_of, read_order}
+
+-- whether a byte may be in a line: tab, and from space to `~`
+abbrev pub is_plain : ℕ → Bool
+is_plain b = b == tab || (nat_le space b && nat_le b tilde)
+
+-- the keyword that a word is, in any case: UNIT, END, FORM, or one of an order; None if it is no keyword
+abbrev pub keyword_of : WordText → Option Keyword
+keyword_of w =
+    if is_word (codes "UNIT") w then Some keywords.Unit
+    else if is_word (codes "END") w then Some keywords.End
+    else if is_word (codes "FORM") w then Some keywords.Form
+    else option_map keywords.Order (verb_of w)
+
+-- the effect of a line: nothing, a fault, or an order for a unit
+pub data Effect : Type 0 where
+  nothing : Effect
+  faulty : LineFault → Effect
+  says : UnitRef → OrderValue → Effect
+
+-- the step of a line: what reading it gives, which is its effect, the reader's state after it (`state`), and the
+-- aliases given so far
+pub record LineStep : Type 0 where
+  pub effect : Effect
+  pub state : ReaderState
+  pub given : ℕ → Bool
+
+-- the step of a line (`LineStep`) made of its effect, the reader's state after it, and the aliases given so far
+abbrev pub step : Effect → ReaderState → (ℕ → Bool) → LineStep
+step effect state given = record { effect = effect; state = state; given = given }
+
+-- the unit that an order is for, in a state of the reader; None if no unit is named, or in a skipped block
+abbrev pub target : ReaderState → Option UnitRef
+target Nowhere = None
+target (At n) = Some (Number n)
+target (Forming parent alias) = Some (Alias alias)
+target (Skipping parent) = None
+
+-- the reader's state after a block has ended, by the unit that was named before the block, if one was
+abbrev pub state_naming_unit : Option ℕ → ReaderState
+state_naming_unit None = Nowhere
+state_naming_unit (Some n) = At n
+
+-- the step of a UNIT line: further orders are for its unit; on a fault they are for no unit
+abbrev pub unit_step : (ℕ → Bool) → Result (ℕ × List WordText) LineFault → LineStep
+unit_step given (Ok n) = step nothing (At n.0) given
+unit_step given (Err fault) = step (faulty fault) Nowhere given
+
+-- the step of an END line: the open block ends; the fault is EndAlone if no block is open
+abbrev pub end_step : ReaderState → (ℕ → Bool) → LineStep
+end_step Nowhere given = step (faulty EndAlone) Nowhere given
+end_step (At n) given = step (faulty EndAlone) (At n) given
+end_step (Forming parent alias) given = step nothing (At parent) given
+end_step (Skipping parent) given = step nothing (state_naming_unit parent) given
+
+-- the order FORM with an alias
+abbrev pub form_value : ℕ → OrderValue
+form_value alias = order_of verbs.Form (operands.Alias alias)
+
+-- The step of a FORM line for the unit `parent`, outside of blocks: a new alias is given, and its block opens. On a
+-- fault, as BadAlias for an alias given before, the block is skipped.
+abbrev pub block_step : ℕ → (ℕ → Bool) → Result (ℕ × List WordText) LineFault → LineStep
+block_step parent given (Ok n) =
+    if given n.0
+    then step (faulty BadAlias) (Skipping (Some parent)) given
+    else step (says (Number parent) (form_value n.0)) (Forming parent n.0) (with_alias given n.0)
+block_step parent given (Err fault) = step (faulty fault) (Skipping (Some parent)) given
+
+-- The step of a FORM line: a block opens, which is skipped with the fault NoUnit if no unit is named. Inside a block
+-- the fault is NestedForm, and the open block stays.
+abbrev pub form_step : ReaderState → (ℕ → Bool) → List WordText → LineStep
+form_step Nowhere given ws = step (faulty NoUnit) (Skipping None) given
+form_step (At n) given ws = block_step n given (alias_at ws)
+form_step (Forming parent alias) given ws = step (faulty NestedForm) (Forming parent alias) given
+form_step (Skipping parent) given ws = step (faulty NestedForm) (Skipping parent) given
+
+-- the effect of an order's line, given the unit that it is for: the order, or the fault of its words
+abbrev pub effect_for : UnitRef → Result OrderValue LineFault → Effect
+effect_for unit (Ok order_value) = says unit order_value
+effect_for unit (Err fault) = faulty fault
+
+-- the effect of an order's line, given the unit that it is for: the order or a fault, and NoUnit if it is for no unit
+abbrev pub order_effect : Option UnitRef → Result OrderValue LineFault → Effect
+order_effect None order_value = faulty NoUnit
+order_effect (Some unit) order_value = effect_for unit order_value
+
+-- the step of a line by its keyword and the words after it; the fault is UnknownOrder if there is no keyword
+abbrev pub keyword_step : WorldValue → ReaderState → (ℕ → Bool) → Option Keyword → List WordText → LineStep
+keyword_step world state given None ws = step (faulty UnknownOrder) state given
+keyword_step world state given (Some keywords.Unit) ws = unit_step given (number_at ws)
+keyword_step world state given (Some keywords.End) ws = end_step state given
+keyword_step world state given (Some keywords.Form) ws = form_step state given ws
+keyword_step world state given (Some (keywords.Order verb)) ws =
+    step (order_effect (target state) (read_order world verb ws)) state given
+
+-- the step of a line by its words; a line without words changes nothing
+abbrev pub words_step : WorldValue → ReaderState → (ℕ → Bool) → List WordText → LineStep
+words_step world state given [] = step nothing state given
+words_step world state given (w ∷ ws) = keyword_step world state given (keyword_of w) ws
+
+-- the step of one line: its effect, the reader's state and the aliases after it; BadByte if a byte may not be in a line
+unfoldable pub line_step : WorldValue → ReaderState → (ℕ → Bool) → List ℕ → LineStep
+line_step world state given line =
+    if list_all is_plain line then words_step world state given (words line)
+    else step (faulty BadByte) state given

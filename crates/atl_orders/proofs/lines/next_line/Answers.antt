@@ -1,6 +1,0 @@
-use Rattle.atl_orders.proofs.LineLaws.{front_further, take_front}
-use Rattle.atl_orders.proofs.lines.next_line.Goals as goal
-
-pub returns-in-Some-clause-front : goal.returns-in-Some-clause-front
-returns-in-Some-clause-front c =
-    front_further c.args.text.now _ _ (take_front c.args.text.now c.in-Some.end) c.without_return.ensures.front
