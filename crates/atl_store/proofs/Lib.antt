@@ -2,7 +2,6 @@ pub mod ChangeLaws
 pub mod OwnLaws
 pub mod GatherLaws
 pub mod LoadLaws
-pub mod UpgradeLaws
 pub mod BareWorldLaws
 pub mod StayLaws
 pub mod UpgradedLaws

@@ -23,7 +23,7 @@ use Rattle.atl_store.specs.Loading.{LeavesAlone, LoadsIn, RefusesToLoadIn}
 use Rattle.atl_writing.specs.OwnStatements.{OfUpgrade}
 use Rattle.atl_writing.specs.Rows.{Holds, HoldsIn}
 use Rattle.atl_descriptions.specs.Tables.{HasTablesOf, IsFirstFormatOnly}
-use Rattle.atl_store.specs.UpgradeSteps.{IsFirstFormat, WritesUpgrade}
+use Rattle.atl_writing.specs.UpgradeSteps.{IsFirstFormat, WritesUpgrade}
 use Rattle.atl_store.specs.Upgrading.{BreaksOffUpgrade, FailsCheck, FailsInTransaction, HasMoreTables, HasOld, HasOtherWorld, HoldsOld, IsReadyToUpgrade, MatchesNewText, MayUpgrade, RefusesToUpgrade, Upgrades}
 use Rattle.atl_store.specs.WorldText.{world_text}
 use Rattle.atl_sql.specs.Writes.{Transacts}

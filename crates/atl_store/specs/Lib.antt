@@ -6,5 +6,4 @@ pub mod Reopening
 pub mod WorldText
 pub mod OneCampaign
 pub mod OneWorld
-pub mod UpgradeSteps
 pub mod Upgrading

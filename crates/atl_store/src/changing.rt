@@ -10,34 +10,13 @@ ghost use Rattle.atl_sql.specs.Causes.{IsFaultOfError};
 ghost use Rattle.atl_writing.specs.Changing.{WritesChanges, HoldsUnmarked};
 ghost use Rattle.atl_store.specs.Faults.{write_fault};
 ghost use Rattle.atl_writing.specs.OwnStatements.{OfChange};
-ghost use Rattle.atl_sql.specs.Writes.{Writes, Transacts};
-ghost use Rattle.atl_sql.specs.Inside.{DoesInside, HasTables, LeavesOff};
+ghost use Rattle.atl_sql.specs.Inside.{HasTables, LeavesOff};
 ghost use Rattle.atl_store.specs.Keeps.{Keeps, LeavesAfterFault, IsLater, MayLeaveCampaign, LeavesOthersAlone};
 
 use crate::fault::WriteFault;
 use atl_campaign::Campaign;
-use atl_writing::{OtherParts, WrittenPart, rewrite_campaign_row};
-use sqlite::{Alter, Connection, Error, Transaction};
-
-fn rewrite_parts<S: Alter>(tx: &mut Transaction<'_, S>, campaign: &Campaign) -> Result<(), Error>
-    requires { campaign.now.value.books.things ≤ most_things }
-    ensures { Writes S.Store (OfChange campaign.now.value)
-        (DoesInside HasTables (WritesChanges campaign.now)) result tx.old.conn tx.new.conn }
-{
-    rewrite_campaign_row(tx, campaign)?;
-    OtherParts::rewrite(tx, campaign)
-}
-
-fn write_marked<S: Alter>(conn: &mut Connection<S>, campaign: &Campaign) -> Result<(), Error>
-    requires idle { conn.old.in_transaction ≡ false }
-    requires things { campaign.now.value.books.things ≤ most_things }
-    ensures { Transacts S.Store (OfChange campaign.now.value) HasTables (WritesChanges campaign.now)
-        result conn.old conn.new }
-{
-    let mut tx = conn.transaction();
-    rewrite_parts(&mut tx, campaign)?;
-    tx.commit()
-}
+use atl_writing::write_marked;
+use sqlite::{Alter, Connection};
 
 /// Writes what is marked of a campaign, in one transaction, into a store that holds the rest of it
 /// (`HoldsUnmarked`), such as one that holds a campaign which differs only in what is marked

@@ -1,52 +1,17 @@
 //! Creates the tables and writes a whole campaign into them. See docs/FORMATS.md, "Tables".
-ghost use Rattle.std.specs.Prelude.{◌≡◌, ◌≤◌, false, IsTrue, OnOk, OnErr, IfErr, ◌↔◌};
+ghost use Rattle.std.specs.Prelude.{◌≡◌, ◌≤◌, IsTrue, OnOk, OnErr, IfErr, ◌↔◌};
 ghost use Rattle.sqlite.specs.Held.{state};
 ghost use Rattle.atl_descriptions.specs.Tables.{no_tables};
 ghost use Rattle.atl_records.specs.Limits.{most_things};
 ghost use Rattle.atl_campaign.specs.Marks.{no_marks};
-ghost use Rattle.atl_writing.specs.OwnStatements.{OfFounding};
-ghost use Rattle.atl_sql.specs.Writes.{Writes, Transacts};
-ghost use Rattle.atl_sql.specs.Inside.{DoesInside, IsBlank};
 ghost use Rattle.atl_sql.specs.Making.{has_campaign};
-ghost use Rattle.atl_writing.specs.Filling.{WritesFounding};
 ghost use Rattle.atl_store.specs.Keeps.{Creates, IsReadyToCreate, RefusesToCreate, IsLater};
 
 use crate::fault::CreateFault;
 use atl_campaign::Campaign;
-use atl_sql::tables::create_tables;
-use atl_writing::{OtherParts, WrittenPart, put_campaign_row};
-use sqlite::{Alter, Connection, Error, Transaction};
+use atl_writing::write_founding;
+use sqlite::{Alter, Connection};
 use sqlite_schema::schema::Schema;
-
-fn put_founding<S: Alter>(
-    tx: &mut Transaction<'_, S>,
-    text: &str,
-    campaign: &Campaign,
-) -> Result<(), Error>
-    requires { campaign.now.value.books.things ≤ most_things }
-    ensures { Writes S.Store (OfFounding text.now campaign.now.value)
-        (DoesInside IsBlank (WritesFounding text.now campaign.now.value)) result tx.old.conn
-        tx.new.conn }
-{
-    create_tables(tx)?;
-    put_campaign_row(tx, campaign, text)?;
-    OtherParts::fill(tx, campaign)
-}
-
-fn write_founding<S: Alter>(
-    conn: &mut Connection<S>,
-    text: &str,
-    campaign: &Campaign,
-) -> Result<(), Error>
-    requires idle { conn.old.in_transaction ≡ false }
-    requires things { campaign.now.value.books.things ≤ most_things }
-    ensures { Transacts S.Store (OfFounding text.now campaign.now.value) IsBlank
-        (WritesFounding text.now campaign.now.value) result conn.old conn.new }
-{
-    let mut tx = conn.transaction();
-    put_founding(&mut tx, text, campaign)?;
-    tx.commit()
-}
 
 fn has_campaign_table(schema: &Schema) -> bool
     ensures { result ≡ has_campaign schema.now }

@@ -6,24 +6,13 @@ ghost use Rattle.atl_campaign.specs.Campaign.{CampaignValue, with_mail};
 ghost use Rattle.atl_sql.specs.Causes.{IsFaultOfError};
 ghost use Rattle.atl_store.specs.Faults.{write_fault};
 ghost use Rattle.atl_writing.specs.OwnStatements.{OfMail};
-ghost use Rattle.atl_sql.specs.Writes.{Transacts};
 ghost use Rattle.atl_sql.specs.Inside.{HasTables, LeavesOff};
 ghost use Rattle.atl_writing.specs.Arriving.{WritesMail};
 ghost use Rattle.atl_store.specs.Keeps.{Keeps, LeavesAfterFault, IsLater, LeavesOthersAlone};
 
 use crate::fault::WriteFault;
-use atl_writing::put_mail;
-use sqlite::{Alter, Connection, Error};
-
-fn write_mailing<S: Alter>(conn: &mut Connection<S>, faction: u32, text: &[u8]) -> Result<(), Error>
-    requires { conn.old.in_transaction ≡ false }
-    ensures { Transacts S.Store (OfMail faction text.now) HasTables (WritesMail faction text.now)
-        result conn.old conn.new }
-{
-    let mut tx = conn.transaction();
-    put_mail(&mut tx, faction, text)?;
-    tx.commit()
-}
+use atl_writing::write_mailing;
+use sqlite::{Alter, Connection};
 
 /// Writes the mail of a faction into a store that holds a campaign, replacing an older one, in one
 /// transaction. With Ok the store holds the campaign with this mail, and no other row is touched.

@@ -2,51 +2,19 @@
 ghost use Rattle.std.specs.Prelude.{◌≡◌, false, IfOk, IfErr, OnOk};
 ghost use Rattle.sqlite.specs.Held.{state};
 ghost use Rattle.sqlite.specs.State.{HasCleanDisk};
-ghost use Rattle.atl_sql.specs.Inside.{DoesInside};
 ghost use Rattle.atl_store.specs.Keeps.{IsLater};
 ghost use Rattle.atl_store.specs.Loading.{LeavesAlone};
-ghost use Rattle.atl_writing.specs.OwnStatements.{OfUpgrade};
-ghost use Rattle.atl_store.specs.UpgradeSteps.{IsFirstFormat, WritesUpgrade};
 ghost use Rattle.atl_store.specs.Upgrading.{FailsCheck, IsReadyToUpgrade, RefusesToUpgrade, Upgrades};
-ghost use Rattle.atl_sql.specs.Writes.{Writes, Transacts};
 
 use crate::fault::UpgradeFault;
 use crate::loading::load_as;
 use atl_campaign::Campaign;
 use atl_sql::schema::is_first_format_only;
-use atl_sql::tables::create_market;
 use atl_tables::read_world;
 use atl_world::{Format, World};
-use atl_writing::upgrade_campaign_row;
-use sqlite::{Alter, Connection, Error, Transaction};
+use atl_writing::write_upgrade;
+use sqlite::{Alter, Connection};
 use std::alloc::Global;
-
-fn put_upgrade<S: Alter>(
-    tx: &mut Transaction<'_, S>,
-    text: &str,
-    campaign: &Campaign,
-) -> Result<(), Error>
-    ensures { Writes S.Store (OfUpgrade text.now campaign.now.value)
-        (DoesInside IsFirstFormat (WritesUpgrade text.now campaign.now.value)) result tx.old.conn
-        tx.new.conn }
-{
-    create_market(tx)?;
-    upgrade_campaign_row(tx, campaign, text)
-}
-
-fn write_upgrade<S: Alter>(
-    conn: &mut Connection<S>,
-    text: &str,
-    campaign: &Campaign,
-) -> Result<(), Error>
-    requires { conn.old.in_transaction ≡ false }
-    ensures { Transacts S.Store (OfUpgrade text.now campaign.now.value) IsFirstFormat
-        (WritesUpgrade text.now campaign.now.value) result conn.old conn.new }
-{
-    let mut tx = conn.transaction();
-    put_upgrade(&mut tx, text, campaign)?;
-    tx.commit()
-}
 
 fn world_and_campaign<S: Alter>(
     alloc: Global,

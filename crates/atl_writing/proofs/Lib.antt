@@ -14,3 +14,4 @@ pub mod KeptLaws
 pub mod ArriveLaws
 pub mod TurnLaws
 pub mod FlagLaws
+pub mod UpgradeLaws

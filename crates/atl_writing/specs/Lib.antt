@@ -6,3 +6,4 @@ pub mod Changing
 pub mod Rewriting
 pub mod Rows
 pub mod Marked
+pub mod UpgradeSteps

@@ -1,5 +1,7 @@
-//! Writes the campaign row: in a founding, a join, a change, and an upgrade.
-ghost use Rattle.std.specs.Prelude.{◌≡◌};
+//! Writes the campaign row: in a founding, a join, a change, and an upgrade; and tests the id and
+//! the format of one.
+ghost use Rattle.std.specs.Prelude.{◌≡◌, pos, ◌↔◌, IsTrue};
+ghost use Rattle.atl_world.specs.Formats.{format_number};
 ghost use Rattle.atl_writing.specs.Rows.{campaign_row_of};
 ghost use Rattle.atl_sql.specs.PutsCampaignRow.{PutsCampaignRow, UpgradesCampaignRow};
 ghost use Rattle.atl_writing.specs.Rewriting.{RewritesCampaignRow};
@@ -11,7 +13,9 @@ ghost use Rattle.atl_sql.specs.Writes.{Writes};
 ghost use Rattle.atl_sql.specs.Inside.{DoesInside, HasTables};
 
 use atl_campaign::Campaign;
+use atl_rows::parts::StoredCampaignRow;
 use atl_sql::rows::campaign::{CampaignRow, put_campaign, put_upgraded};
+use atl_world::Format;
 use sqlite::{Alter, Error, Transaction};
 
 fn own_row(campaign: &Campaign) -> CampaignRow<'_>
@@ -72,4 +76,12 @@ pub fn rewrite_campaign_row<S: Alter>(
         return put_campaign_row(tx, campaign, "");
     }
     Ok(())
+}
+
+/// Whether a campaign row has the id of each campaign row, and the number of a format.
+pub fn has_id_and_format(head: &StoredCampaignRow, format: Format) -> bool
+    ensures { IsTrue result ↔
+        ((head.now.id ≡ pos 1) × (head.now.format ≡ pos (format_number format))) }
+{
+    head.id == 1 && head.format == i64::from(format.number())
 }

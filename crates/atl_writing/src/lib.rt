@@ -4,17 +4,24 @@
 
 mod amounts;
 mod campaign_row;
+mod changing;
+mod founding;
 mod goods;
 mod grouped;
 mod ledger;
+mod mailing;
 mod markets;
 mod numbered_rows;
 mod rewriting;
 mod singles;
 mod things;
+mod upgrading;
 mod write_parts;
 
-pub use campaign_row::{put_campaign_row, rewrite_campaign_row, upgrade_campaign_row};
+pub use campaign_row::{has_id_and_format, put_campaign_row};
+pub use changing::write_marked;
+pub use founding::write_founding;
 pub use ledger::write_amount;
-pub use numbered_rows::{NumberedRow, put_mail};
-pub use write_parts::{OtherParts, WrittenPart};
+pub use mailing::write_mailing;
+pub use numbered_rows::NumberedRow;
+pub use upgrading::write_upgrade;

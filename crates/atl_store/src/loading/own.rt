@@ -1,5 +1,5 @@
 //! Reads the campaign row and its world, and judges them by the first rule of the tables.
-ghost use Rattle.std.specs.Prelude.{◌≡◌, false, pos, IfOk, IfErr, ◌↔◌, IsTrue};
+ghost use Rattle.std.specs.Prelude.{◌≡◌, false, IfOk, IfErr, ◌↔◌, IsTrue};
 ghost use Rattle.sqlite.specs.Held.{state};
 ghost use Rattle.sqlite.specs.Order.{column};
 ghost use Rattle.sqlite.specs.State.{HasCleanDisk};
@@ -11,12 +11,12 @@ ghost use Rattle.atl_store.specs.Loading.{AfterReads, RefusesToLoadIn, AreOfOthe
 ghost use Rattle.atl_sql.specs.Shown.{int};
 
 use crate::fault::{LoadFault, ReadFault};
-use atl_campaign::parts::StoredCampaignRow;
 use atl_sql::rows::campaign::{StoredCampaign, select_campaign};
 use atl_sql::rows::parse_rows;
 use atl_state::Rule;
 use atl_tables::{WorldFault, read_old_world, read_world};
 use atl_world::{Format, World};
+use atl_writing::has_id_and_format;
 use sqlite::types::ValueRef;
 use sqlite::{Alter, Connection, Row};
 use std::alloc::Global;
@@ -37,13 +37,6 @@ fn only_row(mut rows: Vec<StoredCampaign>) -> Option<StoredCampaign>
 {
     let last = rows.pop();
     if rows.is_empty() { last } else { None }
-}
-
-fn has_id_and_format(head: &StoredCampaignRow, format: Format) -> bool
-    ensures { IsTrue result ↔
-        ((head.now.id ≡ pos 1) × (head.now.format ≡ pos (format_number format))) }
-{
-    head.id == 1 && head.format == i64::from(format.number())
 }
 
 /// A world of the first format has no markets.

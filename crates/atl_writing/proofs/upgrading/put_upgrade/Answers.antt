@@ -1,7 +1,7 @@
 use Rattle.atl_writing.specs.OwnStatements.{upgrades_tables, upgrades_head}
-use Rattle.atl_store.proofs.UpgradeLaws.{adds_markets, upgrade_done}
+use Rattle.atl_writing.proofs.UpgradeLaws.{adds_markets, upgrade_done}
 use Rattle.atl_sql.proofs.WriteLaws.{weaker, among_only, two_steps, stops}
-use Rattle.atl_store.proofs.upgrading.put_upgrade.Goals as goal
+use Rattle.atl_writing.proofs.upgrading.put_upgrade.Goals as goal
 
 pub returns : goal.returns
 returns g c =

@@ -2,7 +2,7 @@ use Rattle.std.proofs.Common.{rules}
 use Rattle.atl_sql.specs.Inside.{IsBlank}
 use Rattle.atl_writing.specs.Filling.{WritesFounding}
 use Rattle.atl_writing.proofs.WholeLaws.{committed, left_off}
-use Rattle.atl_store.proofs.founding.write_founding.Goals as goal
+use Rattle.atl_writing.proofs.founding.write_founding.Goals as goal
 
 pub returns : goal.returns
 returns g c =

@@ -6,7 +6,7 @@ use Rattle.atl_writing.proofs.FillLaws.{own_filled, own_then_filled, founding_do
 use Rattle.atl_writing.proofs.TurnLaws.{in_turn_changed}
 use Rattle.atl_writing.proofs.WholeLaws.{done_as, then_done}
 use Rattle.atl_sql.proofs.WriteLaws.{writes_among_more, among_only, two_steps, stops, stops_second}
-use Rattle.atl_store.proofs.founding.put_founding.Goals as goal
+use Rattle.atl_writing.proofs.founding.put_founding.Goals as goal
 
 pub returns : goal.returns
 returns g c =

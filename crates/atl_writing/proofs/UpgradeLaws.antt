@@ -17,7 +17,7 @@ use Rattle.atl_writing.specs.Rows.{campaign_row_of, rows_for, row_of_campaign, H
 use Rattle.atl_descriptions.specs.Sets.{HasExactly, AreKeyedByRowid, rows_in, put, visible_row}
 use Rattle.atl_sql.specs.Shown.{campaign_row, campaign_row_in}
 use Rattle.atl_descriptions.specs.Tables.{Part, Own, Markets, campaign_table, market_table, all_tables, all_indexes, creation_of, first_tables, parts_in, table_of}
-use Rattle.atl_store.specs.UpgradeSteps.{AddsMarkets, IsFirstFormat, WritesUpgrade}
+use Rattle.atl_writing.specs.UpgradeSteps.{AddsMarkets, IsFirstFormat, WritesUpgrade}
 use Rattle.atl_sql.specs.PutsCampaignRow.{UpgradesCampaignRow}
 use Rattle.atl_sql.specs.Writes.{RunsStatement}
 use Rattle.atl_sql.proofs.CreateTexts.{is_made, makes_table}

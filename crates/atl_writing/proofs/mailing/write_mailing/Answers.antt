@@ -2,7 +2,7 @@ use Rattle.std.proofs.Common.{rules}
 use Rattle.atl_sql.specs.Inside.{HasTables}
 use Rattle.atl_writing.specs.Arriving.{WritesMail}
 use Rattle.atl_writing.proofs.WholeLaws.{committed, left_off}
-use Rattle.atl_store.proofs.mailing.write_mailing.Goals as goal
+use Rattle.atl_writing.proofs.mailing.write_mailing.Goals as goal
 
 pub returns : goal.returns
 returns g c =

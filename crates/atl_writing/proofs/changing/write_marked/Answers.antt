@@ -2,7 +2,7 @@ use Rattle.std.proofs.Common.{rules}
 use Rattle.atl_writing.specs.Changing.{WritesChanges}
 use Rattle.atl_sql.specs.Inside.{HasTables}
 use Rattle.atl_writing.proofs.WholeLaws.{committed, left_off}
-use Rattle.atl_store.proofs.changing.write_marked.Goals as goal
+use Rattle.atl_writing.proofs.changing.write_marked.Goals as goal
 
 pub returns : goal.returns
 returns g c =

@@ -1,7 +1,7 @@
 use Rattle.std.proofs.Common.{rules}
-use Rattle.atl_store.specs.UpgradeSteps.{IsFirstFormat, WritesUpgrade}
+use Rattle.atl_writing.specs.UpgradeSteps.{IsFirstFormat, WritesUpgrade}
 use Rattle.atl_writing.proofs.WholeLaws.{committed, left_off}
-use Rattle.atl_store.proofs.upgrading.write_upgrade.Goals as goal
+use Rattle.atl_writing.proofs.upgrading.write_upgrade.Goals as goal
 
 pub returns : goal.returns
 returns g c =

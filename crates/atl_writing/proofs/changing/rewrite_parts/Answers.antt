@@ -5,7 +5,7 @@ use Rattle.atl_writing.proofs.TurnLaws.{in_turn_changed}
 use Rattle.atl_writing.proofs.RewriteAllLaws.{own_rewritten, own_then_rewritten, all_rewritten}
 use Rattle.atl_writing.proofs.WholeLaws.{done_as, then_done}
 use Rattle.atl_sql.proofs.WriteLaws.{stops}
-use Rattle.atl_store.proofs.changing.rewrite_parts.Goals as goal
+use Rattle.atl_writing.proofs.changing.rewrite_parts.Goals as goal
 
 pub returns : goal.returns
 returns g c =

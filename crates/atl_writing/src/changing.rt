@@ -1,0 +1,34 @@
+//! Writes the rows of a campaign that are marked.
+ghost use Rattle.std.specs.Prelude.{◌≡◌, ◌≤◌, false};
+ghost use Rattle.atl_records.specs.Limits.{most_things};
+ghost use Rattle.atl_writing.specs.Changing.{WritesChanges};
+ghost use Rattle.atl_writing.specs.OwnStatements.{OfChange};
+ghost use Rattle.atl_sql.specs.Writes.{Writes, Transacts};
+ghost use Rattle.atl_sql.specs.Inside.{DoesInside, HasTables};
+
+use crate::campaign_row::rewrite_campaign_row;
+use crate::write_parts::{OtherParts, WrittenPart};
+use atl_campaign::Campaign;
+use sqlite::{Alter, Connection, Error, Transaction};
+
+fn rewrite_parts<S: Alter>(tx: &mut Transaction<'_, S>, campaign: &Campaign) -> Result<(), Error>
+    requires { campaign.now.value.books.things ≤ most_things }
+    ensures { Writes S.Store (OfChange campaign.now.value)
+        (DoesInside HasTables (WritesChanges campaign.now)) result tx.old.conn tx.new.conn }
+{
+    rewrite_campaign_row(tx, campaign)?;
+    OtherParts::rewrite(tx, campaign)
+}
+
+/// Writes the campaign row and the marked rows of a campaign in one transaction. Where the database
+/// gives an error, the transaction is undone, and the error is the answer.
+pub fn write_marked<S: Alter>(conn: &mut Connection<S>, campaign: &Campaign) -> Result<(), Error>
+    requires idle { conn.old.in_transaction ≡ false }
+    requires things { campaign.now.value.books.things ≤ most_things }
+    ensures { Transacts S.Store (OfChange campaign.now.value) HasTables (WritesChanges campaign.now)
+        result conn.old conn.new }
+{
+    let mut tx = conn.transaction();
+    rewrite_parts(&mut tx, campaign)?;
+    tx.commit()
+}

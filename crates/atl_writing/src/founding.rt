@@ -1,0 +1,45 @@
+//! Makes the tables and writes the rows of a whole campaign into them.
+ghost use Rattle.std.specs.Prelude.{◌≡◌, ◌≤◌, false};
+ghost use Rattle.atl_records.specs.Limits.{most_things};
+ghost use Rattle.atl_writing.specs.OwnStatements.{OfFounding};
+ghost use Rattle.atl_sql.specs.Writes.{Writes, Transacts};
+ghost use Rattle.atl_sql.specs.Inside.{DoesInside, IsBlank};
+ghost use Rattle.atl_writing.specs.Filling.{WritesFounding};
+
+use crate::campaign_row::put_campaign_row;
+use crate::write_parts::{OtherParts, WrittenPart};
+use atl_campaign::Campaign;
+use atl_sql::tables::create_tables;
+use sqlite::{Alter, Connection, Error, Transaction};
+
+fn put_founding<S: Alter>(
+    tx: &mut Transaction<'_, S>,
+    text: &str,
+    campaign: &Campaign,
+) -> Result<(), Error>
+    requires { campaign.now.value.books.things ≤ most_things }
+    ensures { Writes S.Store (OfFounding text.now campaign.now.value)
+        (DoesInside IsBlank (WritesFounding text.now campaign.now.value)) result tx.old.conn
+        tx.new.conn }
+{
+    create_tables(tx)?;
+    put_campaign_row(tx, campaign, text)?;
+    OtherParts::fill(tx, campaign)
+}
+
+/// Makes the tables and writes all rows of a campaign, with its world text, in one transaction.
+/// Where the database gives an error, the transaction is undone, and the error is the answer.
+pub fn write_founding<S: Alter>(
+    conn: &mut Connection<S>,
+    text: &str,
+    campaign: &Campaign,
+) -> Result<(), Error>
+    requires idle { conn.old.in_transaction ≡ false }
+    requires things { campaign.now.value.books.things ≤ most_things }
+    ensures { Transacts S.Store (OfFounding text.now campaign.now.value) IsBlank
+        (WritesFounding text.now campaign.now.value) result conn.old conn.new }
+{
+    let mut tx = conn.transaction();
+    put_founding(&mut tx, text, campaign)?;
+    tx.commit()
+}
