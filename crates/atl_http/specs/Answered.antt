@@ -1,6 +1,6 @@
 -- `answer_reply`: status and body of the reply to each answer of a command. See docs/FORMATS.md, "HTTP".
 use Rattle.std.specs.Prelude.{ℕ, List, None}
-use Rattle.atl_requests.specs.Replies.{Reply, json, plain, no_number, error_body}
+use Rattle.atl_parsing.specs.Replies.{Reply, json, plain, no_number, error_body}
 use Rattle.atl_requests.specs.Bodies.{joined_body, mailed_body, month_body, success}
 use Rattle.atl_service.specs.declared.command.Answer.{Answer}
 use Rattle.atl_service.specs.declared.command.Answer.TheVariants.{Joined, Mailed, MonthDone, Text, Refused, Fault}

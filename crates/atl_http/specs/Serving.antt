@@ -16,15 +16,15 @@ use Rattle.atl_requests.specs.declared.dice.Dice.{Dice}
 use Rattle.atl_requests.specs.declared.message.Message.{Message}
 use Rattle.atl_requests.specs.declared.io.HttpFault.{HttpFault}
 use Rattle.atl_requests.specs.declared.io.HttpFault.TheVariants.{Cut, ReadFault, WriteFault, Memory}
-use Rattle.atl_requests.specs.declared.request.Request.{Request}
-use Rattle.atl_requests.specs.declared.request.Request.TheVariants.{Join, Orders, Close, Report}
-use Rattle.atl_requests.specs.declared.request.FinalVerdict.{FinalVerdict}
-use Rattle.atl_requests.specs.declared.request.FinalVerdict.TheVariants.{Refused, Asks}
-use Rattle.atl_requests.specs.declared.request.Verdict.TheVariants.{More}
+use Rattle.atl_parsing.specs.declared.request.Request.{Request}
+use Rattle.atl_parsing.specs.declared.request.Request.TheVariants.{Join, Orders, Close, Report}
+use Rattle.atl_parsing.specs.declared.request.FinalVerdict.{FinalVerdict}
+use Rattle.atl_parsing.specs.declared.request.FinalVerdict.TheVariants.{Refused, Asks}
+use Rattle.atl_parsing.specs.declared.request.Verdict.TheVariants.{More}
 use Rattle.atl_requests.specs.Dice.{generator, joining_streams, word_of, first_words}
-use Rattle.atl_requests.specs.Heads.{Judges, ReadsNoFurther, as_verdict}
+use Rattle.atl_parsing.specs.Heads.{Judges, ReadsNoFurther, as_verdict}
 use Rattle.atl_requests.specs.Io.{MatchesReply}
-use Rattle.atl_requests.specs.Replies.{Reply, bytes_of, problem_reply}
+use Rattle.atl_parsing.specs.Replies.{Reply, bytes_of, problem_reply}
 use Rattle.atl_http.specs.Answered.{answer_reply}
 
 -- the number of the faction that joins next; 0 for a closed service, which takes no command

@@ -6,10 +6,10 @@ use Rattle.std.proofs.lemmas.List.{append_assoc, append-nil, length-append}
 use Rattle.std.specs.Prelude.{Ok, Err}
 use Rattle.atl_requests.specs.declared.io.HttpFault.{HttpFault}
 use Rattle.atl_requests.specs.declared.io.HttpFault.TheVariants.{Cut, ReadFault, WriteFault, Memory}
-use Rattle.atl_requests.specs.declared.request.Verdict.TheVariants.{More}
-use Rattle.atl_requests.specs.Heads.{Judges, ReadsNoFurther, IsShortBy, ComesTo}
-use Rattle.atl_requests.specs.declared.request.Progress.{Progress}
-use Rattle.atl_requests.specs.declared.request.Progress.TheVariants.{Missing}
+use Rattle.atl_parsing.specs.declared.request.Verdict.TheVariants.{More}
+use Rattle.atl_parsing.specs.Heads.{Judges, ReadsNoFurther, IsShortBy, ComesTo}
+use Rattle.atl_parsing.specs.declared.request.Progress.{Progress}
+use Rattle.atl_parsing.specs.declared.request.Progress.TheVariants.{Missing}
 use Rattle.atl_requests.specs.Io.{ReadsMore, Receives}
 use Rattle.std.proofs.Math.Seq.{take-add}
 

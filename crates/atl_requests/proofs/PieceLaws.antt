@@ -7,14 +7,14 @@ use Rattle.std.proofs.Math.Seq.{take-append-add}
 use Rattle.std.proofs.lemmas.Bool.Decides.{nat_tests}
 use Rattle.httparse.specs.Grammar.{RequestHead, print_request, ReadsRequest, HasNoRequest}
 use Rattle.httparse.proofs.GrammarLemmas.{request_unique}
-use Rattle.atl_requests.specs.declared.problem.Problem.{Problem}
-use Rattle.atl_requests.specs.declared.route.Route.{Route}
-use Rattle.atl_requests.specs.declared.request.Verdict.{Verdict}
-use Rattle.atl_requests.specs.declared.request.Verdict.TheVariants.{More}
-use Rattle.atl_requests.specs.Checks.{verdict_with_body, verdict_on_request, request_of, verdict_of, head_checks}
-use Rattle.atl_requests.specs.Fields.{fields_of}
-use Rattle.atl_requests.specs.Heads.{most_head, HasHead, IsRefused, IsTooLong, Judges, whole, too_long, refused, unfinished, IsFinal}
-use Rattle.atl_requests.proofs.HeadLaws.{head_stays, refused_stays}
+use Rattle.atl_parsing.specs.declared.problem.Problem.{Problem}
+use Rattle.atl_parsing.specs.declared.route.Route.{Route}
+use Rattle.atl_parsing.specs.declared.request.Verdict.{Verdict}
+use Rattle.atl_parsing.specs.declared.request.Verdict.TheVariants.{More}
+use Rattle.atl_parsing.specs.Checks.{verdict_with_body, verdict_on_request, request_of, verdict_of, head_checks}
+use Rattle.atl_parsing.specs.Fields.{fields_of}
+use Rattle.atl_parsing.specs.Heads.{most_head, HasHead, IsRefused, IsTooLong, Judges, whole, too_long, refused, unfinished, IsFinal}
+use Rattle.atl_parsing.proofs.HeadLaws.{head_stays, refused_stays}
 
 -- ---- more bytes
 

@@ -4,7 +4,7 @@ use Rattle.std.specs.Fmt.{decimal}
 use Rattle.atl_world.specs.Texts.{◌▸◌}
 use Rattle.atl_lines.specs.declared.fault.FaultyLine.{FaultyLine}
 use Rattle.atl_lines.specs.Faulting.{fault_number}
-use Rattle.atl_requests.specs.Replies.{Reply}
+use Rattle.atl_parsing.specs.Replies.{Reply}
 
 -- the body for a join: {"faction":F,"unit":U}, with the numbers of the faction and of its unit
 unfoldable pub joined_body : (faction unit : ℕ) → List ℕ

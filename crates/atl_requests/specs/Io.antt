@@ -5,10 +5,10 @@ use Rattle.std.specs.Io.KnownBytes.{Keeps, Appends, Consumes, IsAtEnd}
 use Rattle.atl_requests.specs.declared.message.Message.{Message}
 use Rattle.atl_requests.specs.declared.io.HttpFault.{HttpFault}
 use Rattle.atl_requests.specs.declared.io.HttpFault.TheVariants.{Cut, ReadFault, WriteFault, Memory}
-use Rattle.atl_requests.specs.declared.request.FinalVerdict.{FinalVerdict}
-use Rattle.atl_requests.specs.declared.request.Verdict.TheVariants.{More}
-use Rattle.atl_requests.specs.Heads.{Judges, ReadsNoFurther, as_verdict, most_at_once}
-use Rattle.atl_requests.specs.Replies.{Reply, bytes_of}
+use Rattle.atl_parsing.specs.declared.request.FinalVerdict.{FinalVerdict}
+use Rattle.atl_parsing.specs.declared.request.Verdict.TheVariants.{More}
+use Rattle.atl_parsing.specs.Heads.{Judges, ReadsNoFurther, as_verdict, most_at_once}
+use Rattle.atl_parsing.specs.Replies.{Reply, bytes_of}
 
 -- the number of a fault of HTTP, from 1 to 3; Memory has none
 abbrev pub fault_number : HttpFault → Option ℕ

@@ -1,12 +1,5 @@
 pub mod Dice
-pub mod Routes
-pub mod Routing
-pub mod Fields
-pub mod Checks
-pub mod Heads
-pub mod Replies
 pub mod Bodies
 pub mod Calls
 pub mod Io
 pub mod Patience
-pub mod Finding

@@ -1,15 +1,15 @@
 //! Reads a request in pieces from a reader, and writes a reply to a writer. See docs/FORMATS.md,
 //! "For developers".
 ghost use Rattle.std.specs.Prelude.{◌≡◌, ◌≤◌, ◌+◌, [], length, IfOk, OnOk};
-ghost use Rattle.atl_requests.specs.Heads.{most_at_once, IsShortBy, ComesTo};
+ghost use Rattle.atl_parsing.specs.Heads.{most_at_once, IsShortBy, ComesTo};
 ghost use Rattle.atl_requests.specs.Calls.{most_reads, no_reads, GoesOn, EndsReading, no_writes, EndsWriting};
 ghost use Rattle.atl_requests.specs.Io.{ReadsMore, Receives, Sends};
 
 use crate::calls::{
     MOST_INTERRUPTED, MOST_READS, ReadCalls, ReadOutcome, WriteCalls, WriteOutcome,
 };
-use crate::parsing::{progress_of, rest_after};
-use crate::request::{FinalVerdict, Progress};
+use atl_parsing::parsing::{progress_of, rest_after};
+use atl_parsing::request::{FinalVerdict, Progress};
 use std::alloc::{AllocError, Global};
 use std::fmt;
 use std::io::{Read, Write};

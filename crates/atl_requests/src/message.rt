@@ -1,11 +1,11 @@
 //! Writes replies as bytes: status line, fields and body. See docs/FORMATS.md, "HTTP".
 ghost use Rattle.std.specs.Prelude.{◌≡◌, IfOk, OnOk, ◌++◌, [], unwrap_or, string_bytes};
 ghost use Rattle.http.specs.StatusCode.{reason_phrase};
-ghost use Rattle.atl_requests.specs.Replies.{json, allow_line, head_of, error_body, problem_reply};
+ghost use Rattle.atl_parsing.specs.Replies.{json, allow_line, head_of, error_body, problem_reply};
 ghost use Rattle.atl_requests.specs.Io.{MatchesReply};
 
-use crate::problem::Problem;
-use crate::route::Route;
+use atl_parsing::problem::Problem;
+use atl_parsing::route::Route;
 use atl_world::let_go;
 use http::StatusCode;
 use std::alloc::{AllocError, Global};
@@ -41,7 +41,7 @@ fn phrase_of(status: StatusCode) -> &'static str
     }
 }
 
-#[tactic(auto, unfolding(crate::specs::Replies::head_of))]
+#[tactic(auto, unfolding(atl_parsing::specs::Replies::head_of))]
 fn write_head(
     out: &mut String,
     status: StatusCode,
@@ -100,7 +100,7 @@ pub fn reply_message(
     })
 }
 
-#[tactic(auto, unfolding(crate::specs::Replies::error_body))]
+#[tactic(auto, unfolding(atl_parsing::specs::Replies::error_body))]
 fn error_body(alloc: Global, name: &str, number: u8) -> Result<String, AllocError>
     ensures { IfOk result (λ body. string_bytes body ≡ error_body name.now number) }
 {

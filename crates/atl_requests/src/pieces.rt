@@ -1,5 +1,5 @@
 //! A law: it makes no difference in which pieces a request arrives.
-ghost use Rattle.atl_requests.specs.Heads.{PiecesDoNotMatter};
+ghost use Rattle.atl_parsing.specs.Heads.{PiecesDoNotMatter};
 
 /// Law: it doesn't matter in which pieces a request arrives. Does nothing: the law is its clause.
 /// Bytes after a request that is whole or refused change nothing, and no input has two final

@@ -1,6 +1,6 @@
 use Rattle.std.proofs.Common.{◌∙◌, subst, sym}
-use Rattle.atl_requests.specs.declared.request.Progress.TheVariants.{Missing}
-use Rattle.atl_requests.specs.Heads.{ComesTo, IsShortBy}
+use Rattle.atl_parsing.specs.declared.request.Progress.TheVariants.{Missing}
+use Rattle.atl_parsing.specs.Heads.{ComesTo, IsShortBy}
 use Rattle.atl_requests.proofs.IoLaws as laws
 use Rattle.atl_requests.proofs.io.receive_in.Goals as goal
 

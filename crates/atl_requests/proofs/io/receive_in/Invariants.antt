@@ -1,6 +1,6 @@
 use Rattle.std.proofs.Common.{◌≡◌, ◌≤◌, ◌-◌, length}
 use Rattle.std.specs.Io.KnownBytes.{Consumes}
-use Rattle.atl_requests.specs.Heads.{ReadsNoFurther, IsShortBy, most_at_once}
+use Rattle.atl_parsing.specs.Heads.{ReadsNoFurther, IsShortBy, most_at_once}
 use Rattle.atl_requests.specs.Calls.{most_reads, GoesOn}
 use Rattle.atl_requests.proofs.io.receive_in.Given as goal
 

@@ -1,4 +1,4 @@
-use Rattle.atl_requests.specs.Replies.{head_of}
+use Rattle.atl_parsing.specs.Replies.{head_of}
 use Rattle.atl_requests.proofs.message.write_head.Goals as goal
 
 pub returns : goal.returns
