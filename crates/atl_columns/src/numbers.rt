@@ -10,7 +10,7 @@ use sqlite_schema::schema::Kind;
 use std::alloc::{AllocError, Global};
 
 /// Any integer of 64 bits. Its range is for the rules of docs/FORMATS.md, "Rules of the tables".
-#[derive(Clone, Copy, Debug)]
+#[derive(Clone, Copy)]
 pub struct Number {}
 
 impl Form for Number {

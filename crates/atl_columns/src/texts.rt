@@ -12,7 +12,7 @@ use sqlite_schema::schema::Kind;
 use std::alloc::{AllocError, Global};
 
 /// Any text, as its bytes, UTF-8 or not: a name or a pass text, which a later rule judges.
-#[derive(Clone, Copy, Debug)]
+#[derive(Clone, Copy)]
 pub struct TextBytes {}
 
 impl Form for TextBytes {
@@ -43,7 +43,7 @@ impl Form for TextBytes {
 }
 
 /// A text of UTF-8.
-#[derive(Clone, Copy, Debug)]
+#[derive(Clone, Copy)]
 pub struct Utf8Text {}
 
 fn utf8_text(alloc: Global, bytes: &[u8]) -> Result<Option<Text>, AllocError>
@@ -83,7 +83,7 @@ impl Form for Utf8Text {
 }
 
 /// Any bytes.
-#[derive(Clone, Copy, Debug)]
+#[derive(Clone, Copy)]
 pub struct Bytes {}
 
 impl Form for Bytes {

@@ -8,7 +8,7 @@ use std::marker::Model;
 /// A list in a vector whose first `free` elements are unused, at most half of all. To insert or
 /// remove an element moves those on its nearer side, and now and then, to make room or give it up,
 /// all.
-#[derive(Drop, Debug)]
+#[derive(Drop)]
 pub struct GapVec<T> {
     items: Vec<T>,
     free: usize,

@@ -7,7 +7,7 @@ use std::alloc::{AllocError, Global};
 use std::marker::Model;
 
 /// A sorted list of numbers, in a vector with free room at both ends.
-#[derive(Drop, Debug)]
+#[derive(Drop)]
 pub struct Numbers {
     items: GapVec<u32>,
 }

@@ -3,7 +3,7 @@
 use atl_world::Format;
 
 /// A unique key of a table that isn't the row's number. The file keeps it in an index.
-#[derive(Clone, Copy, Debug)]
+#[derive(Clone, Copy)]
 pub struct UniqueKey {
     /// The indexes of its columns in a stored row, whose first column has the index 1.
     pub columns: &'static [usize],
@@ -16,7 +16,7 @@ pub struct UniqueKey {
 /// A table: its tree, its name, its columns' names in their order, its keys, the text that makes it,
 /// and the SELECT of all its rows in the order of its key. Tables and the indexes of their keys take
 /// the trees of a file in the order in which they are made.
-#[derive(Clone, Copy, Debug)]
+#[derive(Clone, Copy)]
 pub struct Table {
     /// The number of the tree that holds the rows.
     pub tree: u32,
@@ -37,7 +37,7 @@ pub struct Table {
 
 /// The INSERT of a row, which changes the row with its key if there is one; and the DELETE of the row
 /// with a given key.
-#[derive(Clone, Copy, Debug)]
+#[derive(Clone, Copy)]
 pub struct Statements {
     pub upsert: &'static str,
     pub delete: &'static str,

@@ -26,7 +26,7 @@ use std::alloc::{AllocError, Global};
 pub struct GivePhase;
 
 /// What a unit gives: money, or an item by its number.
-#[derive(Drop, Clone, Copy, Debug)]
+#[derive(Drop, Clone, Copy)]
 pub(crate) enum Gift {
     Money,
     Item(u16),

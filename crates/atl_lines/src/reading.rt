@@ -23,7 +23,7 @@ use atl_world::{Verb, World};
 use std::alloc::{AllocError, Global};
 
 /// The keyword that a line of a mailing begins with: UNIT, END, FORM, or that of another order.
-#[derive(Drop, Clone, Copy, Debug, PartialEq, Eq)]
+#[derive(Drop, Clone, Copy, PartialEq, Eq)]
 pub enum Keyword {
     Unit,
     End,
@@ -32,7 +32,7 @@ pub enum Keyword {
 }
 
 /// The reader's state between two lines: which unit is named, and which block is open.
-#[derive(Drop, Clone, Copy, Debug, PartialEq, Eq)]
+#[derive(Drop, Clone, Copy, PartialEq, Eq)]
 pub enum ReaderState {
     /// No unit is named, and no block is open.
     Nowhere,
@@ -46,7 +46,7 @@ pub enum ReaderState {
 }
 
 /// What a line gives, other than the reader's next state: nothing, a fault, or an order for a unit.
-#[derive(Drop, Debug)]
+#[derive(Drop)]
 pub enum LineResult {
     Nothing,
     Faulty(LineFault),

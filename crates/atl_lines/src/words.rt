@@ -12,7 +12,7 @@ use crate::letters::{SEMICOLON, TAB};
 use atl_world::letters::{QUOTE, SPACE};
 
 /// A word of a line: a part of the line without blanks, or in quotes.
-#[derive(Drop, Clone, Copy, Debug)]
+#[derive(Drop, Clone, Copy)]
 pub struct Word<'a> {
     /// The word's bytes, without the quotes around them.
     pub bytes: &'a [u8],
@@ -22,7 +22,7 @@ pub struct Word<'a> {
 }
 
 /// The rest of a line that is left to read, and where it is in its text.
-#[derive(Drop, Clone, Copy, Debug)]
+#[derive(Drop, Clone, Copy)]
 pub struct Cursor<'a> {
     pub text: &'a [u8],
     pub rest: &'a [u8],

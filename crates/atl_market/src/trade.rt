@@ -33,14 +33,14 @@ pub type SellPhase = TradePhase<true>;
 pub type BuyPhase = TradePhase<false>;
 
 /// Whether units sell to the markets of their regions or buy from them.
-#[derive(Drop, Clone, Copy, Debug)]
+#[derive(Drop, Clone, Copy)]
 pub(crate) enum Trade {
     Sell,
     Buy,
 }
 
 /// What a unit and its region's market have after the unit's trade, and the money to book for it.
-#[derive(Drop, Clone, Copy, Debug)]
+#[derive(Drop, Clone, Copy)]
 pub(crate) struct TradeResult {
     pub money: u32,
     pub amount: u32,

@@ -9,7 +9,7 @@ use std::alloc::{AllocError, Global};
 
 /// The money that a faction's units in a region have left after their own upkeep and are short of,
 /// added up, and how much of it was given and covered so far.
-#[derive(Drop, Clone, Copy, Debug, PartialEq, Eq)]
+#[derive(Drop, Clone, Copy, PartialEq, Eq)]
 pub(crate) struct Account {
     pub(crate) left: u128,
     pub(crate) short: u128,

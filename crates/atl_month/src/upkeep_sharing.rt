@@ -10,7 +10,7 @@ use atl_world::Numbered;
 use std::alloc::{AllocError, Global};
 
 /// What upkeep reads of a unit: its number, its region, its faction, its men and its money.
-#[derive(Drop, Clone, Copy, Debug, PartialEq, Eq)]
+#[derive(Drop, Clone, Copy, PartialEq, Eq)]
 pub struct UpkeepInput {
     pub unit: u32,
     pub region: u32,
@@ -21,7 +21,7 @@ pub struct UpkeepInput {
 
 /// What upkeep takes from a unit of a faction: the money that it pays, for itself and for others,
 /// and how many of its men starve.
-#[derive(Drop, Clone, Copy, Debug, PartialEq, Eq)]
+#[derive(Drop, Clone, Copy, PartialEq, Eq)]
 pub struct UpkeepResult {
     pub unit: u32,
     pub faction: u32,

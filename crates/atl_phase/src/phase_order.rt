@@ -7,7 +7,7 @@ use atl_campaign::{Event, EventVerb, Outcome};
 use atl_orders::{Mailing, Order};
 
 /// What the orders of a phase are sorted by first: their units or their factions.
-#[derive(Drop, Clone, Copy, Debug, PartialEq, Eq)]
+#[derive(Drop, Clone, Copy, PartialEq, Eq)]
 pub enum Arrangement {
     /// By unit, then by line, then by faction.
     ByUnit,

@@ -30,7 +30,7 @@ pub enum Verb {
 }
 
 /// The shape of the words after a verb: what they name. It is a column of the order table.
-#[derive(Drop, Clone, Copy, Debug, PartialEq, Eq)]
+#[derive(Drop, Clone, Copy, PartialEq, Eq)]
 pub enum Shape {
     /// No word.
     Nothing,
@@ -54,7 +54,7 @@ pub enum Shape {
 }
 
 /// A slot: verbs of which a mailing's last order for a unit counts, and no earlier one.
-#[derive(Drop, Clone, Copy, Debug, PartialEq, Eq)]
+#[derive(Drop, Clone, Copy, PartialEq, Eq)]
 pub enum Slot {
     /// The verbs that take the whole month.
     MonthLong,
@@ -66,7 +66,7 @@ pub enum Slot {
 
 /// A row of the order table: what is fixed for one verb. See docs/RULES.md, "Orders" and "Orders of
 /// a month".
-#[derive(Drop, Clone, Copy, Debug)]
+#[derive(Drop, Clone, Copy)]
 pub struct Row {
     /// The keyword of the verb in capitals, as reports print it.
     pub keyword: &'static str,

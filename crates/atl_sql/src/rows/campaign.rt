@@ -18,7 +18,7 @@ use sqlite::{Alter, Connection, Error, Row, Transaction, params};
 
 /// The month, the next numbers and the pass text: the campaign row without its id (1), its format
 /// (2) and its world text.
-#[derive(Clone, Copy, Debug)]
+#[derive(Clone, Copy)]
 pub struct CampaignRow<'a> {
     /// The month last closed, 0 before the first.
     pub month: u32,

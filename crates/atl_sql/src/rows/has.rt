@@ -9,7 +9,7 @@ use crate::statement::run;
 use sqlite::{Alter, Error, Transaction, params};
 
 /// What a row of `has` is about: an item, with an amount, or a skill, with days.
-#[derive(Clone, Copy, Debug, PartialEq, Eq)]
+#[derive(Clone, Copy, PartialEq, Eq)]
 pub enum ThingKind {
     Item,
     Skill,

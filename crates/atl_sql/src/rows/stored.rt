@@ -61,7 +61,7 @@ pub trait Stored: Drop + Sized {
 }
 
 /// A row of a table without an INTEGER PRIMARY KEY, with the rowid that the database gave it.
-#[derive(Debug, Drop)]
+#[derive(Drop)]
 pub struct RowWithId<T> {
     pub row: T,
     /// The row's rowid, which no other row of the table should have.
