@@ -134,7 +134,7 @@ def uses_of(path: str) -> dict[str, tuple[str, str]]:
 
 def find_type(path: str, name: str, crates: Collection[str]) -> tuple[str, Sequence[str] | None] | None:
     """Where the type is that a file names: its crate and its module; or the words of the kit that bring it in, and nothing;
-    or None."""
+    or None. A crate may export a type of another crate."""
     crate = path.split("/")[1]
     if declares(path, name):
         return crate, modules_of(crate, path)
@@ -142,7 +142,12 @@ def find_type(path: str, name: str, crates: Collection[str]) -> tuple[str, Seque
         return ("std", None) if name in OF_STD else None
     head, whole = uses_of(path)[name]
     where = head.split("::")[0].replace("crate", crate)
-    return (where, declaring(where, whole)) if where in crates else (head, None)
+    if where not in crates:
+        return head, None
+    library = path_of(where, ["lib"])
+    if os.path.exists(library) and uses_of(library).get(whole, ("", ""))[0] in crates:
+        return find_type(library, whole, crates)
+    return where, declaring(where, whole)
 
 
 def declaring(crate: str, name: str) -> list[str] | None:
