@@ -116,7 +116,7 @@ impl Campaign {
         &self.pass
     }
 
-    /// The number of the faction that joins next, from 1 to one more than atl_orders' LAST_FACTION.
+    /// The number of the faction that joins next, from 1 to one more than atl_lines' LAST_FACTION.
     pub fn next_faction(&self) -> u32
         ensures { result ≡ self.now.value.next_faction }
     {

@@ -7,7 +7,7 @@ use std::fmt;
 /// A player's faction. Names and pass texts obey the rules of docs/RULES.md, "Names and pass
 /// texts".
 pub struct Faction {
-    /// The faction's number, from 1 to atl_orders' LAST_FACTION, in the order of joining.
+    /// The faction's number, from 1 to atl_lines' LAST_FACTION, in the order of joining.
     pub number: u32,
     /// The name that the faction joined under; no other faction ever joins under it.
     pub joined_as: Text,

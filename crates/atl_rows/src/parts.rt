@@ -64,7 +64,7 @@ impl Drop for StoredCampaignRow {
 /// A row of the table `faction`: a faction's number, names and pass text, and whether it is gone.
 #[derive(Debug)]
 pub struct StoredFaction {
-    /// The faction's number, from 1 to atl_orders' LAST_FACTION.
+    /// The faction's number, from 1 to atl_lines' LAST_FACTION.
     pub number: i64,
     /// The name that the faction joined under; no other faction joined under the same name.
     pub joined_as: Sequence<u8>,

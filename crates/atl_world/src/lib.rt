@@ -1,5 +1,5 @@
-//! The world of a campaign, look-ups in it, the rules of names, and the containers that every crate
-//! uses.
+//! The world of a campaign, look-ups in it, the rules of names, the order table, and the containers
+//! that every crate uses.
 #![tactic(auto)]
 
 mod by_number;

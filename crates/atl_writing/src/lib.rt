@@ -1,5 +1,6 @@
-//! Writes the rows of a campaign into its tables: all of them, those of a newcomer, or those that
-//! changed. See docs/FORMATS.md, "Tables".
+//! Writes the rows of a campaign into its tables: all of them, those that changed, a mailing, or
+//! what an upgrade changes, each in one transaction; and the rows and amounts of a join. See
+//! docs/FORMATS.md, "Tables".
 #![tactic(auto)]
 
 mod amounts;

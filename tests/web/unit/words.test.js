@@ -46,7 +46,7 @@ const variants = (path, name) => {
 test('faults of lines', () => {
   const faults = namesOf(LINE_FAULTS);
   assert.deepEqual(faults, numbered('docs/PLAYER.md', 'The answer').filter(([number], index) => number === index + 1));
-  assert.deepEqual(faults, variants('crates/atl_orders/src/fault.rt', 'LineFault'));
+  assert.deepEqual(faults, variants('crates/atl_lines/src/fault.rt', 'LineFault'));
 });
 
 test('faults of orders', () => {
@@ -63,7 +63,7 @@ test('refusals', () => {
   const [, body] = /pub enum Refusal \{\n([^]*?)\n\}/.exec(read('crates/atl_service/src/command.rt'));
   const refusals = [...body.matchAll(/^ {4}(\w+)/gm)].map(([, name]) => name);
   const faults = ['Memory', 'Store', 'Closed'];
-  const source = read('crates/atl_requests/src/problem.rt');
+  const source = read('crates/atl_parsing/src/problem.rt');
   const problems = [...source.matchAll(/Problem::\w+(?:\(_\))? => "(\w+)"/g)].map(([, name]) => name);
   const answered = [...refusals, ...faults, ...problems].filter((name) => !OF_CLOSING.includes(name));
   assert.deepEqual(Object.keys(REFUSALS).sort(), answered.sort());
