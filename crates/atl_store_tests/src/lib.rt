@@ -1,5 +1,5 @@
-//! Tests of atl_sql and atl_store: tables that are created, written, read and upgraded, also on
-//! disks that stop.
+//! Tests of the crates below the service: the readers of worlds and mailings, campaigns and their
+//! rows, and the tables of the store, by their public calls alone.
 #![tactic(auto)]
 
 #[cfg(test)]

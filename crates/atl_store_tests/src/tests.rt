@@ -1,19 +1,4 @@
-//! Tests of the store by scripts of steps, on databases in memory and on disks that stop.
-mod calls;
+//! Tests of the readers, of campaigns and of the store, each in a module of its own.
 mod campaigns;
-mod compare;
-mod contents;
-mod creating;
-mod faults;
-mod game;
-mod laws;
-mod reading;
-mod reopening;
-mod rows;
-mod schemas;
-mod script;
-mod setting;
-mod stopped;
-mod upgrading;
-mod words;
-mod writing;
+mod readers;
+mod store;

@@ -1,0 +1,19 @@
+//! Tests of the store by scripts of steps, on databases in memory and on disks that stop.
+mod calls;
+mod campaigns;
+mod compare;
+mod contents;
+mod creating;
+mod faults;
+mod game;
+mod laws;
+mod reading;
+mod reopening;
+mod rows;
+mod schemas;
+mod script;
+mod setting;
+mod stopped;
+mod upgrading;
+mod words;
+mod writing;
