@@ -3,7 +3,6 @@
 mod books;
 mod by_hand;
 mod checks;
-mod compare;
 mod events;
 mod goods;
 mod holdings;

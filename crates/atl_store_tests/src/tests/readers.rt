@@ -1,8 +1,7 @@
 //! Tests of the two readers, the look-ups, the rules of names and the containers, by their public
 //! calls alone. A function here holds at most one large value (a world, a mailing) and lends it.
-//! Tables of cases are short, and each assertion of equality is written once, in `asserts`. So the
+//! Tables of cases are short, and each assertion of equality is written once, in `compare`. So the
 //! proofs stay short.
-mod asserts;
 mod changes;
 mod containers;
 mod faults;

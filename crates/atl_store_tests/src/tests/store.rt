@@ -1,7 +1,6 @@
 //! Tests of the store by scripts of steps, on databases in memory and on disks that stop.
 mod calls;
 mod campaigns;
-mod compare;
 mod contents;
 mod creating;
 mod faults;

@@ -1,6 +1,6 @@
 //! Tests of `Books` alone, and of the books of a campaign (docs/RULES.md, "Books").
-use super::compare::{assert_count, assert_number};
 use super::making::founded_by;
+use crate::tests::compare::{assert_count, assert_number};
 use atl_campaign::{Books, BooksEntry, Campaign, Thing};
 use atl_test_worlds::ISLE;
 use std::process::Abort;

@@ -1,7 +1,7 @@
 //! Tests of `check`: rows of a good campaign are accepted, and others get the number of the first
 //! rule that they break.
 use super::by_hand::{Rows, parts};
-use super::compare::{assert_amount, assert_count, assert_row, assert_rows};
+use crate::tests::compare::{assert_amount, assert_count, assert_row, assert_shown};
 use atl_campaign::Campaign;
 use atl_campaign::parts::Parts;
 use atl_state::{CheckFault, check, check_as};
@@ -175,9 +175,9 @@ fn assert_rows_come_back(
     first: &Campaign,
 ) -> Result<(), Fail> {
     let old = first.parts_as(Format::First)?;
-    assert_rows(rt, alloc, old.markets.as_slice(), "[]")?;
+    assert_shown(rt, alloc, "markets", old.markets.as_slice(), "[]")?;
     let rows = first.parts_as(Format::Second)?;
-    assert_rows(rt, alloc, rows.markets.as_slice(), STOCK)?;
+    assert_shown(rt, alloc, "markets", rows.markets.as_slice(), STOCK)?;
     let again = checked(alloc, world, rows)?;
     assert_island(rt, &again);
     Ok(())

@@ -1,5 +1,5 @@
 //! Tests of the numbers and names of the faults of orders (docs/RULES.md, "Events").
-use super::compare::{assert_row, assert_text, assert_true};
+use crate::tests::compare::{assert_row, assert_text, assert_true};
 use atl_campaign::EventFault;
 use std::process::Abort;
 

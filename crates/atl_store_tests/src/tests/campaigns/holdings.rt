@@ -1,6 +1,6 @@
 //! Tests of `Holding` (what a unit has): each call that sets a value, and the reads after it.
-use super::compare::{assert_amount, assert_row_text};
 use super::making::one_man;
+use crate::tests::compare::{assert_amount, assert_row_text};
 use atl_campaign::Holding;
 use atl_world::{Entries, Text};
 use std::alloc::Global;

@@ -1,9 +1,9 @@
 //! Tests of which parts are marked when a faction joins, when a unit or structure is added, and
 //! when a unit is lent to be changed, or removed.
-use super::compare::{assert_amount, assert_count};
 use super::making::{BOAT, avalon_joins, founded_in};
 use super::shown::{Question, Row, assert_steps};
 use super::steps::{RegionChange, Step, UnitChange};
+use crate::tests::compare::{assert_amount, assert_count};
 use atl_tables::read_world;
 use atl_test_worlds::ISLE;
 use atl_world::World;

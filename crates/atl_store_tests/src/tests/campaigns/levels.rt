@@ -1,7 +1,7 @@
 //! Tests of levels, and of what units weigh and carry (docs/RULES.md, "Levels and loads"). The
 //! island is the world `ISLE` of atl_test_worlds.
-use super::compare::assert_row;
 use super::making::one_man;
+use crate::tests::compare::assert_row;
 use atl_campaign::{Holding, carry, goods, level, load};
 use atl_tables::read_world;
 use atl_test_worlds::ISLE;

@@ -1,8 +1,8 @@
 //! Tests of where units are, and of who owns the structures that they enter and leave. The island
 //! is the world `ISLE` of atl_test_worlds.
-use super::compare::{assert_numbers, assert_row};
 use super::making::{BOAT, LODGE, founded_by};
 use super::steps::{Step, StructureChange, UnitChange, make_step, make_steps};
+use crate::tests::compare::{assert_row, assert_row_numbers};
 use atl_campaign::Campaign;
 use atl_test_worlds::ISLE;
 use std::alloc::Global;
@@ -149,10 +149,10 @@ fn assert_owners(rt: &impl Abort, row: usize, campaign: &Campaign, case: &Case) 
 }
 
 fn assert_lists(rt: &impl Abort, row: usize, campaign: &Campaign, case: &Case) {
-    assert_numbers(rt, row, campaign.inside(1), case.inside.0);
-    assert_numbers(rt, row, campaign.inside(2), case.inside.1);
-    assert_numbers(rt, row, campaign.in_region(3), case.region);
-    assert_numbers(rt, row, campaign.of_faction(1), case.faction);
+    assert_row_numbers(rt, row, campaign.inside(1), case.inside.0);
+    assert_row_numbers(rt, row, campaign.inside(2), case.inside.1);
+    assert_row_numbers(rt, row, campaign.in_region(3), case.region);
+    assert_row_numbers(rt, row, campaign.of_faction(1), case.faction);
 }
 
 fn assert_case(
@@ -263,7 +263,7 @@ fn sail_all(rt: &impl Abort, alloc: Global, campaign: &mut Campaign) -> Result<(
     make_steps(alloc, campaign, &ENTERING)?;
     assert_next_owners(rt, campaign);
     cases_hold(rt, alloc, campaign, &SAILING)?;
-    assert_numbers(rt, 0, campaign.in_region(2), &[1, 2, 3]);
+    assert_row_numbers(rt, 0, campaign.in_region(2), &[1, 2, 3]);
     Ok(())
 }
 

@@ -1,7 +1,7 @@
 //! Tests of `Campaign::parts`: the rows that a campaign gives to each table.
-use super::compare::assert_rows;
 use super::making::{LODGE, joined_by};
 use super::steps::{FactionChange, Step, StructureChange, UnitChange, make_steps};
+use crate::tests::compare::assert_shown;
 use atl_campaign::parts::Parts;
 use atl_test_worlds::ISLE;
 use std::alloc::Global;
@@ -66,19 +66,25 @@ const BOOKS: &str = "[StoredBooks { entry: 1, thing: 0, amount: 650 }, \
     StoredBooks { entry: 2, thing: 1, amount: 1 }]";
 
 fn assert_people_rows(rt: &impl Abort, alloc: Global, parts: &Parts) -> Result<(), Fail> {
-    assert_rows(rt, alloc, parts.campaign.as_slice(), HEAD)?;
-    assert_rows(rt, alloc, parts.factions.as_slice(), FACTIONS)?;
-    assert_rows(rt, alloc, parts.units.as_slice(), UNITS)?;
-    assert_rows(rt, alloc, parts.has.as_slice(), HAS)?;
-    assert_rows(rt, alloc, parts.structures.as_slice(), STRUCTURES)
+    assert_shown(rt, alloc, "campaign", parts.campaign.as_slice(), HEAD)?;
+    assert_shown(rt, alloc, "factions", parts.factions.as_slice(), FACTIONS)?;
+    assert_shown(rt, alloc, "units", parts.units.as_slice(), UNITS)?;
+    assert_shown(rt, alloc, "has", parts.has.as_slice(), HAS)?;
+    assert_shown(
+        rt,
+        alloc,
+        "structures",
+        parts.structures.as_slice(),
+        STRUCTURES,
+    )
 }
 
 fn assert_other_rows(rt: &impl Abort, alloc: Global, parts: &Parts) -> Result<(), Fail> {
-    assert_rows(rt, alloc, parts.regions.as_slice(), REGIONS)?;
-    assert_rows(rt, alloc, parts.mail.as_slice(), MAIL)?;
-    assert_rows(rt, alloc, parts.reports.as_slice(), REPORTS)?;
-    assert_rows(rt, alloc, parts.books.as_slice(), BOOKS)?;
-    assert_rows(rt, alloc, parts.markets.as_slice(), "[]")
+    assert_shown(rt, alloc, "regions", parts.regions.as_slice(), REGIONS)?;
+    assert_shown(rt, alloc, "mail", parts.mail.as_slice(), MAIL)?;
+    assert_shown(rt, alloc, "reports", parts.reports.as_slice(), REPORTS)?;
+    assert_shown(rt, alloc, "books", parts.books.as_slice(), BOOKS)?;
+    assert_shown(rt, alloc, "markets", parts.markets.as_slice(), "[]")
 }
 
 #[test]

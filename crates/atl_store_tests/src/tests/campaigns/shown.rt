@@ -1,6 +1,6 @@
 //! Prints parts of a campaign, and its marks, as text, and asserts both after each step of a table.
-use super::compare::assert_row_text;
 use super::steps::{Step, make_step};
+use crate::tests::compare::assert_row_text;
 use atl_campaign::{BooksEntry, Campaign, MOST_UNITS, Thing};
 use atl_world::limits::MOST_REGIONS;
 use atl_world::{Entries, MarkedNumbers, Numbered};

@@ -1,9 +1,9 @@
 //! Tests of units removed and added in turn: who is there, what is marked, and the campaign's rows.
 use super::checks::checked;
-use super::compare::assert_count;
 use super::making::{FAR, joined_in};
 use super::shown::{Question, Row, assert_steps};
 use super::steps::{FactionChange, RegionChange, Step, UnitChange, make_steps};
+use crate::tests::compare::assert_count;
 use atl_campaign::Campaign;
 use atl_tables::read_world;
 use atl_test_worlds::ISLE;

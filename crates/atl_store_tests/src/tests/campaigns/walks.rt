@@ -1,9 +1,9 @@
 //! Tests of the walks over all factions, regions, units and structures of a campaign, and of its
 //! totals.
-use super::compare::{assert_amount, assert_count, assert_text};
 use super::making::{LODGE, joined_by};
 use super::shown::{Question, Row, assert_steps};
 use super::steps::{Step, UnitChange, make_steps};
+use crate::tests::compare::{assert_amount, assert_count, assert_text};
 use atl_campaign::{Campaign, Thing};
 use atl_test_worlds::ISLE;
 use std::alloc::Global;

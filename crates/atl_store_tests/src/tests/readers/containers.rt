@@ -1,5 +1,5 @@
 //! Tests of `Text`, `Sequence` and `Numbered` (a map by number), call by call.
-use super::asserts::{assert_number, assert_numbers, assert_text};
+use crate::tests::compare::{assert_count, assert_numbers, assert_text_at};
 use atl_world::{Numbered, Sequence, Text};
 use std::alloc::Global;
 use std::process::Abort;
@@ -12,8 +12,8 @@ fn assert_text_and_copy(
     wanted: &str,
 ) -> Result<(), Fail> {
     assert!(rt; text.as_bytes() == wanted.as_bytes());
-    assert_text(rt, wanted, text.as_str(), wanted);
-    assert_text(rt, wanted, text.copy(alloc)?.as_str(), wanted);
+    assert_text_at(rt, wanted, text.as_str(), wanted);
+    assert_text_at(rt, wanted, text.copy(alloc)?.as_str(), wanted);
     Ok(())
 }
 
@@ -36,7 +36,7 @@ fn texts_have_their_bytes(rt: HostRuntime) -> Result<(), Fail> {
 }
 
 fn assert_list(rt: &impl Abort, list: &Sequence<u32>, wanted: &[u32]) {
-    assert_number(rt, list.len(), wanted.len());
+    assert_count(rt, list.len(), wanted.len());
     assert_numbers(rt, list.as_slice(), wanted);
 }
 
@@ -66,7 +66,7 @@ pub(crate) fn assert_map(
         entries.push(*value)?;
     }
     assert_numbers(rt, &entries, wanted);
-    assert_number(rt, map.len(), wanted.len() / 2);
+    assert_count(rt, map.len(), wanted.len() / 2);
     Ok(())
 }
 

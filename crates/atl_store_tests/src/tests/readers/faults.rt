@@ -1,7 +1,6 @@
 //! Tests that a faulty world text gets the right first fault with its path, and of the faults'
 //! numbers and names (docs/FORMATS.md, "Faults of a world file"). The small world (`SMALL_WORLD`)
 //! has one region, without items, skills, kinds and markets.
-use super::asserts::{assert_number, assert_text};
 use super::changes::{
     ARRAY_CHANGES, Change, DUPLICATE_CHANGES, EQUAL_MARKETS, KEY_CHANGES, MARKET_CHANGES,
     NAME_CHANGES, NAME_KEY_CHANGES, NEIGHBOUR_CHANGES, OUTPUT_CHANGES, REFERENCE_CHANGES,
@@ -9,6 +8,7 @@ use super::changes::{
     TWO_FAULTS,
 };
 use super::worlds::{ITEM_SKILL_KIND, fault, small_with, with_markets, with_replaced};
+use crate::tests::compare::{assert_count, assert_text_at};
 use atl_tables::WorldFault;
 use atl_test_worlds::SMALL_WORLD;
 use atl_world::{Format, Text};
@@ -41,9 +41,9 @@ fn assert_faults(
     first: &str,
 ) -> Result<(), Fail> {
     let actual = fault(alloc, Format::Second, text)?;
-    assert_text(rt, row, actual.as_str(), second);
+    assert_text_at(rt, row, actual.as_str(), second);
     let actual = fault(alloc, Format::First, text)?;
-    assert_text(rt, row, actual.as_str(), first);
+    assert_text_at(rt, row, actual.as_str(), first);
     Ok(())
 }
 
@@ -317,7 +317,7 @@ fn assert_long_world_texts(
     for (long, times, wanted) in rows.iter() {
         let text = long_text(alloc, long, *times)?;
         let actual = fault(alloc, Format::Second, text.as_str())?;
-        assert_text(rt, long.open, actual.as_str(), wanted);
+        assert_text_at(rt, long.open, actual.as_str(), wanted);
     }
     Ok(())
 }
@@ -348,7 +348,7 @@ fn with_regions(alloc: Global, count: u32) -> Result<String, Fail> {
 fn assert_regions(rt: &impl Abort, alloc: Global, count: u32, wanted: &str) -> Result<(), Fail> {
     let text = with_regions(alloc, count)?;
     let actual = fault(alloc, Format::Second, text.as_str())?;
-    assert_text(rt, "regions", actual.as_str(), wanted);
+    assert_text_at(rt, "regions", actual.as_str(), wanted);
     Ok(())
 }
 
@@ -396,9 +396,9 @@ fn path_of(fault: &WorldFault) -> &str {
 fn assert_fault(rt: &impl Abort, alloc: Global, row: &(u8, &str, &str)) -> Result<(), Fail> {
     let (number, name, path) = *row;
     let fault = fault_of(number, Text::from_str(alloc, "rules.growth")?);
-    assert_number(rt, fault.number().unwrap_or(0).into(), number.into());
-    assert_text(rt, name, fault.name(), name);
-    assert_text(rt, name, path_of(&fault), path);
+    assert_count(rt, fault.number().unwrap_or(0).into(), number.into());
+    assert_text_at(rt, name, fault.name(), name);
+    assert_text_at(rt, name, path_of(&fault), path);
     Ok(())
 }
 

@@ -1,6 +1,6 @@
 //! Tests of the look-ups of items, skills and kinds by a word of a mailing.
-use super::asserts::assert_shown;
 use super::worlds::world_with;
+use crate::tests::compare::assert_shown;
 use atl_world::World;
 use std::alloc::Global;
 use std::process::Abort;

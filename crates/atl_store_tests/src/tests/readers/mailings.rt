@@ -1,7 +1,7 @@
 //! Tests of reading a mailing: each form of order, blocks, line ends, long texts, and the spans of
 //! names.
-use super::asserts::{assert_number, assert_text};
 use super::worlds::{NAMED_THINGS, world_with};
+use crate::tests::compare::{assert_count, assert_text_at};
 use atl_orders::{MailFault, Mailing, Operands, Span, read_mailing};
 use atl_world::{Text, World};
 use std::alloc::Global;
@@ -56,7 +56,7 @@ fn assert_read(
     wanted: &str,
 ) -> Result<(), Fail> {
     let actual = reading_text(alloc, world, text)?;
-    assert_text(rt, wanted, actual.as_str(), wanted);
+    assert_text_at(rt, wanted, actual.as_str(), wanted);
     Ok(())
 }
 
@@ -362,7 +362,7 @@ fn assert_words(rt: &impl Abort, alloc: Global, world: &World) -> Result<(), Fai
     for (text, wanted) in WORDS.iter() {
         let mailing = read_mailing(alloc, world, text.as_bytes())?;
         let words = words_of(alloc, &mailing)?;
-        assert_text(rt, wanted, words.as_str(), wanted);
+        assert_text_at(rt, wanted, words.as_str(), wanted);
     }
     Ok(())
 }
@@ -408,8 +408,8 @@ fn assert_all_readings(rt: &impl Abort, alloc: Global, world: &World) -> Result<
     assert_all_texts(rt, alloc, world)?;
     assert_words(rt, alloc, world)?;
     assert_span_names(rt, alloc, world)?;
-    assert_number(rt, faction_of(alloc, world, b"#ATLANTIS 1")?, 1);
-    assert_number(
+    assert_count(rt, faction_of(alloc, world, b"#ATLANTIS 1")?, 1);
+    assert_count(
         rt,
         faction_of(alloc, world, b"#atlantis 09999 x\r\nTAX")?,
         9_999,

@@ -1,7 +1,7 @@
 //! Tests of `MarkedMap`, a map with a dirty set: the numbers whose values changed since the last
 //! `unmark`.
-use super::asserts::{assert_number, assert_numbers};
 use super::containers::{assert_map, map_of_three};
+use crate::tests::compare::{assert_count, assert_numbers};
 use atl_world::MarkedMap;
 use std::alloc::Global;
 use std::process::Abort;
@@ -106,7 +106,7 @@ fn assert_marks(
 ) -> Result<(), Fail> {
     let actual: Vec<u32> = map.marked_numbers().collect(alloc)?;
     assert_numbers(rt, actual.as_slice(), wanted);
-    assert_number(rt, map.marked_count(), wanted.len());
+    assert_count(rt, map.marked_count(), wanted.len());
     Ok(())
 }
 
@@ -118,7 +118,7 @@ fn assert_steps(
 ) -> Result<(), Fail> {
     for (step, values, marks) in rows.iter() {
         makes_call(map, *step)?;
-        assert_number(rt, map.len(), *values);
+        assert_count(rt, map.len(), *values);
         assert_marks(rt, alloc, map, marks)?;
     }
     Ok(())
@@ -129,7 +129,7 @@ fn assert_changed_values(rt: &impl Abort, alloc: Global, map: &MarkedMap<u32>) -
     assert!(rt; map.get(5).is_none());
     assert!(rt; map.is_marked(5));
     assert!(rt; !map.is_marked(8));
-    assert_number(rt, map.iter().count(), 4);
+    assert_count(rt, map.iter().count(), 4);
     assert_map(rt, alloc, map.values(), &[1, 8, 4, 4, 20, 6, 30, 7])
 }
 
@@ -185,10 +185,10 @@ fn puts_thirds(map: &mut MarkedMap<u32>) -> Result<(), Fail> {
 
 /// All numbers are marked if `thirds`, otherwise those that 3 doesn't divide.
 fn assert_ascending(rt: &impl Abort, map: &MarkedMap<u32>, thirds: bool, count: usize) {
-    assert_number(rt, map.marked_count(), count);
+    assert_count(rt, map.marked_count(), count);
     let mut wanted = 1;
     for number in map.marked_numbers() {
-        assert_number(rt, number as usize, wanted);
+        assert_count(rt, number as usize, wanted);
         wanted = number as usize + if !thirds && number % 3 == 2 { 2 } else { 1 };
     }
 }
@@ -202,14 +202,14 @@ fn mix_marks(rt: &impl Abort, map: &mut MarkedMap<u32>, falling: bool) -> Result
     puts_thirds(map)?;
     assert_ascending(rt, map, true, 1008);
     map.unmark();
-    assert_number(rt, map.marked_count(), 0);
+    assert_count(rt, map.marked_count(), 0);
     Ok(())
 }
 
 #[test]
 fn marks_in_any_order(rt: HostRuntime) -> Result<(), Fail> {
     let mut map = MarkedMap::new(rt.alloc());
-    assert_number(&rt, map.len(), 0);
+    assert_count(&rt, map.len(), 0);
     for number in 0..MANY {
         map.put(number + 1, number)?;
     }

@@ -1,7 +1,7 @@
 //! Tests of a world's markets in both formats, and of whether two worlds differ in their markets
 //! alone. The world with one market has one region, and an item, a skill and a kind.
-use super::asserts::assert_shown;
 use super::worlds::{MARKET, read_in, with_markets, with_replaced};
+use crate::tests::compare::assert_shown;
 use atl_tables::read_world;
 use atl_world::{Format, World};
 use std::alloc::Global;

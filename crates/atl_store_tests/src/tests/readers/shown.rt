@@ -1,6 +1,6 @@
 //! Tests that the small world (one region) and the island (three regions of land, one of sea) are
 //! read in full, part by part.
-use super::asserts::{assert_number, assert_numbers, assert_shown, assert_text};
+use crate::tests::compare::{assert_count, assert_numbers, assert_shown, assert_text_at};
 use atl_tables::read_world;
 use atl_test_worlds::{ISLE, SMALL_WORLD};
 use atl_world::{RegionPlan, World};
@@ -121,9 +121,9 @@ fn assert_regions(
     wanted: &Shown,
 ) -> Result<(), Fail> {
     assert_numbers(rt, world.land(), wanted.land);
-    assert_number(rt, world.regions().len(), wanted.region_count);
+    assert_count(rt, world.regions().len(), wanted.region_count);
     for (number, region) in wanted.regions.iter() {
-        assert_text(
+        assert_text_at(
             rt,
             region,
             region_text(alloc, world, *number)?.as_str(),

@@ -1,7 +1,7 @@
 //! Tests of the numbers and texts of the faults of `load` and of `upgrade`. The numbers are in
 //! docs/FORMATS.md, "For developers"; Memory has none.
-use super::compare::{assert_fault_number, assert_text};
 use super::words::text_of;
+use crate::tests::compare::{assert_fault_number, assert_text_at};
 use atl_state::Rule;
 use atl_store::{StoreFault, UpgradeFault};
 use atl_tables::WorldFault;
@@ -24,7 +24,7 @@ fn assert_opening_fault(
 ) -> Result<(), Fail> {
     let (fault, number, text) = *case;
     assert_fault_number(rt, fault.number(), number);
-    assert_text(rt, text_of(alloc, fault)?.as_str(), text, text);
+    assert_text_at(rt, text, text_of(alloc, fault)?.as_str(), text);
     Ok(())
 }
 
@@ -68,7 +68,7 @@ fn assert_upgrade_fault(
     let (number, text) = *case;
     let fault = upgrade_fault(number);
     assert_fault_number(rt, fault.number(), number);
-    assert_text(rt, text_of(alloc, fault)?.as_str(), text, text);
+    assert_text_at(rt, text, text_of(alloc, fault)?.as_str(), text);
     Ok(())
 }
 

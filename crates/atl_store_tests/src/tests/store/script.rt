@@ -5,7 +5,6 @@ use super::calls::{
     write_answer,
 };
 use super::campaigns::world_text;
-use super::compare::assert_text;
 use super::contents::{
     contents, limit_steps, query_number, run_statements, set_world_text, settle,
 };
@@ -13,6 +12,7 @@ use super::game::{Game, is_kept, is_kept_campaign, keep, keep_campaign, new_game
 use super::rows::read;
 use super::setting::{begin, book, lend, numbers, remove, rename, report, set};
 use super::words::{done, text_of, yes_or_no};
+use crate::tests::compare::assert_text_at;
 use atl_campaign::Campaign;
 use atl_store::schema::has_all_tables;
 use sqlite::{Alter, Connection};
@@ -109,7 +109,7 @@ fn play_line<S: Alter>(
 ) -> Result<(), Fail> {
     let (step, wanted) = line.split_once(" -> ").unwrap_or((line, "Done"));
     let answer = answer(alloc, conn, game, step)?;
-    assert_text(rt, answer.as_str(), wanted, line);
+    assert_text_at(rt, line, answer.as_str(), wanted);
     Ok(())
 }
 

@@ -1,5 +1,6 @@
 //! Assertions for these tests, one for each type: an `assert_eq!` costs much to prove, so each is
-//! written once.
+//! written once. The message of a failure names the case that is tested: the index of its row, or
+//! `place`, a text.
 use std::alloc::Global;
 use std::fmt::Debug;
 use std::process::Abort;
@@ -13,12 +14,16 @@ pub(crate) fn assert_amount(rt: &impl Abort, actual: u32, wanted: u32) {
     assert_eq!(rt; actual, wanted);
 }
 
-/// Asserts that a number is the wanted one; the message names the index of the row.
 pub(crate) fn assert_row(rt: &impl Abort, row: usize, actual: u64, wanted: u64) {
     assert_eq!(rt; actual, wanted, "at {row}");
 }
 
 pub(crate) fn assert_count(rt: &impl Abort, actual: usize, wanted: usize) {
+    assert_eq!(rt; actual, wanted);
+}
+
+/// None means that a fault has no number.
+pub(crate) fn assert_fault_number(rt: &impl Abort, actual: Option<u8>, wanted: Option<u8>) {
     assert_eq!(rt; actual, wanted);
 }
 
@@ -30,19 +35,28 @@ pub(crate) fn assert_row_text(rt: &impl Abort, row: usize, actual: &str, wanted:
     assert_eq!(rt; actual, wanted, "at {row}");
 }
 
-/// Asserts that a list of numbers is the wanted one; the message names the index of the row.
-pub(crate) fn assert_numbers(rt: &impl Abort, row: usize, actual: &[u32], wanted: &[u32]) {
+pub(crate) fn assert_text_at(rt: &impl Abort, place: &str, actual: &str, wanted: &str) {
+    assert_eq!(rt; actual, wanted, "at {place}");
+}
+
+pub(crate) fn assert_numbers(rt: &impl Abort, actual: &[u32], wanted: &[u32]) {
+    assert_eq!(rt; actual, wanted);
+}
+
+pub(crate) fn assert_row_numbers(rt: &impl Abort, row: usize, actual: &[u32], wanted: &[u32]) {
     assert_eq!(rt; actual, wanted, "at {row}");
 }
 
-pub(crate) fn assert_rows<T: Debug>(
+/// Asserts that `Debug` prints a list as `wanted`.
+pub(crate) fn assert_shown<T: Debug>(
     rt: &impl Abort,
     alloc: Global,
-    rows: &[T],
+    place: &str,
+    found: &[T],
     wanted: &str,
 ) -> Result<(), Fail> {
-    let actual = format!(in alloc; "{rows:?}")?;
-    assert_text(rt, actual.as_str(), wanted);
+    let actual = format!(in alloc; "{found:?}")?;
+    assert_text_at(rt, place, actual.as_str(), wanted);
     Ok(())
 }
 
