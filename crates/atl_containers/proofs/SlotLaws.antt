@@ -1,5 +1,6 @@
 -- Laws of an arena: a map i from numbers to slots, and a slab s of values in these slots, are a map of values. t is the
--- slab after a change, k a slot, and n a number that leads to it.
+-- slab after a change, k a slot, and n a number that leads to it. x is the value that the slot k gets, and q any
+-- number.
 use Rattle.std.proofs.Common.{◌≡◌, ◌≢◌, ℕ, ◌+◌, ◌-◌, ◌<◌, Bool, true, false, cond, List, [], ◌∷◌, length, Option, Some, None, ◌⊎◌, inl, inr, refl, sym, ap, ◌∙◌, arith}
 use Rattle.std.specs.Prelude.{count_by, is_some, Result, Ok, Err, OnErr}
 use Rattle.std.proofs.lemmas.Bool.{false≢true, and_parts, cases_eq, cases_lt}

@@ -40,6 +40,7 @@ fn make_room<T: Copy + Drop>(items: &mut Vec<T>) -> Result<usize, AllocError>
     Ok(free)
 }
 
+/// One of the `free` unused elements is taken, so one less is unused after it.
 fn put_before<T: Copy + Drop>(items: &mut Vec<T>, free: usize, position: usize, thing: T)
     requires some { 0 < free }
     requires within { free + position ≤ length items.old.items }
@@ -52,6 +53,7 @@ fn put_before<T: Copy + Drop>(items: &mut Vec<T>, free: usize, position: usize, 
     items[first + position] = thing;
 }
 
+/// `position` is an index of the list. Returns how many elements are unused after it.
 fn insert_at<T: Copy + Drop>(
     items: &mut Vec<T>,
     free: usize,
@@ -74,6 +76,7 @@ fn insert_at<T: Copy + Drop>(
     Ok(free - 1)
 }
 
+/// `position` is an index of the list. Returns how many elements are unused after it.
 fn remove_at<T: Copy + Drop>(items: &mut Vec<T>, free: usize, position: usize) -> usize
     requires { free + position < length items.old.items }
     ensures part { drop result items.new.items ≡ remove (drop free items.old.items) position }
@@ -88,6 +91,7 @@ fn remove_at<T: Copy + Drop>(items: &mut Vec<T>, free: usize, position: usize) -
     free
 }
 
+/// Removes the unused elements if they are more than the list's own; returns how many are left.
 fn compact<T: Copy + Drop>(items: &mut Vec<T>, free: usize) -> usize
     requires { free ≤ length items.old.items }
     ensures part { drop result items.new.items ≡ drop free items.old.items }

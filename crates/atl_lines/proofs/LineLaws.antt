@@ -1,5 +1,6 @@
--- The lines of a text, which are the pieces between its line feeds: how the first is split off, and at which index of
--- the text it ends.
+-- How the first line of a text is split off, and at which index of the text it ends. Lines are the pieces between line
+-- feeds, each without a carriage return at its end. `left` is what is left of the text, `front` a part with which a
+-- text begins, and `rest` what follows a line feed, if there is one.
 use Rattle.atl_lines.proofs.WordLaws.{ends_further}
 use Rattle.std.proofs.Common.{Option, Some, None, IfSome, ◌≡◌, ◌≢◌, ℕ, zero, suc, ◌+◌, ◌-◌, ◌<◌, ◌≤◌, Bool, true, false, not, cond, List, [], ◌∷◌, ◌++◌, length, get_or, take, drop, map, refl, sym, ap, ◌∙◌, arith}
 use Rattle.std.specs.List.{position, position_or_len}
@@ -33,6 +34,7 @@ last_step : (t : Bool) (b : ℕ) (bs : List ℕ) (m : ℕ) → suc (length bs) �
 last_step true b bs m h rest = absurd (omega arith)
 last_step false b bs m h rest = ap (with_front b) (rest (omega arith))
 
+-- a text without a line feed is one piece
 pub pieces-last : (text : List ℕ) → length text ≤ position_or_len is_feed text → pieces text ≡ text ∷ []
 unfolding pieces
 pieces-last [] h = refl

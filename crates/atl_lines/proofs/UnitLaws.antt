@@ -1,4 +1,5 @@
--- Laws of the units that the words of a TEACH order name: the first unit, and then the others.
+-- Laws of the units that the words of a TEACH order name: the first unit, and then the others. ws are the words left to
+-- read, u is the unit that they begin with, `rest` are the words after it, and `front` are the units read before.
 use Rattle.std.proofs.Common.{◌≡◌, ℕ, ◌+◌, ◌<◌, ◌≤◌, Bool, true, false, cond, List, [], ◌∷◌, ◌++◌, length, codes, Option, Some, None, Result, Ok, Err, refl, sym, ap, ◌∙◌, arith}
 use Rattle.atl_lines.specs.Limits.{last_alias, most_number}
 use Rattle.atl_lines.specs.declared.order.UnitRef.{UnitRef}
@@ -64,6 +65,7 @@ one_more front (w ∷ ws) u rest h =
     unit_at_end_or_front (units_of rest) front u
     ∙ ap (with_units front) (sym (units_step w ws ∙ ap (λ r. r >>= then_units) h))
 
+-- where the words left, at least one, begin with a faulty unit, reading all units gives this fault
 pub fault_stays : (front : List UnitRef) (ws : List WordText) (f : LineFault) → 0 < length ws → unit_at ws ≡ Err f
     → with_units front (units_of ws) ≡ Err f
 fault_stays front [] f p h = absurd (omega arith)

@@ -1,4 +1,6 @@
--- Laws of the words of a line, by its first byte, and of the index of a word in the text.
+-- Laws of the words of a line, by its first byte, and of the index of a word in the text. b is the first byte of a line
+-- and bs are those after it. `bytes` are those of a word, `to_end` is how many bytes the line has from the word's first
+-- byte on, and `end` is the index of the text at which the line ends.
 use Rattle.std.proofs.Common.{◌≡◌, ℕ, zero, suc, ◌+◌, ◌*◌, ◌-◌, ◌<◌, ◌≤◌, Bool, ◌||◌, not, true, false, cond, eqb, List, [], ◌∷◌, ◌++◌, length, get_or, take, drop, min, Some, None, nat_lt, refl, sym, ap, ◌∙◌, arith}
 use Rattle.std.specs.List.{slice_range, position, position_or_len, before_first}
 use Rattle.std.specs.Option.{unwrap_or}
@@ -81,6 +83,7 @@ words-bare b bs h =
     cond-false (is_blank b) _ _ two.0 ∙ cond-false (eqb b semicolon) _ _ one.1 ∙ cond-false (is_quote b) _ _ two.1
     ∙ ap (λ ws. record { bytes = before_first ends_word (b ∷ bs); quoted = false } ∷ ws) (words_after-drop (position_or_len ends_word (b ∷ bs) - 1) bs ∙ ap words (drop-bare (ends_word b) _ b bs h))
 
+-- the words of a line, not empty, whose first byte doesn't end words: one without quotes, and those of the rest
 pub words-bare_line : (line : List ℕ) → 0 < length line → ends_word (get_or line 0 0) ≡ false
     → words line
     ≡ record { bytes = before_first ends_word line; quoted = false } ∷ words (drop (position_or_len ends_word line) line)
@@ -95,6 +98,7 @@ after_closing bs closing e = take_rest bs closing ∙ ap (λ n. drop n bs) (e �
 digit_value_of : (b : ℕ) → is_ascii_digit b ≡ true → digit_value b ≡ b - 48
 digit_value_of b h = grind (arith, nat_tests)
 
+-- a further digit makes the number that is written ten times as large, and adds the digit, its byte less 48
 pub one_digit_more : (bytes : List ℕ) (i : ℕ) → i < length bytes → is_ascii_digit (get_or bytes i 0) ≡ true
     → digits_value 10 (take (i + 1) bytes) ≡ digits_value 10 (take i bytes) * 10 + (get_or bytes i 0 - 48)
 one_digit_more bytes i h digit =
@@ -148,6 +152,7 @@ ends_at_further text end line rest a e = record {
   end_is = ap length (append_assoc a.front e.front rest ∙ ap (λ l. a.front ++ l) (sym e.whole)) ∙ a.end_is;
 }
 
+-- the bytes of a word are those of the text from `to_end` bytes before the line's end on
 pub bytes_in_span : (text : List ℕ) (end : ℕ) (line bytes : List ℕ) (to_end : ℕ) → EndsAt text end line
     → IsPartOf line bytes to_end → slice_range text (end - to_end) (end - to_end + length bytes) ≡ bytes
 bytes_in_span text end line bytes to_end a s =

@@ -75,6 +75,7 @@ fn keyword_of(word: Word) -> Option<Keyword>
     }
 }
 
+/// `line` is what follows the keyword.
 fn unit_line(line: &[u8]) -> (LineResult, ReaderState)
     ensures { (given : _) (text : List ℕ)
         → unit_step given (number_at (words line.now)) ≡ step_of text result given }
@@ -95,6 +96,7 @@ fn end_line(state: ReaderState) -> (LineResult, ReaderState)
     }
 }
 
+/// `line` is what follows the keyword.
 fn form_line(state: ReaderState, aliases: &mut Aliases, line: &[u8]) -> (LineResult, ReaderState)
     ensures { (text : List ℕ) → form_step state (alias_set aliases.old) (words line.now)
         ≡ step_of text result (alias_set aliases.new) }

@@ -55,6 +55,7 @@ fn first_end(bytes: &[u8]) -> Option<usize>
     bytes.iter().position(|byte| ends_word(*byte))
 }
 
+/// `after` is what follows the opening quote. Without a closing one the word ends with the line.
 #[tactic(auto, using(crate::proofs::WordLaws::found_or_len, crate::proofs::WordLaws::found_within))]
 fn quoted_word(after: &[u8]) -> (Word<'_>, &[u8])
     ensures words { words (quote ∷ after.now) ≡ word_text result.0 ∷ words result.1.now }

@@ -1,5 +1,6 @@
 -- Every order that is read says what it is: its operands have the shape of its verb, numbers in range, names by the
--- rule, and things of the world.
+-- rule, and things of the world. ws are the words to read, and w is one word. `most` is the largest number allowed,
+-- `fault` the fault of any other, and o a number as read, or None.
 use Rattle.std.proofs.Common.{◌≡◌, ℕ, ◌<◌, ◌≤◌, Bool, List, [], ◌∷◌, length, codes, Option, Some, None, Result, Ok, Err, refl, arith}
 use Rattle.std.specs.List.{All}
 use Rattle.std.specs.Str.{str_eq_ignore_ascii_case}
@@ -49,6 +50,7 @@ always_true_holds (Err e) = tt
 pub number_within : (most : ℕ) (bytes : List ℕ) (n : ℕ) → number_of most bytes ≡ Some n → n ≤ most
 number_within most bytes n h = grind (arith, nat_tests)
 
+-- a number n that is left of o by `not_zero` is from 1 to `most`, if each number that o may be is at most `most`
 pub nonzero_is_from_one : (most : ℕ) (o : Option ℕ) (n : ℕ) → ((k : ℕ) → o ≡ Some k → k ≤ most) → not_zero o ≡ Some n
     → IsWithin most n
 nonzero_is_from_one most None n f h = cc

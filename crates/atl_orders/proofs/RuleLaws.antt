@@ -1,5 +1,6 @@
 -- The functions for one line (`line_step`) and for all lines after a header (`effects`) give what the rules allow, and
--- the rules allow nothing else.
+-- the rules allow nothing else. `state` is the reader's state before the line or lines, `given` says which aliases
+-- earlier FORM lines gave, and s is the step of a line.
 use Rattle.std.proofs.Common.{◌≡◌, ℕ, ◌+◌, ◌++◌, Bool, true, List, [], ◌∷◌, codes, Option, Some, None, Result, Ok, Err, refl, ap, ◌∙◌}
 use Rattle.std.specs.List.{list_all, flat_map}
 use Rattle.std.proofs.lemmas.Bool.{cond_both}
@@ -146,8 +147,8 @@ body_fits world n state given (line ∷ rest) =
     cond_both (begins (codes "#END") (words line)) _ _ (λ (es : List (ℕ × Effect)). BodySays world n state given (line ∷ rest) (flat_map entry_of es) (flat_map fault_of es)) (λ h. orders_ended n state given line rest h)
     (λ h. one_line n state given line rest h s (line_fits world state given line) _ _ (body_fits world (n + 1) s.state s.given rest))
 
--- Orders and faulty lines that the rules for lines (`BodySays`) allow are those that `effects` gives. The parameters
--- are as in `body_fits`.
+-- Orders and faulty lines that the rules for lines (`BodySays`) allow are those that `effects` gives. The first of the
+-- lines has the number n.
 pub body_only : (world : WorldValue) {n : ℕ} {state : ReaderState} {given : ℕ → Bool} {lines : List (List ℕ)} {entries : List EntryValue} {faults : List FaultyLine}
     → BodySays world n state given lines entries faults
     → (entries ≡ entries_from world n state given lines) × (faults ≡ faults_from world n state given lines)

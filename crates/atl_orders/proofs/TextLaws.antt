@@ -1,4 +1,6 @@
--- The function `reading` gives for a whole text what the rules allow, and the rules allow nothing else.
+-- The function `reading` gives for a whole text what the rules allow, and the rules allow nothing else. `header` is the
+-- first header of the lines, `above` are the lines above it and `below` those below it, and n is the number of the
+-- first line.
 use Rattle.std.proofs.Common.{◌≡◌, ℕ, suc, ◌+◌, ◌<◌, ◌≤◌, ◌++◌, Bool, true, false, cond, List, [], ◌∷◌, length, Option, Some, None, Result, Err, nat_lt, refl, sym, ap, ◌∙◌, arith}
 use Rattle.std.proofs.lemmas.Bool.{cond_both}
 use Rattle.std.proofs.lemmas.Bool.Decides.{nat_tests}

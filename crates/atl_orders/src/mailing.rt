@@ -100,6 +100,7 @@ impl Mailing {
     }
 }
 
+/// The bytes of a text from `start` to `end`, as far as the text has them.
 #[tactic(auto, using(std::proofs::lemmas::List::drop_min, std::proofs::lemmas::List::take_min, std::proofs::lemmas::List::take_rest))]
 fn part(text: &[u8], start: usize, end: usize) -> &[u8]
     ensures { result.now ≡ slice_range text.now start end }
@@ -108,6 +109,8 @@ fn part(text: &[u8], start: usize, end: usize) -> &[u8]
     &rest[..end.saturating_sub(start).min(rest.len())]
 }
 
+/// The faction that the second word of a header names, a number from 1 to `LAST_FACTION`, else
+/// `None`.
 fn faction_of(line: &[u8]) -> Option<u32>
     ensures { result ≡ faction_of (words line.now) }
 {
@@ -162,6 +165,7 @@ pub fn is_mailing_of(faction: u32, text: &[u8]) -> bool
     text.len() <= MOST_BYTES && find_header(text).is_ok_and(|header| header.faction == faction)
 }
 
+/// Reads the lines after the header, up to the first that begins with `#END`.
 #[tactic(auto, using(atl_lines::proofs::LineLaws::line_ends_at, atl_lines::proofs::WordLaws::ends_further, atl_lines::proofs::LineLaws::starts_shorter, atl_lines::proofs::WordLaws::ends_shorter), unfolding(crate::specs::Mailing::effects))]
 fn read_body(
     alloc: Global,

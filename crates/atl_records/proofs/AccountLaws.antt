@@ -1,4 +1,5 @@
 -- Laws of accounts, each an entry with a thing: those with equal numbers are equal, and account_cmp is a total order.
+-- `eq_by_cmp account_cmp` tests whether two accounts are equal, and i is the number of a thing.
 use Rattle.std.proofs.Common.{◌≡◌, ◌≢◌, ◌+◌, ℕ, zero, suc, true, false, Some, refl, sym, ap, ◌∙◌, ◌⊎◌, inl, inr, arith}
 use Rattle.std.specs.List.{slice_get}
 use Rattle.std.specs.declared.cmp.Ordering.TheVariants.{Less, Equal, Greater}

@@ -1,5 +1,6 @@
 -- Laws of the list of the books' amounts: it has the accounts in order, with the amounts that are not 0. Of a list of
--- accounts `listed_of` keeps those whose amount is not 0.
+-- accounts `listed_of` keeps those whose amount is not 0. `things` is how many things the books have, a is an account,
+-- z an amount, and m a map of amounts by account.
 use Rattle.std.proofs.Common.{◌≡◌, ℕ, zero, suc, ◌<◌, ◌+◌, ◌&&◌, ◌||◌, T, Bool, true, false, not, cond, List, [], ◌∷◌, ◌++◌, map, Option, Some, None, refl, sym, ap, subst, ◌∙◌, arith, inl, inr}
 use Rattle.std.specs.Prelude.{ℤ, ⊤, nat_lt}
 use Rattle.std.specs.List.{AllByRecursion, flat_map, list_all, list_any, range_with_len}
@@ -210,10 +211,12 @@ module _ (P : Account → ℤ → Type 0) where
       inside : (x y : ℤ) → Some x ≡ Some y → x ≡ y
       inside x y e = cc
 
+  -- what holds of each account that a map lists, with its amount, holds of each entry of the map
   pub each_amount : (m : FinMap account_cmp ℤ) → ((a : Account) (z : ℤ) → get m a ≡ Some z → P a z)
       → AllByRecursion (λ x. P x.0 x.1) (entries m)
   each_amount m h = each_of (entries m) (amounts_sorted m) (λ a z is. h a z (get-entries m a ∙ is))
 
+  -- what holds of each entry of a map holds of each account that the map lists, with its amount
   pub amount_of_each : (m : FinMap account_cmp ℤ) → AllByRecursion (λ x. P x.0 x.1) (entries m) → (a : Account) (z : ℤ)
       → get m a ≡ Some z → P a z
   amount_of_each m h a z is = found_of (entries m) a z h (sym (get-entries m a) ∙ is)

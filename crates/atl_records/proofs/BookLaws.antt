@@ -1,4 +1,5 @@
--- Laws of the books: what setting and booking an amount change, and how great amounts become.
+-- Laws of the books: what setting and booking an amount change, and how great amounts become. e and f are entries, t
+-- and u things, a is an account, z and n are amounts, and `things` is how many things the books have.
 use Rattle.std.proofs.Common.{◌≡◌, ◌≢◌, ◌==◌, ℕ, zero, suc, ◌≤◌, ◌<◌, ◌+◌, true, false, cond, List, [], ◌∷◌, map, Option, Some, None, refl, sym, ap, ◌∙◌, arith, inl, inr, ◌⊎◌}
 use Rattle.std.specs.Prelude.{ℤ, pos, negsuc, ◌+ℤ◌, unwrap_or}
 use Rattle.std.specs.Ordering.{eq_by_cmp}
@@ -48,6 +49,7 @@ listed_some z x is =
 
 -- the amount of thing t under entry e is set to z
 module _ (books : BooksValue) (e : BooksEntry) (t : Thing) (z : ℤ) where
+  -- the books then list z for this account, or nothing where z is 0, and the other accounts as before
   pub get-with_amount : (a : Account)
       → get (with_amount books e t z).amounts a
       ≡ cond (eq_by_cmp account_cmp a (e, t)) (listing_of z) (get books.amounts a)
@@ -163,6 +165,7 @@ module _ (books : BooksValue) (e : BooksEntry) (u : Thing) (n : ℤ) where
             ∙ ap (λ b. booked books t +ℤ cond b n (pos 0)) (sym tested)
       ]
 
+  -- a booking raises an amount by n, or leaves it as it is
   pub amount-after_booking : (f : BooksEntry) (t : Thing)
       → (amount_in (after_booking books e u n) f t ≡ amount_in books f t +ℤ n)
       ⊎ (amount_in (after_booking books e u n) f t ≡ amount_in books f t)
@@ -194,6 +197,7 @@ AreBooks-no_amounts things =
 
 -- the books have as many things as `things`, and list only amounts of these that are not 0
 module _ (things : ℕ) (books : BooksValue) (are : AreBooks things books) where
+  -- the books list each account with its amount, unless the amount is 0 (`listing_of`)
   pub get-listed : (e : BooksEntry) (t : Thing) → get books.amounts (e, t) ≡ listing_of (amount_in books e t)
   get-listed e t =
       elim (get books.amounts (e, t)) as (λ o. get books.amounts (e, t) ≡ o → o ≡ listing_of (unwrap_or o (pos 0))) [
@@ -201,6 +205,7 @@ module _ (things : ℕ) (books : BooksValue) (are : AreBooks things books) where
         | Some z ↦ λ is. ap (λ b. cond b None (Some z)) (sym (nonzero_fails_is_zero z (are.listed e t z is).1))
       ] refl
 
+  -- a thing that the books don't have, as its number is not below `things`, has the amount 0 under each entry
   pub none_past : (e : BooksEntry) (t : Thing) → things ≤ thing_index t → amount_in books e t ≡ pos 0
   none_past e t past =
       elim (get books.amounts (e, t)) as (λ o. get books.amounts (e, t) ≡ o → unwrap_or o (pos 0) ≡ pos 0) [
@@ -214,6 +219,7 @@ module _ (things : ℕ) (books : BooksValue) (are : AreBooks things books) where
 pub same_value : (a b : BooksValue) → a.things ≡ b.things → a.amounts ≡ b.amounts → a ≡ b
 same_value a b things amounts i = record { things = things i; amounts = amounts i }
 
+-- books of the same number of things, with the same amount of each thing under each entry, are equal
 pub same_books : (things : ℕ) (a b : BooksValue) → AreBooks things a → AreBooks things b
     → ((e : BooksEntry) (t : Thing) → amount_in a e t ≡ amount_in b e t) → a ≡ b
 same_books things a b are also same =

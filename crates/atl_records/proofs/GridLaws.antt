@@ -1,4 +1,6 @@
 -- Laws of the grid, a row of amounts for each thing: making, reading, writing and summing the books that its rows are.
+-- `rows` are the rows, each at its thing's number, with an amount for each entry at the entry's index. e is an entry, t
+-- a thing, a an account, and z an amount.
 use Rattle.std.proofs.Common.{◌≡◌, ◌==◌, ℕ, zero, suc, ◌≤◌, ◌<◌, ◌+◌, Bool, true, false, cond, ◌||◌, List, [], ◌∷◌, ◌++◌, map, length, get_or, set, refl, sym, ap, subst, ◌∙◌, arith, inl, inr}
 use Rattle.std.specs.Prelude.{ℤ, pos, replicate, unwrap_or}
 use Rattle.std.specs.List.{flat_map, list_any, range_with_len}
@@ -56,6 +58,7 @@ any_under e t a (suc n) l h =
       | inr apart ↦ or_right (eq_by_cmp account_cmp (e, t) (e, thing_at a)) others (any_under e t (a + 1) n (omega arith) (omega arith))
     ]
 
+-- the account of an entry with a thing whose number is below `things` is in the list `accounts`
 pub any_accounts : (things : ℕ) (e : BooksEntry) (t : Thing) → thing_index t < things
     → list_any (eq_by_cmp account_cmp (e, t)) (accounts things) ≡ true
 any_accounts things e t h =
@@ -136,6 +139,7 @@ cell-replicate things a =
       | inr h ↦ let past : things ≤ thing_index a.1 = h in cell_past (replicate things zero_row) a (rw length-replicate past)
     ]
 
+-- rows of zeros stand for books with every amount 0
 pub as_books-replicate : (things : ℕ) → as_books (replicate things (replicate entry_count (pos 0))) ≡ no_amounts things
 as_books-replicate things =
     let rows = replicate things zero_row in
@@ -223,16 +227,19 @@ row_read : (rows : List (List ℤ)) (t : Thing) (index : ℕ) (row : List ℤ) �
 row_read rows t index row is at there =
     is ∙ ap (λ k. get_or rows k row) at ∙ get_or_default rows (thing_index t) row [] there
 
+-- the amount at k of the row is that in the cell of the account
 pub cell_read : (rows : List (List ℤ)) (e : BooksEntry) (t : Thing) (index k : ℕ) (row : List ℤ)
     → row ≡ get_or rows index row → index ≡ thing_index t → k ≡ entry_index e → thing_index t < length rows
     → get_or row k (pos 0) ≡ cell rows (e, t)
 cell_read rows e t index k row is at entry there = let its = row_read rows t index row is at there in λ i. get_or (its i) (entry i) (pos 0)
 
+-- setting the amount at k of the row to x, which is z, writes z into the cell of the account
 pub cell_written : (rows : List (List ℤ)) (e : BooksEntry) (t : Thing) (index k : ℕ) (row : List ℤ) (x z : ℤ)
     → row ≡ get_or rows index row → index ≡ thing_index t → k ≡ entry_index e → x ≡ z → thing_index t < length rows
     → set rows index (set row k x) ≡ with_cell rows e t z
 cell_written rows e t index k row x z is at entry value there = let its = row_read rows t index row is at there in λ i. set rows (at i) (set (its i) (entry i) (value i))
 
+-- the sum of the row is the sum of what is booked of its thing under all entries
 pub row_summed : (rows : List (List ℤ)) (t : Thing) (index : ℕ) (row : List ℤ) → row ≡ get_or rows index row
     → index ≡ thing_index t → IsGrid rows → thing_index t < length rows → sum_of row ≡ booked (as_books rows) t
 row_summed rows t index row is at grid there =

@@ -1,4 +1,5 @@
--- Laws of a map from the numbers of items or skills to amounts, after the amount under one number is set.
+-- Laws of a map from the numbers of items or skills to amounts, after the amount under one number is set. `items` is
+-- the map before, `amount` is set under the number i, and j is any number.
 use Rattle.std.proofs.Common.{◌≡◌, ◌≢◌, ◌==◌, ℕ, ◌≤◌, Bool, true, false, cond, Option, Some, None, refl, ap, subst, sym, ◌∙◌, inl, inr, arith}
 use Rattle.std.specs.Prelude.{Result, Ok, Err, OnOk, OnErr, unwrap_or, if◌then◌else◌}
 use Rattle.std.proofs.lemmas.Bool.{and_parts, cases_Bool, not-true}
@@ -14,6 +15,7 @@ use Rattle.atl_records.specs.Limits.{holding_limit}
 use Rattle.atl_world.proofs.EveryLaws.{every-insert, get-insert_other}
 use Rattle.atl_records.proofs.RemovedLaws.{every-remove, get-remove_other}
 
+-- P holds of each listed amount once `amount` is set, if it held before, and holds of `amount` or this is 0
 pub every_amount : (P : ℕ → ℕ → Type 0) (items : FinMap nat_cmp ℕ) (i amount : ℕ) → (1 ≤ amount → P i amount)
     → Every P items → Every P (with_amount_of items i amount)
 every_amount P items i amount here old = by_zero (amount == 0) refl
@@ -101,6 +103,8 @@ AreAmounts-set (Ok u) old new item amount h put same is =
     (every_amount (λ i n. (1 ≤ n) × (n ≤ holding_limit)) old item amount (λ some. (some, h)) is)
 AreAmounts-set (Err e) old new item amount h put same is = subst AreAmounts (sym same) is
 
+-- Each amount stays from 1 to holding_limit when one in this range is inserted, and also where the call fails. r is the
+-- call's result.
 pub AreAmounts-put : {E : Type 0} (r : Result (Unit {0}) E) (old new : FinMap nat_cmp ℕ) (item amount : ℕ)
     → (1 ≤ amount) × (amount ≤ holding_limit) → OnOk r (new ≡ insert old item amount) → OnErr r (new ≡ old)
     → AreAmounts old → AreAmounts new

@@ -1,4 +1,5 @@
--- Laws of levels: the greatest number that passes a test, and the sums over the items held.
+-- Laws of levels: the greatest number that passes a test, and the sums over the items held. `passes` is the test, and
+-- `men` men have studied `days` days together.
 use Rattle.std.proofs.Common.{◌≡◌, ℕ, zero, suc, ◌+◌, ◌*◌, ◌≤◌, Bool, true, false, nat_le, List, ◌∷◌, refl, sym, ap, ◌∙◌, arith, inl, inr, true≢false}
 use Rattle.std.specs.Prelude.{if◌then◌else◌}
 use Rattle.std.specs.Ordering.{nat_cmp}

@@ -54,6 +54,7 @@ module _ {V : Type 0} (m : FinMap nat_cmp V) (k : ℕ) where
   sum_over-remove f v is =
       sym (sum_over-insert_new f (remove m k) k v get-remove_same) ∙ ap (sum_over f) (sym (put_back_keeps_map m k v is))
 
+-- P holds of each value once v is put in under k, if it holds of v, and of each value under another number
 pub every-insert_other : {V : Type 0} (P : ℕ → V → Type 0) (m : FinMap nat_cmp V) (k : ℕ) (v : V) → P k v
     → ((n : ℕ) (x : V) → n ≢ k → get m n ≡ Some x → P n x) → Every P (insert m k v)
 every-insert_other P m k v here others n x is =

@@ -54,6 +54,7 @@ pub fn level_in_any(holding: &Holding, skill: Option<u16>) -> u32
     }
 }
 
+/// The weight of one piece of an item, 0 if the world has no such item.
 fn weight(world: &World, item: u32) -> u32
     ensures value { result ≡ weight_of world.now item }
     ensures small { result ≤ most_weight }
@@ -65,6 +66,7 @@ fn weight(world: &World, item: u32) -> u32
     }
 }
 
+/// The weight that one piece of an item carries, 0 if the world has no such item.
 fn carriage(world: &World, item: u32) -> u32
     ensures value { result ≡ carry_of world.now item }
     ensures small { result ≤ most_weight }

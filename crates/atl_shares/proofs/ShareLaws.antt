@@ -1,5 +1,6 @@
 -- Laws of the shares of a pot, and of the remainder that the code carries from share to share. No share is above its
--- want, the whole pot is given if the wants exceed it, and each share is within one of its exact part.
+-- want, the whole pot is given if the wants exceed it, and each share is within one of its exact part. `total` is the
+-- sum of all wants, `before` the sum of the wants before `want`, and i an index of the list of wants.
 use Rattle.std.proofs.Common.{◌≡◌, ℕ, ◌+◌, ◌-◌, ◌*◌, ◌/◌, ◌%◌, ◌<◌, ◌≤◌, List, [], ◌∷◌, ◌++◌, length, get_or, min, inl, inr, zero, suc, sum, refl, ap, sym, ◌∙◌, add-zero, zero-add, arith}
 use Rattle.std.proofs.Math.Nat.{mul-div-le, mul-add, add-mul-div_left, div-add-mod, mod-lt, mul-div_left, mul-zero, zero-div, div-lt_iff_lt-mul, lt-mul-div-succ, mul-le-mul_left, le-div_iff_mul-le, mul_comm}
 use Rattle.std.proofs.lemmas.List.Sums.{sum_by-cons, sum_by-append}
@@ -19,6 +20,7 @@ pub upto_mono : (pot total x y : ℕ) → 0 < total → x ≤ y → share_upto p
 upto_mono pot total x y p h =
     (le-div_iff_mul-le p).1 (omega (arith, mul_comm (share_upto pot total x) total, (upto_is_rounded_quotient pot total x p).0, mul-le-mul_left pot h))
 
+-- a share by prefix sums is at most its want, if the pot is at most the sum of all wants, which isn't 0
 pub part_le : (pot total before want : ℕ) → 0 < total → pot ≤ total
     → share_upto pot total (before + want) - share_upto pot total before ≤ want
 part_le pot total before want p h =
@@ -45,6 +47,7 @@ sum-shares_after pot total before p (w ∷ ws) =
     let same : share_upto pot total ((before + w) + sum ws) ≡ share_upto pot total (before + sum (w ∷ ws)) = ap (share_upto pot total) (omega arith) in
     omega arith
 
+-- the shares of one list of wants after another are those of the first and then those of the second
 pub shares_after-append : (pot total before : ℕ) (xs ys : List ℕ)
     → shares_after pot total before (xs ++ ys)
     ≡ shares_after pot total before xs ++ shares_after pot total (before + sum xs) ys
@@ -198,6 +201,7 @@ next_share pot total before left want p h =
     let split : share_upto pot total (before + want) ≡ due / total + low = ap (λ n. n / total) all ∙ add-mul-div_left due low p in
     omega arith
 
+-- the remainder of that division is the running remainder after the want
 pub next_left : (pot total before left want : ℕ) → 0 < total → IsRemainder pot total before left →
     IsRemainder pot total (before + want) ((pot * want + left) % total)
 next_left pot total before left want p h =

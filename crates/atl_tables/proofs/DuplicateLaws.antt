@@ -1,4 +1,5 @@
--- If no condition on duplicate names is broken, the names differ.
+-- If no condition on duplicate names is broken, the names differ. `array` is the path of an array, and `key` the key of
+-- its elements' names. `all` are the elements of an array, or all tables of a world file.
 use Rattle.std.proofs.Common.{◌≡◌, ℕ, zero, suc, ◌+◌, Bool, true, false, cond, List, [], ◌∷◌, ◌++◌, map, take, codes, Some, None, refl, sym, ap, ◌∙◌, append_assoc, arith}
 use Rattle.std.specs.List.{list_any, slice_get, AllByRecursion}
 use Rattle.std.proofs.lemmas.Bool.{or_parts}
@@ -84,6 +85,7 @@ module _ {A : Type 0} (title : A → List ℕ) where
       later_names_differ [] all
       (λ k x e. let same : 0 + k ≡ k = omega arith in no_duplicate array key all k x (rw same at (element_has_no_fault (no_duplicate_before title array key all) 0 all h k x e)))
 
+-- if f keeps the name of each element, it keeps the names of a list; n gives the names before f, m those after it
 pub names_kept : {A B : Type 0} (f : A → B) (n : A → List ℕ) (m : B → List ℕ) → ((x : A) → m (f x) ≡ n x)
     → (xs : List A) → map m (map f xs) ≡ map n xs
 names_kept f n m h [] = refl

@@ -1,4 +1,5 @@
 -- Laws for loops over a list: the first fault of its conditions, the values made so far, and what holds at each index.
+-- e is the error of a call, `front` has the results so far, and P is a property of an index and the element there.
 use Rattle.std.proofs.Common.{◌≡◌, ℕ, zero, suc, ◌+◌, ◌<◌, List, [], ◌∷◌, ◌++◌, length, map, drop, get_or, Option, None, sym, ap, ◌∙◌, subst, append_assoc}
 use Rattle.std.proofs.lemmas.List.{drop_more}
 use Rattle.atl_tables.specs.declared.fault.WorldFault.{WorldFault}
@@ -46,6 +47,7 @@ pub results_with_one_more_are_all : {A B : Type 0} (f : A → B) (front : List B
 results_with_one_more_are_all f front x xs y total so_far one =
     append_assoc front (y ∷ []) (map f xs) ∙ ap (λ z. front ++ z ∷ map f xs) (sym one) ∙ so_far
 
+-- P holds at each index of a list with y at the end, if it holds at each index of the list and of y at the last one
 pub each_index_push : {A : Type 0} (P : ℕ → A → Type 0) (xs : List A) (y : A) → EachIndex P xs → P (length xs) y
     → EachIndex P (xs ++ y ∷ [])
 each_index_push P [] y all last zero x h = let same : y ≡ x = cc in subst (P 0) same last

@@ -1,4 +1,6 @@
--- Laws of the first fault of lists of conditions, and of calls that return it (`IsFaultOrMemory`, `Gives`, `Reads`).
+-- Laws of the first fault of lists of conditions, and of calls that return it (`IsFaultOrMemory`, `Gives`, `Reads`). r
+-- is the result of a call (in `stops_first` that of the definition), e the call's error, and `view` turns the call's
+-- value into v, the definition's value. `fault` is a first fault, and fs and gs are lists of conditions.
 use Rattle.std.proofs.Common.{◌≡◌, [], ◌∷◌, ◌++◌, Option, Some, None, Result, Ok, Err, refl, sym, subst, ◌∙◌}
 use Rattle.std.specs.Result.{IsErrAnd}
 use Rattle.std.proofs.lemmas.Result.{err_from_is_err_and}
@@ -38,6 +40,7 @@ pub joined_list_has_no_fault : (fs gs : Conditions) → first_fault fs ≡ None 
     → first_fault (fs ++ gs) ≡ None
 joined_list_has_no_fault fs gs h s = fault_is_of_second_list fs gs h ∙ s
 
+-- where fs have no fault, a result by the conditions gs (`Gives`) is one by fs and gs
 pub result_by_second_list_is_by_joined : {X Y : Type 0} (view : X → Y) (r : Result X WorldFault) (fs gs : Conditions) (v : Y)
     → first_fault fs ≡ None → Gives view r (first_fault gs) v → Gives view r (first_fault (fs ++ gs)) v
 result_by_second_list_is_by_joined view (Ok x) fs gs v h g = (fault_is_of_second_list fs gs h ∙ g.0, g.1)

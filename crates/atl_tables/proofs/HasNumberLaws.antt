@@ -1,4 +1,5 @@
--- Laws of the map of values by their own numbers: how many entries it has, and what holds of each.
+-- Laws of the map of values by their own numbers: how many entries it has, and what holds of each. `vs` is the list of
+-- the values; of those with the same number the map has the first.
 use Rattle.std.proofs.Common.{◌≡◌, ◌≤◌, ℕ, zero, suc, ◌==◌, Bool, true, false, cond, List, [], ◌∷◌, length, Option, Some, refl, subst, sym, ap, ◌∙◌, arith}
 use Rattle.std.specs.Cmp.{nat_cmp_total, unsigned_tied}
 use Rattle.std.specs.FinMap.{FinMap, empty, get, len, get-empty, get-insert, len-empty}
@@ -27,6 +28,7 @@ module _ {V : Type 0} (number : V → ℕ) where
         subst (P n) same (subst (λ k. P k u) (sym (is_equal n (number u) e)) here)
     property_holds_after_put false n u v o e here rest h = rest h
 
+    -- if P holds of each listed value under its own number, it holds of each number of the map with its value
     pub property_holds_in_map : (vs : List V) → EachIndex (λ i v. P (number v) v) vs → (n : ℕ) (v : V)
         → get (by_number number vs) n ≡ Some v → P n v
     property_holds_in_map [] all n v h = let e = get-empty {X = V} nat_cmp n in absurd (cc)

@@ -1,4 +1,5 @@
 -- Laws of a terrain's table `output`: its entries in byte order of the keys, and their amounts one after another.
+-- `front` has what the entries so far give, and `total` is the first fault of all entries, or what all of them give.
 use Rattle.std.proofs.Common.{◌≡◌, ℕ, true, List, [], ◌∷◌, ◌++◌, map, Option, Result, Ok, String, Global, refl, sym, ap, ◌∙◌, append_assoc, string_bytes}
 use Rattle.std.specs.Map.{keys_of}
 use Rattle.std.specs.List.Sorted.{IsStrictlySortedBy}
@@ -36,6 +37,7 @@ module _ (at : List ℕ) (e : List ℕ × Data) (es : List (List ℕ × Data)) (
   later_amounts_have_same_fault total so_far =
       ap (λ (r : Result ℕ WorldFault). first_fault (fault_of r ∷ amounts_keys at es)) (sym one) ∙ so_far
 
+  -- with what e gives, the outputs so far and those of the entries left are still all outputs
   pub amounts_with_one_more_are_all : (front : List Output) (total : List Output)
       → front ++ amounts_from at (e ∷ es) ≡ total
       → (front ++ record { item = e.0; amount = n } ∷ []) ++ amounts_from at es ≡ total

@@ -1,4 +1,5 @@
 -- Laws on finding region numbers that occur twice: a loop puts each number that it sees into a map, and looks there.
+-- `ds` and `all` are the tables of regions in the order of the file, and d is the one at index i.
 use Rattle.std.proofs.Common.{◌≡◌, ℕ, ◌+◌, ◌<◌, ◌==◌, ◌||◌, Bool, true, false, cond, List, take, length, get_or, codes, Option, Some, None, refl, sym, ap, ◌∙◌}
 use Rattle.std.specs.Cmp.{nat_cmp_total, unsigned_tied}
 use Rattle.std.specs.FinMap.{FinMap, get, insert, get-insert}

@@ -1,4 +1,6 @@
--- Laws of a set of the names seen so far, in ASCII lower case, by which a loop finds a name that comes twice.
+-- Laws of a set of the names seen so far, in ASCII lower case, by which a loop finds a name that comes twice. `seen` is
+-- the set before a name is put in, `grown` the set after it, and `new` says whether the name was missing before.
+-- `title` gives the name of an element.
 use Rattle.std.proofs.Common.{◌≡◌, ℕ, ◌+◌, ◌<◌, Bool, true, false, not, cond, ◌||◌, List, length, map, take, get_or, refl, sym, ap, ◌∙◌}
 use Rattle.std.proofs.lemmas.List.Folds.{list_any_more}
 use Rattle.std.proofs.lemmas.Map.Text.{btree_set_updates_text}
@@ -29,14 +31,17 @@ has_more seen grown lowered name put same other =
 
 -- x is the element at index i of the list `all`, and `seen` has the names of the elements before it
 module _ {A Z : Type 0} (title : A → List ℕ) (all : List A) (i : ℕ) (x : A) (seen : BTreeSet (String Z)) (so_far : HasNames title (take i all) seen) where
+  -- if the name of x is not new in the set, an element before x has it
   pub came_before : (new : Bool) → new ≡ not (has_name seen (title x)) → new ≡ false
       → list_any (λ y. same_name (title y) (title x)) (take i all) ≡ true
   came_before new said h = sym (so_far (title x)) ∙ not-false _ (sym said ∙ h)
 
+  -- if the name of x is new in the set, no element before x has it
   pub comes_first : (new : Bool) → new ≡ not (has_name seen (title x)) → new ≡ true
       → list_any (λ y. same_name (title y) (title x)) (take i all) ≡ false
   comes_first new said h = sym (so_far (title x)) ∙ not-true _ (sym said ∙ h)
 
+  -- once the name of x is put in, the set has the names of the elements up to x
   pub has_one_more : (grown : BTreeSet (String Z)) → i < length all → x ≡ get_or all i x
       → ((other : List ℕ) → has_name grown other ≡ (has_name seen other || same_name (title x) other))
       → HasNames title (take (i + 1) all) grown

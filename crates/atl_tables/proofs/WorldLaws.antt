@@ -1,4 +1,5 @@
 -- Tables in their ranges give a world (`IsWorld`), if names differ, neighbours are mutual, and some region is land.
+-- `all` has all tables of a world file as read.
 use Rattle.std.proofs.Common.{◌≡◌, ◌<◌, ℕ, zero, suc, List, [], ◌∷◌, length, map, Some, refl, subst, sym, arith}
 use Rattle.std.specs.List.{All, slice_get}
 use Rattle.std.proofs.lemmas.List.{length-map}

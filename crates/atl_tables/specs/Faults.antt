@@ -28,8 +28,8 @@ abbrev pub fault_or_value : {A : Type 0} → Option WorldFault → A → Result 
 fault_or_value None x = Ok x
 fault_or_value (Some f) x = Err f
 
--- A call returned what the definition gives, which is `read`: its fault, or its value, compared by `view`; or it
--- returned Memory, whatever `read` is.
+-- A call returned what the definition gives, `read`: the same fault, or a value that `view` turns into the definition's
+-- value. Or it returned Memory, whatever `read` is.
 abbrev pub Reads : {X Y : Type 0} → (X → Y) → Result X WorldFault → Result Y WorldFault → Type 0
 Reads view (Ok x) read = read ≡ Ok (view x)
 Reads view (Err Memory) read = Unit {0}

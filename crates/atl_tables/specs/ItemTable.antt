@@ -1,5 +1,6 @@
 -- A table `[[item]]` of the world file: its keys in order, with their ranges, and the item that they give.
 -- See docs/FORMATS.md, "The world file".
+-- `all` has all tables of the file as read, and d is the i-th table `[[item]]`.
 use Rattle.std.specs.Prelude.{ℕ, ◌==◌, if◌then◌else◌, List, [], ◌∷◌, codes, Option, Some, None, option_and_then}
 use Rattle.toml.specs.Data.{Members}
 use Rattle.atl_tables.specs.Faults.{Conditions}

@@ -1,5 +1,6 @@
 -- A table `[[kind]]` of the world file: its keys in order, with their ranges, and the kind that they give.
 -- See docs/FORMATS.md, "The world file".
+-- `all` has all tables of the file as read, and d is the i-th table `[[kind]]`.
 use Rattle.std.specs.Prelude.{ℕ, List, [], ◌∷◌, codes, unwrap_or, option_and_then}
 use Rattle.toml.specs.Data.{Members}
 use Rattle.atl_tables.specs.Faults.{Conditions}

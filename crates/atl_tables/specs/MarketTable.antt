@@ -1,5 +1,7 @@
 -- A table `[[region.market]]` of the world file: its keys in order, with their ranges, and the market they give.
 -- See docs/FORMATS.md, "The world file".
+-- t has the members of the table at the path `at`. `all` has all tables of the file as read, d is a market, and `ds`
+-- are the markets of a region.
 use Rattle.std.specs.Prelude.{ℕ, List, [], ◌∷◌, codes, map, unwrap_or}
 use Rattle.std.specs.FinMap.{FinMap}
 use Rattle.std.specs.Ordering.{nat_cmp}

@@ -1,5 +1,6 @@
 -- A table `[[region]]` of the world file: its keys in order, with their ranges, and the region that they give.
 -- See docs/FORMATS.md, "The world file".
+-- t has the members of the table at the path `at`. `all` has all tables of the file as read, and d is the i-th region.
 use Rattle.std.specs.Prelude.{ℕ, List, [], ◌∷◌, codes, Option, None, unwrap_or}
 use Rattle.toml.specs.Data.{Members}
 use Rattle.atl_tables.specs.Each.{conditions_on_each}

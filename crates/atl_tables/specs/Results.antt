@@ -8,8 +8,8 @@ abbrev pub IsFaultOrMemory : WorldFault → Option WorldFault → Type 0
 IsFaultOrMemory Memory fault = Unit {0}
 IsFaultOrMemory e fault = fault ≡ Some e
 
--- a call returned `value` (compared by `view`), and `fault`, the first fault of its conditions, is None; or it returned
--- this fault, or Memory
+-- A call returned a value that `view` turns into `value`, and `fault`, the first fault of its conditions, is None. Or
+-- it returned this fault, or Memory.
 abbrev pub Gives : {X Y : Type 0} → (X → Y) → Result X WorldFault → Option WorldFault → Y → Type 0
 Gives view (Ok x) fault value = (fault ≡ None) × (value ≡ view x)
 Gives view (Err e) fault value = IsFaultOrMemory e fault

@@ -1,5 +1,6 @@
 -- The table `[rules]` of the world file: its keys in order, with their ranges, and the rules that they give.
 -- See docs/FORMATS.md, "The world file".
+-- `doc` has the members of the whole document, and `all` has all its tables as read.
 use Rattle.std.specs.Prelude.{[], ◌∷◌, codes, option_and_then}
 use Rattle.toml.specs.Data.{Members, no_members}
 use Rattle.atl_tables.specs.Faults.{Conditions, fault_of, value_or}

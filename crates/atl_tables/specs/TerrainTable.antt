@@ -1,5 +1,6 @@
 -- A table `[[terrain]]` of the world file: its keys in order, with their ranges, and the terrain that they give.
 -- See docs/FORMATS.md, "The world file".
+-- `all` has all tables of the file as read, and d is the i-th table `[[terrain]]`.
 use Rattle.std.specs.Prelude.{ℕ, List, codes, map}
 use Rattle.toml.specs.Data.{Members}
 use Rattle.atl_tables.specs.Each.{conditions_on_each}

@@ -1,5 +1,6 @@
 -- The conditions on a world file, in the order in which faults count, and the world that it gives.
 -- See docs/FORMATS.md, "Faults of a world file".
+-- `doc` has the members of the whole document, and `all` has all its tables as read.
 use Rattle.std.specs.Prelude.{ℕ, List, [], ◌∷◌, ◌++◌, map, codes, Option, Some, None, Result, Err}
 use Rattle.std.specs.FinMap.{FinMap}
 use Rattle.std.specs.Ordering.{nat_cmp}

@@ -108,6 +108,7 @@ impl Titled for ItemDraft {
     }
 }
 
+/// The number of the item with a name; `None` if there is none, or if it is the i-th item itself.
 #[tactic(auto, unfolding(crate::specs::Titles::number_of))]
 fn other_item(items: &[ItemDraft], i: usize, name: &Text) -> Option<u16>
     requires { length items.now ≤ most_numbered }
@@ -128,6 +129,8 @@ fn other_item(items: &[ItemDraft], i: usize, name: &Text) -> Option<u16>
     }
 }
 
+/// The number of the raw item of the i-th item, `None` without one; else the fault UnknownName,
+/// also if the item names itself.
 fn raw_item(
     alloc: Global,
     items: &[ItemDraft],

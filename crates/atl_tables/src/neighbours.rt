@@ -35,6 +35,8 @@ fn equals_number(number: u32, other: Option<u32>) -> bool
     }
 }
 
+/// Checks the side `key` of the i-th region, which has the number `number`: the neighbour `other`,
+/// if there is one, must have this region on its side `opposite`.
 fn check_neighbour(
     alloc: Global,
     i: usize,

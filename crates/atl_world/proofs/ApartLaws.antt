@@ -1,5 +1,6 @@
 -- Laws of sets with no number in common. `Marks` keeps the marked numbers in two such sets: m, which has room for all
--- marks (`AreMarks`), and l, the set of the recent marks.
+-- marks (`AreMarks`), and l, the set of the recent marks. s and t are sets of numbers, and n is one number. `room` and
+-- `recent` are how many numbers the first and the second of the two sets can hold.
 use Rattle.std.proofs.Common.{◌≡◌, ℕ, ◌+◌, ◌<◌, ◌≤◌, Bool, true, false, cond, not, ◌&&◌, ◌||◌, List, [], ◌∷◌, length, get_or, refl, sym, ap, ◌∙◌, inl, inr, arith}
 use Rattle.std.proofs.lemmas.Bool.{cases_order, false≢true, and_parts, false_from_ne_true, or_parts}
 use Rattle.std.specs.List.{list_any}
@@ -93,6 +94,7 @@ or_cases : (a b : Bool) (P : Type 0) → (a ≡ true → P) → (b ≡ true → 
 or_cases true b P f g h = f refl
 or_cases false b P f g h = g h
 
+-- the union of two sets has at most `most` numbers, if all numbers of both are less than `most`
 pub len-both_below : (most : ℕ) (s t : NumberSet) → ((k : ℕ) → set.contains s k ≡ true → k < most)
     → ((k : ℕ) → set.contains t k ≡ true → k < most) → set.len (set.union s t) ≤ most
 len-both_below most s t f g =
@@ -121,6 +123,7 @@ apart_remove s t n h = record {
 
 -- ---- marks in two sets
 
+-- two sets are the marks of a `Marks` (`AreMarks`), if the second is empty and the first fits in its room
 pub none_recent : (s : NumberSet) (room recent : ℕ) → set.len s ≤ room
     → AreMarks (record { numbers = s; room = room }) (record { numbers = set.empty; room = recent })
 none_recent s room recent h =
@@ -140,10 +143,12 @@ module _ (m l v : RoomySet) (n : ℕ) (seen : ◌≡◌ {A = RoomySet} (record {
       or_parts _ _
       (sym (set.contains-union nat_cmp_total m.numbers l.numbers n) ∙ ap (λ (w : RoomySet). set.contains w.numbers n) seen ∙ h)
 
+  -- if n is not marked yet, and l has fewer numbers than it can hold, it can also hold n
   pub fits_recent : set.contains v.numbers n ≡ false → set.len l.numbers < l.room
       → set.len (set.insert l.numbers n) ≤ l.room
   fits_recent missing room = let more = len-new l.numbers n (in_neither missing).1 in omega (arith, more, room)
 
+  -- if n is not marked yet, and there is room for all marks and n, n can become a recent mark (`AreMarks`)
   pub one_recent : set.contains v.numbers n ≡ false → set.len (set.insert v.numbers n) ≤ v.room
       → AreMarks m (record l { numbers = set.insert l.numbers n })
   one_recent missing h =
@@ -161,11 +166,13 @@ module _ (m l v : RoomySet) (n : ℕ) (seen : ◌≡◌ {A = RoomySet} (record {
   mark_is_added_to_all h = none_recent (set.insert (set.union m.numbers l.numbers) n) m.room l.room
       (let size = ap (λ (w : RoomySet). set.len (set.insert w.numbers n)) seen in let room = ap (λ (w : RoomySet). w.room) seen in omega (arith, size, room, h))
 
+-- two sets stay the marks of a `Marks` (`AreMarks`) when n is taken out of both
 pub mark_taken : (m l : RoomySet) (n : ℕ) → AreMarks m l
     → AreMarks (record m { numbers = set.remove m.numbers n }) (record l { numbers = set.remove l.numbers n })
 mark_taken m l n h =
     record { apart = apart_remove m.numbers l.numbers n h.apart; fits = omega (arith, len-less m.numbers n, len-less l.numbers n, h.fits) }
 
+-- If the lists xs and ys have no number in common, and the number at i of xs is at most that at j of ys, it is less.
 pub less_apart : (xs ys : List ℕ) (i j : ℕ) → AreApart (set.from_list xs) (set.from_list ys) → i < length xs
     → j < length ys → get_or xs i 0 ≤ get_or ys j 0 → get_or xs i 0 < get_or ys j 0
 less_apart xs ys i j h l m le =

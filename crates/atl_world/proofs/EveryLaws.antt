@@ -1,6 +1,7 @@
 -- Laws of what holds of each value of a map (`Every`) or entry of a list (`EachEntry`), and of which numbers have a
 -- value (`HasValue`). They say so after an insertion, by the list of a map's entries, and with a function applied to
--- each value.
+-- each value. P is the condition on a number and its value. m is the map, v the value put in under the number k, and n
+-- any number. `es` are entries, each a number with its value, and e is the first of them.
 use Rattle.std.proofs.Common.{◌≡◌, ◌≢◌, ◌==◌, ◌↔◌, ℕ, zero, suc, ◌<◌, Bool, true, false, cond, List, [], ◌∷◌, length, get_or, map, filter, Option, Some, None, option_map, refl, sym, ap, ◌∙◌, subst, arith}
 use Rattle.std.specs.declared.cmp.Ordering.TheVariants.{Less, Equal, Greater}
 use Rattle.std.specs.List.{list_any}
@@ -16,6 +17,7 @@ use Rattle.atl_world.proofs.GeneralLaws.{is_true}
 use Rattle.atl_world.specs.Every.{EachEntry, Every, HasValue}
 use Rattle.std.proofs.lemmas.Bool.Decides.{nat_tests}
 
+-- None is never Some x: from their equality anything follows
 pub none_some : {A P : Type 0} (x : A) → None ≡ Some x → P
 none_some x e = cc
 
@@ -92,6 +94,7 @@ module _ {V : Type 0} where
         | Greater ↦ λ o. let l = ranked e.0 e.0 Greater (sym o) in absurd (omega arith)
       ] refl
 
+  -- a condition that holds of each entry holds of what a look-up finds among the entries
   pub found_of : (P : ℕ → V → Type 0) (es : List (ℕ × V)) (n : ℕ) (v : V) → EachEntry P es → find nat_cmp n es ≡ Some v
       → P n v
   found_of P [] n v h is = none_some v is
@@ -102,6 +105,7 @@ module _ {V : Type 0} where
         | Greater ↦ λ _. found_of P es n v h.1
       ] refl is
 
+  -- a condition that holds of all that look-ups find among sorted entries holds of each entry
   pub each_of : (P : ℕ → V → Type 0) (es : List (ℕ × V)) → is_sorted nat_cmp es ≡ true
       → ((n : ℕ) (v : V) → find nat_cmp n es ≡ Some v → P n v) → EachEntry P es
   each_of P [] s h = tt
@@ -128,6 +132,7 @@ module _ {V : Type 0} where
         | Greater ↦ fails p es n v apart.1
       ] is
 
+  -- if the value of no entry passes the test p, each value of the map fails it
   pub every-from_none : (p : V → Bool) (m : FinMap nat_cmp V) → list_any (λ e. p e.1) (entries m) ≡ false
       → Every (λ n v. p v ≡ false) m
   every-from_none p m h n v is = fails p (entries m) n v h (sym (get-entries m n) ∙ is)
@@ -164,6 +169,7 @@ module _ {V : Type 0} where
         subst (λ (ns : List ℕ). i < length ns → Passing (e ∷ es) (get_or ns i d)) (sym (chosen-cons p e es))
         (listed_in (p e.1) e es refl s d (listed es (and_parts _ _ s).1 d) i) h
 
+    -- the i-th of the numbers that `numbers_where` gives has a value in the map, which passes the test p
     pub passes-listed : (m : FinMap nat_cmp V) (i d : ℕ) → i < length (numbers_where p m)
         → (v : V) × (get m (get_or (numbers_where p m) i d) ≡ Some v) × (p v ≡ true)
     passes-listed m i d h = let (v, is, t) = listed (entries m) (sorted m) d i h in (v, get-entries m (get_or (numbers_where p m) i d) ∙ is, t)

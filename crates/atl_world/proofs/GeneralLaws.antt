@@ -1,4 +1,5 @@
--- General laws of truth values, numbers, keys of maps and lists, which other crates use, too.
+-- General laws of truth values, numbers, keys of maps and lists, which other crates use, too. `eq_by_cmp nat_cmp` tests
+-- whether two keys are equal. P, Q and S are conditions on an element of the list `rows`.
 use Rattle.std.proofs.Common.{◌≡◌, ◌≢◌, ◌==◌, ◌∙◌, ◌+◌, ◌≤◌, ℕ, Bool, cond, true, false, T, List, [], ◌∷◌, nat_eq, refl, sym, arith}
 use Rattle.std.specs.List.{AllByRecursion}
 use Rattle.std.specs.Ordering.{nat_cmp, eq_by_cmp}

@@ -1,5 +1,6 @@
 -- Laws of the test whether a word means a name, byte by byte and ignoring ASCII case. In a word without quotes (the
--- flag `quoted` is false) `_` means a space.
+-- flag `quoted` is false) `_` means a space. `name` and `word` are the bytes of the name and of the word, and i is an
+-- index of a byte in both.
 use Rattle.std.proofs.Common.{◌≡◌, ◌≢◌, ℕ, suc, ◌+◌, ◌<◌, ◌≤◌, Bool, true, false, ◌&&◌, eqb, List, [], ◌∷◌, length, get_or, drop, map, refl, sym, ap, ◌∙◌}
 use Rattle.std.specs.Str.{str_eq_ignore_ascii_case}
 use Rattle.std.specs.Char.{to_ascii_lowercase, eq_ignore_ascii_case}
@@ -25,12 +26,14 @@ same_from_next : (name : List ℕ) (quoted : Bool) (word : List ℕ) (i : ℕ) �
     ≡ (eq_ignore_ascii_case (get_or name i 0) (letter_of quoted (get_or word i 0)) && same_from name quoted word (i + 1))
 same_from_next name quoted word i h k = rw (drop_more name i 0 h, drop_more word i 0 k) refl
 
+-- where the bytes at i are equal, ignoring case, the rest from i on is equal exactly if that from i + 1 on is
 pub same_letter : (name : List ℕ) (quoted : Bool) (word : List ℕ) (i : ℕ) → i < length name → i < length word
     → eq_ignore_ascii_case (get_or name i 0) (letter_of quoted (get_or word i 0)) ≡ true
     → same_from name quoted word (i + 1) ≡ same_from name quoted word i
 same_letter name quoted word i h k e =
     sym (same_from_next name quoted word i h k ∙ ap (λ t. t && same_from name quoted word (i + 1)) e)
 
+-- where the bytes at i are not equal, ignoring case, the rest from i on is not
 pub other_letter : (name : List ℕ) (quoted : Bool) (word : List ℕ) (i : ℕ) → i < length name → i < length word
     → eq_ignore_ascii_case (get_or name i 0) (letter_of quoted (get_or word i 0)) ≡ false
     → same_from name quoted word i ≡ false

@@ -1,4 +1,5 @@
--- Maps by number whose values are mapped, and maps that are built entry by entry in order.
+-- Maps by number whose values are mapped, and maps that are built entry by entry in order. m and n are maps, (k, w) is
+-- an entry, a number with its value, and `es` and `fs` are lists of entries.
 use Rattle.std.proofs.Common.{◌≡◌, ℕ, ◌+◌, true, false, cond, ◌&&◌, T, Some, option_map, List, [], ◌∷◌, ◌++◌, map, sum_by, refl, sym, ap, subst, ◌∙◌}
 use Rattle.std.specs.declared.cmp.Ordering.{Ordering}
 use Rattle.std.specs.declared.cmp.Ordering.TheVariants.{Less, Equal, Greater}

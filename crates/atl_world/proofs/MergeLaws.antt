@@ -1,5 +1,6 @@
 -- Laws of two sorted lists merged into one: its numbers, its order, and the merge in place. The merge in place fills
--- the first list, which has room for all, from the end of the list on, beginning with the largest number.
+-- the first list, which has room for all, from the end of the list on, beginning with the largest number. xs and ys are
+-- the two lists.
 use Rattle.std.proofs.Common.{◌≡◌, ℕ, suc, ◌+◌, ◌-◌, ◌<◌, ◌≤◌, Bool, true, false, ◌||◌, List, [], ◌∷◌, ◌++◌, length, get_or, take, drop, set, Option, refl, sym, ap, subst, ◌∙◌, inl, inr, arith}
 use Rattle.std.specs.Prelude.{IsTrue}
 use Rattle.std.proofs.lemmas.Bool.{cases_order, false≢true}
@@ -182,6 +183,7 @@ all_under [] n h = tt
 all_under (x ∷ xs) n h =
     (sym (nat_cmp_is x n Less (h 0 (omega arith))), all_under xs n (λ k l. h (suc k) (omega (arith, l))))
 
+-- the first `count` numbers of a sorted list are all less than n, if the last of these is
 pub under_last : (xs : List ℕ) (count n : ℕ) → IsRising xs → count ≤ length xs
     → (0 < count → get_or xs (count - 1) 0 < n) → Under (take count xs) n
 under_last xs count n s l h = all_under (take count xs) n (λ k m.
@@ -196,7 +198,7 @@ put_there xs index from n e l = subst (λ p. drop p (set xs index n) ≡ n ∷ d
 
 -- To put the first list's largest number left, n, in place keeps this list: the numbers left of both lists, merged,
 -- followed by those in place. For this n must be above all left of the second list. Of xs and ys the first `own` and
--- `left` numbers are left, and of xs one less (`less`) after this; `now` is the list in place.
+-- `left` numbers are left, and of xs one less (`less`) after this; `now` is the list in place, and n is put at `index`.
 pub own_put : (xs ys now : List ℕ) (own less left index n : ℕ) → own ≡ less + 1 → index ≡ less + left
     → index < length now → less < length xs → n ≡ get_or xs less 0 → Under (take left ys) n
     → merged (take less xs) (take left ys) ++ drop (less + left) (set now index n) ≡ merged (take own xs) (take left ys) ++ drop (own + left) now
@@ -208,8 +210,8 @@ own_put xs ys now own less left index n o p within short is under =
     ∙ sym (append_assoc (merged (take less xs) (take left ys)) (n ∷ []) (drop (own + left) now))
     ∙ ap (λ zs. zs ++ drop (own + left) now) (sym first)
 
--- Likewise for n, the second list's largest number left, which must be above all left of the first list. `less` is how
--- many are left of the second list after this.
+-- To put the second list's largest number left, n, in place keeps the same list. For this n must be above all left of
+-- the first list. `less` is how many are left of the second list after this; the other names are those of `own_put`.
 pub other_put : (xs ys now : List ℕ) (own left less index n : ℕ) → left ≡ less + 1 → index ≡ own + less
     → index < length now → less < length ys → n ≡ get_or ys less 0 → Under (take own xs) n
     → merged (take own xs) (take less ys) ++ drop (own + less) (set now index n) ≡ merged (take own xs) (take left ys) ++ drop (own + left) now
@@ -239,6 +241,7 @@ not_above P a b h p = elim (cases_order a b) [
   | inr r ↦ elim r [ inl less ↦ omega (arith, less) | inr more ↦ absurd (false≢true (h (p, more))) ]
 ]
 
+-- a number n of a list is less than `most`, if all numbers of the list are
 pub listed_below : (xs : List ℕ) (most n : ℕ) → ((k : ℕ) → k < length xs → get_or xs k 0 < most)
     → list_any (eq_by_cmp nat_cmp n) xs ≡ true → n < most
 listed_below [] most n h e = absurd (false≢true e)

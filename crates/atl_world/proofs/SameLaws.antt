@@ -26,6 +26,7 @@ module _ (k n : ℕ) (p q : RegionPlan) (es fs : List (ℕ × RegionPlan)) where
       → entries_without_markets es ≡ entries_without_markets fs
   same_rest same = cc
 
+  -- two lists of entries are equal but for markets, if their first entries are, and the entries after these
   pub same_with_first_entry : k ≡ n → without_market p ≡ without_market q
       → entries_without_markets es ≡ entries_without_markets fs
       → entries_without_markets ((k, p) ∷ es) ≡ entries_without_markets ((n, q) ∷ fs)

@@ -1,4 +1,5 @@
--- Laws of sets of numbers: when two are equal, numbers put in and taken out, unions, and how many numbers there are.
+-- Laws of sets of numbers: when two are equal, numbers put in and taken out, unions, and how many numbers there are. s
+-- and t are sets, n, k and q are numbers, and `ks` is a list of numbers.
 use Rattle.std.proofs.Common.{◌≡◌, ℕ, zero, suc, ◌+◌, ◌-◌, ◌<◌, ◌≤◌, Bool, true, false, cond, not, ◌&&◌, ◌||◌, List, [], ◌∷◌, length, refl, sym, ap, ◌∙◌, arith}
 use Rattle.std.specs.List.{list_any}
 use Rattle.std.proofs.lemmas.Bool.{false≢true, and_parts, false_from_ne_true, or_left}
@@ -133,6 +134,7 @@ pub union-next : (s : set.FinSet nat_cmp) (k : ℕ) (ks : List ℕ)
     → set.union (set.insert s k) (set.from_list ks) ≡ set.union s (set.from_list (k ∷ ks))
 union-next s k ks = insert-union s (set.from_list ks) k ∙ sym (union-insert s (set.from_list ks) k)
 
+-- if t has the numbers of s, and k, and those of `ks`, it has at least as many numbers as s with k
 pub len-next : (s t : set.FinSet nat_cmp) (k : ℕ) (ks : List ℕ) → set.union s (set.from_list (k ∷ ks)) ≡ t
     → set.len (set.insert s k) ≤ set.len t
 len-next s t k ks h =

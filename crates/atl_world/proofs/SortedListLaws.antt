@@ -1,5 +1,6 @@
 -- Laws of a sorted list of numbers and the set of its numbers: numbers put in, taken out and searched. A number belongs
--- at an index (`BelongsAt`) if all numbers before the index are less, and all from it on are greater.
+-- at an index (`BelongsAt`) if all numbers before the index are less, and all from it on are greater. xs is the list, n
+-- the number that is put in, taken out or looked for, and i an index of the list.
 use Rattle.std.proofs.Common.{◌≡◌, ℕ, suc, ◌+◌, ◌-◌, ◌<◌, ◌≤◌, Bool, true, false, cond, ◌||◌, List, [], ◌∷◌, length, get_or, refl, sym, ap, ◌∙◌, inl, inr, arith}
 use Rattle.std.specs.List.{list_any, insert, remove, AllByRecursion}
 use Rattle.std.specs.Prelude.{Result, Ok, Err, IfOk, IfErr}
@@ -149,11 +150,13 @@ sorted-empty = tt
 not_falling : (xs : List ℕ) → IsRising xs → (i j : ℕ) → i ≤ j → j < length xs → get_or xs i 0 ≤ get_or xs j 0
 not_falling xs s i j l m = non_decreasing_from_sorted xs s i j 0 l m
 
+-- where a binary search of a sorted list returns Ok, n is at the index that it returns
 pub searched-found : (xs : List ℕ) (n : ℕ) (r : Result ℕ ℕ) → IsRising xs → IsBinarySearchResult (λ y. nat_cmp y n) xs r
     → IfOk r (λ i. IsAt xs n i)
 searched-found xs n (Ok i) s h = let found = searched xs n (Ok i) h (not_falling xs s) in record { within = found.0; number_there = found.1 }
 searched-found xs n (Err i) s h = tt
 
+-- where a binary search of a sorted list returns Err, n belongs at the index that it returns, and isn't in the list
 pub searched-missing : (xs : List ℕ) (n : ℕ) (r : Result ℕ ℕ) → IsRising xs
     → IsBinarySearchResult (λ y. nat_cmp y n) xs r → IfErr r (λ i. BelongsAt xs n i)
 searched-missing xs n (Ok i) s h = tt

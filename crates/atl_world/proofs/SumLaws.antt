@@ -1,4 +1,6 @@
--- A map by number after a value is put in or taken out: its sums, and the numbers whose values pass a test.
+-- A map by number after a value is put in or taken out: its sums, and the numbers whose values pass a test. m is the
+-- map and k the number; u is the value under k before, and v the value put in. f gives what is summed of a value, and p
+-- is the test.
 use Rattle.std.proofs.Common.{◌≡◌, ℕ, ◌+◌, Bool, true, false, cond, List, [], ◌∷◌, map, filter, Option, Some, None, sum_by, refl, sym, ap, ◌∙◌, arith}
 use Rattle.std.specs.Prelude.{Result, Ok, Err, OnErr}
 use Rattle.std.specs.declared.cmp.Ordering.TheVariants.{Less, Equal, Greater}
@@ -131,6 +133,7 @@ module _ {X : Type 0} where
         | Greater ↦ λ g. chosen-cons p e (put nat_cmp k v es) ∙ ap (λ ns. cond (p e.1) (e.0 ∷ ns) ns) (chosen-put_other p k v h es g) ∙ sym (chosen-cons p e es)
       ] g
 
+  -- replacing u by v leaves the numbers whose values pass the test p, if v passes exactly where u does
   pub numbers_where-insert_known : (p : X → Bool) (m : FinMap nat_cmp X) (k : ℕ) (u v : X) → get m k ≡ Some u
       → p u ≡ p v → numbers_where p (insert m k v) ≡ numbers_where p m
   numbers_where-insert_known p m k u v h same =
@@ -139,6 +142,7 @@ module _ {X : Type 0} where
       ∙ ap (numbers_passing p) (sym (entries-insert nat_cmp_total (remove m k) k u))
       ∙ ap (numbers_where p) (sym (put_back_keeps_map m k u h))
 
+  -- putting a value that fails the test p in under a new number leaves the numbers whose values pass
   pub numbers_where-insert_other : (p : X → Bool) (m : FinMap nat_cmp X) (k : ℕ) (v : X) → get m k ≡ None → p v ≡ false
       → numbers_where p (insert m k v) ≡ numbers_where p m
   numbers_where-insert_other p m k v h fails =
@@ -148,6 +152,7 @@ module _ {X : Type 0} where
   pub put_same : (m : FinMap nat_cmp X) (k : ℕ) (u v : X) → get m k ≡ Some u → v ≡ u → insert m k v ≡ m
   put_same m k u v h e = ap (insert m k) e ∙ put_over m k u ∙ sym (put_back_keeps_map m k u h)
 
+  -- r is the result of a call: if v is u where the call fails, putting v in changes nothing there
   pub put_same_err : {A E : Type 0} (r : Result A E) (m : FinMap nat_cmp X) (k : ℕ) (u v : X) → get m k ≡ Some u
       → OnErr r (v ≡ u) → OnErr r (insert m k v ≡ m)
   put_same_err (Ok a) m k u v h e = tt

@@ -1,5 +1,7 @@
--- Laws of maps by number with marks: there stays room for the marks, and taking a new value out undoes putting it in.
--- v has the values, m is the set of the marked numbers, and r says for how many marks there is room.
+-- Laws of maps by number with marks: there stays room for the marks, and taking a new value out undoes putting it in. v
+-- has the values, m is the set of the marked numbers, and r says for how many marks there is room. n is the number that
+-- is put in, taken out or marked, o what the map has under it, Some of a value or None, and x a new value. Most laws
+-- `Room-..` say that the room is still enough after a change.
 use Rattle.std.proofs.Common.{◌≡◌, ℕ, ◌+◌, ◌≤◌, Bool, true, false, cond, not, ◌&&◌, ◌||◌, length, Option, Some, None, refl, sym, ap, ◌∙◌, arith}
 use Rattle.std.specs.Prelude.{is_some}
 use Rattle.std.proofs.lemmas.Bool.{false≢true, or_right, or_left}
@@ -91,6 +93,7 @@ module _ {V : Type 0} where
       Room-all v set.empty (len v)
       (let a : set.len {R = nat_cmp} set.empty ≡ 0 = set.len-empty nat_cmp in omega (arith, a))
 
+  -- where the room is enough (`Room`) and n has a value, the marks with n added fit in it
   pub fits-marked : (v : FinMap nat_cmp V) (m : set.FinSet nat_cmp) (r n : ℕ) → is_some (get v n) ≡ true → Room v m r
       → set.len (set.insert m n) ≤ r
   fits-marked v m r n h room =
@@ -161,6 +164,7 @@ module _ {V : Type 0} where
       → ◌≡◌ {A = MarkedMapValue V} (record { values = v; marks = m }) (record { values = w; marks = n })
   same_parts v w m n p q = λ i. record { values = p i; marks = q i }
 
+  -- removing n, and marking n where it has a value, gives `without_value_at`
   pub without_value_is : (c : MarkedMapValue V) (n : ℕ) (o : Option V) → get c.values n ≡ o
       → ◌≡◌ {A = MarkedMapValue V} (record { values = remove c.values n; marks = marked_with c.marks n o }) (without_value_at c n o)
   without_value_is c n None e = same_parts _ _ _ _ (remove_none c.values n e) refl

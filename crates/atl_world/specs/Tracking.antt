@@ -43,7 +43,7 @@ module _ {V : Type 0} where
   without_new_value c n true = without_value c n
   without_new_value c n false = record { values = map.remove c.values n; marks = set.remove c.marks n }
 
--- A map c with marks that lends its value under n as r has there, once the loan ends, the last value written to r, and
--- n is marked. If it lends none, it ends as it was.
+-- The map c with marks lends its value under n as the reference r. Once the loan ends, c has the last value written to
+-- r under n, and n is marked. Where r is None, c ends as it was.
 abbrev pub WritesBackMarked : (V : RattleType) → MutBor (MarkedMapValue V.Denot) → ℕ → Option (MutBor V.Denot) → Fml
 WritesBackMarked V c n r = LendsIf (the_row V) V c r (with_value c.now n) c.now

@@ -170,6 +170,7 @@ impl Marks {
     }
 }
 
+/// Also false once the list has `RECENT_LIMIT` numbers, whatever its room.
 fn has_recent_room(recent: &SortedNumbers) -> bool
     ensures { result ≡ true → set.len recent.now.numbers < recent.now.room }
 {

@@ -26,6 +26,7 @@ fn is_pass_byte(byte: u8) -> bool
     SPACE < byte && byte <= TILDE
 }
 
+/// True of an empty word.
 fn has_no_edge_space(word: &[u8], quoted: bool) -> bool
     ensures { result ≡ has_no_edge_space (name_of word.now quoted) }
 {

@@ -147,6 +147,7 @@ impl SortedNumbers {
     }
 }
 
+/// Ok is the index of the number, Err the index where it belongs.
 fn index_of(numbers: &[u32], number: u32) -> Result<usize, usize>
     requires { IsStrictlySortedBy nat_cmp numbers.now }
     ensures found { IfOk result (λ index. IsAt numbers.now number index) }
@@ -196,6 +197,7 @@ fn append(numbers: &mut Vec<u32>, others: &[u32])
     }
 }
 
+/// Whether the last of the first `count` numbers is above `other`; false if `count` is 0.
 fn is_last_above(numbers: &[u32], count: usize, other: u32) -> bool
     requires { count ≤ length numbers.now }
     ensures { IsTrue result ↔ ((0 < count) × (other < slice_index numbers.now (count - 1))) }
@@ -203,7 +205,8 @@ fn is_last_above(numbers: &[u32], count: usize, other: u32) -> bool
     count > 0 && numbers[count - 1] > other
 }
 
-/// The largest number is put in place first, so each is moved at most once.
+/// The first `own` numbers of the slice are the list's; behind them there is a place for each of
+/// the others. The largest number is put in place first, so each is moved at most once.
 fn merge(numbers: &mut [u32], own: usize, others: &[u32])
     requires size { length numbers.old ≡ own + length others.now }
     requires ascending { IsStrictlySortedBy nat_cmp (take own numbers.old) }
