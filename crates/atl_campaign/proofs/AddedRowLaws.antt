@@ -1,4 +1,6 @@
 -- Laws of assembling units and regions by adding each row of goods to its unit, and each row of stock to its region.
+-- In `units_with_rows` and `regions_with_rows`, `has` are rows of goods, `markets` rows of stocks, and `rows` those of
+-- the units or regions. By these laws the result is what each unit or region is with all its rows at once.
 use Rattle.std.proofs.Common.{◌≡◌, ◌≢◌, ◌==◌, ℕ, ◌&&◌, List, [], ◌∷◌, Bool, true, false, cond, filter, Option, Some, None, refl, sym, ap, subst, ◌∙◌, arith, inl, inr}
 use Rattle.std.specs.Prelude.{option_map}
 use Rattle.std.specs.Ordering.{nat_cmp}
@@ -68,7 +70,8 @@ module _ {R V : Type 0} (owner : R → ℕ) (more : R → V → V) where
       ∙ ap (option_map (value_with_rows n rows)) (get-changed r m n)
       ∙ map_twice (value_with_rows n rows) (λ v. cond (owner r == n) (more r v) v) (get m n)
 
-  -- `before t` is the value of t without its rows, and `after t` its value with them
+  -- t is what rows are added to, as a row of `unit`, and `number t` its number. `before t` is its value without `rows`,
+  -- and `after t` its value with those of them that are its own.
   module _ {T : Type 0} (number : T → ℕ) (before after : T → V) (rows : List R) (each : (t : T) → value_with_rows (number t) rows (before t) ≡ after t) where
     -- both maps have the same numbers, and the second has each value of the first with the rows of its number added
     abbrev Becomes : FinMap nat_cmp V → FinMap nat_cmp V → Type 0

@@ -1,4 +1,5 @@
 -- Laws of MarksAmounts: the dirty set of the books has only amounts of the first `things` things, and room for all.
+-- `marks` is this dirty set with its room; e and t are the entry and the thing of an amount.
 use Rattle.std.proofs.Common.{◌≡◌, ℕ, ◌*◌, ◌<◌, ◌≤◌, Bool, true, ◌||◌, sym, ◌∙◌, subst, refl, arith}
 use Rattle.std.proofs.lemmas.Bool.{false≢true}
 use Rattle.std.specs.declared.cmp.Ordering.TheVariants.{Less, Equal, Greater}

@@ -1,5 +1,7 @@
 -- Laws of beginning a structure and building on it: the campaign stays steady, totals are kept, and changes are marked.
 -- To build on a structure sets how much of it is done, to as much as before or more, up to its kind's size.
+-- w is the world, c the campaign before the change, and s the structure. In the laws on building, s is structure k as
+-- it is before, and `done` is how much of it is done after.
 use Rattle.std.proofs.Common.{◌≡◌, ◌≢◌, ℕ, ◌+◌, ◌≤◌, ◌<◌, true, false, cond, length, Some, None, refl, sym, ap, subst, ◌∙◌, inl, inr, arith, true≢false}
 use Rattle.std.specs.Prelude.{IsTrue, is_some}
 use Rattle.std.proofs.lemmas.Bool.{cases_eq}

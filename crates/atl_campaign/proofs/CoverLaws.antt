@@ -1,4 +1,7 @@
 -- Laws of change marks: each change of a campaign marks all that it changes, and so do several changes in turn.
+-- `MarksChanges c d` says that from the marked campaign c to d no mark is lost, and all that changed is marked. In a
+-- law of one change, c is the campaign before it, the record the campaign after it, and n the number of what changes.
+-- In laws of several changes, a, b and c are the campaign, or its marks, at moments in turn.
 use Rattle.std.proofs.Common.{◌≡◌, ◌≢◌, ◌==◌, ◌||◌, ℕ, Bool, true, false, if◌then◌else◌, Option, Some, None, refl, sym, ap, ◌∙◌, subst, inl, inr, arith, true≢false}
 use Rattle.std.specs.Prelude.{ℤ, List, cond, is_some, option_map, unwrap_or}
 use Rattle.std.proofs.lemmas.Bool.Decides.{nat_tests}
@@ -57,8 +60,8 @@ stay-trans one two = record {
   row = λ h. two.row (one.row h);
 }
 
--- Covers is transitive: marks that cover a second change, and keep all marks that cover a first one, cover both changes
--- together
+-- the marks n cover two changes together, from a to b and from b to c, if they cover the second and keep all of the
+-- marks m, which cover the first
 pub covers-trans : {m n : Marks} (a b c : CampaignValue) → StayMarked m n → Covers m a b → Covers n b c → Covers n a c
 covers-trans {m} {n} a b c stay one two = record {
   factions = λ k free. two.factions k free ∙ one.factions k (was_unmarked m.factions n.factions stay.factions k free);
@@ -85,6 +88,7 @@ or-true : (b : Bool) → (b || true) ≡ true
 or-true true = refl
 or-true false = refl
 
+-- marking one number more loses no mark
 pub put_stays : (marks : FinSet nat_cmp) (n : ℕ) → StaysMarked marks (insert marks n)
 put_stays marks n k h =
     contains-insert nat_cmp_total marks n k ∙ ap (λ b. eq_by_cmp nat_cmp k n || b) h ∙ or-true (eq_by_cmp nat_cmp k n)

@@ -15,6 +15,6 @@ fits_64_bits (negsuc n) most less = record { sfits = omega (arith, ints, less) }
 pub more_fits : (z : ℤ) (n : ℕ) → LeavesRoomForJoining z → n ≤ 4000000000000000000 → FitsSigned w64 (z +ℤ pos n)
 more_fits z n small few = fits_64_bits (z +ℤ pos n) (omega (arith, ints, small.0, few)) (omega (arith, ints, small.1))
 
--- an amount of at most 4 * 10^18, booked where nothing was booked yet, is in this range
+-- an amount of at most 4 * 10^18, booked where nothing was booked yet, is in the range of signed 64-bit numbers
 pub first_fits : (n : ℕ) → n ≤ 4000000000000000000 → FitsSigned w64 (pos 0 +ℤ pos n)
 first_fits n few = more_fits (pos 0) n (omega (arith, ints), omega (arith, ints)) few

@@ -1,4 +1,5 @@
 -- Laws of founding: a founded campaign is good, and its books balance.
+-- `founded_of w pass` is the campaign that is founded of the world w, with the moderator's pass text `pass`.
 use Rattle.std.proofs.Common.{◌≡◌, ℕ, ◌+◌, ◌≤◌, ◌==◌, cond, List, [], length, sym, ap, ◌∙◌, refl, arith, true, false}
 use Rattle.std.specs.Prelude.{ℤ, pos, ◌+ℤ◌, ◌*◌, unwrap_or, IsSome, IsTrue}
 use Rattle.std.proofs.lemmas.Int.{ints}
@@ -114,6 +115,7 @@ numbered_none : {V : Type 0} → IsNumbered (empty {X = V} {R = nat_cmp}) 1
 numbered_none {V} =
     record { first = get-empty nat_cmp 0; count = ap (λ n. n + 1) (sym (len-empty nat_cmp V)); free = λ n _. get-empty nat_cmp n }
 
+-- `regions` are the world's regions as they are founded; `money` and `people` are what they all have together
 module _ (w : WorldValue) (pass : List ℕ) (world : IsWorld w) where
   abbrev regions : FinMap nat_cmp Region
   regions = map_values founded_region w.regions

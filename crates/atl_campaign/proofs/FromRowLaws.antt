@@ -1,6 +1,7 @@
 -- Laws of the campaign assembled from rows: if the rows are in range, the campaign's numbers are, and units have men.
 -- `AreBooks n b` says of the books b that they have n things, and that the amounts that they list are of these and not
 -- 0.
+-- w is the world, p the rows of all tables, and `campaign_of w p` the campaign assembled from them.
 use Rattle.std.proofs.Common.{◌≡◌, ◌==◌, ℕ, ◌≤◌, ◌<◌, ◌+◌, ◌&&◌, List, [], ◌∷◌, Bool, true, false, cond, filter, length, nat_le, refl, ap, subst, arith}
 use Rattle.std.specs.Prelude.{ℤ, pos, negsuc, min, nat_lt, Some, None}
 use Rattle.std.specs.List.{list_all}
@@ -44,6 +45,7 @@ use Rattle.atl_world.proofs.GeneralLaws.{is_equal, chosen_is_at_most_next}
 
 -- ---- maps of rows
 
+-- `number` and `value` read the number and the value of a row
 module _ {R V : Type 0} (number : R → ℕ) (value : R → V) where
   -- if P holds for a map's values, and for the value of each row that passes a test, it holds for all values once rows
   -- that pass the test are put in

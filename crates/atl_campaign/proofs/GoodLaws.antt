@@ -1,4 +1,5 @@
 -- Laws of good campaigns: reports and mail keep them good, and good ones are early.
+-- c is a campaign of the world w. `mail` and `reports` are texts by the numbers of their factions.
 use Rattle.std.proofs.Common.{◌≡◌, ◌≤◌, ◌&&◌, ℕ, Bool, true, false, cond, nat_lt, List, Result, Ok, Err, subst, arith}
 use Rattle.std.proofs.lemmas.Bool.Decides.{nat_tests}
 use Rattle.std.specs.Cmp.Derive.{both_true}
@@ -27,6 +28,7 @@ pub posted-there : {factions later : FinMap nat_cmp Faction} {mail reports : Fin
 posted-there stays posts =
     record { mail = λ n text is. stays n (posts.mail n text is); reports = λ n text is. stays n (posts.reports n text is) }
 
+-- reports stay of factions that exist when all mail is removed
 pub posted-unsent : {factions : FinMap nat_cmp Faction} {mail reports : FinMap nat_cmp (List ℕ)}
     → AreOfFactions factions mail reports → AreOfFactions factions empty reports
 posted-unsent posts = record { mail = every-empty _; reports = posts.reports }
@@ -128,7 +130,8 @@ joined_answer true full x y e = cc
 joined_answer false true x y e = cc
 joined_answer false false x y e = cc
 
--- a campaign that was good before a faction joined, and is sound after, is good once a report of that faction is stored
+-- if c is good, and d is the campaign after a faction joined c and is sound, d is good once a report of that faction is
+-- stored
 pub IsGood-joined : (w : WorldValue) (name pass : List ℕ) (word : ℕ) (c d : CampaignValue) (faction unit : ℕ) (text : List ℕ)
     → join_of w name pass word c ≡ Ok (d, (faction, unit)) → IsGood w c → IsSound w d
     → IsGood w (with_report d faction text)

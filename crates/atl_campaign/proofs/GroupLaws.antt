@@ -79,7 +79,7 @@ filter_lines test f (x ∷ xs) =
 
 -- ---- group by group
 
--- `group` gives the number of the group that a row is of, and `number` the number of a group
+-- `group` gives the number of the group that a row is of, and `number` the number of a group; `units` are the groups
 module _ {R U : Type 0} (group : R → ℕ) (number : U → ℕ) where
   -- the rows whose group has number n, as the goods of unit n or the stocks of region n
   abbrev pub of_group : ℕ → List R → List R
@@ -152,12 +152,14 @@ module _ {R U : Type 0} (group : R → ℕ) (number : U → ℕ) where
 
 -- ---- rows of a group with keys
 
--- `mine` tests whether a row is of the group, and `same` whether two keys are equal; `thing` gives the thing of a row
+-- `mine` tests whether a row is of the group, and `same` whether two keys are equal; `key` and `thing` give the key and
+-- the thing of a row
 module _ {R K : Type 0} (key : R → K) (same : K → K → Bool) (itself : (k : K) → same k k ≡ true) (thing : R → ℕ) (mine : R → Bool) (P : R → Type 0) where
   -- a row of the group for which P holds
   abbrev pub IsOfGroupWithP : R → Type 0
   IsOfGroupWithP r = P r × (mine r ≡ true)
 
+  -- P holds of each row of the group, if it holds of each row
   pub all_mine : (rows : List R) → AllByRecursion P rows → AllByRecursion IsOfGroupWithP (filter mine rows)
   all_mine rows all =
       kept mine IsOfGroupWithP rows
@@ -176,6 +178,7 @@ module _ {R K : Type 0} (key : R → K) (same : K → K → Bool) (itself : (k :
 
 -- ---- the amounts of a group
 
+-- `thing` and `amount` read both from a row, and `row` makes a row of a thing and an amount
 module _ {R : Type 0} (thing amount : R → ℕ) where
   module _ (row : ℕ → ℕ → R) (some : R → Bool) where
     -- the row that a thing and its amount are written as, in a list, if it passes the test `some`; else an empty list

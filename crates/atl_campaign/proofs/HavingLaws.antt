@@ -32,6 +32,7 @@ may_have w c n u is steady =
     let location = steady.known.units n u is in
     record { limits = (steady.numbers.units n u is).1; name = steady.names.units n u is; items = location.items; skills = location.skills; days = steady.days n u is }
 
+-- unit n of the campaign c is u, and gets the holding h
 module _ (w : WorldValue) (c : CampaignValue) (n : ℕ) (u : Unit) (h : HoldingValue) (is : get c.units n ≡ Some u) where
   abbrev new_unit : Unit
   new_unit = record u { holding = h }

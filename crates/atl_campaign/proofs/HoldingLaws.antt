@@ -61,6 +61,7 @@ abbrev pub structure_in : Option Unit → Unit → ℕ
 structure_in (Some y) z = y.structure
 structure_in None z = z.structure
 
+-- Unit n of the campaign c is u, and gets the holding h. A law named `.._kept` says that one rule still holds then.
 module _ (w : WorldValue) (c : CampaignValue) (n : ℕ) (u : Unit) (h : HoldingValue) (is : get c.units n ≡ Some u) where
   abbrev new_unit : Unit
   new_unit = record u { holding = h }

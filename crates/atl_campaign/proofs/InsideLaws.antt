@@ -1,4 +1,5 @@
 -- Laws of the list of units inside a structure: it has those units, and no others.
+-- `numbers_inside s units` is this list: the numbers of the units inside structure s, in rising order; none for 0.
 use Rattle.std.proofs.Common.{◌≡◌, ◌≢◌, ◌==◌, ℕ, true, false, cond, [], Some, ap, sym, ◌∙◌}
 use Rattle.std.specs.Ordering.{nat_cmp}
 use Rattle.std.specs.FinMap.{FinMap, get}

@@ -1,5 +1,6 @@
 -- Laws of joining: a sound campaign that a faction joins is sound, rule by rule. The faction joins with the name `name`
 -- and the pass text `pass`, and `word`, a word of the dice, picks the region where it begins.
+-- c is the campaign before the join, and `after_join w name pass word c` the one after it.
 use Rattle.std.proofs.Common.{◌≡◌, ◌≢◌, ℕ, ◌+◌, ◌%◌, ◌≤◌, ◌<◌, ◌==◌, ◌||◌, true, false, cond, List, [], ◌∷◌, length, Some, None, is_some, take, drop, ◌*◌, refl, sym, ap, ◌∙◌, arith, nat_le, nat_lt, nat_eq, length-append, true≢false}
 use Rattle.std.proofs.lemmas.Bool.{false≢true}
 use Rattle.std.specs.Prelude.{unwrap_or, ℤ, pos, ◌+ℤ◌, IsTrue}
@@ -95,6 +96,7 @@ counts_below_limits : (f u n : ℕ) → ((nat_le last_faction f || nat_le most_u
     → (f < last_faction) × (u < most_units) × (n ≤ last_unit)
 counts_below_limits f u n h = (grind (arith, nat_tests), grind (arith, nat_tests), grind (arith, nat_tests))
 
+-- a campaign that isn't full may have one faction and one unit more
 pub room_to_join : (c : CampaignValue) → is_full c ≡ false
     → (len c.factions < last_faction) × (len c.units < most_units) × (c.next_unit ≤ last_unit)
 room_to_join c h = counts_below_limits (len c.factions) (len c.units) c.next_unit h

@@ -1,4 +1,6 @@
 -- Laws of moving and removing a unit with marks: but for marks they do what with_place and without_unit do.
+-- c is the campaign before, and n the unit's number. `with_place` puts the unit in region r and structure s, and
+-- `without_unit` removes it; both give a structure that the unit owned and leaves to its next owner.
 use Rattle.std.proofs.Common.{◌≡◌, ◌==◌, ℕ, Bool, true, false, Option, Some, None, refl, sym, ap, ◌∙◌}
 use Rattle.std.specs.Prelude.{if◌then◌else◌}
 use Rattle.std.specs.FinMap.{FinMap, get}

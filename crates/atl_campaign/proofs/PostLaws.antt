@@ -1,4 +1,6 @@
 -- Laws of marks when the month is set, a report is stored, and all mail is removed: each change is marked.
+-- `MarksChanges c d` says that from the marked campaign c to d no mark is lost, and all that changed is marked. n is
+-- the new month, or the number of a faction.
 use Rattle.std.proofs.Common.{◌≡◌, ◌||◌, ℕ, List, Bool, true, false, Option, Some, None, is_some, refl, sym, ap, ◌∙◌, true≢false}
 use Rattle.std.specs.Ordering.{nat_cmp}
 use Rattle.std.specs.Cmp.{nat_cmp_total}

@@ -1,4 +1,5 @@
 -- Laws of a changed region and of changed amounts of the books: the campaign stays steady, and how totals change.
+-- c is the campaign before the change. In the laws on one region, f changes region n of c, which is r before.
 use Rattle.std.proofs.Common.{◌≡◌, ◌≢◌, ◌↔◌, ℕ, ◌+◌, ◌≤◌, ◌<◌, cond, Some, refl, sym, ap, subst, ◌∙◌, inl, inr, arith}
 use Rattle.std.specs.Prelude.{ℤ, ◌+ℤ◌, is_some}
 use Rattle.std.specs.Ordering.{nat_cmp, is_eq}

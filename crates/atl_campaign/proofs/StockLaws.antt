@@ -1,4 +1,5 @@
 -- Laws of a changed stock of a region: the campaign stays steady, and how totals change.
+-- The stock of `item` in region n, which is r before, is set to `amount`; c is the campaign before, and w the world.
 use Rattle.std.proofs.Common.{◌≡◌, ◌≢◌, ℕ, ◌+◌, ◌≤◌, Some, IsSome, ap, ◌∙◌, arith}
 use Rattle.std.specs.FinMap.{get}
 use Rattle.atl_world.specs.ByNumber.{market_of}

@@ -1,4 +1,4 @@
--- A law of totals: a new unit adds what it holds.
+-- A law of totals: a unit u, put under a number n that no unit has, adds to the total of each thing t what it holds.
 use Rattle.std.proofs.Common.{◌≡◌, ℕ, ◌+◌, None, ap, ◌∙◌, arith}
 use Rattle.std.specs.FinMap.{get}
 use Rattle.atl_world.specs.Sums.{sum_over}

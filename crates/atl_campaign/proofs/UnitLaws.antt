@@ -121,7 +121,7 @@ AreUnits-of units =
     record { within = within-none; marks_fit = Room-of units; rows_fit = Room-of units; goods_fit = Room-of units }
 
 -- `marks` has the units of which a part is marked. Of these, `rows` has those whose rows are, `goods` those all of
--- whose items and days are, and `items` and `skills` the single ones.
+-- whose items and days are, and `items` and `skills` the single ones. Unit n is u before a change, and w after it.
 module _ (units : FinMap nat_cmp Unit) (marks rows goods : RoomySet) (items skills : MarkedThings) where
   -- before a change, there is room for all marks of units, and each unit with a marked part is marked (AreUnits)
   abbrev Before : Type 0
@@ -213,8 +213,8 @@ HasRoom-added : (units : FinMap nat_cmp Unit) (marks more : RoomySet) (n : ℕ) 
 HasRoom-added units marks more n w h =
     Room-inserted units more.numbers more.room n w (room_inserted units marks more n w h)
 
--- the units' invariant (AreUnits) still holds once a new unit is added, and marked in dirty sets with room for one unit
--- more (IsWider)
+-- the units' invariant (AreUnits) still holds once a new unit w is added under the number n, and marked in the dirty
+-- sets marks2, rows2 and goods2, which have room for one unit more (IsWider)
 pub AreUnits-added : (units : FinMap nat_cmp Unit) (marks rows goods marks2 rows2 goods2 : RoomySet) (items skills : MarkedThings) (n : ℕ) (w : Unit)
     → IsWider units marks marks2 → IsWider units rows rows2 → IsWider units goods goods2
     → AreUnits units marks rows goods items skills

@@ -1,4 +1,6 @@
 -- What is marked, as rows to be written, after each change of a campaign.
+-- c is the campaign before the change, with its marks, and n the number of what changes. A result that is a campaign is
+-- the one after the change.
 use Rattle.std.specs.Prelude.{◌≡◌, ◌⊎◌, ◌==◌, ℕ, Bool, true, Option, Some, None, if◌then◌else◌}
 use Rattle.std.specs.FinMap.{get, remove, keys}
 use Rattle.std.specs.FinSet.{FinSet, insert, union, from_list}
@@ -94,11 +96,13 @@ mark_faction c n = record c.marks { factions = marked_with c.marks.factions n (g
 abbrev pub mark_region : (of : Region → ℕ) → MarkedCampaign → ℕ → ℕ → Marks
 mark_region of c n x = record c.marks { regions = marked_with c.marks.regions n (region_to_set of c.value.regions n x) }
 
--- the marks after the peasants of region n were set: its row is marked too, if it is there and had others
+-- the marks after the peasants of a region, whose number is given first, were set to the last number: its row is marked
+-- too, if it is there and had others
 abbrev pub mark_peasants : MarkedCampaign → ℕ → ℕ → Marks
 mark_peasants = mark_region (λ r. r.peasants)
 
--- the marks after the money of region n was set: its row is marked too, if it is there and had another amount
+-- the marks after the money of a region, whose number is given first, was set to the last number: its row is marked
+-- too, if it is there and had another amount
 abbrev pub mark_region_money : MarkedCampaign → ℕ → ℕ → Marks
 mark_region_money = mark_region (λ r. r.money)
 

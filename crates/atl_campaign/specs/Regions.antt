@@ -86,7 +86,9 @@ MarksStockAt before after n item amount =
     (after ≡ record (with_item_marked_in before n item region) { values = after.values })
     ⊎ (after ≡ record (with_stocks_marked_in before n region) { values = after.values })
 
--- For proofs alone: there is room to mark each region's row and its stocks, and a marked stock has its region marked.
+-- For proofs alone: there is room to mark each region's row and its stocks, and a region with a marked stock is in
+-- `markets`. `rows` has the regions whose rows are marked, `stocks` those all of whose stocks are, and `items` single
+-- stocks by region.
 pub record AreRegions (regions : map.FinMap nat_cmp Region) (rows markets stocks : RoomySet) (items : MarkedThings) : Type 0 where
   pub within : AreStocksWithin markets.numbers stocks.numbers items
   pub rows_fit : HasRoomForMarks regions rows

@@ -142,7 +142,7 @@ books_key r = (r.entry, r.thing, pos 0)
 abbrev pub market_key : StoredMarket → Key
 market_key r = (r.region, r.item, pos 0)
 
--- no two rows of a table have the same key
+-- no two rows of a table have the same key, as the function `key` gives it
 abbrev pub HaveDistinctKeys : {R : Type 0} → (R → Key) → List R → Type 0
 HaveDistinctKeys key rows = IsDistinct (eq_by_cmp key_cmp) (map key rows)
 

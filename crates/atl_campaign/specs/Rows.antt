@@ -107,7 +107,8 @@ rows_by row es = map (λ e. row e.0 e.1) es
 abbrev pub amount_rows : {R : Type 0} → (R → ℤ) → (ℕ → ℕ → R) → List (ℕ × ℕ) → List R
 amount_rows amount row es = filter (λ r. not (is_zero (amount r))) (rows_by row es)
 
--- the rows of `has` for what unit n has of a sort (0 items, 1 skills), where it is not 0
+-- the rows of `has` for what unit n has of a sort (0 items, 1 skills), given as pairs of a thing and its amount; there
+-- is none for the amount 0
 abbrev pub rows_of_sort : ℕ → ℕ → List (ℕ × ℕ) → List StoredHas
 rows_of_sort n sort es = amount_rows (λ r. r.amount) (has_row n sort) es
 
@@ -127,7 +128,7 @@ amounts_rows xs = map (λ x. books_row x.0.0 x.0.1 x.1) xs
 abbrev pub books_rows : BooksValue → List StoredBooks
 books_rows books = amounts_rows (entries books.amounts)
 
--- a row of `market` for each stock of region n that is not 0
+-- a row of `market` for each stock of region n that is not 0; the stocks are given as pairs of an item and its amount
 abbrev pub stock_rows : ℕ → List (ℕ × ℕ) → List StoredMarket
 stock_rows n es = amount_rows (λ r. r.stock) (market_row n) es
 

@@ -124,6 +124,7 @@ impl UnitLists {
     }
 }
 
+/// Structure 0 has no list. Without memory nothing changes.
 fn relist_inside(
     alloc: Global,
     lists: &mut Numbered<Numbers>,
@@ -142,6 +143,7 @@ fn relist_inside(
     Ok(())
 }
 
+/// Does nothing where the key is `other`. Without memory nothing changes.
 fn list_unless(
     alloc: Global,
     lists: &mut Numbered<Numbers>,
@@ -158,6 +160,7 @@ fn list_unless(
     list_number(alloc, lists, key, number)
 }
 
+/// Does nothing where the key is `other`. It takes no memory.
 fn unlist_unless(lists: &mut Numbered<Numbers>, number: u32, key: u32, other: u32)
     ensures { SameLists lists.new (unlisted_unless lists.old number key other) }
 {

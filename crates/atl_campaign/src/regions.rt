@@ -151,6 +151,7 @@ impl Regions {
         self.items.iter()
     }
 
+    /// Marks nothing.
     fn lend(&mut self, number: u32) -> Option<&mut Region>
         ensures* writes_back { sem 𝓛 (LendsRegion self.entry number result) }
         ensures value { option_copied_mut result ≡ map.get self.old.values number }
@@ -161,6 +162,7 @@ impl Regions {
         }
     }
 
+    /// 0 where the region isn't there.
     fn peasants(&self, number: u32) -> u32
         ensures { result ≡ number_in (λ r. r.peasants) self.now.values number }
     {
@@ -170,6 +172,7 @@ impl Regions {
         }
     }
 
+    /// 0 where the region isn't there.
     fn money(&self, number: u32) -> u32
         ensures { result ≡ number_in (λ r. r.money) self.now.values number }
     {

@@ -204,6 +204,7 @@ fn has_row(number: u32, sort: u32, thing: u32, amount: u32) -> StoredHas
     }
 }
 
+/// Adds no row for an amount of 0.
 fn add_sort_rows(
     rows: &mut Sequence<StoredHas>,
     number: u32,
@@ -251,6 +252,7 @@ fn market_row(region: u32, item: u32, stock: u32) -> StoredMarket
     }
 }
 
+/// Adds no row for a stock of 0.
 fn add_stocks(
     rows: &mut Sequence<StoredMarket>,
     region: u32,
@@ -301,6 +303,7 @@ fn books_row(entry: BooksEntry, thing: Thing, amount: i64) -> StoredBooks
     }
 }
 
+/// Adds no row for an amount of 0.
 fn add_entry(
     rows: &mut Sequence<StoredBooks>,
     books: &Books,

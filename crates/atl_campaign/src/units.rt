@@ -178,6 +178,7 @@ impl Units {
         }
     }
 
+    /// Lends a unit, if there is one, and marks it and its row, none of its goods.
     fn row_mut(&mut self, number: u32) -> Option<&mut Unit>
         ensures* writes_back { sem 𝓛 (LendsRow self.entry number result) }
         ensures value { option_copied_mut result ≡ map.get self.old.values number }

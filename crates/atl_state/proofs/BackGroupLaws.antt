@@ -1,4 +1,5 @@
 -- Laws of reading groups back (the goods of a unit, the stocks of a region) from rows in any order.
+-- i is the number of an item or a skill, and a its amount; P is a condition on rows.
 use Rattle.std.proofs.Common.{◌≡◌, ◌<◌, ℕ, List, [], ◌∷◌, Bool, true, false, not, filter, Some, sym, ap, ◌∙◌}
 use Rattle.std.specs.List.{flat_map, AllByRecursion, IsDistinct}
 use Rattle.std.specs.List.Sorted.{IsPermutation}

@@ -1,5 +1,6 @@
 -- Laws of rows of `books`, each of an account (an entry and a thing): books that are assembled from rows with
 -- distinct keys have these rows, in some order.
+-- `things` is how many things the books have.
 use Rattle.std.proofs.Common.{◌≡◌, ◌≢◌, ℕ, ◌≤◌, ◌<◌, ◌+◌, ◌-◌, ◌++◌, List, [], ◌∷◌, true, false, cond, map, Some, None, refl, sym, ap, subst, ◌∙◌, arith, inl, inr}
 use Rattle.std.specs.Prelude.{pos, ℤ, nat_lt}
 use Rattle.std.specs.declared.cmp.Ordering.TheVariants.{Less, Equal, Greater}

@@ -1,4 +1,6 @@
 -- Laws of reading a good campaign back: from its rows, in any order, the same campaign is assembled.
+-- c is a good campaign of the world w that the format f can hold, and p are its rows, in any order. Numbers are read
+-- from rows as most_u32 or most_u16 at most.
 use Rattle.std.proofs.Common.{◌≡◌, ℕ, zero, suc, ◌≤◌, ◌<◌, ◌+◌, ◌*◌, List, [], ◌∷◌, Bool, true, false, length, None, refl, sym, ap, subst, ◌∙◌, arith}
 use Rattle.std.specs.Prelude.{ℤ, pos, is_some, slice_index_or}
 use Rattle.std.specs.List.{AllByRecursion, IsDistinct}
@@ -263,6 +265,8 @@ module _ (w : WorldValue) (world : IsWorld w) (c : CampaignValue) (good : IsGood
         (item_small n i (good.sound.steady.known.markets n r is i a there), range.0, omega (arith, range.1, limit));
   }
 
+  -- A law named `.._listed` says that the rows of a table are just the campaign's, in some order; one named `.._whole`
+  -- says that the numbers of a map fit 32 bits.
   module _ (f : Format) (fits : Fits f c) (p : Parts) (rows : AreRowsOf f c p) where
     head_listed : IsPermutation (campaign_row f c ∷ []) p.campaign
     unfolding rows_of

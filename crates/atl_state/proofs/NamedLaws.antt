@@ -1,4 +1,6 @@
 -- Laws of the campaign assembled from rows: names keep their rule if they do in the rows, and amounts their bound.
+-- w is the world, f the format of the tables, and p are the rows. `RowsKeep f w p` says that they keep the rules by
+-- which they are just the rows of this campaign.
 use Rattle.std.proofs.Common.{◌≡◌, ℕ, suc, ◌≤◌, ◌+◌, ◌*◌, ◌&&◌, List, [], ◌∷◌, Bool, true, false, cond, not, map, Some, sym, ap, subst, ◌∙◌, arith, inl, inr}
 use Rattle.std.specs.Prelude.{ℤ, pos, negsuc}
 use Rattle.std.specs.List.{list_all, AllByRecursion, IsDistinct}

@@ -1,4 +1,5 @@
--- Laws of sorted keys: keys rise strictly exactly if they are sorted and distinct.
+-- Laws of sorted keys: keys that are sorted and distinct rise strictly, and then each is less than the next. R gives
+-- the order of two keys.
 use Rattle.std.proofs.Common.{◌≡◌, ℕ, ◌+◌, ◌-◌, ◌<◌, ◌≤◌, List, [], ◌∷◌, false, length, get_or, refl, sym, ◌∙◌, true≢false, arith}
 use Rattle.std.specs.Cmp.{IsTotalOrder}
 use Rattle.std.specs.List.{IsDistinct}

@@ -1,4 +1,6 @@
 -- Laws of rows that keep the rules: the campaign assembled from them is written as just these rows, in some order.
+-- w is the world, f the format of the tables, and p are the rows, which keep the rules in RowsKeep. z is a number in a
+-- row; `FitsU32 z` says that it is read as it is.
 use Rattle.std.proofs.Common.{◌≡◌, ◌≢◌, ◌==◌, ℕ, zero, suc, ◌≤◌, ◌<◌, ◌+◌, ◌&&◌, ◌⊎◌, List, [], ◌∷◌, true, false, not, Some, None, Option, length, nat_le, nat_lt, refl, sym, ap, subst, ◌∙◌, arith, inl, inr}
 use Rattle.std.specs.Prelude.{ℤ, pos, negsuc, min, is_some, filter, option_and_then, slice_index_or}
 use Rattle.std.specs.List.{list_all, slice_get, AllByRecursion}

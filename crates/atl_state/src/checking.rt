@@ -99,6 +99,7 @@ fn keeps_one_row(format: Format, parts: &Parts) -> bool
         && are_of_format(format, parts.markets.as_slice())
 }
 
+/// Checks rules 1 to 3.
 fn check_rows(alloc: Global, world: &World, parts: &Parts, format: Format) -> Result<(), CheckFault>
     ensures { ChecksBelow format world.now parts.now 4 result }
 {
@@ -117,6 +118,7 @@ fn check_rows(alloc: Global, world: &World, parts: &Parts, format: Format) -> Re
     }
 }
 
+/// Whether each row of `has` is of a unit that is there.
 fn are_of_units(parts: &Parts, campaign: &Campaign) -> bool
     ensures { result ≡ list_all (is_of_unit campaign.now.value) parts.now.has }
 {
@@ -171,6 +173,7 @@ fn keeps_known(world: &World, parts: &Parts, campaign: &Campaign) -> bool
     are_known(world, campaign) && are_goods_known(world, parts, campaign)
 }
 
+/// `rows` are all rows; `parts` lacks those of units, mail and reports, which the campaign took.
 fn keeps_books(format: Format, world: &World, parts: &Parts, campaign: &Campaign) -> bool
     ghost rows: { Parts }
     requires what { campaign.now.value ≡ campaign_of world.now rows }
@@ -188,6 +191,7 @@ fn keeps_mail(campaign: &Campaign) -> bool
     are_mailings(campaign) && are_reported(campaign)
 }
 
+/// `rows` are all rows; `parts` lacks those of units, mail and reports, which the campaign took.
 fn check_rules_4_to_7(
     world: &World,
     parts: &Parts,
@@ -215,6 +219,7 @@ fn check_rules_4_to_7(
     Ok(())
 }
 
+/// `rows` are all rows; `parts` lacks those of units, mail and reports, which the campaign took.
 fn check_rules_8_to_12(
     world: &World,
     parts: &Parts,

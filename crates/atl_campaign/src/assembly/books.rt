@@ -9,6 +9,7 @@ use atl_records::{Books, BooksEntry, Thing};
 use atl_rows::parts::StoredBooks;
 use std::alloc::{AllocError, Global};
 
+/// A row whose entry or thing the books don't have is left out.
 fn put_row(books: &mut Books, row: &StoredBooks)
     ensures { books.new ≡ with_books_row books.old row.now }
 {

@@ -15,6 +15,7 @@ use atl_rows::parts::{StoredHas, StoredMarket};
 use atl_world::Numbered;
 use std::alloc::AllocError;
 
+/// A row of a unit that isn't there is left out.
 fn put_thing(units: &mut Arena<Unit>, row: &StoredHas) -> Result<(), AllocError>
     requires { has_in_range row.now ≡ true }
     ensures { OnOk result (units.new
@@ -42,6 +43,7 @@ pub(super) fn put_things(units: &mut Arena<Unit>, rows: &[StoredHas]) -> Result<
     Ok(())
 }
 
+/// A row of a region that isn't there is left out.
 fn put_stock(regions: &mut Numbered<Region>, row: &StoredMarket) -> Result<(), AllocError>
     ensures { OnOk result (regions.new
         ≡ with_changed_value (with_market_row row.now) regions.old (as_u32 row.now.region)) }

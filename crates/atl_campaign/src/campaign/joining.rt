@@ -24,6 +24,7 @@ use atl_records::{
 use atl_world::{MarkedMap, Numbered, Text, World};
 use std::alloc::{AllocError, Global};
 
+/// A faction that is gone keeps its name taken.
 fn is_taken(factions: &MarkedMap<Faction>, name: &[u8]) -> bool
     ensures { result ≡ list_any (λ e. pointwise nat_eq e.1.joined_as name.now)
         (map.entries factions.now.values) }
@@ -36,6 +37,7 @@ fn is_taken(factions: &MarkedMap<Faction>, name: &[u8]) -> bool
     false
 }
 
+/// The land region at the index `word` modulo the number of land regions.
 fn home(world: &World, word: u32) -> u32
     ensures { result ≡ home_of world.now word }
 {
@@ -150,6 +152,7 @@ impl Campaign {
         }
     }
 
+    /// What `join` does once the name is free and the campaign isn't full.
     fn enroll(
         &mut self,
         world: &World,

@@ -9,6 +9,7 @@ use super::Campaign;
 use crate::lists::{ListKeys, list_keys_of};
 use std::alloc::AllocError;
 
+/// 0 where there is no other.
 fn first_other(numbers: &[u32], leaving: u32) -> u32
     ensures { result ≡ first_other numbers.now leaving }
 {
@@ -34,12 +35,14 @@ impl Campaign {
         }
     }
 
+    /// 0, for nobody, where no other unit is inside.
     fn heir(&self, structure: u32, leaving: u32) -> u32
         ensures { result ≡ heir self.now.value structure leaving }
     {
         first_other(self.inside(structure), leaving)
     }
 
+    /// A `unit` of 0 stands for nobody.
     fn is_owned_by(&self, structure: u32, unit: u32) -> bool
         ensures { result ≡ is_owned_by (map.get self.now.value.structures structure) unit }
     {
@@ -49,6 +52,7 @@ impl Campaign {
         }
     }
 
+    /// Does nothing unless `from` owns the structure.
     fn hand_over(&mut self, structure: u32, from: u32, to: u32)
         ensures { self.new ≡ handed_marked self.old structure from to }
     {

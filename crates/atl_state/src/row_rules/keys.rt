@@ -103,6 +103,7 @@ fn keys_of<R: Keyed>(alloc: Global, rows: &[R]) -> Result<Vec<(i64, i64, i64)>, 
     Ok(keys)
 }
 
+/// Whether the keys rise strictly.
 fn are_sorted<K: Ord + Drop>(keys: &[K]) -> bool
     ensures { IsTrue result ↔ (IsStrictlySortedBy K.cmp keys.now) }
 {

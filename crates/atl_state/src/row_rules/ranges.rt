@@ -71,6 +71,7 @@ fn books_in_range(bound: u128, row: &StoredBooks) -> bool
     is_set(row.amount) && is_within(bound, row.amount)
 }
 
+/// Where there is no such market, a stock may be MOST_AMOUNT.
 fn market_in_range(world: &World, row: &StoredMarket) -> bool
     ensures { result ≡ market_in_range world.now row.now }
 {
@@ -141,6 +142,7 @@ fn first_tables_in_range(parts: &Parts) -> bool
         && all_has_in_range(parts.has.as_slice())
 }
 
+/// How large an amount of the books may be, without its sign.
 fn books_bound(parts: &Parts) -> u128
     requires { length parts.now.campaign ≡ 1 }
     ensures { result ≡ books_bound parts.now }

@@ -16,6 +16,7 @@ fn guard_of(campaign: &Campaign, number: u32) -> Option<u32>
     }
 }
 
+/// None, where no unit guards, agrees with any.
 fn agree(one: Option<u32>, other: Option<u32>) -> bool
     ensures { result ≡ agree one other }
 {

@@ -109,6 +109,7 @@ fn holds_known(world: &World, holding: &Holding) -> bool
         && are_below(holding.days(), world.skills().len())
 }
 
+/// A unit with structure 0 is inside none, and passes.
 fn is_inside_here(campaign: &Campaign, unit: &Unit) -> bool
     ensures { IsTrue result ↔
         (unit.now.structure ≢ 0
@@ -169,6 +170,7 @@ fn has_known_kind_and_region(world: &World, campaign: &Campaign, structure: &Str
     usize::from(structure.kind) < world.kinds().len() && is_region(campaign, structure.region)
 }
 
+/// The owner 0, for nobody, passes.
 fn is_owner_there(campaign: &Campaign, structure: &Structure) -> bool
     ensures { IsTrue result ↔
         (structure.now.owner ≢ 0 → HasValue campaign.now.value.units structure.now.owner) }

@@ -9,6 +9,7 @@ ghost use Rattle.atl_campaign.specs.Good.{AreOwned};
 use atl_campaign::Campaign;
 use atl_records::{Structure, Unit};
 
+/// The owner 0, for nobody, passes.
 fn is_owner_inside(campaign: &Campaign, number: u32, structure: &Structure) -> bool
     ensures { IsTrue result ↔ (HasOwnerInside campaign.now.value number structure.now) }
 {
@@ -28,6 +29,7 @@ fn are_owners_inside(campaign: &Campaign) -> bool
     campaign.structures().all(|(number, structure)| is_owner_inside(campaign, number, structure))
 }
 
+/// A structure that isn't there counts as one with an owner.
 fn is_with_owner(campaign: &Campaign, unit: &Unit) -> bool
     ensures { IsTrue result ↔
         ((s : builds.Structure) → map.get campaign.now.value.structures unit.now.structure ≡ Some s
