@@ -1,4 +1,6 @@
 -- Laws of `first_mentions`: the numbers without repetitions are those that a pass with a set of seen numbers keeps.
+-- `first_mentions ns` is the list ns with each number only where it is first listed. `seen` is the set of seen numbers,
+-- as a map from each number to itself.
 use Rattle.std.proofs.Common.{◌≡◌, ◌==◌, ℕ, ◌&&◌, not, Bool, true, false, List, [], ◌∷◌, filter, refl, arith, rules}
 use Rattle.std.specs.Prelude.{is_some}
 use Rattle.std.specs.Ordering.{nat_cmp}

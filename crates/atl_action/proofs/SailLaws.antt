@@ -412,8 +412,8 @@ sail_orderly = record {
   bounded = λ w c steady e t. omega arith;
 }
 
--- Every unit at most went along, if each unit that no order of SAIL affects did: by `affects_nobody` these are all
--- units.
+-- Every unit at most went along from campaign c to d, if each unit that no order of SAIL affects did: by
+-- `affects_nobody` these are all units.
 pub all_carried : (w : WorldValue) (m : MonthValue) (c d : CampaignValue)
     → others_unaffected affects_nobody IsAtMostMoved is_sailing w m c d → AreAtMostMoved c d
 all_carried w m c d keeps n u there = keeps n u there (λ k d l nobody. nobody)

@@ -1,4 +1,5 @@
 -- Laws of TEACH and STUDY: the units of a faction that sent no mailing keep their men, names and items.
+-- `LeavesUnmailed` counts as starved the men whom the phase's Starved events report; this phase reports none.
 use Rattle.std.proofs.Common.{◌≡◌, ◌∷◌, [], List, ◌-◌, ◌*◌, ℕ, Some, None, refl, ap, subst, ◌∙◌, arith}
 use Rattle.std.specs.Prelude.{fold}
 use Rattle.std.specs.FinMap.{get}

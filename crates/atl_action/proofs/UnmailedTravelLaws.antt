@@ -1,4 +1,5 @@
 -- Laws of MOVE and SAIL: the units of a faction that sent no mailing keep their men, names and items.
+-- `PhaseLeavesUnmailed` counts as starved the men whom a phase's Starved events report; these phases report none.
 use Rattle.std.proofs.Common.{ℕ, false, refl}
 use Rattle.std.specs.Prelude.{fold, unwrap_or}
 use Rattle.std.specs.FinMap.{get}

@@ -69,7 +69,8 @@ study w taught n s c u =
     let days = days_after u.holding.men old taught (is_helpful w s (get c.structures u.structure)) in
     fault_or c (study_fault u.holding cost) (after_study c n u s cost days, Done (days - old))
 
--- the effect of an order of STUDY, by its operands; None for operands of any other form
+-- The effect of an order of STUDY for unit n, by its operands; None for operands of any other form. `taught` has how
+-- many men of each unit were taught.
 abbrev pub study_effect : WorldValue → TaughtMen → (n : ℕ) → OperandsValue → Option OrderEffect
 study_effect w taught n (operands.Skill s) = Some (study w (taught n) n s)
 study_effect w taught n other = None

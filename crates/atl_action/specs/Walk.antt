@@ -43,7 +43,8 @@ walk_fault w u to = first_fault (
     ∷ (nat_lt (carried_by w u.holding) (goods_weight w u.holding), TooHeavy)
     ∷ [])
 
--- the campaign with unit n in region `to` and inside this structure there, or none for 0, and its guard flag cleared
+-- The campaign with unit n in region `to` and inside this structure there, or none for 0, and its guard flag cleared.
+-- If it changes its structure, owners change as `with_place` says. Where there is no unit n, nothing changes.
 abbrev pub with_unit_moved : (structure to : ℕ) → CampaignValue → (n : ℕ) → CampaignValue
 with_unit_moved structure to c n = with_guard (with_place c n to structure) n false
 

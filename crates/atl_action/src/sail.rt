@@ -30,6 +30,8 @@ fn is_complete_ship(world: &World, structure: Option<&Structure>) -> bool
         if world.is_ship(ship.kind) && ship.done == world.size_of(ship.kind))
 }
 
+/// The crew that a ship needs, and the load that it can take; both 0 where the structure or its
+/// kind isn't there.
 fn crew_and_capacity(world: &World, structure: Option<&Structure>) -> (u32, u32)
     ensures crew { result.0 ≡ crew_needed world.now (option_copied structure.entry) }
     ensures capacity { result.1 ≡ capacity world.now (option_copied structure.entry) }
@@ -49,12 +51,14 @@ fn is_owned_by(structure: Option<&Structure>, unit: u32) -> bool
     matches!(structure, Some(found) if found.owner == unit)
 }
 
+/// Men times their level in sailing; 0 where the world names no such skill.
 fn crew_of(world: &World, holding: &Holding) -> u64
     ensures { result ≡ crew_of world.now holding.now }
 {
     u64::from(holding.men()) * u64::from(level_in_any(holding, world.rules().sailing))
 }
 
+/// What all units inside a structure are worth as a crew, and what they weigh.
 fn crew_and_load(world: &World, campaign: &Campaign, structure: u32) -> (u128, u128)
     ensures crew { result.0 ≡ sum_inside (crew_of world.now) campaign.now.value structure }
     ensures load { result.1 ≡ sum_inside (load_of world.now) campaign.now.value structure }
@@ -111,6 +115,7 @@ fn sail_fault(
     }
 }
 
+/// Puts a ship and all units inside it into region `to`, and clears the units' guard flags.
 fn move_ship(alloc: Global, campaign: &mut Campaign, ship: u32, to: u32) -> Result<(), AllocError>
     ensures what { OnOk result (campaign.new.value ≡ after_sailing campaign.old.value ship to) }
     ensures marks { OnOk result (MarksChanges campaign.old campaign.new) }
@@ -157,8 +162,8 @@ impl PhaseVerbs for SailPhase {
     }
 }
 
-/// Sails a ship in a direction by SAIL; an order with other operands is passed over. Each unit
-/// inside goes along, whoever gave the order, and no unit loses anything.
+/// Sails a ship in a direction by SAIL. Each unit inside goes along, whoever gave the order, and no
+/// unit loses anything.
 impl OrderPhase for SailPhase {
     ghost step = { λ _. sail_step };
 

@@ -48,6 +48,8 @@ fn is_helpful(world: &World, skill: u16, structure: Option<&Structure>) -> bool
     }
 }
 
+/// The days of a skill after a month of study, over all men together, as are the `old` ones.
+/// `taught` is how many of the men were taught.
 fn days_after(men: u32, old: u32, taught: u32, helped: bool) -> u32
     requires { men ≤ men_limit }
     ensures { result ≡ days_after men old taught helped }
@@ -70,6 +72,8 @@ fn study_fault(holding: &Holding, cost: u64) -> Option<EventFault>
     }
 }
 
+/// Takes the cost from the unit's money, and sets its days of the skill. Where the unit isn't
+/// there, nothing changes.
 fn pay_and_set_days(
     campaign: &mut Campaign,
     unit: u32,
@@ -90,6 +94,7 @@ fn pay_and_set_days(
     campaign.set_days(unit, u32::from(skill), days)
 }
 
+/// Takes the cost from the unit's money, books it, and sets the unit's days of the skill.
 fn put_study(
     world: &World,
     campaign: &mut Campaign,

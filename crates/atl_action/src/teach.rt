@@ -41,6 +41,7 @@ fn listed_units<'m>(order: PhaseOrder<'m>) -> &'m [UnitRef]
     }
 }
 
+/// 0 where the unit isn't there.
 fn level_at(campaign: &Campaign, unit: u32, skill: u32) -> u32
     ensures { result ≡ level_at campaign.now.value unit skill }
 {
@@ -63,6 +64,8 @@ fn is_below(campaign: &Campaign, learning: &Numbered<u32>, teacher: u32, unit: u
         if level_at(campaign, unit, *skill) < level_at(campaign, teacher, *skill))
 }
 
+/// The units that an order of TEACH lists and that are learning in the teacher's region, in the
+/// order of the list.
 fn pupils_of(
     alloc: Global,
     campaign: &Campaign,
@@ -105,7 +108,7 @@ fn pupils_below(
     Ok(list)
 }
 
-/// It takes n log n steps for n numbers.
+/// The numbers, each only where it is first listed. It takes n log n steps for n numbers.
 fn first_mentions(alloc: Global, numbers: &[u32]) -> Result<Vec<u32>, AllocError>
     ensures { IfOk result (λ list. list.items ≡ first_mentions numbers.now) }
 {
@@ -127,6 +130,7 @@ pub(crate) fn taught_at(taught: &Numbered<u32>, unit: u32) -> u32
     taught.get(unit).copied().unwrap_or(0)
 }
 
+/// 0 where the unit isn't there.
 fn men_at(campaign: &Campaign, unit: u32) -> u32
     ensures value { result ≡ men_at campaign.now.value unit }
     ensures few { result ≤ men_limit }
@@ -137,6 +141,7 @@ fn men_at(campaign: &Campaign, unit: u32) -> u32
     }
 }
 
+/// The men of a unit who weren't taught yet in this month; 0 where the unit isn't there.
 fn untaught_men(campaign: &Campaign, taught: &Numbered<u32>, unit: u32) -> u32
     ensures value { result ≡ untaught_men campaign.now.value (amount_of taught.now) unit }
     ensures room { amount_of taught.now unit + result ≤ 4294967295 }
@@ -144,6 +149,8 @@ fn untaught_men(campaign: &Campaign, taught: &Numbered<u32>, unit: u32) -> u32
     men_at(campaign, unit).saturating_sub(taught_at(taught, unit))
 }
 
+/// Gives a lesson for `places` men to units that are each listed once, and returns how many men it
+/// taught. Each unit gets the places that those before it leave.
 fn teach_men(
     campaign: &Campaign,
     taught: &mut Numbered<u32>,
@@ -165,6 +172,7 @@ fn teach_men(
     Ok(places - left)
 }
 
+/// Gives a lesson for `places` men to units, however often each is listed.
 fn give_lesson(
     alloc: Global,
     campaign: &Campaign,

@@ -38,8 +38,9 @@ fn walk_fault(world: &World, unit: &Unit, to: Option<u32>) -> Option<EventFault>
     }
 }
 
-/// Puts a unit into a region, and inside a structure there, or inside none for 0. Clears its guard
-/// flag.
+/// Puts a unit into a region, and inside a structure there, or inside none for 0, and clears its
+/// guard flag. Structures that it leaves or enters may get other owners. Where there is no such
+/// unit, nothing changes.
 pub(crate) fn put_unit(
     campaign: &mut Campaign,
     unit: u32,

@@ -1,4 +1,6 @@
--- Laws of TRANSFER: the days of each skill that the code sets, one skill after another, are those of the definition.
+-- Laws of TRANSFER: the days of each skill that the code sets, one skill after another, are those of the definition. A
+-- map of days (`days`, `had`, `left`) has the days of each skill, by the skill's number. n men go from one unit to
+-- another: h is what one of the two units holds, and `other` what the sender holds where h is the receiver's.
 use Rattle.std.proofs.Common.{◌≡◌, ℕ, ◌+◌, ◌-◌, ◌/◌, ◌≤◌, Bool, true, false, cond, List, [], ◌∷◌, ◌++◌, map, Option, Some, None, refl, sym, ap, subst, ◌∙◌, arith}
 use Rattle.std.proofs.Math.Nat.{zero-div, zero-mul}
 use Rattle.std.specs.Prelude.{fold, is_some, unwrap_or, ◌||◌}

@@ -1,7 +1,8 @@
 -- Laws of the effect of one order that books nothing: what it keeps, above all where something goes from one unit to
 -- another. Further laws say what follows for a phase that carries out such orders one by one. A unit is no worse off
 -- (`IsNoWorse`) with the same faction, place, name and guard flag, and no less men, money, goods and days. A unit may
--- have (`MayHave`) what is within the limits and of the world, under a name that keeps the name rule.
+-- have (`MayHave`) what is within the limits and of the world, under a name that keeps the name rule. In the laws an
+-- order makes campaign d of c, and `holds` is a condition that orders keep true.
 use Rattle.std.proofs.Common.{◌≡◌, ◌≢◌, ◌==◌, ℕ, ◌+◌, Bool, true, false, Option, Some, None, refl, sym, ap, subst, ◌∙◌, inl, inr, arith}
 use Rattle.std.specs.Prelude.{IfSome, if◌then◌else◌}
 use Rattle.std.proofs.lemmas.Bool.{cases_eq}

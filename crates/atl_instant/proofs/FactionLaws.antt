@@ -1,4 +1,5 @@
--- Laws of a faction that shows another name: the campaign stays steady, and no faction is added.
+-- Laws of a faction that shows another name: the campaign stays steady, and no faction is added. In the laws k is the
+-- number of any faction.
 use Rattle.std.proofs.Common.{◌≡◌, ℕ, ◌+◌, List, Some, None, refl, sym, ap, subst, ◌∙◌, arith}
 use Rattle.std.specs.Prelude.{IsTrue, true, []}
 use Rattle.std.specs.Ordering.{nat_cmp}

@@ -1,5 +1,6 @@
 -- Laws of FORM: the campaign stays early, its books balanced, all that changes is marked,
--- and each unit that was there is unchanged.
+-- and each unit that was there is unchanged. A copy (`Forming`) of an order of FORM has what the code needs to carry it
+-- out. Orders are carried out on a pair of a campaign and a month; m is the month.
 use Rattle.std.proofs.Common.{◌≡◌, ◌≢◌, ◌==◌, ◌||◌, ◌*◌, ℕ, ◌+◌, ◌≤◌, ◌<◌, Bool, true, false, Some, None, length, nat_le, nat_lt, refl, sym, ap, ◌∙◌, arith, not, List, [], ◌∷◌, Option, map, subst}
 use Rattle.std.proofs.lemmas.Bool.{true≢false}
 use Rattle.std.specs.Prelude.{IsTrue, unwrap_or, fold}

@@ -1,7 +1,7 @@
 -- Laws of a unit with another name or guard flag, and of GUARD 1: the campaign stays steady, and the guards of each
 -- region stay of one faction. A unit is no worse off (`IsNoWorse`) with the same faction, place, name and guard flag,
 -- and no less men, money, goods and days. A unit may have (`MayHave`) what is within the limits and of the world, under
--- a name that keeps the name rule.
+-- a name that keeps the name rule. In the laws campaign c is before a change, and d after it.
 use Rattle.std.proofs.Common.{◌≡◌, ◌==◌, ℕ, ◌+◌, Bool, true, false, not, ◌&&◌, ◌||◌, List, [], ◌∷◌, Some, None, refl, sym, ap, subst, ◌∙◌, inl, inr, arith}
 use Rattle.std.specs.Prelude.{IfSome, IsTrue, nat_lt}
 use Rattle.std.specs.List.{list_any}

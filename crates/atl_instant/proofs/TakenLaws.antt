@@ -1,5 +1,7 @@
 -- Laws of the events of the phases that carry their orders out at once: each gives an event to each of its orders. The
--- phases of NAME and of GUARD 1 both get the orders of GUARD, and each passes over those of the other.
+-- phases of NAME and of GUARD 1 both get the orders of GUARD, and each passes over those of the other. `Gives` says
+-- which reports a phase adds for order t, where `counts` says whether t counts in its mailing. A report is what an
+-- event says of its order. Operands have the shape of a verb (`Fits`) if they are of the form that the verb takes.
 use Rattle.std.proofs.Common.{◌≡◌, ◌&&◌, ◌++◌, Bool, true, false, not, map, filter, is_some, refl, ap, ◌∙◌}
 use Rattle.std.proofs.lemmas.List.{map-append}
 use Rattle.std.proofs.lemmas.List.Elements.{filter-append}

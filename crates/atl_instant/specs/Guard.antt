@@ -42,8 +42,8 @@ guard_fault c u = first_fault ((u.holding.men == 0, NoMen) ∷ (is_guarded_again
 unfoldable pub guard : (n : ℕ) → OrderEffect
 guard n c u = fault_or c (guard_fault c u) (with_guard c n true, Done 0)
 
--- the effect of an order of GUARD for unit n, by its operands: that of GUARD 1; None for GUARD 0, which this phase
--- passes over
+-- the effect of an order of GUARD for unit n, by its operands: that of GUARD 1; None for operands of any other form, as
+-- those of GUARD 0, which this phase passes over
 abbrev pub guard_effect : (n : ℕ) → OperandsValue → Option OrderEffect
 guard_effect n (operands.Flag true) = Some (guard n)
 guard_effect n other = None

@@ -60,7 +60,8 @@ naming w n what name c u = name_result w c n u.faction u.structure what name
 abbrev pub leave_guard : (n : ℕ) → OrderEffect
 leave_guard n c u = (with_guard c n false, Done 0)
 
--- the effect of an order of NAME or GUARD 0 for unit n, by its operands; None for GUARD 1, which this phase passes over
+-- the effect of an order of NAME or GUARD 0 for unit n, by its operands; None for operands of any other form, as those
+-- of GUARD 1, which this phase passes over
 abbrev pub name_effect : WorldValue → (n : ℕ) → OperandsValue → Option OrderEffect
 name_effect w n (operands.Name what name) = Some (naming w n what name)
 name_effect w n (operands.Flag false) = Some (leave_guard n)

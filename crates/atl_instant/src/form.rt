@@ -62,6 +62,7 @@ fn new_unit(
     })
 }
 
+/// Adds a new unit in the region and the structure of unit `parent`, and returns its number.
 fn add_formed_unit(
     alloc: Global,
     campaign: &mut Campaign,
@@ -116,6 +117,7 @@ fn forming_of(order: PhaseOrder<'_>) -> Forming
     }
 }
 
+/// Copies of all orders of FORM that count, by faction and line.
 fn formings(alloc: Global, month: &Month) -> Result<Vec<Forming>, AllocError>
     requires { (w : WorldValue) × AreFit w month.now.readings }
     ensures { IfOk result (λ list. list.items
@@ -129,6 +131,7 @@ fn formings(alloc: Global, month: &Month) -> Result<Vec<Forming>, AllocError>
     Ok(list)
 }
 
+/// Carries out an order, and gives the new unit its alias. With a fault nothing changes.
 fn form(
     alloc: Global,
     campaign: &mut Campaign,

@@ -77,6 +77,7 @@ fn set_held(campaign: &mut Campaign, number: u32, gift: Gift, amount: u32) -> Re
     }
 }
 
+/// Nothing changes where one of the two units isn't there.
 fn hand_over(
     campaign: &mut Campaign,
     from: u32,

@@ -25,6 +25,8 @@ use std::alloc::{AllocError, Global};
 #[derive(Drop, Clone, Copy)]
 pub struct GuardPhase;
 
+/// The fault of GUARD 1 for a unit, where `holders` has the guards of the campaign; None if there
+/// is no fault.
 fn guard_fault(holders: &RegionGuards, unit: &Unit) -> Option<EventFault>
     ensures { (c : CampaignValue) → AreRegionGuards c holders.now
         → result ≡ guard_fault c unit.now }
@@ -38,6 +40,7 @@ fn guard_fault(holders: &RegionGuards, unit: &Unit) -> Option<EventFault>
     None
 }
 
+/// Carries out GUARD 1, and keeps `holders` as the map of the campaign's guards.
 #[tactic(auto, unfolding(crate::specs::Guard::guard))]
 fn guard(
     campaign: &mut Campaign,
@@ -63,6 +66,7 @@ fn guard(
     Ok(Outcome::Done(0))
 }
 
+/// Carries out GUARD 1; None for GUARD 0, which is passed over.
 fn carry_out(
     campaign: &mut Campaign,
     holders: &mut RegionGuards,
@@ -84,6 +88,7 @@ fn carry_out(
     }
 }
 
+/// Carries out an order, and adds its event to `events`; GUARD 0 is passed over without one.
 fn guard_one(
     campaign: &mut Campaign,
     holders: &mut RegionGuards,

@@ -21,6 +21,7 @@ use std::alloc::{AllocError, Global};
 #[derive(Drop, Clone, Copy)]
 pub struct NamePhase;
 
+/// The name that an order gives, which is at `span` in the text of its mailing.
 fn name_of(alloc: Global, mailing: &Mailing, span: Span) -> Result<Text, AllocError>
     requires { IsTrue (name_ok (name_in mailing.now.text span)) }
     ensures { IfOk result (λ name. name ≡ name_in mailing.now.text span) }
@@ -55,6 +56,8 @@ fn structure_fault(
     }
 }
 
+/// Gives a name to the ship (where `ship` is true) or the building `inside`, unless there is a
+/// fault.
 fn name_structure(
     world: &World,
     campaign: &mut Campaign,

@@ -26,6 +26,7 @@ use std::alloc::{AllocError, Global};
 #[derive(Drop, Clone, Copy)]
 pub struct TransferPhase;
 
+/// The days of a skill that go with `going` of `men` men who have `days` together, rounded down.
 fn days_going(going: u32, men: u32, days: u32) -> u32
     requires some { 1 ≤ men }
     requires fewer { going ≤ men }
@@ -35,6 +36,7 @@ fn days_going(going: u32, men: u32, days: u32) -> u32
     (u64::from(days) * u64::from(going) / u64::from(men)) as u32
 }
 
+/// Each skill of a unit, with the days that stay with it after `going` of its men went.
 fn days_left(alloc: Global, going: u32, holding: &Holding) -> Result<Vec<(u32, u32)>, AllocError>
     requires fewer { going ≤ holding.now.men }
     requires days { Every (λ s days. (1 ≤ days) × (days ≤ most_days * holding.now.men))
@@ -49,6 +51,8 @@ fn days_left(alloc: Global, going: u32, holding: &Holding) -> Result<Vec<(u32, u
     Ok(list)
 }
 
+/// Each skill of the sender, with the days that the receiver then has of it. The receiver's other
+/// skills aren't listed.
 fn days_raised(
     alloc: Global,
     going: u32,
@@ -73,6 +77,7 @@ fn days_raised(
     Ok(list)
 }
 
+/// Nothing changes where one of the two units isn't there.
 fn send(
     alloc: Global,
     campaign: &mut Campaign,

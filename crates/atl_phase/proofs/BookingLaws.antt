@@ -1,4 +1,6 @@
--- Laws of a booking: it moves one amount of the books and no other, and leaves room within the bound.
+-- Laws of a booking: it moves one amount of the books and no other, and leaves room within the bound. A booking adds z,
+-- at most n in size (`IsWithin n z`), to one amount of the books, which an entry and a thing name. `next` is the bound
+-- on what may still be moved after it.
 use Rattle.std.proofs.Common.{◌≡◌, ◌==◌, ℕ, ◌+◌, ◌≤◌, Bool, true, false, inl, inr, ◌⊎◌, refl, arith}
 use Rattle.std.specs.Prelude.{ℤ, neg_ℤ, pos, negsuc, ◌+ℤ◌, ◌≤ℤ◌, if◌then◌else◌}
 use Rattle.std.specs.Int.{w64}

@@ -1,5 +1,7 @@
 -- Laws of the events of phases: a phase gives an event to each of its orders, and to no order two. What a phase adds
--- for an order is said by the reports of its events that are of the order's faction and on its line.
+-- for an order is said by the reports of its events that are of the order's faction and on its line. A report is what
+-- an event says of its order: faction, unit, line and verb. `there` says that order t is in the mailing of its faction,
+-- and `is_of` which verbs a phase has.
 use Rattle.std.proofs.Common.{◌≡◌, ◌&&◌, ℕ, Bool, true, false, cond, List, [], ◌∷◌, ◌++◌, map, filter, is_some, Option, Some, None, refl, sym, ap, ap₂, subst, ◌∙◌, append_assoc}
 use Rattle.std.proofs.lemmas.List.{append-nil, map-append}
 use Rattle.std.proofs.lemmas.List.Elements.{filter-append, recursion_from_All}

@@ -1,4 +1,5 @@
--- Laws of folds over mapped lists, and of the elements of a mapped list.
+-- Laws of folds and of mapped lists. `fold f s xs` begins with s, and takes the step f for each element of the list xs
+-- in turn. `drop i xs` is the list from index i on. `get_or xs i none` is the element at i, or `none` past the end.
 use Rattle.std.proofs.Common.{◌≡◌, ◌+◌, ◌<◌, ◌≤◌, ℕ, List, [], ◌∷◌, length, map, drop, get_or, refl, sym, ap, subst, ◌∙◌, arith}
 use Rattle.std.specs.Prelude.{fold}
 use Rattle.std.specs.List.{All}

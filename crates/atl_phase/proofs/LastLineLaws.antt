@@ -1,4 +1,5 @@
--- Laws of the greatest line of each unit in a slot: noting line by line gives the last line of the mailing's orders.
+-- Laws of the greatest line of each unit in a slot: noting line by line gives the last line of the mailing's orders. To
+-- note a line is to enter it in the map `lines` under its slot and its unit, unless a greater one is there.
 use Rattle.std.proofs.Common.{◌≡◌, ℕ, ◌+◌, ◌<◌, ◌==◌, ◌&&◌, if◌then◌else◌, max, Bool, true, false, cond, List, drop, map, length, get_or, Some, None, Option, refl, sym, ap, ◌∙◌, arith}
 use Rattle.std.specs.Prelude.{unwrap_or}
 use Rattle.std.specs.Ordering.{nat_cmp}

@@ -1,4 +1,6 @@
--- Laws of the map that a list of entries makes: the map and what it lists don't depend on the order of the list.
+-- Laws of the map that a list of entries makes: the map and what it lists don't depend on the order of the list. An
+-- entry is a pair of a key and its value. R compares keys or elements, and o says that it is a total order. A map lists
+-- its entries by rising key.
 use Rattle.std.proofs.Common.{◌≡◌, ℕ, ◌+◌, Bool, true, false, cond, List, [], ◌∷◌, map, filter, get_or, Option, Some, None, refl, sym, ap, subst, ◌∙◌, IsPermutation, map-id, arith}
 use Rattle.std.specs.declared.cmp.Ordering.{Ordering}
 use Rattle.std.specs.declared.cmp.Ordering.TheVariants.{Less, Equal, Greater}

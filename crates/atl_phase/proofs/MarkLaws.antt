@@ -1,4 +1,5 @@
--- Laws of changes of a campaign that mark all that they change (`MarksChanges`).
+-- Laws of changes of a campaign that mark all that they change (`MarksChanges`). In the laws campaign a or c is before
+-- a change, and b or d after it.
 use Rattle.std.proofs.Common.{◌≡◌, ◌==◌, ℕ, Bool, true, false, Option, Some, None, refl, sym, ◌∙◌}
 use Rattle.std.specs.Prelude.{ℤ, Result, Ok, Err, OnOk, if◌then◌else◌}
 use Rattle.std.specs.FinMap.{get}

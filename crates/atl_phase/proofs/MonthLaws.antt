@@ -1,5 +1,6 @@
 -- Laws of the readings by faction: they don't depend on the order of the mailings,
--- and the search finds a faction's mailing.
+-- and the search finds a faction's mailing. `ms` lists mailings, and f is a faction. `get_or ms i d` is the mailing at
+-- index i, or d past the end.
 use Rattle.std.proofs.Common.{◌≡◌, ℕ, ◌+◌, ◌<◌, List, map, length, get_or, Contains, Some, None, refl, sym, ap, ◌∙◌, ⊎_elim, IsPermutation, arith}
 use mathlib.Core.List.{map-map}
 use Rattle.std.specs.declared.cmp.Ordering.TheVariants.{Less, Equal, Greater}

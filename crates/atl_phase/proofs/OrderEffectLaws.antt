@@ -1,7 +1,8 @@
 -- Laws of a phase that carries out its orders one by one: what holds after it, and which units it leaves alone. The
 -- remaining bound of an amount of the books is how far the amount may still move. In an orderly phase (`IsOrderly`)
 -- each order keeps `holds` true, the month and the books' balance, and moves no amount further than its remaining bound
--- falls. Each order leaves the units that it doesn't affect as `unaffected` says.
+-- falls. Each order leaves the units that it doesn't affect as `unaffected` says. In the laws r, s and t are remaining
+-- bounds, and a, b and c an amount or a campaign, before, between and after two moves.
 use Rattle.std.proofs.Common.{suc, zero, ◌≡◌, ◌==◌, ◌+◌, ℕ, ◌≤◌, ◌<◌, Bool, true, false, List, [], ◌∷◌, length, map, get_or, Option, Some, None, refl, sym, ap, subst, arith}
 use Rattle.std.proofs.lemmas.Option.{same_Some}
 use Rattle.std.specs.Prelude.{ℤ, fold, IfSome, if◌then◌else◌}

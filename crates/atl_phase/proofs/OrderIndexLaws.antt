@@ -1,4 +1,6 @@
--- Laws of the indices of orders that count: those of one mailing, order by order, and those of all mailings.
+-- Laws of the indices of orders that count: those of one mailing, order by order, and those of all mailings. An index
+-- (`OrderIndex`) says in which mailing of the list `ms` an order is, and where there. `old` is a list of indices, and
+-- `new` or `list` this list after some were added.
 use Rattle.std.proofs.Common.{◌≡◌, ◌==◌, ◌&&◌, ◌||◌, ℕ, ◌+◌, ◌<◌, ◌≤◌, Bool, true, false, true≢false, cond, Option, Some, None, List, [], ◌∷◌, ◌++◌, map, filter, drop, take, length, get_or, All, refl, sym, ap, ap₂, subst, ◌∙◌}
 use Rattle.std.specs.List.{list_any}
 use Rattle.std.proofs.lemmas.List.{append-nil, append_assoc, drop_all, drop_more, map-append, take_more}

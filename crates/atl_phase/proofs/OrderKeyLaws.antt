@@ -1,4 +1,6 @@
--- Laws of the keys of orders: no two orders have one key, and orders sorted by key are what the map of orders lists.
+-- Laws of the keys of orders: no two orders have one key, and orders sorted by key are what the map of orders lists. A
+-- key (`key_of`) is the list of numbers that an order is sorted by, in arrangement `a`: by unit first, or by faction.
+-- `ts` are orders; `os` is what the code sorts into `list`.
 use Rattle.std.proofs.Common.{◌≡◌, ℕ, ◌+◌, ◌≤◌, ◌<◌, Bool, false, List, [], ◌∷◌, map, get_or, refl, sym, ap, subst, ◌∙◌, arith, IsPermutation, flat_map}
 use mathlib.Core.List.{map-map}
 use Rattle.std.specs.Ordering.{nat_cmp, eq_by_cmp}

@@ -1,4 +1,5 @@
--- Laws of the tests of a list of faults: if no fault applies, each test fails.
+-- Laws of the tests of a list of faults: if no fault applies, each test fails. In such a list each fault has a test,
+-- which is true if the fault applies.
 use Rattle.std.proofs.Common.{◌≡◌, ◌==◌, ℕ, ◌≤◌, Bool, true, false, not, List, ◌∷◌, None, refl, arith}
 use Rattle.std.specs.Prelude.{nat_lt}
 use Rattle.std.proofs.lemmas.Bool.{not-false}

@@ -1,4 +1,6 @@
--- Laws of the orders of a phase: each is an entry of the mailing of its faction, and has a verb of the phase.
+-- Laws of the orders of a phase: each is an entry of the mailing of its faction, and has a verb of the phase. The
+-- arrangement `a` says what orders are sorted by first, unit or faction. A key (`key_of`) is the list of numbers that
+-- an order is sorted by.
 use Rattle.std.proofs.Common.{◌≡◌, ℕ, suc, ◌+◌, Bool, true, ◌&&◌, List, [], ◌∷◌, map, slice_get, Some, All, refl, sym, subst, arith}
 use Rattle.std.specs.declared.cmp.Ordering.{Ordering}
 use Rattle.std.specs.declared.cmp.Ordering.TheVariants.{Less, Equal, Greater}

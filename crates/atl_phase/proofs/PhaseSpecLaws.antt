@@ -1,4 +1,5 @@
--- Laws of several phases in turn: what holds of all together, if it holds of each.
+-- Laws of several phases in turn: what holds of all together, if it holds of each. `phases` has the specification of
+-- each phase, in turn. The starved are the men whom Starved events report.
 use Rattle.std.proofs.Common.{◌≡◌, ◌-◌, ◌+◌, ◌*◌, ◌≤◌, ℕ, Bool, true, false, List, [], ◌∷◌, refl, arith}
 use Rattle.std.specs.Prelude.{if◌then◌else◌}
 use Rattle.atl_records.specs.declared.books.BooksEntry.{BooksEntry}
@@ -47,8 +48,8 @@ moved_within (phase ∷ next ∷ rest) each e t =
 abbrev pub PhaseLeavesUnmailed : PhaseSpec → Type 0
 PhaseLeavesUnmailed phase = LeavesUnmailed phase.meaning phase.keeps
 
--- all phases leave units of factions without a mailing their items, and their men less the starved; after the last
--- phase, a unit all of whose men starved is removed
+-- All phases leave units of factions without a mailing their items, and their men less the starved; after the last
+-- phase, a unit all of whose men starved is removed. It holds of no empty list.
 abbrev pub CloseTogether : List PhaseSpec → Type 0
 CloseTogether [] = ⊥
 CloseTogether (phase ∷ []) = ClosesUnmailed phase.meaning phase.keeps

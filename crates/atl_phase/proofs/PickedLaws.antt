@@ -1,4 +1,6 @@
--- Laws of the orders of one phase, which are picked from the gathered indices of all orders that count.
+-- Laws of the orders of one phase, which are picked from the gathered indices of all orders that count. An index says
+-- in which mailing of the list `ms` an order is, and where there; `places` are indices. An arrangement `a` says what
+-- orders are sorted by first, unit or faction.
 use Rattle.std.proofs.Common.{◌≡◌, ℕ, ◌+◌, ◌<◌, Bool, true, false, true≢false, cond, ◌&&◌, List, [], ◌∷◌, ◌++◌, map, filter, take, length, get_or, IfOk, Result, Vec, refl, sym, ap, ap₂, ◌∙◌}
 use Rattle.std.proofs.lemmas.List.{append-nil, map_more, map_push}
 use Rattle.std.specs.Ordering.{nat_cmp, eq_by_cmp}

@@ -181,7 +181,8 @@ module _ (w : WorldValue) (c : CampaignValue) (n : ℕ) (u : Unit) (s : ℕ) (is
     pub placed_steady : IsSteady w placed_campaign
     placed_steady = steady-refitted w c n u s is after_entering.structures owner_after refit steady
 
-    -- an early campaign is early after unit n went, under the conditions of `placed_steady`
+    -- an early campaign is early after unit n went inside structure s, if s is none (0) or a structure of the unit's
+    -- region, and a ship where the region is water
     pub placed_early : IsEarly w c → IsEarly w placed_campaign
     placed_early early = early-refitted w c n u s is after_entering.structures owner_after refit early
 

@@ -1,4 +1,5 @@
 -- Laws of a change of one value of a map, and of the structures after one of them went to another owner (a handover).
+-- In the laws k is the number of the value or the structure that changes, and q any number.
 use Rattle.std.proofs.Common.{◌≡◌, ◌≢◌, ◌==◌, ◌&&◌, ℕ, Bool, true, false, Option, Some, None, refl, sym, ap, ◌∙◌, inl, inr}
 use Rattle.std.specs.Prelude.{option_map, if◌then◌else◌}
 use Rattle.std.specs.Ordering.{nat_cmp}

@@ -1,4 +1,5 @@
--- Laws of steps that book nothing, and that change no unit but that of the order.
+-- Laws of steps that book nothing, and that change no unit but that of the order. In the laws a step makes campaign d
+-- of c. Order t is for unit x, and k is the number of any unit v.
 use Rattle.std.proofs.Common.{◌≡◌, ◌≢◌, ◌+◌, ℕ, Option, Some, None, refl, sym, ap, ◌∙◌}
 use Rattle.std.proofs.lemmas.Option.{same_Some}
 use Rattle.std.specs.Prelude.{IfSome, pos}

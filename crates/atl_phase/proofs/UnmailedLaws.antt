@@ -1,5 +1,6 @@
 -- Laws of phases and the units of a faction that sent no mailing:
--- these keep their names, items and men, less those who starve.
+-- these keep their names, items and men, less those who starve. The starved are the men whom the month's Starved events
+-- report (`starved_in`). In the laws a change or a phase makes campaign d of c.
 use Rattle.std.proofs.Common.{◌≡◌, ◌≢◌, ◌==◌, ℕ, ◌+◌, ◌-◌, ◌≤◌, ◌<◌, Bool, true, false, List, [], ◌∷◌, ◌++◌, Option, Some, None, refl, sym, ap, subst, ◌∙◌, inl, inr, arith}
 use Rattle.std.proofs.lemmas.Option.{same_Some}
 use Rattle.std.specs.Prelude.{IfSome, fold, option_map, if◌then◌else◌}

@@ -1,5 +1,5 @@
--- A phase that carries its orders out one by one: each on the campaign that the order before left.
--- See docs/RULES.md, "Orders of a month".
+-- A phase that carries its orders out one by one: each on the campaign that the order before left. `step` says what the
+-- phase does for an order, and `is_of` which verbs are the phase's. See docs/RULES.md, "Orders of a month".
 use Rattle.std.specs.Prelude.{ℕ, ◌≡◌, ◌==◌, ◌++◌, Bool, false, List, [], ◌∷◌, Option, Some, None, fold, if◌then◌else◌}
 use Rattle.std.specs.List.{All}
 use Rattle.std.specs.FinMap.{get}
@@ -52,7 +52,8 @@ effect_on effect c (Some u) = effect c u
 abbrev pub faction_effect : OrderEffect → CampaignValue → (faction n : ℕ) → CampaignValue × Outcome
 faction_effect effect c faction n = effect_on effect c (of_faction faction (get c.units n))
 
--- the campaign after an order, and its outcome; an order that is passed over changes nothing and has none
+-- the campaign after a faction's order for unit n, and its outcome; an order that is passed over (None) changes nothing
+-- and has no outcome
 abbrev pub order_result : Option OrderEffect → CampaignValue → (faction n : ℕ) → CampaignValue × Option Outcome
 order_result None c faction n = (c, None)
 order_result (Some effect) c faction n = let after = faction_effect effect c faction n in (after.0, Some after.1)

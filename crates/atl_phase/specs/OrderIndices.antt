@@ -1,4 +1,6 @@
--- For proofs alone: where the orders that count are found in the mailings, and which of them a phase takes.
+-- For proofs alone: where the orders that count are found in the mailings, and which of them a phase takes. An index
+-- (`OrderIndex`) says in which mailing of a list an order is, and where there. `places` are indices, `ts` are orders,
+-- and `is_of` says which verbs a phase has.
 use Rattle.std.specs.Prelude.{◌≡◌, ◌++◌, ℕ, ◌<◌, max, Bool, true, ◌==◌, List, [], ◌∷◌, filter, map, length, slice_index_or, Option, Some, None, IfSome, unwrap_or}
 use Rattle.std.specs.declared.vec.Vec.{Vec}
 use Rattle.std.specs.List.{All, flat_map}

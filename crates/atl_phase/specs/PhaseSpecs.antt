@@ -1,5 +1,5 @@
--- The specification of a phase: its effect, by how much it may change the books, and what it leaves unchanged. See
--- docs/RULES.md, "Closing a month".
+-- The specification of a phase: its effect, by how much it may change the books, and what it leaves unchanged. `step`
+-- says what a phase does for an order, and `is_of` which verbs it has. See docs/RULES.md, "Closing a month".
 use Rattle.std.specs.Prelude.{⊤, ℕ, ◌+◌, ◌≤◌, ◌==◌, ◌||◌, Bool, false, List, [], ◌∷◌, if◌then◌else◌}
 use Rattle.atl_world.specs.declared.verb.Verb.{Verb}
 use Rattle.atl_records.specs.declared.books.BooksEntry.{BooksEntry}

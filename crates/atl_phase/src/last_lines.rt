@@ -47,12 +47,14 @@ pub(crate) fn unit_of(aliases: &Numbered<Numbered<u32>>, faction: u32, target: U
 /// then by unit.
 pub(crate) type LastLines = Numbered<Numbered<u32>>;
 
+/// The line noted for a unit in a slot; 0 where none is.
 fn line_in(lines: &LastLines, slot: Slot, unit: u32) -> u32
     ensures { result ≡ line_in lines.now (slot_number slot) unit }
 {
     lines.get_under(number_of(slot), unit).copied().unwrap_or(0)
 }
 
+/// Notes a line for a unit in a slot, unless a greater one is noted there.
 fn note(
     alloc: Global,
     lines: &mut LastLines,

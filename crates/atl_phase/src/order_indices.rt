@@ -1,5 +1,5 @@
-//! Finds the orders of all mailings that count for a phase, and sorts their indices. See docs/RULES.md,
-//! "Orders of a month".
+//! Finds the orders of all mailings that count for a phase, and sorts their indices. See
+//! docs/RULES.md, "Orders of a month".
 ghost use Rattle.std.specs.Prelude.{◌≡◌, ◌<◌, ◌&&◌, length, IfOk, OnOk};
 ghost use Rattle.std.specs.List.{list_any};
 ghost use Rattle.std.specs.List.Sorted.{IsPermutation, IsSortedByKey};
@@ -52,6 +52,8 @@ fn counts<P: PhaseVerbs>(phase: &P, lines: &LastLines, unit: u32, entry: &Entry)
     phase.has(verb) && order_counts(lines, unit, entry.line, verb.row().slot)
 }
 
+/// Adds the indices of those orders of the mailing at `at` that count and have a verb of the phase,
+/// in the order of the mailing. `lines` has the greatest line of each slot and unit there.
 fn add_counting<P: PhaseVerbs>(
     phase: &P,
     aliases: &Numbered<Numbered<u32>>,
@@ -83,6 +85,7 @@ fn add_counting<P: PhaseVerbs>(
     Ok(())
 }
 
+/// Whether a mailing has an order with a verb of the phase, even one that doesn't count.
 fn has_order<P: PhaseVerbs>(phase: &P, mailing: &Mailing) -> bool
     ensures { result ≡ list_any (λ e. P.is_of e.order.verb) mailing.now.entries }
 {
@@ -95,7 +98,8 @@ fn has_order<P: PhaseVerbs>(phase: &P, mailing: &Mailing) -> bool
     false
 }
 
-/// It takes no memory where the mailing has no order with a verb of the phase.
+/// Adds the indices of those orders of the mailing at `at` that count and have a verb of the phase.
+/// It takes no memory where the mailing has no order with such a verb.
 fn add_mailing<P: PhaseVerbs>(
     alloc: Global,
     phase: &P,
@@ -115,6 +119,7 @@ fn add_mailing<P: PhaseVerbs>(
     add_counting(phase, aliases, mailings, at, &lines, list)
 }
 
+/// The indices of the orders that count and have a verb of the phase, mailing by mailing.
 fn indices_by_mailing<P: PhaseVerbs>(
     alloc: Global,
     phase: &P,

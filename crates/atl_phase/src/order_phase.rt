@@ -47,8 +47,8 @@ pub trait OrderPhase: PhaseVerbs {
     /// Carries out an order of the phase's verbs, and returns its outcome, or None where the phase
     /// passes it over. Before it `holds` is true, the books have room for what may still be booked
     /// (`remaining`), and the order has a verb of the phase, and is such as can be read with the
-    /// world. An order for a unit that isn't there, or is another faction's, changes nothing, and is
-    /// NotYours unless it is passed over. AllocError without memory; the campaign may then be
+    /// world. An order for a unit that isn't there, or is another faction's, changes nothing, and
+    /// is NotYours unless it is passed over. AllocError without memory; the campaign may then be
     /// changed in part. See docs/RULES.md, "Orders of a month".
     fn carry_out(
         &self,
@@ -96,6 +96,7 @@ pub fn own_unit<'c>(campaign: &'c Campaign, order: PhaseOrder<'_>) -> Option<&'c
     }
 }
 
+/// Carries out an order, and adds its event to `events`; one that is passed over has no event.
 fn carry_one<P: OrderPhase>(
     alloc: Global,
     phase: &P,

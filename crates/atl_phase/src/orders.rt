@@ -46,6 +46,7 @@ impl PhaseVerbs for EveryVerb {
     }
 }
 
+/// The order that an index names.
 fn order_at<'m>(mailings: &'m [Mailing], placed: &OrderIndex) -> PhaseOrder<'m>
     requires { IsThere mailings.now placed.now }
     ensures { task_of result ≡ task_at mailings.now placed.now }

@@ -1,5 +1,5 @@
 -- Laws of pots of items: the shares that the code puts in item by item and region by region are those of the
--- definition.
+-- definition. In the laws n is a unit's number, and s its share.
 use Rattle.std.proofs.Common.{◌≡◌, ℕ, ◌≤◌, Bool, true, false, cond, List, [], ◌∷◌, Option, Some, None, is_some, refl, sym, ap, subst, ◌∙◌, inl, inr}
 use Rattle.std.specs.Prelude.{option_map}
 use Rattle.std.specs.List.{cons_option, filter_map, flat_map}

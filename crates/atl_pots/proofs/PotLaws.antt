@@ -1,4 +1,6 @@
--- Laws of what units get of the pots of their regions.
+-- Laws of what units get of the pots of their regions. An entry of a list (`es`) is a unit's number n with a value s,
+-- such as its share. `find nat_cmp n es` is the value of the first entry with number n, if any. `with_entries m es` is
+-- map m with the entries put in, one after another. r and q are regions, by number.
 use Rattle.std.proofs.Common.{◌≡◌, ◌≢◌, ℕ, ◌<◌, ◌≤◌, ◌==◌, ◌||◌, suc, Bool, true, false, cond, List, [], ◌∷◌, ◌++◌, length, get_or, map, sum, Option, Some, None, is_some, refl, sym, ap, subst, ◌∙◌, inl, inr, arith}
 use Rattle.std.specs.Prelude.{⊤, reverse, option_map, unwrap_or}
 use Rattle.std.specs.List.{All, AllByRecursion, flat_map, list_any, zip}
@@ -38,6 +40,7 @@ has_value_if_some (Some x) h = (x, refl)
 
 -- ---- what is found under a number
 
+-- what is found in a list is found in this list followed by another one
 pub found_first : {V : Type 0} (n : ℕ) (es fs : List (ℕ × V)) (s : V) → find nat_cmp n es ≡ Some s
     → find nat_cmp n (es ++ fs) ≡ Some s
 found_first n [] fs s h = none_some s h
@@ -47,6 +50,7 @@ found_first n (e ∷ es) fs s h =
       | false ↦ found_first n es fs s
     ] h
 
+-- what isn't found in a list is found in this list followed by another one as it is in that one
 pub found_later : {V : Type 0} (n : ℕ) (es fs : List (ℕ × V)) → find nat_cmp n es ≡ None
     → find nat_cmp n (es ++ fs) ≡ find nat_cmp n fs
 found_later n [] fs h = refl
@@ -56,6 +60,7 @@ found_later n (e ∷ es) fs h =
       | false ↦ found_later n es fs
     ] h
 
+-- an entry of another number in front makes no difference
 pub found_other : {V : Type 0} (e : ℕ × V) (es : List (ℕ × V)) (n : ℕ) → n ≢ e.0
     → find nat_cmp n (e ∷ es) ≡ find nat_cmp n es
 found_other e es n apart =
@@ -82,6 +87,7 @@ each_found P (e ∷ es) apart h =
 
 -- ---- entries put into a map in turn
 
+-- a number without an entry in the list keeps its value when the list is put into a map
 pub others_keep_value : (m : FinMap nat_cmp ℕ) (es : Entries) (n : ℕ) → find nat_cmp n es ≡ None
     → get (with_entries m es) n ≡ get m n
 others_keep_value m [] n h = refl

@@ -1,5 +1,6 @@
 -- Laws of wants that are grouped by pots: the group of a pot has the wants of those units that ask for it, and the
--- shares of the groups of all regions are those of the definition.
+-- shares of the groups of all regions are those of the definition. A group (`WantGroups`) has the wants of the units
+-- that ask for one pot, by unit. In the laws n is a unit's number, s its share, and r a region's number.
 use Rattle.std.proofs.Common.{◌≡◌, ℕ, ◌<◌, ◌==◌, Bool, true, false, cond, List, [], ◌∷◌, ◌++◌, map, filter, Option, Some, None, is_some, refl, sym, ap, subst, ◌∙◌, inl, inr}
 use Rattle.std.specs.Prelude.{fold, unwrap_or}
 use Rattle.std.specs.List.{AllByRecursion, flat_map, list_any}

@@ -1,4 +1,5 @@
--- What each unit gets of the pot of its region, and the laws of it. See docs/RULES.md, "Pots".
+-- What each unit gets of the pot of its region, and the laws of it. In the laws `pot_of` gives the pot of a region, by
+-- its number. `wants` has how much each unit wants of it, by unit. See docs/RULES.md, "Pots".
 use Rattle.std.specs.Prelude.{◌≡◌, ◌≤◌, ◌==◌, ℕ, Bool, false, List, map, sum, min, unwrap_or, Option, Some, option_map}
 use Rattle.std.specs.List.{flat_map, zip}
 use Rattle.std.specs.Option.{option_map_or}

@@ -22,6 +22,7 @@ with_want asked_by groups e =
 abbrev pub grouped : (asked_by : ℕ → Option ℕ) → FinMap nat_cmp ℕ → WantGroups
 grouped asked_by wants = fold (with_want asked_by) empty (entries wants)
 
+-- `pot_of` gives the pot of a region by its number; for items, by the numbers of the item and of the region
 module _ (c : CampaignValue) where
   -- the units of a group (region, wants by unit) with their shares of the region's pot; none without the region
   abbrev pub region_shares : (pot_of : ℕ → ℕ) → ℕ × FinMap nat_cmp ℕ → List (ℕ × ℕ)

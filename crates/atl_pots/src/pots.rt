@@ -60,6 +60,7 @@ impl<'a> AskedPots for UnitRegions<'a> {
 /// The wants of units: for each pot a map from each unit that asks for it to its want.
 pub(crate) type WantGroups = Numbered<Numbered<u32>>;
 
+/// Puts a unit's want under the pot that it asks for. If it asks for none, the groups stay.
 fn note_want<A: AskedPots>(
     alloc: Global,
     asked: &A,
@@ -90,6 +91,7 @@ pub(crate) fn group_wants<A: AskedPots>(
     Ok(groups)
 }
 
+/// The wants, in unit order.
 fn amounts_of(alloc: Global, wants: &Numbered<u32>) -> Result<Vec<u64>, AllocError>
     ensures { IfOk result (λ amounts. amounts.items ≡ amounts_of wants.now) }
 {
@@ -100,6 +102,7 @@ fn amounts_of(alloc: Global, wants: &Numbered<u32>) -> Result<Vec<u64>, AllocErr
     Ok(amounts)
 }
 
+/// Puts the shares into `given`, by unit. They are those of the units in `wants`, in unit order.
 fn put_shares(
     wants: &Numbered<u32>,
     shares: &[u64],
@@ -133,6 +136,8 @@ fn share_pot(
     put_shares(wants, &shares, given)
 }
 
+/// Puts the shares of the region's pot into `given`, by unit; none where the region isn't in the
+/// campaign.
 fn share_region<P: Pots>(
     alloc: Global,
     campaign: &Campaign,
