@@ -1,5 +1,6 @@
 -- Laws that TAX, RECRUIT, WORK and PRODUCE change all units and regions at once: a payment changes only its own unit
--- and region.
+-- and region. `c` is the campaign when the phase begins, `d` the one that the payments so far leave, and `os` are the
+-- orders of the phase. `e` is a unit's number with its share, `u` the unit, and `q` its region.
 use Rattle.std.proofs.Common.{◌≡◌, ℕ, ◌+◌, ◌-◌, ◌*◌, true, false, Option, Some, None, refl, ap, ◌∙◌, arith}
 use Rattle.std.specs.Option.{option_map_or}
 use Rattle.std.specs.Ordering.{nat_cmp}

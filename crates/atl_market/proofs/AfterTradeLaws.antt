@@ -1,4 +1,7 @@
--- Laws that SELL and BUY change all units and stocks at once, from what one trade changes.
+-- Laws that SELL and BUY (`trade`) change all units and stocks at once, from what one trade changes. `c` is the
+-- campaign when the phase begins, `d` the one that the trades so far leave, and `os` are the orders of the phase.
+-- `share` is how many pieces a unit trades. `u` is a unit, `h` what a unit holds, `m` a market, and `stock` what it has
+-- in stock.
 use Rattle.std.proofs.Common.{◌≡◌, ◌≢◌, ◌==◌, ◌&&◌, ℕ, ◌+◌, ◌≤◌, ◌<◌, Bool, true, false, cond, Option, Some, None, List, [], ◌∷◌, refl, sym, ap, subst, ◌∙◌, inl, inr, arith}
 use Rattle.std.specs.Prelude.{fold}
 use Rattle.std.specs.List.{AllByRecursion}

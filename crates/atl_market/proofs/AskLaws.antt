@@ -1,4 +1,5 @@
--- Laws of what orders ask for: those of RECRUIT, SELL and BUY ask for a count.
+-- Laws of what orders ask for: those of RECRUIT, SELL and BUY ask for a count. `v` is the verb of an order, and `o` are
+-- its operands.
 use Rattle.std.proofs.Common.{◌≡◌, true, refl}
 use Rattle.atl_lines.specs.declared.order.Operands.TheVariants as operands
 use Rattle.atl_world.specs.declared.verb.Verb.{Verb}

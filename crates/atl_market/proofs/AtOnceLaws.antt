@@ -1,4 +1,7 @@
 -- The law that payments in turn change all units and regions at once, if each changes its own unit and region alone.
+-- `p` is a phase with pots that begins in campaign `c` with the orders `os`. `gets` makes of a unit's number, the unit
+-- and its share the unit after its payment. `gives` makes of a region and an amount the region after it gave the
+-- amount. `d` is a campaign in the course of the payments, and `e` a unit's number with its share.
 use Rattle.std.proofs.Common.{◌≡◌, ◌≢◌, ℕ, ◌+◌, ◌<◌, ◌==◌, Bool, true, false, cond, List, [], ◌∷◌, map, filter, sum, Some, refl, sym, ap, subst, ◌∙◌, inl, inr, arith}
 use Rattle.std.specs.Prelude.{⊤, fold}
 use Rattle.std.specs.List.{AllByRecursion}

@@ -1,4 +1,7 @@
--- Laws of BUILD: beginning a structure, and doing more of one, keeps what BUILD needs (`CanBuild`).
+-- Laws of BUILD: beginning a structure, and doing more of one, keeps what BUILD needs (`CanBuild`). `c` is the campaign
+-- before the change, with what BUILD needs (`can`), and `d` the one after it. A change that BUILD may make
+-- (`StepsWell`) also keeps the month and the balance of the books. It moves no amount of the books further than
+-- `build_remaining` falls.
 use Rattle.std.proofs.Common.{◌≡◌, ℕ, ◌≤◌, Bool, true, false, codes, decimal, ◌++◌, Some, refl, sym, ap, ◌∙◌, lit≤}
 use Rattle.std.specs.Prelude.{pos, IsTrue, if◌then◌else◌}
 use Rattle.std.specs.FinMap.{get}
@@ -47,14 +50,16 @@ first_name_ok k number l = by_sort k.ship
         numbered_name_ok (codes "Building ") (record { bytes = refl; begins = refl; some = lit≤ tt; few = lit≤ tt })
         number l
 
--- beginning a structure that can be begun (`IsFresh`) is a change that BUILD may make (`StepsWell`)
+-- beginning structure `s`, which can be begun (`IsFresh`), is a change that BUILD may make (`StepsWell`), if the number
+-- that it gets is at most 10,000 (`room`)
 pub raised_well : (w : WorldValue) (c : CampaignValue) (s : Structure) (fresh : IsFresh w c s) (room : c.next_structure ≤ most_structures) (can : CanBuild w c)
     → StepsWell CanBuild build_remaining w c (raised w c s fresh room can.steady)
 raised_well w c s fresh room can =
     unbooked_change_steps_well w c (raised w c s fresh room can.steady) (record { steady = steady_raised w c s fresh room can.steady; kinds = can.kinds })
     (same_month_by refl) refl (total_raised w c s fresh room can.steady) (λ e t. refl)
 
--- doing more of a structure, up to its kind's size, is a change that BUILD may make (`StepsWell`)
+-- doing more of structure `s`, which has the number `k`, up to its kind's size, is a change that BUILD may make
+-- (`StepsWell`); `done` is how much of the structure is done then
 pub built_well : (w : WorldValue) (c : CampaignValue) (k : ℕ) (s : Structure) (done : ℕ) (is : get c.structures k ≡ Some s) (more : s.done ≤ done) (most : done ≤ size_of w s.kind) (can : CanBuild w c)
     → StepsWell CanBuild build_remaining w c (built w c k s done is)
 built_well w c k s done is more most can =

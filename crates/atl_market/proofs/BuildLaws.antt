@@ -1,5 +1,6 @@
 -- Laws of BUILD: it keeps what BUILD needs of a campaign and leaves other units as they are; the code does what is
--- defined.
+-- defined. `n` is the number of unit `u`, which builds, and `c` the campaign before that; `can` says that `c` has what
+-- BUILD needs. `k` is a kind, `kind` its number, and `s` a structure. `fit` says that the unit can carry its order out.
 use Rattle.std.proofs.Common.{◌≡◌, ◌≢◌, ◌==◌, ℕ, ◌+◌, ◌-◌, ◌*◌, ◌≤◌, ◌<◌, Bool, true, false, not, [], ◌∷◌, length, Option, Some, None, refl, sym, ap, subst, ◌∙◌, arith}
 use Rattle.std.proofs.lemmas.Bool.{not-false, true≢false}
 use Rattle.std.specs.Prelude.{IfSome, min, nat_le, nat_lt, option_and_then, option_map, if◌then◌else◌}

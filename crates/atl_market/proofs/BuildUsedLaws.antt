@@ -1,5 +1,6 @@
 -- Laws of BUILD: using material that a unit holds keeps what BUILD needs, within its bound on the books
--- (`build_remaining`).
+-- (`build_remaining`). `n` is the number of unit `u`, `item` that of the material, and `amount` how much of it the unit
+-- uses. `h` is what a unit holds. `e` and `t` are the entry and the thing of an amount of the books.
 use Rattle.std.proofs.Common.{◌≡◌, ◌≢◌, ◌==◌, ℕ, ◌+◌, ◌-◌, ◌*◌, ◌≤◌, ◌<◌, Bool, true, false, cond, length, Some, refl, sym, ap, subst, ◌∙◌, arith}
 use Rattle.std.specs.Prelude.{pos, neg_ℤ, if◌then◌else◌}
 use Rattle.std.proofs.lemmas.Bool.Decides.{nat_tests}

@@ -1,4 +1,6 @@
--- Laws that each pot has enough for all shares that units draw from it, one unit after the other.
+-- Laws that each pot has enough for all shares that units draw from it, one unit after the other. A unit draws from a
+-- pot if its share is taken off what is left of the pot. Shares are pairs (unit, share): `e` is the first, and `es` are
+-- the others. `ns` are numbers of units, and `k`, where it is of type `K`, is the key of a pot.
 use Rattle.std.proofs.Common.{◌≡◌, ◌≢◌, ℕ, ◌+◌, ◌<◌, ◌≤◌, ◌==◌, Bool, true, false, cond, List, [], ◌∷◌, map, sum, Some, refl, sym, ap, subst, ◌∙◌, inl, inr, arith}
 use Rattle.std.specs.Prelude.{min, unwrap_or}
 use Rattle.std.specs.List.{AllByRecursion}
@@ -137,7 +139,8 @@ module _ {K : Type 0} (pots : DrawnPots K) where
   HaveEnough d es =
       (k : K) (q : Region) → get d.regions (pots.pot_region k) ≡ Some q → drawn (pots.draws k) es ≤ pots.left k q
 
-  -- from one campaign to the next the pots from which a unit draws lose its share, and all others keep what they have
+  -- from campaign `d` to `after` the pots from which the unit of `e` draws lose its share, and all others keep what
+  -- they have
   abbrev pub Drains : CampaignValue → ℕ × ℕ → CampaignValue → Type 0
   Drains d e after =
       (k : K) (x : Region) → get after.regions (pots.pot_region k) ≡ Some x
@@ -166,8 +169,8 @@ module _ {K : Type 0} (pots : DrawnPots K) where
 
   -- `e` is a unit's number with the share that it draws; `d` is the campaign before, and `after` the one after
   module _ (d : CampaignValue) (e : ℕ × ℕ) (after : CampaignValue) where
-    -- All pots lose just what a unit draws (`Drains`), if one region alone changes, its pots lose the share where the
-    -- unit draws, and the unit draws in no other region.
+    -- All pots lose just what a unit draws (`Drains`), if region `r` alone changes, from `q` to `f q`, its pots lose
+    -- the share where the unit draws, and the unit draws in no other region.
     pub region_drains : (r : ℕ) (q : Region) → get d.regions r ≡ Some q → (f : Region → Region)
         → after.regions ≡ (region_changed f d r).regions
         → ((k : K) → pots.pot_region k ≡ r → pots.left k (f q) + cond (pots.draws k e.0) e.1 0 ≡ pots.left k q)

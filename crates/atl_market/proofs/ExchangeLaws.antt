@@ -1,4 +1,5 @@
--- The law that an exchange between a unit and its region keeps a campaign early and its books balanced.
+-- The law that an exchange between a unit and its region keeps a campaign early and its books balanced. In an exchange
+-- the unit gets another holding, its region changes, and money is booked, as by RECRUIT, SELL and BUY.
 use Rattle.std.proofs.Common.{◌≡◌, ◌==◌, ℕ, ◌+◌, true, false, cond, Some, refl, sym, ap, ◌∙◌, arith}
 use Rattle.std.specs.Prelude.{ℤ, pos, ◌+ℤ◌}
 use Rattle.std.specs.FinMap.{get, insert}
@@ -75,8 +76,9 @@ module _ (w : WorldValue) (c : CampaignValue) (n : ℕ) (u : Unit) (q : Region) 
           ap pos (same (total exchanged (Item i)) (total left (Item i)) (total supplied (Item i)) (total c (Item i)) (amount_of q.stocks i) (amount_of (f q).stocks i) (amount_of u.holding.items i) (amount_of more.items i) s a b (keeps.items i))
           ∙ sym (none_booked (total c (Item i)) i)
 
-  -- An exchange keeps an early campaign early and its books balanced, if it breaks no rule of unit or region and books
-  -- at most `limit` money. Unit and region must together have what they had, plus the money booked (`KeepsTogether`).
+  -- An exchange keeps an early campaign early and its books balanced, if it breaks no rule of unit or region, sets no
+  -- guard flag and books at most `limit` money. Unit and region must together have what they had, plus the money booked
+  -- (`KeepsTogether`).
   pub exchange_well : (limit : ℕ) → MayHave w more → (more.guard ≡ true → u.holding.guard ≡ true)
       → (IsSteady w supplied → IsSteady w left) → KeepsTogether u q f more z → IsWithin limit z → IsEarly w c
       → LeavesWell IsEarly (moves_only limit entry Money) w c exchanged

@@ -1,5 +1,5 @@
 -- Laws of using and of making an item: what changes of a campaign, that it stays steady, and that its books stay
--- balanced.
+-- balanced. `n` is the number of unit `u`, `i` that of the item, and `limit` bounds how much of it is booked.
 use Rattle.std.proofs.Common.{◌≡◌, ◌≢◌, ◌==◌, ℕ, ◌+◌, ◌-◌, ◌≤◌, ◌<◌, Bool, true, false, cond, Some, length, refl, sym, ap, subst, ◌∙◌, arith}
 use Rattle.std.specs.Prelude.{ℤ, pos, neg_ℤ, ◌+ℤ◌}
 use Rattle.std.specs.Ordering.{nat_cmp, eq_by_cmp}

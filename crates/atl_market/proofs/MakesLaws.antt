@@ -1,4 +1,5 @@
 -- Laws of what units make in PRODUCE: the code's map is the one that is defined, and no unit makes more than it wants.
+-- Entries (`es`) are pairs of a unit's number and an amount; `c` is the campaign when the phase begins.
 use Rattle.std.proofs.Common.{◌≡◌, ℕ, ◌<◌, ◌≤◌, Bool, true, false, cond, List, [], ◌∷◌, map, Option, Some, None, refl, sym, ap, subst, ◌∙◌, inl, inr, arith}
 use Rattle.std.specs.Prelude.{unwrap_or}
 use Rattle.std.specs.List.{AllByRecursion}

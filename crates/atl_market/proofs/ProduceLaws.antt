@@ -1,5 +1,6 @@
--- Laws of PRODUCE: it keeps a campaign steady, its books balanced and units without an order as they are; all shares
--- can be made.
+-- Laws of PRODUCE: it keeps a campaign steady and its books balanced, and units without an order are no worse off; all
+-- shares can be made. `n` is the number of unit `u`, `i` that of item `x`, and `made` how many pieces the unit makes.
+-- Shares (`es`) are pairs of a unit's number and how many pieces it makes.
 use Rattle.std.proofs.Common.{◌≡◌, ◌≢◌, ◌==◌, ℕ, ◌+◌, ◌-◌, ◌*◌, ◌/◌, ◌≤◌, ◌<◌, Bool, true, false, List, [], ◌∷◌, length, Option, Some, None, is_some, option_map, refl, sym, subst, ◌∙◌, arith}
 use Rattle.std.specs.Prelude.{ℤ, IfSome, fold, min, if◌then◌else◌}
 use Rattle.std.specs.List.{AllByRecursion, slice_get}
@@ -98,7 +99,8 @@ both_less r i booked.Made (things.Item j) = omega (arith, used_none r j, made_le
 both_less r i booked.Used (things.Item j) = omega (arith, used_less r booked.Used (things.Item j), made_none i j)
 both_less r i e t = omega (arith, used_less r e t, made_less i e t)
 
--- for its own amount (`e`, `t`) the bound `moves_only holding_limit e t` asks for room for 999,999,999
+-- if the amount `z` of entry `e` and thing `t` has room under the bound `moves_only holding_limit e t`, it has room for
+-- 999,999,999
 pub only_room : (e : BooksEntry) (t : Thing) (z : ℤ) → HasRoom (moves_only holding_limit e t e t) z
     → HasRoom holding_limit z
 only_room e t z room = subst (λ b. HasRoom (if b then holding_limit else 0) z) (same_number (amount_number e t)) room

@@ -1,5 +1,6 @@
--- Laws of RECRUIT: it keeps a campaign early, its books balanced and units without an order as they are; all shares can
--- be given.
+-- Laws of RECRUIT: it keeps a campaign early and its books balanced, and units without an order are no worse off; all
+-- shares can be given. `n` is the number of unit `u`, `q` its region, `recruits` how many peasants join the unit, and
+-- `cost` the money that it pays for them. `os` are the orders of the phase.
 use Rattle.std.proofs.Common.{◌≡◌, ◌≢◌, ℕ, ◌+◌, ◌-◌, ◌*◌, ◌/◌, ◌≤◌, Some, List, [], ◌∷◌, length, refl, sym, ap, subst, ◌∙◌, arith}
 use Rattle.std.specs.Prelude.{fold, pos, neg_ℤ, min}
 use Rattle.std.specs.Option.{option_map_or}

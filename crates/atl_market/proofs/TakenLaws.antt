@@ -1,4 +1,6 @@
--- Laws of the events of BUILD and of the phases with pots: each gives an event to each of its orders.
+-- Laws of the events of BUILD and of the phases with pots: each gives an event to each of its orders. Each law
+-- (`Gives`) says what the phase adds to the events of the faction and line of an order `t` of a mailing. It adds one
+-- event, that of `t`, if `t` is an order of the phase and counts in its mailing (`counts`), and else none.
 use Rattle.std.proofs.Common.{◌≡◌, ◌==◌, ◌&&◌, ◌++◌, ◌<◌, ℕ, zero, suc, Bool, true, false, cond, List, [], ◌∷◌, length, map, filter, is_some, Some, None, refl, sym, ap, ap₂, subst, ◌∙◌, arith}
 use Rattle.std.specs.Cmp.Lexicographic.{slice_cmp}
 use Rattle.std.specs.FinMap.{entries, from_entries, values}
@@ -53,7 +55,7 @@ build_takes w a t of_phase fit = by_verb t.order_value.verb t.order_value.operan
     by_verb verbs.Build o of_phase fits within = cc
     by_verb v o of_phase fits within = cc
 
--- the phase gives an event to each order of BUILD
+-- the phase gives one event to each order of BUILD that counts, and none to any other order (`Gives`)
 pub build_gives : Gives (λ counts t. report_if (is_building t.order_value.verb && counts && true) t) build_spec.meaning
 build_gives = gives_by_orders build_step is_building all_orders build_takes
 
@@ -81,23 +83,23 @@ is_selling = is_trade Sell
 abbrev pub is_buying : Verb → Bool
 is_buying = is_trade Buy
 
--- the phase gives an event to each order of SELL
+-- the phase gives one event to each order of SELL that counts, and none to any other order (`Gives`)
 pub sell_gives : Gives (λ counts t. report_if (is_selling t.order_value.verb && counts) t) sell_spec.meaning
 sell_gives = pots_give _ is_selling
 
--- the phase gives an event to each order of BUY
+-- the phase gives one event to each order of BUY that counts, and none to any other order (`Gives`)
 pub buy_gives : Gives (λ counts t. report_if (is_buying t.order_value.verb && counts) t) buy_spec.meaning
 buy_gives = pots_give _ is_buying
 
--- the phase gives an event to each order of TAX
+-- the phase gives one event to each order of TAX that counts, and none to any other order (`Gives`)
 pub tax_gives : Gives (λ counts t. report_if (is_tax t.order_value.verb && counts) t) tax_spec.meaning
 tax_gives = pots_give _ is_tax
 
--- the phase gives an event to each order of RECRUIT
+-- the phase gives one event to each order of RECRUIT that counts, and none to any other order (`Gives`)
 pub recruit_gives : Gives (λ counts t. report_if (is_recruit t.order_value.verb && counts) t) recruit_spec.meaning
 recruit_gives = pots_give _ is_recruit
 
--- the phase gives an event to each order of PRODUCE
+-- the phase gives one event to each order of PRODUCE that counts, and none to any other order (`Gives`)
 pub produce_gives : Gives (λ counts t. report_if (is_produce t.order_value.verb && counts) t) produce_spec.meaning
 produce_gives = pots_give _ is_produce
 
@@ -128,7 +130,7 @@ module _ (c : CampaignValue) (aliases : Aliases) (faction line : ℕ) (low : 0 <
       ∙ ap (λ us. values (from_entries {R = slice_cmp nat_cmp} (map (λ u. (key_of ByUnit u, u)) us)))
       (filter-append at (written_work ts) (idle_work c ts) ∙ ap₂ (λ us vs. us ++ vs) (in_turn (λ u. is_work u.order_value.verb) at ts) (none_idle (filter (is_idle ts) (entries c.units))) ∙ append-nil _)
 
--- the phase gives an event to each order of WORK
+-- the phase gives one event to each order of WORK that counts, and none to any other order of a mailing (`Gives`)
 pub work_gives : Gives (λ counts t. report_if (is_work t.order_value.verb && (is_month_long t.order_value.verb && counts)) t) work_spec.meaning
 unfolding events_by
 work_gives = record {

@@ -1,5 +1,5 @@
 -- Laws of TAX: it keeps a campaign early, its books balanced and all units no worse off; all shares can be paid in
--- turn.
+-- turn. `n` is the number of unit `u`, `q` its region, and `share` how much of the region's money the unit takes.
 use Rattle.std.proofs.Common.{◌≡◌, ◌≢◌, ℕ, ◌+◌, ◌-◌, ◌≤◌, Some, List, [], ◌∷◌, length, refl, sym, ap, subst, ◌∙◌, arith}
 use Rattle.std.proofs.Math.Nat.{sub-add_cancel}
 use Rattle.std.specs.Prelude.{fold, pos, min}

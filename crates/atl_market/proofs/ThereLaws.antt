@@ -1,4 +1,5 @@
--- Laws of a change that is made for a unit or a region only if it is there.
+-- Laws of a change that is made for a unit or a region only if it is there. `change` makes of that unit or region the
+-- campaign after the change, and `P` is any statement, such as one about a campaign.
 use Rattle.std.proofs.Common.{◌≡◌, ℕ, Option, Some, None, refl, ap}
 use Rattle.std.specs.Option.{option_map_or}
 use Rattle.std.specs.FinMap.{get}

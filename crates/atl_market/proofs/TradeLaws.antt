@@ -1,5 +1,6 @@
 -- Laws of SELL and BUY: the campaign's rules and the balance of its books are kept, and all shares can be traded in
--- turn.
+-- turn. `trade` is SELL or BUY, `n` the number of unit `u`, `q` its region, `i` the number of an item, and `m` a
+-- market. `share` is how many pieces the unit trades, and `stock` what the market has in stock before that.
 use Rattle.std.proofs.Common.{◌≡◌, ◌≢◌, ◌==◌, ◌&&◌, ℕ, ◌+◌, ◌-◌, ◌*◌, ◌/◌, ◌≤◌, ◌<◌, Bool, true, false, cond, Option, Some, None, List, [], ◌∷◌, length, refl, sym, ap, subst, ◌∙◌, arith}
 use Rattle.std.specs.Prelude.{IsSome, fold, pos, ◌+ℤ◌, min, option_and_then, unwrap_or}
 use Rattle.std.specs.Option.{option_map_or}
@@ -69,7 +70,8 @@ use Rattle.atl_market.proofs.ItemUseLaws.{put_to, taken_off}
 
 -- ---- a trade keeps the goods of unit and region together, and books the money
 
--- the result of a trade is within all limits, leaves unit and stock together as much of the item, and books the money
+-- The result `d` of a trade of item `i` by unit `u` is within all limits. It leaves unit and stock together as much of
+-- the item as they had, where `before` was in stock, and books the money that the unit gains or pays.
 pub record ResultFits (w : WorldValue) (u : Unit) (i before : ℕ) (d : TradeResult) : Type 0 where
   pub money : d.money ≤ holding_limit
   pub amount : d.amount ≤ holding_limit
@@ -78,12 +80,14 @@ pub record ResultFits (w : WorldValue) (u : Unit) (i before : ℕ) (d : TradeRes
   pub paid : pos d.money ≡ pos u.holding.money +ℤ d.booked
   pub small : IsWithin holding_limit d.booked
 
--- a campaign in which unit `n` has the money and the amount of an item that a trade leaves
+-- a campaign in which unit `n`, which was `u`, has the money and the amount of item `i` that a trade leaves by its
+-- result `d`
 abbrev pub with_trader_set : CampaignValue → ℕ → Unit → ℕ → TradeResult → CampaignValue
 with_trader_set c n u i d =
     record c { units = insert c.units n (record u { holding = with_trade_result u.holding i d }) }
 
--- a campaign after a trade: the unit, the stock of its region and the books are as the result `d` says
+-- a campaign after unit `n`, which was `u`, traded item `i`: the unit, the stock of its region and the books (under
+-- `entry`) are as the result `d` says
 abbrev pub after_deal : CampaignValue → ℕ → Unit → ℕ → BooksEntry → TradeResult → CampaignValue
 after_deal c n u i entry d =
     with_booking (region_changed (λ r. restocked r i d.stock) (with_trader_set c n u i d) u.region) entry Money d.booked
@@ -226,11 +230,13 @@ stock_low w c r q i early around = by_amount (get q.stocks i) refl
     by_amount None is = omega arith
     by_amount (Some a) is = ((early.steady.numbers.regions r q around).stocks i a is).1
 
--- which units draw from the pot of a region and an item: those that are in the region and whose order names the item
+-- Which units draw from the pot of a region and an item (the pair `k`): those that are in the region and whose order
+-- names the item. `units` are those of the campaign when the phase begins, and `items` has by unit its order's item.
 abbrev pub draws_item : FinMap nat_cmp Unit → FinMap nat_cmp ℕ → ℕ × ℕ → ℕ → Bool
 draws_item units items k n = is_in_region k.0 (get units n) && asks_for k.1 (get items n)
 
--- the pots of SELL or BUY, by region and item
+-- The pots of SELL or BUY, by region and item: what is left of one is the market's limit less its stock (SELL), or its
+-- stock (BUY). `units` and `items` say which units draw from it (`draws_item`).
 abbrev pub item_pots : Trade → WorldValue → FinMap nat_cmp Unit → FinMap nat_cmp ℕ → DrawnPots (ℕ × ℕ)
 item_pots trade w units items =
     record { pot_region = λ k. k.0; draws = draws_item units items; left = λ k q. market_pot trade (limit_of w k.1 k.0) (amount_of q.stocks k.1) }
@@ -241,7 +247,8 @@ pot_less : (trade : Trade) (h : HoldingValue) (limit stock share : ℕ) (m : Mar
 pot_less Sell h limit stock share m same pot = omega (arith, same, pot)
 pot_less Buy h limit stock share m same pot = omega (arith, pot)
 
--- a campaign after a unit traded with a market; unchanged where there is none
+-- a campaign after unit `u`, whose number with its share is `e`, traded the share with market `o`; unchanged where `o`
+-- is None
 abbrev pub traded_at : Trade → CampaignValue → ℕ × ℕ → Unit → Option Market → CampaignValue
 traded_at trade c e u o =
     option_map_or

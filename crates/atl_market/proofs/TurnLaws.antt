@@ -1,5 +1,6 @@
 -- Laws of steps that are carried out in turn, and of the room in the books that they need. Together the steps keep the
--- campaign's rules and its books balanced, if each step does.
+-- campaign's rules and its books balanced, if each step does. `book_bound` bounds how far each step moves the books.
+-- The first step is for `x` and leads from campaign `c` to `d`, and the others are for `xs`.
 use Rattle.std.proofs.Common.{◌≡◌, ◌==◌, ◌≤◌, ◌+◌, ◌*◌, ℕ, Bool, true, false, List, [], ◌∷◌, length, arith}
 use Rattle.std.specs.Prelude.{fold, if◌then◌else◌}
 use Rattle.std.proofs.Math.Nat.{suc-mul}

@@ -1,4 +1,6 @@
--- What BUILD and PRODUCE leave to the units of a faction that sent no mailing.
+-- What BUILD and PRODUCE leave to the units of a faction that sent no mailing. Such a unit is there after the phase,
+-- with its faction and name, no less of any item, and all its men, since nobody starves in these phases
+-- (`LeavesUnmailed`).
 use Rattle.std.proofs.Common.{◌+◌, ◌-◌, ◌*◌, ℕ, Option, Some, None, refl}
 use Rattle.std.specs.Prelude.{IfSome, neg_ℤ, option_and_then, option_map, pos}
 use Rattle.std.specs.List.{slice_get}

@@ -1,4 +1,7 @@
--- What TAX, RECRUIT, WORK, SELL and BUY leave to the units of a faction that sent no mailing.
+-- What TAX, RECRUIT, WORK, SELL and BUY leave to the units of a faction that sent no mailing. Such a unit is there
+-- after the phase, with its faction and name, no less of any item, and all its men, since nobody starves in these
+-- phases (`LeavesUnmailed`). `m` is the month as the phase gets it, and `c` and `d` are the campaigns before and after
+-- it.
 use Rattle.std.proofs.Common.{◌≡◌, ◌≢◌, ◌==◌, ◌&&◌, ◌||◌, ◌+◌, ◌-◌, ℕ, Bool, true, false, List, [], ◌∷◌, ◌++◌, map, None, refl, ap, ◌∙◌}
 use Rattle.std.specs.Prelude.{if◌then◌else◌, pos}
 use Rattle.std.specs.List.{AllByRecursion, list_any}

@@ -1,4 +1,5 @@
--- Laws that in a phase with pots a unit for which its own faction wrote no order gets nothing, and stays as it is.
+-- Laws that in a phase with pots a unit for which its own faction wrote no order gets nothing, and stays as it is. `p`
+-- is the phase, which begins in campaign `c` with the orders `os`, and `n` is the number of unit `u`.
 use Rattle.std.proofs.Common.{◌≡◌, ◌≢◌, ◌==◌, ◌&&◌, ℕ, Bool, true, false, List, [], ◌∷◌, Some, refl, sym, ap, subst, ◌∙◌, arith}
 use Rattle.std.specs.Prelude.{Result, Ok, Err, fold, option_map}
 use Rattle.std.specs.List.{AllByRecursion, filter_map}

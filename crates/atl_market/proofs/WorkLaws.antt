@@ -1,5 +1,6 @@
 -- Laws of WORK: it keeps a campaign steady, its books balanced and all units no worse off; all wages can be paid in
--- turn.
+-- turn. `n` is the number of unit `u`, and `money` its wages. Shares (`es`) are pairs of a unit's number and how many
+-- work places it gets.
 use Rattle.std.proofs.Common.{◌≡◌, ◌≢◌, ◌==◌, ℕ, ◌+◌, ◌-◌, ◌*◌, ◌/◌, ◌%◌, ◌≤◌, ◌<◌, false, cond, Option, Some, None, List, [], ◌∷◌, length, refl, sym, ap, subst, ◌∙◌, arith}
 use Rattle.std.specs.Prelude.{pos, ◌+ℤ◌, fold}
 use Rattle.std.specs.List.{AllByRecursion}

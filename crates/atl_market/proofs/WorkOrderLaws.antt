@@ -1,4 +1,6 @@
--- Laws of the orders of WORK: no two have the same key, so the code's sorted list is the one that is defined.
+-- Laws of the orders of WORK: no two have the same key, so the code's sorted list is the one that is defined. `os` or
+-- `ts` are the month-long orders of the mailings, and the writers are the units for which their own faction wrote one
+-- of them. The code adds an order of WORK for each unit with men that isn't a writer.
 use Rattle.std.proofs.Common.{◌≡◌, ℕ, ◌≢◌, ◌==◌, ◌<◌, ◌&&◌, ◌||◌, ◌++◌, not, Bool, true, false, cond, List, [], ◌∷◌, map, filter, get_or, is_some, Some, refl, sym, ap, subst, ◌∙◌, inl, inr, arith, IsPermutation, flat_map}
 use Rattle.std.specs.Prelude.{nat_lt}
 use Rattle.std.specs.declared.cmp.Ordering.{Ordering}
@@ -283,7 +285,8 @@ module _ (c : CampaignValue) (ts : List Task) where
       ap (λ os. written_work ts ++ os)
       (idle_are (entries c.units) (each-from_every (λ n u. get c.units n ≡ Some u) c.units (λ n u is. is)))
 
--- the code's list of all orders of WORK, sorted by its keys, is the list of the definition (`work_orders`)
+-- the code's list of all orders of WORK, sorted by its keys, is the list of the definition (`work_orders`); here `os`
+-- is the code's list before it is sorted, and `list` after that
 pub work_sorted : (c : CampaignValue) (m : MonthValue) (os list : List PhaseOrder)
     → map task_of os ≡ all_work c (orders_by_unit is_month_long m) → IsPermutation os list
     → IsSortedByKey (λ o. key_of ByUnit (task_of o)) (slice_cmp nat_cmp) list → map task_of list ≡ work_orders c m

@@ -1,4 +1,4 @@
--- Laws of the set of the units for which their own faction wrote one of the orders: that of one order more.
+-- Laws of the set of the units for which their own faction wrote one of some orders: what one order more adds to it.
 use Rattle.std.proofs.Common.{◌≡◌, ℕ, ◌+◌, ◌<◌, ◌≤◌, ◌||◌, Bool, true, false, cond, List, [], ◌∷◌, ◌++◌, Option, Some, is_some, refl, sym, ap, ◌∙◌, arith}
 use Rattle.std.specs.List.{flat_map}
 use Rattle.std.specs.Ordering.{nat_cmp, eq_by_cmp}

@@ -12,7 +12,7 @@ use atl_phase::book_taken;
 use atl_world::World;
 use std::alloc::AllocError;
 
-/// It is 0 where the unit isn't there.
+/// How much of an item unit `number` holds; 0 where the unit isn't there.
 fn held_of(campaign: &Campaign, number: u32, item: u16) -> u32
     ensures { (u : Unit) → map.get campaign.now.value.units number ≡ Some u
         → result ≡ amount_of u.holding.items item }

@@ -132,6 +132,8 @@ fn unit_for<'c, P: PotPhase>(
     }
 }
 
+/// Puts what the unit of an order wants, and the item that the order names, if it names one, into
+/// the maps; nothing where the order has a fault.
 #[tactic(auto, using(crate::proofs::WantLaws::one_want))]
 fn note_order<P: PotPhase>(
     phase: &P,
@@ -161,6 +163,7 @@ fn note_order<P: PotPhase>(
     Ok(())
 }
 
+/// The wants, and then the items that orders name, both by unit, of the orders without a fault.
 #[tactic(auto, using(crate::proofs::WantLaws::optional_entry_first))]
 fn wants_and_items<P: PotPhase>(
     alloc: Global,

@@ -1,5 +1,8 @@
 -- Laws of a whole month: with the month counted and the mail removed the campaign is good again, mail order doesn't
--- count, and what is left to units of a faction that sent no mailing.
+-- count, and what is left to units of a faction that sent no mailing. `c` is the campaign before the phases of the
+-- month, and `d` the one after them. `m` is what the month carries as its first phase begins (`new_month`), and `n`
+-- what it carries after the last one. `ms` are the mailings, `readings` what was read of them, and `words` the words
+-- of the dice.
 use Rattle.std.proofs.Common.{◌≡◌, ℕ, ◌+◌, ◌*◌, ◌≤◌, ◌<◌, List, ap, ◌∙◌, arith, ◌≢◌, ◌-◌, cond, [], ◌∷◌, map, Some, None, refl, sym, subst}
 use Rattle.std.specs.Prelude.{ℤ}
 use Rattle.std.specs.FinMap.{FinMap, empty, get, len, find, get-from_entries, nat_cmp-IsAntisymmetric}

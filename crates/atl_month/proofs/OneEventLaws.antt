@@ -1,5 +1,6 @@
 -- The law that each order that counts has exactly one event in the month: its phase gives it one, and no other phase
--- does.
+-- does. `t` is an order, `v` its verb, and `counts` tells whether it counts. What a phase adds for an order are the
+-- reports of the events that it makes of the order's faction and on its line (`Gives`).
 use Rattle.std.proofs.Common.{◌≡◌, ◌==◌, ◌&&◌, ◌++◌, ◌<◌, ℕ, Bool, true, false, not, cond, List, [], ◌∷◌, map, filter, refl, sym, ap, ◌∙◌, arith}
 use Rattle.std.proofs.lemmas.List.{append-nil}
 use Rattle.std.specs.FinMap.{FinMap, empty}

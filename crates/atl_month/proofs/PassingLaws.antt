@@ -1,5 +1,6 @@
 -- Laws of the sweep: what holds of a campaign after a unit without men passed money or items on to another
--- (`PassesOn`).
+-- (`PassesOn`). `c` is the campaign before that, and `d` the one after it. `n` is the number of the unit that passes
+-- on, and `k` that of the unit that receives. `s` and `t` are things, and `e` is an entry of the books.
 use Rattle.std.proofs.Common.{◌≡◌, ◌≢◌, ◌==◌, ℕ, ◌+◌, ◌-◌, ◌≤◌, ◌<◌, Bool, cond, List, [], ◌∷◌, length, min, Option, Some, None, refl, sym, ap, subst, ◌∙◌, arith, inl, inr}
 use Rattle.std.specs.Prelude.{ℤ, pos, neg_ℤ, ◌+ℤ◌, fold}
 use Rattle.std.proofs.lemmas.Int.{ints}

@@ -1,5 +1,5 @@
 -- Laws of each phase of a month: which entries of the books it moves, and what it leaves to a faction without a
--- mailing.
+-- mailing. A phase's own entries are those that its specification lists for money, people and items (`moved`).
 use Rattle.std.proofs.Common.{◌≤◌, [], ◌∷◌, arith}
 use Rattle.std.specs.Prelude.{if◌then◌else◌}
 use Rattle.std.proofs.lemmas.Bool.Decides.{nat_tests}

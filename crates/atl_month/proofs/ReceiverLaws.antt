@@ -1,6 +1,6 @@
 -- Laws of the receivers of the sweep, the lowest-numbered unit with men of each faction in each region: the code's map
 -- has them, and sweeping a unit leaves them the same. To note a unit is to enter it in the map, if it has men and its
--- faction has no receiver in its region there.
+-- faction has no receiver in its region there. `r` and `f` are the numbers of a region and of a faction.
 use Rattle.std.proofs.Common.{◌≡◌, ◌≢◌, ◌==◌, ◌&&◌, ℕ, ◌≤◌, ◌<◌, Bool, true, false, cond, List, [], ◌∷◌, Option, Some, refl, sym, ap, subst, ◌∙◌, inl, inr, arith}
 use Rattle.std.specs.Prelude.{nat_lt, unwrap_or, if◌then◌else◌}
 use Rattle.std.proofs.lemmas.Bool.Decides.{nat_tests}

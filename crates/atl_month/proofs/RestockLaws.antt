@@ -1,4 +1,6 @@
--- Laws of restocking a region's markets: it keeps a campaign steady, its books balanced and all units as they are.
+-- Laws of restocking a region's markets: it keeps a campaign steady, its books balanced and all units as they are. `n`
+-- is the number of the region, `i` that of an item, and `m` the region's market for the item. `x` and `xs` are markets,
+-- each with its item.
 use Rattle.std.proofs.Common.{◌≡◌, ◌≢◌, ◌==◌, ℕ, ◌+◌, ◌-◌, ◌≤◌, ◌<◌, Bool, true, cond, Option, Some, None, List, [], ◌∷◌, length, refl, sym, ap, subst, ◌∙◌, arith, inl, inr}
 use Rattle.std.specs.Prelude.{ℤ, pos, ◌+ℤ◌, is_some, option_and_then, unwrap_or, if◌then◌else◌}
 use Rattle.std.specs.Ordering.{nat_cmp, is_lt}

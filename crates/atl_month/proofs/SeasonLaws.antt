@@ -1,5 +1,6 @@
 -- Laws of the season: it keeps a campaign steady, its books balanced and all units as they are, and the books have room
--- for it.
+-- for it. `n` is the number of a region, `r` the region before its season, `t` its terrain, and `word` its word of the
+-- dice; `words` are those of all regions.
 use Rattle.std.proofs.Common.{◌≡◌, ℕ, ◌+◌, ◌-◌, ◌≤◌, Option, Some, None, List, [], ◌∷◌, length, map, refl, sym, ap, subst, ◌∙◌, arith}
 use Rattle.std.specs.Prelude.{pos, ◌+ℤ◌, fold, zip, option_and_then}
 use Rattle.std.specs.List.{slice_get}

@@ -1,5 +1,7 @@
 -- Laws of the whole sweep: each unit then has men, factions without units are gone, and nothing is taken from units
--- with men. Sweeping a unit removes it if it has no men; sweeping a faction sets it to gone if it has no unit.
+-- with men. Sweeping a unit removes it if it has no men; sweeping a faction sets it to gone if it has no unit. `c` is
+-- the campaign before, and nothing is taken from a unit if it is no worse off and keeps its men and their days
+-- (`IsKept`).
 use Rattle.std.proofs.Common.{◌≡◌, ◌≢◌, ◌==◌, ℕ, ◌≤◌, not, Bool, true, false, List, [], ◌∷◌, length, filter, Option, Some, None, refl, sym, ap, subst, ◌∙◌, inl, inr, arith}
 use Rattle.std.specs.Prelude.{pos, fold, if◌then◌else◌}
 use Rattle.std.proofs.lemmas.Bool.Decides.{nat_tests}

@@ -1,5 +1,6 @@
 -- Laws of sweeping one unit without men: it keeps a campaign steady and its books balanced, and takes nothing from
--- other units. The code sets all marks, and the books have room for what it books.
+-- other units (`IsKept`). The books have room for what it books. `c` is the campaign before that. `n` is the number of
+-- the unit that is swept, and `u` the unit; `e` is an entry of the books, and `s` or `t` a thing.
 use Rattle.std.proofs.Common.{◌≡◌, ◌≢◌, ℕ, ◌+◌, ◌≤◌, ◌<◌, true, List, [], ◌∷◌, length, Option, Some, refl, sym, ap, subst, ◌∙◌, inl, arith, suc, ◌-◌}
 use Rattle.std.specs.Prelude.{ℤ, pos, ◌+ℤ◌, unwrap_or}
 use Rattle.std.proofs.lemmas.Int.{ints}

@@ -1,4 +1,6 @@
--- Laws of what upkeep, season and sweep leave to units of a faction that sent no mailing.
+-- Laws of what upkeep, season and sweep leave to units of a faction that sent no mailing. Such a unit keeps its faction
+-- and name, has no less of any item, and has its men less those who starve in upkeep, as its event reports. The sweep
+-- removes it if it has no men.
 use Rattle.std.proofs.Common.{◌≡◌, ◌≢◌, ◌==◌, ◌+◌, ◌-◌, ◌≤◌, ◌<◌, ℕ, Bool, true, false, not, cond, List, [], ◌∷◌, map, filter, sum_by, Some, refl, sym, ap, subst, ◌∙◌, inl, inr, arith}
 use Rattle.std.specs.Prelude.{if◌then◌else◌}
 use Rattle.std.specs.Ordering.{nat_cmp}

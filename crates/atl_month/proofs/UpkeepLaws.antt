@@ -1,5 +1,7 @@
 -- Laws of upkeep: it keeps a campaign steady and its books balanced, and each unit can pay when its turn comes. What
--- upkeep takes from a unit follows from the units of its faction in its region alone.
+-- upkeep takes from a unit follows from the units of its faction in its region alone. `s` is what upkeep takes from one
+-- unit, `u` this unit, `h` what a unit holds, and `left` how many of its men are left. `all` are the units of the
+-- campaign, as upkeep reads them, and `m` is the maintenance of each man.
 use Rattle.std.proofs.Common.{◌≡◌, ◌≢◌, ◌==◌, ℕ, ◌+◌, ◌-◌, ◌*◌, ◌/◌, ◌≤◌, ◌<◌, Bool, true, false, Option, Some, None, List, [], ◌∷◌, length, map, refl, sym, ap, subst, ◌∙◌, arith}
 use Rattle.std.specs.Prelude.{IsTrue, ℤ, pos, neg_ℤ, ◌+ℤ◌, fold, is_some, unwrap_or, if◌then◌else◌}
 use Rattle.std.specs.List.{AllByRecursion, list_any}

@@ -44,8 +44,9 @@ short_among maintenance region faction inputs = sum_by (short_of maintenance) (p
 abbrev pub to_give : Account → ℕ
 to_give a = min a.left a.short
 
--- what upkeep takes from a unit, at this maintenance for each man, by the account of its faction in its region as it is
--- when the unit's turn comes
+-- What upkeep takes from a unit, at this maintenance for each man, by the account of its faction in its region as it is
+-- when the unit's turn comes. It gives what it has left, and gets what it is short of, each until the amount to give
+-- (`to_give`) is used up.
 abbrev pub upkeep_result_by : ℕ → Account → UpkeepInput → UpkeepResult
 upkeep_result_by maintenance a input = record {
   unit = input.unit;
@@ -80,8 +81,9 @@ opened maintenance all counted region faction =
     let short = short_among maintenance region faction all in
     record { left = counted_left short (left_among maintenance region faction counted); short = short; given = 0; covered = 0 }
 
--- The account of a faction in a region, where `all` are the units of upkeep. The units `before` had their turn, and
--- `given` and `covered` are what they gave and got. What is left counts only where units are short.
+-- The account of a faction in a region at this maintenance for each man, where `all` are the units of upkeep. `left`
+-- and `short` are what the faction's units there have left and are short of; `left` is 0 where they aren't short. The
+-- units `before` had their turn, and `given` and `covered` are what they gave and got.
 abbrev pub account_of : ℕ → (all before : List UpkeepInput) → (region faction : ℕ) → Account
 account_of maintenance all before region faction =
     let given = given_among maintenance (peers_of region faction all) in

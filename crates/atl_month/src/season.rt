@@ -86,6 +86,7 @@ fn carry_out_season(
     restock_region(world, campaign, number)
 }
 
+/// The words go to the regions in the order of their numbers; a region without one has no season.
 fn carry_out_seasons(
     world: &World,
     campaign: &mut Campaign,

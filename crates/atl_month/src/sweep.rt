@@ -33,6 +33,7 @@ fn accepted_of(amount: u32, have: u32) -> u32
     amount.min(HOLDING_LIMIT.saturating_sub(have))
 }
 
+/// The unit that leaves the money keeps it until it is removed.
 #[tactic(auto, unfolding(crate::specs::Sweep::after_passing_money))]
 fn pass_money(campaign: &mut Campaign, to: u32, amount: u32)
     requires things { 2 ≤ campaign.old.value.books.things }
@@ -103,6 +104,7 @@ fn pass_items(
     Ok(())
 }
 
+/// Does nothing where the unit isn't there or has men.
 #[tactic(auto, unfolding(crate::specs::Sweep::after_sweeping_unit))]
 fn sweep_unit(
     alloc: Global,

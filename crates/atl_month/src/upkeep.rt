@@ -37,6 +37,7 @@ fn upkeep_inputs_of(alloc: Global, campaign: &Campaign) -> Result<Vec<UpkeepInpu
     Ok(inputs)
 }
 
+/// The days of each skill that stay with `left` of the holding's men, rounded down.
 fn days_with(alloc: Global, left: u32, holding: &Holding) -> Result<Vec<(u32, u32)>, AllocError>
     requires some { 1 ≤ holding.now.men }
     requires fewer { left ≤ holding.now.men }
@@ -51,6 +52,7 @@ fn days_with(alloc: Global, left: u32, holding: &Holding) -> Result<Vec<(u32, u3
     Ok(list)
 }
 
+/// The upkeep of a unit some of whose men starve; books nothing.
 fn starve(
     alloc: Global,
     campaign: &mut Campaign,
@@ -73,6 +75,7 @@ fn starve(
     set_people(campaign, upkeep_result.unit, left, &days)
 }
 
+/// Books nothing.
 fn take_upkeep(
     alloc: Global,
     campaign: &mut Campaign,
