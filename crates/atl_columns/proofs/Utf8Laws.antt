@@ -1,4 +1,5 @@
 -- Laws on bytes that are UTF-8, or aren't.
+-- `bs` are the bytes, and `t` is the text made of them. `if_utf8` gives Some of the bytes if they are UTF-8, else None.
 use Rattle.std.proofs.Common.{◌≡◌, ℕ, List, Bool, true, false, Some, None, refl, sym, ap, ◌∙◌}
 use Rattle.std.specs.Str.{IsUtf8, is_utf8}
 use Rattle.std.proofs.lemmas.Str.{is_utf8-from_IsUtf8, IsUtf8-from_is_utf8}

@@ -1,5 +1,6 @@
 -- The tables of a campaign: columns, keys, checks, CREATE TABLE texts, and schema. See docs/FORMATS.md, "Tables".
 -- The file keeps each table, and each index, in a tree, which has a number.
+-- The `views` of a schema are its views, and the triggers, tables and indexes that the database keeps as they are.
 use Rattle.std.specs.Prelude.{◌≡◌, false, [], ◌∷◌, ◌++◌, Some, None, codes, pos, take, map, length, List, ℕ, ⊤}
 use Rattle.std.specs.List.{AllByRecursion}
 use Rattle.sqlite.specs.declared.types.Value.TheVariants.{Int}

@@ -1,4 +1,6 @@
 -- Laws of reports: a report depends only on the faction's view, faulty lines and own events.
+-- `w` is the world, `v` a faction's view, and `faults` are the faulty lines of its mailing. `events` and `others` are
+-- two lists of events, and `c` and `d` two campaigns.
 use Rattle.std.proofs.Common.{◌++◌, ap, ◌∙◌}
 use Rattle.std.specs.Prelude.{codes}
 use Rattle.atl_sight.specs.Events.{results_text, orders_part}

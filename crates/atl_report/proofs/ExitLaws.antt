@@ -1,4 +1,6 @@
 -- Laws of a region's line of exits: exits written one after another are the text of the definition.
+-- `p` is a region of the world. `north` and so on, or `exit`, is the number of the region that lies in this direction,
+-- None without an exit. `is_first` says that no exit was written before.
 use Rattle.std.proofs.Common.{◌≡◌, ◌++◌, ◌&&◌, ℕ, List, [], Option, Some, None, refl, ap, ◌∙◌}
 use Rattle.std.proofs.lemmas.List.{append-nil}
 use Rattle.std.specs.Prelude.{Bool, true, false, codes, if◌then◌else◌, is_none, option_map}

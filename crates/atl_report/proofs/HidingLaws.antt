@@ -1,5 +1,8 @@
 -- Laws of the lists of units: the numbers gathered from a region's lists are those of the units that a faction sees
 -- there.
+-- `levels` has a region's lists of units by hiding level. `es` are entries: of these lists, each a level and its list,
+-- or of units by number. `q` is the number that is asked for, and `ns` a list of units' numbers. A set of numbers is a
+-- map from each of them to `tt`.
 use Rattle.std.proofs.Common.{◌≡◌, ◌==◌, ℕ, Bool, true, false, cond, ◌&&◌, ◌||◌, nat_le, List, [], ◌∷◌, filter, map, Option, Some, None, is_some, unwrap_or, refl, sym, ap, ◌∙◌, inl, inr, arith}
 use Rattle.std.specs.Prelude.{option_map, Result, Ok, Err, IfOk}
 use Rattle.std.specs.Ordering.{nat_cmp, eq_by_cmp}

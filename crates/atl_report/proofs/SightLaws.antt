@@ -1,4 +1,6 @@
 -- Laws of sight: the regions gathered from a faction's units are those that it sees.
+-- `c` is the campaign, `f` the number of a faction, and `q` that of a region. `seen` is the set of numbers gathered, a
+-- map from each of them to `tt`. `m` is a map by number, and `es` are entries of it, each a number and its value.
 use Rattle.std.proofs.Common.{◌≡◌, ◌==◌, ℕ, Bool, true, false, cond, ◌&&◌, ◌||◌, nat_lt, List, [], ◌∷◌, filter, map, Option, Some, None, refl, sym, ap, ◌∙◌, T}
 use Rattle.std.specs.Prelude.{option_map}
 use Rattle.std.specs.declared.cmp.Ordering.TheVariants.{Less, Equal, Greater}

@@ -1,5 +1,7 @@
 -- Laws of lists of numbers by key, as numbers are added one after another: of the structures by region, and of units by
 -- a key of theirs.
+-- `lists` and `sites` are the lists made so far. `n` is the next number, which is added to the list of its own key.
+-- `key`, `k` or `region` is the key whose list is asked for, and `rest`, `ns` or `es` is what is still to come.
 use Rattle.std.proofs.Common.{◌≡◌, ◌==◌, ◌++◌, ℕ, Bool, true, false, cond, List, [], ◌∷◌, filter, Option, Some, None, unwrap_or, refl, sym, ap, ◌∙◌}
 use Rattle.std.specs.Option.{option_map_or}
 use Rattle.std.specs.Ordering.{nat_cmp}

@@ -32,6 +32,7 @@ fn write_thing(out: &mut String, world: &World, thing: Thing) -> Result<(), Allo
     }
 }
 
+/// Nothing for an item that the world doesn't have.
 fn write_item(out: &mut String, world: &World, item: u16) -> Result<(), AllocError>
     ensures { OnOk result (string_bytes out.new
         ≡ string_bytes out.old ++ item_name (slice_get world.now.items item)) }
@@ -53,6 +54,7 @@ fn write_amount(out: &mut String, entry: BooksEntry, amount: i64) -> Result<(), 
     write!(out, " {name} {amount}\n")
 }
 
+/// Nothing for an amount of 0.
 #[tactic(auto, unfolding(crate::specs::Books::amount_line))]
 fn write_entry(
     out: &mut String,

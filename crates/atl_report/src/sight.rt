@@ -36,6 +36,7 @@ fn unit_views(
     Ok(units)
 }
 
+/// 0 where there is no owner, or it isn't seen in the watched region.
 fn shown_owner(world: &World, campaign: &Campaign, watch: Watch, structure: &Structure) -> u32
     ensures { result ≡ shown_owner world.now campaign.now.value watch structure.now }
 {

@@ -1,4 +1,5 @@
 -- Laws of a report's part on orders: when its lines are `None.`, and else which lines they are.
+-- `faults` are the faulty lines of the faction's mailing, and `events` is a list of events of any factions.
 use Rattle.std.proofs.Common.{◌≡◌, ◌==◌, ◌++◌, ℕ, Bool, true, false, cond, ◌||◌, ◌&&◌, not, List, [], ◌∷◌, length, refl, sym, ap, ◌∙◌, arith}
 use Rattle.std.specs.Prelude.{codes, filter}
 use Rattle.std.specs.List.{list_any}

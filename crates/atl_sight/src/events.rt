@@ -28,6 +28,7 @@ fn write_faulty_lines(out: &mut String, faults: &[FaultyLine]) -> Result<(), All
     Ok(())
 }
 
+/// Empty for a number that is no fault's.
 fn name_of_number(number: u8) -> &'static str
     ensures { result.now ≡ name_of_number number }
 {

@@ -1,4 +1,7 @@
 -- Laws on the upsert of the table `campaign`: it inserts the row, or changes all columns but id, format and world text.
+-- `head` and `world` are the values and the world text that the statement is given. `before` and `text` are those of
+-- the row that is there. In a term, `col 0 n` is the parameter at the index `n`, and `col 1 n` the value at the index
+-- `n` of the stored row, where 0 is the rowid.
 use Rattle.std.proofs.Common.{◌≡◌, ℕ, pos, List, [], ◌∷◌, refl, sym, ap, ◌∙◌}
 use Rattle.sqlite_tied.specs.Compute.{everything}
 use Rattle.sqlite.specs.declared.types.Value.TheVariants.{Null, Text}

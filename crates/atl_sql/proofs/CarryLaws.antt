@@ -1,4 +1,6 @@
 -- Laws on a write of one of a campaign's tables: the other tables, the indexes and the schema stay (`Carries`).
+-- A tree, given by its number, holds the rows of one table; `olds` and `news` are the rows that a write takes out of it
+-- and puts in. `tables` and `indexes` are those that the schema has after the campaign's own.
 use Rattle.std.proofs.Common.{◌≡◌, ◌≢◌, ℕ, false, List, [], ◌∷◌, ◌++◌, Option, refl, sym, ◌∙◌, subst, inl, inr}
 use Rattle.std.specs.List.{AllByRecursion, flat_map, filter_map, list_any}
 use Rattle.sqlite_value.specs.Order.{Row}
@@ -37,7 +39,8 @@ write_checks_no_reference tables indexes tree free olds news =
 
 -- ---- indexes that make nothing unique find nothing
 
--- if the indexes make nothing unique in table t, the rows `new` and `r` share no unique value (`shares`)
+-- if the indexes make nothing unique in table t, the rows `new` and `r` share no unique value (`shares`), whichever
+-- columns `target` asks for
 pub none_share : (t : Table) (target : Option (List ℕ)) (new r : Row) (indexes : List Index)
     → ((i : Index) → Has indexes i → guards i t ≡ false) → list_any (shares target t new r) indexes ≡ false
 none_share t target new r [] plain = refl
@@ -49,6 +52,7 @@ none_share t target new r (i ∷ indexes) plain =
 pub among_all : (tables : List Table) (t : Table) → Has all_tables t → Has (all_tables ++ tables) t
 among_all tables t there = has_left all_tables tables t there
 
+-- the trees of a database with a campaign's tables are sound under its schema, as these tables and then the others
 pub sound_under : (db : Database) (has : HasTables db)
     → IsSoundDatabase (all_tables_and_others has.begins.tables has.begins.indexes) db.trees
 sound_under db has = subst (λ s. IsSoundDatabase s db.trees) has.begins.made_of has.sound

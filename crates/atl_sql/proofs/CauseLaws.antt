@@ -1,5 +1,6 @@
 -- Laws on causes: an error that a step returns was given by a statement of the step, or by the commit (`Gives`).
 -- `own` is the set of statements that the step may run; `more` is a set that has all of these.
+-- `e` is the error. `old` and `new` are the connection, or its state, before and after a call, a step or a transaction.
 use Rattle.std.proofs.Common.{◌≡◌, ◌⊎◌, ◌≤◌, ℕ, List, zero, suc, true, false, true≢false, IsTrue, Result, Ok, Err, IsErrAnd, IfErr, refl, sym, ap, ◌∙◌, subst, inl, inr, arith}
 use Rattle.std.proofs.lemmas.Bool.{cases_Bool}
 use Rattle.sqlite_disk.specs.Disk.{MoreFaults}
@@ -162,6 +163,7 @@ module _ {S : Type 0} (g : Ghosts S) (own : Statements) (e : Error) where
 
 -- ---- of a result
 
+-- what holds of the error `e` holds of the error of a result that is `e`
 pub property_of_equal_error : {A E : Type 0} (P : E → Type 0) (r : Result A E) (e : E) → IsErrAnd r (λ f. f ≡ e) → P e
     → IfErr r P
 property_of_equal_error P (Ok a) e says p = tt

@@ -1,4 +1,6 @@
 -- Laws on the CHECK that a row's id is 1: which nodes of the parsed term make "id = 1".
+-- `ops` are the nodes of a parsed term, which name their parts by index. `root`, `a` and `b` are indexes of nodes, and
+-- `depth` is how many levels of nodes are read. The node `Column 1 0` is the row's number, here the column `id`.
 use Rattle.std.proofs.Common.{◌≡◌, ◌≢◌, ℕ, zero, suc, List, [], ◌∷◌, length, get_or, slice_get, Some, pos, refl, sym, ap}
 use Rattle.std.proofs.lemmas.Option.{get_or_from_slice_get}
 use Rattle.sqlite_value.specs.declared.value.Value.{Value}

@@ -1,4 +1,5 @@
 -- Law on CREATE TABLE: a statement that ran added one table without rows.
+-- `old` and `new` are the state before and after the statement, and `count` is how many changed rows it reports.
 use Rattle.std.proofs.Common.{◌≡◌, ℕ, false, List, [], None, Ok, sym, ap, ◌∙◌, subst}
 use Rattle.sqlite.specs.Table.{Table}
 use Rattle.sqlite.specs.Schema.{Schema}

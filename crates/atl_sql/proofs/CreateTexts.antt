@@ -1,4 +1,6 @@
 -- Laws on the CREATE texts of the ten tables: which table each text makes, and that all of them make the schema.
+-- `before` and `after` are the schemas before and after a text is run, and `old` and `new` the states.
+-- `schema_of_first` gives the schema of the first tables of a campaign, with the indexes of their keys.
 use Rattle.std.proofs.Common.{◌≡◌, ◌++◌, ◌∷◌, ◌+◌, ◌<◌, ℕ, false, cond, nat_eq, List, [], Result, Ok, get_or, length, map, refl, sym, ap, ◌∙◌, subst, zero-add}
 use Rattle.std.proofs.lemmas.List.{get_or-map, length-map}
 use Rattle.std.proofs.lemmas.List.FromFn.{get_or-range_with_len}
@@ -30,10 +32,12 @@ use Rattle.atl_sql.proofs.WriteLaws.{weaker, among_only}
 -- the text is a CREATE TABLE that turns the schema `before` into `after`, with `table` as the last table
 pub record IsCreate (before after : Schema) (table : Table) (text : List ℕ) : Type 0 where
   pub command : command_of (understood before text) ≡ CreateTable
+  -- the statement is the whole text
   pub whole : statement_of text (understood before text) ≡ text
   -- the text defines the table, with 0 as the number of its tree
   pub defines : table_defined_by text ≡ Ok (record table { tree = 0 })
   pub plain : IsPlain (understood before text)
+  -- to create this table in the schema `before` gives the schema `after`
   pub after_is : created before (record table { tree = 0 }) ≡ after
   pub tree_is : next_tree before ≡ table.tree
   pub last : after.tables ≡ before.tables ++ table ∷ []
@@ -101,6 +105,8 @@ module _ {X : Type 0} (text : X → List ℕ) (xs : List X) (all : map text xs �
   pub as_many : length xs ≡ table_count
   as_many = sym (length-map xs text) ∙ ap length all
 
+  -- after the first `i` tables the text of the element at the index `i` makes the next one; `d` stands for an element
+  -- past the end of the list
   pub makes_next : (i : ℕ) (d : X) → i < length xs
       → MakesNextTable (schema_of_first i) (schema_of_first (i + 1)) (text (get_or xs i d))
   makes_next i d small =

@@ -1,4 +1,7 @@
 -- Laws on DELETE by a test and on INSERT OR REPLACE of one row: which rows the table has afterwards.
+-- `db` are the trees before, each with the rows of one table, and `next`, or those of `w`, are the trees after. `p` is
+-- the test that a row passes if it is to go, and `found` has the rowids of the rows that pass. A query reads `db'`,
+-- which has its temporary tables beside the trees of `db`. An edit takes some rows out of one tree and puts others in.
 use Rattle.std.proofs.Common.{◌≡◌, ◌≢◌, ◌⊎◌, ℕ, pos, negsuc, Bool, true, false, List, [], ◌∷◌, ◌++◌, map, flat_map, Option, Some, None, Result, Ok, Err, refl, sym, ap, ◌∙◌, subst, inl, inr}
 use Rattle.std.specs.Prelude.{cond}
 use Rattle.std.specs.List.{list_all}

@@ -1,5 +1,7 @@
 -- Laws on rows whose values are of their columns' types: SQL stores them unchanged, inserted or updated.
 -- A numbered row, whose key is a number, is stored as the number, NULL, and the values of the other columns.
+-- `cs` are columns, and `vs` values for them. `width` is how many values a numbered row has after its number. In a
+-- term, `col 0 n` is the parameter at the index `n`, and `col 1 0` the number of the row that is there.
 use Rattle.std.proofs.Common.{◌≡◌, ◌++◌, ◌+◌, ◌/◌, ℕ, pos, zero, suc, List, [], ◌∷◌, length, map, take, Some, refl, ap, ◌∙◌, subst, arith, nat_eq, false}
 use Rattle.std.specs.List.{range_with_len}
 use Rattle.std.proofs.Math.Nat.{div_self}
@@ -74,12 +76,15 @@ changed_row width = col 1 0 ∷ lit Null ∷ map (col 0) (range_with_len 1 width
 
 -- the terms of the INSERT and of the UPDATE make the row of this number and these values
 pub record MakesRow (t : Table) (width number : ℕ) (values : Row) : Type 0 where
+  -- the terms of the INSERT make one row: the number, NULL and the values
   pub source : value_rows ((int number ∷ values) ++ []) (width + 2) (length (given_row width) / (width + 2)) (given_row width)
       ≡ (int number ∷ Null ∷ values) ∷ []
   -- the terms of the UPDATE give the number of the row that is there, NULL, and the values
   pub changed : (more r : Row)
       → eval_all (changed_row width) (((int number ∷ values) ++ more) ∷ r ∷ []) ≡ column r 0 ∷ Null ∷ values
+  -- SQL's casts leave this row unchanged
   pub casted : cast_row t (int number ∷ Null ∷ values) ≡ int number ∷ Null ∷ values
+  -- SQL shows this row as the number and the values
   pub shown : visible_row t (int number ∷ Null ∷ values) ≡ int number ∷ values
   -- of what the UPDATE reads, the column after the number and the values is `x`, the rowid of the row to change
   pub aimed : (x : Value) (more : Row) → column ((int number ∷ values) ++ x ∷ more) (width + 1) ≡ x

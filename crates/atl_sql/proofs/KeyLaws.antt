@@ -1,4 +1,5 @@
 -- Laws on integer columns, equal rows and a test joined by "or", for tables whose key has several columns.
+-- `v` is a value of SQL. `a` and `b` are the first values of two rows, and `xs` and `ys` their later values.
 use Rattle.std.proofs.Common.{◌≡◌, ◌||◌, Bool, true, false, ◌∷◌, refl, sym, true≢false}
 use Rattle.sqlite.specs.declared.types.Value.{Value}
 use Rattle.sqlite.specs.declared.types.Value.TheVariants.{Null, Int, Real, Text, Blob}

@@ -1,4 +1,7 @@
 -- Laws on upsert and DELETE in a table whose key is several whole numbers and whose rowid is hidden.
+-- `positions` are the columns of the key, by their indexes in a stored row, where 0 is the rowid. `values` are what SQL
+-- shows of the row that is put, and `k` is the key, or its first columns, by which rows are deleted. `old` and `new`
+-- are the states before and after the statement, and `db` are the trees before it.
 use Rattle.std.proofs.Common.{IsTrue, ◌≡◌, ◌&&◌, ◌||◌, ◌++◌, ◌/◌, ℕ, ℤ, Bool, true, false, not, List, [], ◌∷◌, map, take, length, slice_get, Some, None, Ok, refl, sym, ap, ◌∙◌, subst, inl, inr, true≢false}
 use Rattle.std.specs.List.{AllByRecursion, list_any, list_all}
 use Rattle.std.specs.Ordering.{is_eq}
@@ -77,6 +80,7 @@ agree_same (p ∷ positions) x y ints same =
 pub record HasKey (t : Table) (at : ℕ) (positions : List ℕ) : Type 0 where
   pub ours : Has all_tables t
   pub position : (more : List Table) → slice_get (all_tables ++ more) at ≡ Some t
+  -- the table's tree is one of the file, not that of a temporary table
   pub plain : (db : Trees) → overlay db [] t.tree ≡ db t.tree
   -- a row that passes the table's checks has integers in the columns of the key
   pub ints : (schema : Schema) (x : Row) → passes Datatype schema (λ u. []) t x ≡ true
@@ -107,9 +111,11 @@ MeansUpsert tree at positions sql width terms hole project = (more : List Table)
 -- The terms of an upsert make a row that shows these values, whether it is inserted or updated, and under any rowid.
 -- The other parameters are those of `MeansUpsert`.
 pub record MakesValues (t : Table) (positions : List ℕ) (width : ℕ) (terms : List Term) (hole : ℕ) (project : List Term) (values : Row) : Type 0 where
+  -- the terms of the INSERT make one row: NULL, as a rowid that SQL is to choose, and the values
   pub source : value_rows (values ++ []) width (length terms / width) terms ≡ (Null ∷ values) ∷ []
   -- SQL's casts leave the row of these values, with NULL as its rowid, unchanged
   pub casted : cast_row t (Null ∷ values) ≡ Null ∷ values
+  -- SQL's casts leave the row with the rowid `n` unchanged too
   pub again : (n : ℤ) → cast_row t (Int n ∷ values) ≡ Int n ∷ values
   pub shown : (n : ℤ) → visible_row t (Int n ∷ values) ≡ values
   pub ints : (n : ℤ) → AreInts positions (Int n ∷ values)

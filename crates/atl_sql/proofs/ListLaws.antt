@@ -1,5 +1,6 @@
 -- Laws on a tree's rows by their rowids: finding, removing and putting rows keeps the rowids different.
 -- A tree is where the file keeps the rows of one table.
+-- `rows` are the rows of a tree, and `ids` some rowids. `new` is a row that is put, in place of one with its rowid.
 use Rattle.std.proofs.Common.{◌≡◌, ℤ, Bool, true, false, not, List, [], ◌∷◌, map, Ordering, Less, Equal, Greater, refl, sym, ap, ◌∙◌, subst, inl, inr, true≢false}
 use Rattle.std.specs.List.{AllByRecursion}
 use Rattle.std.specs.Ordering.{is_eq, ordering_reverse}

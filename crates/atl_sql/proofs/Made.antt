@@ -1,4 +1,6 @@
 -- For proofs alone: what one statement makes of a database, a write of rows or a CREATE TABLE.
+-- `old` and `new` are the database, or the state, before and after. Each table has a tree, given by its number, that
+-- holds its rows.
 use Rattle.std.specs.Prelude.{◌≡◌, ◌≢◌, ℕ, []}
 use Rattle.sqlite.specs.Effect.{Database, IsDatabase}
 use Rattle.sqlite.specs.State.{State}

@@ -1,4 +1,6 @@
 -- Laws on the rows that SQL shows of a table after a DELETE, an INSERT OR REPLACE and an upsert of the tree's rows.
+-- `db` or `old` is the trees or the database before the statement, and `next` or `new` after it. `p` is the test by
+-- which the statement finds rows, and `k` a key. `v` is a row as SQL shows it, and `n` the row as it is stored.
 use Rattle.std.proofs.Common.{arith, ◌≡◌, ◌≢◌, ℕ, Bool, true, List, [], ◌∷◌, map, take, eqb, Option, None, Ok, sym, ap, ◌∙◌, subst, inl, inr, true≢false}
 use Rattle.std.specs.Ordering.{is_eq}
 use Rattle.std.proofs.lemmas.Bool.{cases_Bool}
@@ -26,6 +28,7 @@ use Rattle.atl_sql.proofs.EditLaws.{Swaps, Loses}
 use Rattle.atl_sql.proofs.UpsertLaws.{hits, given, Upserted}
 use Rattle.atl_sql.proofs.StatementLaws.{mode}
 
+-- a statement that wrote, in a state of this schema, did what its command says (`Does`) to the database of this schema
 pub write_does_command : (schema : Schema) (old new : State) (command : Command) (text : List ℕ) (params : Row) (count : ℕ)
     → old.now.schema ≡ schema → (w : Writes old new None command text params count)
     → Does old.step_limit mode params (record { schema = schema; trees = old.now.trees }) text None command (Ok (w.tally, new.now))
@@ -86,6 +89,8 @@ module _ (schema : Schema) (among : (u : Table) → Has all_tables u → Has sch
         ]))),
   )
 
+  -- A write of table t leaves a sound database sound. Premises: the schema and all other tables stay, the trees list
+  -- the schema (`IsDatabase`), and the rowids in t are integers, no two alike.
   pub stays_sound : (old new : Database) → IsSoundDatabase schema old.trees → IsDatabase new → new.schema ≡ schema
       → AreKeyedByRowid (new.trees t.tree)
       → ((u : Table) → Has schema.tables u → u.tree ≢ t.tree → new.trees u.tree ≡ old.trees u.tree)
@@ -184,11 +189,13 @@ module _ (schema : Schema) (among : (u : Table) → Has all_tables u → Has sch
     updates_make (inr over) r there same changed tests alone listed sound base is =
         over_make over.0 over.1 over.2 over.3 changed tests alone listed sound base is
 
+    -- an upsert leaves a sound database sound, if the schema stays and the trees list it (`IsDatabase`)
     pub upserts_sound : Upserted schema t unlinked limit params target position project plain new old.trees next.trees
         → IsSoundDatabase schema old.trees → IsDatabase next → next.schema ≡ schema → IsSoundDatabase schema next.trees
     upserts_sound (inl put_in) sound base is = stays_sound old next sound base is put_in.1.keyed put_in.1.others
     upserts_sound (inr over) sound base is = stays_sound old next sound base is over.3.keyed over.3.others
 
+    -- an upsert leaves all other tables as they were
     pub upserts_others : Upserted schema t unlinked limit params target position project plain new old.trees next.trees
         → (u : Table) → Has schema.tables u → u.tree ≢ t.tree → next.trees u.tree ≡ old.trees u.tree
     upserts_others (inl put_in) = put_in.1.others

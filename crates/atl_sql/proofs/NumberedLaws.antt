@@ -1,4 +1,6 @@
 -- Laws on upsert and DELETE in a table whose key is the row's number.
+-- `n` is the number of the row that is put or deleted, and `values` are its other values. `old` and `new` are the
+-- states before and after the statement.
 use Rattle.std.proofs.Common.{IsTrue, ◌≡◌, ◌++◌, ◌+◌, ℕ, false, List, [], ◌∷◌, length, slice_get, Some, Ok, sym, ap, ◌∙◌, subst}
 use Rattle.std.specs.List.{list_any, list_all}
 use Rattle.std.proofs.lemmas.List.Folds.{list_any-append}

@@ -1,4 +1,5 @@
 -- Laws on the statements of each table whose key is the row's number: what they mean and do.
+-- `part` is the part of a campaign whose table it is, `n` is a row's number, and `values` are the row's other values.
 use Rattle.std.proofs.Common.{◌≡◌, ℕ, [], ◌∷◌, length, drop, nat_eq, unwrap_or, position, refl}
 use Rattle.sqlite_tied.specs.Compute.{everything}
 use Rattle.sqlite.specs.Listing.{understood}

@@ -1,4 +1,7 @@
 -- Laws on an upsert of the table `campaign`: it inserts the row, or changes some columns of the row that is there.
+-- `head` and `world` are the values and the world text that the statement is given. `project` are the terms of its
+-- UPDATE, where `col 0 n` is the parameter at the index `n`. `old` and `new` are the state or the database before and
+-- after.
 use Rattle.std.proofs.Common.{◌≡◌, ℕ, pos, true, List, [], ◌∷◌, ◌++◌, Some, Ok, refl, sym, ap, ◌∙◌, subst, take}
 use Rattle.sqlite.specs.declared.types.Value.TheVariants.{Null, Int}
 use Rattle.sqlite.specs.Command.TheVariants.{InsertOr}

@@ -1,4 +1,6 @@
 -- Laws on tables whose rows are a key of two numbers and one number more (`books`, `market`).
+-- In a term, `col 0 n` is the parameter at the index `n`, and `col 1 n` the value at the index `n` of the row that is
+-- there, where 0 is the rowid.
 use Rattle.std.proofs.Common.{◌≡◌, ℕ, ℤ, pos, true, List, [], ◌∷◌, None, refl, sym, true≢false}
 use Rattle.std.proofs.lemmas.Bool.{and_parts, not-true}
 use Rattle.sqlite.specs.declared.types.Value.TheVariants.{Int, Null}
@@ -35,6 +37,7 @@ module _ (tree : ℕ) (name first second amount : List ℕ) where
       table tree name (integer_column first ∷ integer_column second ∷ integer_column amount ∷ []) None pair_unique
       (pair_unique ∷ []) []
 
+  -- a row of the types of its columns, without NULL where it may have none, has integers in the columns of the key
   pub pair_ints : (schema : Schema) (x : Row) → passes Datatype schema (λ t. []) pair_table x ≡ true
       → passes NotNull schema (λ t. []) pair_table x ≡ true
       → AreInts pair_unique x

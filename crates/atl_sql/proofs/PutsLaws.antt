@@ -1,5 +1,7 @@
 -- Laws on putting the rows of a list, one after another, into a table: putting some, and then the others, puts them
 -- all.
+-- The key of the table is its first `key` columns. Of the list `all`, the rows `xs` are put next, and `rest` later.
+-- `old`, `mid` and `new` are the database or the state at first, before `xs` is put, and after.
 use Rattle.std.proofs.Common.{◌≡◌, ◌≢◌, ◌↔◌, ◌++◌, ℕ, List, [], ◌∷◌, refl, sym, ◌∙◌, subst, inl, inr}
 use Rattle.sqlite.specs.Order.{Row}
 use Rattle.sqlite.specs.Table.{Table}
@@ -98,6 +100,7 @@ module _ (table : Table) (key : ℕ) where
   one_put row rows is old new did =
       (did.0, λ has. let made = did.1 has in record { does = subst (λ list. PutsRows table key list old.now new.now) (sym is) (puts_one row old.now new.now made.does); tables = made.tables; carries = made.carries })
 
+  -- inside a transaction, putting the rows `xs`, from `a` to `b`, and then `ys`, from `b` to `c`, puts the rows of both
   pub inside_both : (xs ys : List Row) (a b c : State) → DoesInside HasTables (PutsRows table key xs) a b
       → DoesInside HasTables (PutsRows table key ys) b c → DoesInside HasTables (PutsRows table key (xs ++ ys)) a c
   inside_both xs ys a b c one two = (

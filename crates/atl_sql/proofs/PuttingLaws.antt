@@ -1,4 +1,7 @@
 -- Laws on writing the rows of a list step by step: the steps together write the whole list, or end with an error.
+-- `all` are the rows of the list, and `rest` those that are still to put. `old` or `a` is the connection before the
+-- first step, and `b` and `c`, or `now`, are the connection after later steps. `r` is the result of the steps: what the
+-- last one returned, or the error of the one that failed.
 use Rattle.std.proofs.Common.{◌≡◌, ◌++◌, ℕ, List, [], ◌∷◌, Result, Ok, Err, refl, sym, subst, inl}
 use Rattle.std.specs.Borrow.{MutBor}
 use Rattle.sqlite_trees.specs.declared.store.Store.{Ghosts}
@@ -45,6 +48,7 @@ module _ {S : Type 0} (g : Ghosts S) (table : Table) (key : ℕ) where
         → Writes g (RowStatements (upsert table key) (Has (xs ++ ys))) Does r a b
     first_part done = among_each g (upsert table key) (Has xs) (λ row there. (refl, has_left xs ys row there)) done
 
+    -- writing the rows `xs` without an error, and then the rows `ys`, writes both lists, with the result of the second
     pub both_written : {A X : Type 0} {x : X} {r : Result A Error} {a b c : MutBor (Held S)}
         → WritesRows g table key xs (Ok x) a b → WritesRows g table key ys r b c
         → WritesRows g table key (xs ++ ys) r a c

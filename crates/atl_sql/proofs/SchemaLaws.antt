@@ -1,4 +1,6 @@
 -- Laws on the tests of a schema: if they pass, the schema begins with the tables of a campaign.
+-- `found` is a table or an index of the schema, and `r` the result of a test: `Decides r P` says that `r` is true
+-- exactly if `P` holds. `count` and `keys` are how many of the ten tables and of their four indexes come first.
 use Rattle.std.proofs.Common.{◌≡◌, ◌==◌, ◌||◌, inl, inr, ℕ, ◌≤◌, ◌<◌, ◌+◌, ◌++◌, Bool, true, false, codes, List, [], ◌∷◌, length, get_or, slice_get, Option, Some, None, take, map, append_assoc, refl, sym, ap, ◌∙◌, subst, arith}
 use Rattle.std.proofs.lemmas.Bool.{and_right, or_parts}
 use Rattle.std.proofs.lemmas.List.{take-map}
@@ -24,6 +26,7 @@ use Rattle.atl_descriptions.specs.Described.{index_of}
 use Rattle.atl_descriptions.specs.Sets.{table}
 use Rattle.atl_descriptions.specs.Tables.{Part, Own, all_tables, all_indexes, all_trees, table_of, IsHarmless, AreTables, AreIndexes, Begins}
 
+-- a list of one element, which is `x`, is the list of `x` alone; `d` is the element at index 0
 pub only_one : {A : Type 0} (xs : List A) (x d : A) → 1 ≤ length xs → length xs < 2 → d ≡ get_or xs 0 d → d ≡ x
     → xs ≡ x ∷ []
 only_one [] x d least most is same = absurd (omega (arith, least))

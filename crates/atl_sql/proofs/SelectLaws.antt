@@ -1,4 +1,5 @@
 -- Laws on the SELECTs of the ten tables: each shows each row of its table once, if the schema begins with the tables.
+-- `part` is the part that the SELECT reads (`select_of_part`), and `count` is how many columns it shows.
 use Rattle.std.proofs.Common.{◌≡◌, ◌++◌, ℕ, false, List, [], ◌∷◌, IsPermutation, length, map, take, refl, sym, subst}
 use Rattle.std.specs.List.{range_with_len}
 use Rattle.sqlite_tied.specs.Compute.{everything}

@@ -1,4 +1,6 @@
 -- Laws on the values read of the rows that a SELECT shows: they are of all rows, and of their columns' forms.
+-- Of the rows `rows` that were shown, the first `at` are read, and `row` is the next. `forms` are the forms of the
+-- columns, and `last` is the form of one column after them.
 use Rattle.std.proofs.Common.{◌≡◌, ◌<◌, ℕ, suc, List, [], ◌∷◌, ◌++◌, ◌+◌, map, length, get_or, take, ap, ◌∙◌, refl, sym, subst, inl, inr, arith}
 use Rattle.std.specs.List.Sorted.{IsPermutation}
 use Rattle.std.proofs.lemmas.List.{map-append, take_more}
@@ -19,6 +21,7 @@ whole_shown shown first whole tree rows same = subst (λ l. IsPermutation l (map
     kept [] = refl
     kept (r ∷ tree) = ap (λ x. x ∷ map first (map shown tree)) (whole r) ∙ ap (λ l. shown r ∷ l) (kept tree)
 
+-- if the row at the index `at` isn't in the forms of its columns, the rows aren't
 pub refuses_row : (forms : List Form) (rows : List Row) (at : ℕ) (row : Row) → at < length rows
     → row ≡ get_or rows at row
     → ¬ IsTyped forms row → ¬ AreTyped forms rows
@@ -31,6 +34,7 @@ typed_more forms rows more row is before typed r there = elim (has_either rows (
   | inr last ↦ elim last [ inl same ↦ subst (IsTyped forms) (sym same) typed | inr none ↦ absurd none ]
 ]
 
+-- if the first `at` rows, and the row after them, are in the forms of their columns, so are the first `at + 1`
 pub typed_next : (forms : List Form) (rows : List Row) (at : ℕ) (row : Row) → at < length rows
     → row ≡ get_or rows at row → AreTyped forms (take at rows) → IsTyped forms row → AreTyped forms (take (at + 1) rows)
 typed_next forms rows at row within is = typed_more forms (take at rows) (take (at + 1) rows) row (take_more rows at row within ∙ ap (λ r. take at rows ++ r ∷ []) (sym is))
@@ -53,6 +57,7 @@ typed_from [] last row at typed is = (subst (λ k. HasForm last (column row k)) 
 typed_from (form ∷ forms) last row at typed is =
     (typed.0, typed_from forms last row (at + 1) typed.1 (subst (λ k. HasForm last (column row k)) (let e : at + suc (length forms) ≡ at + 1 + length forms = omega arith in e) is))
 
+-- if a row's first columns are in their forms, and the column after them is in the form `last`, all are in their forms
 pub typed_with : (forms : List Form) (last : Form) (row : Row) → IsTyped forms row
     → HasForm last (column row (length forms))
     → IsTyped (forms ++ last ∷ []) row

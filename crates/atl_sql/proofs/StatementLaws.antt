@@ -1,4 +1,6 @@
 -- Laws on the statements of one table: which rows it has after an upsert or a DELETE, and what a text of SQL does.
+-- `old` and `new` are the states before and after a statement, and `count` is how many rows it changed. `db` are the
+-- trees before it, and `out` has the database after it. `params` and `values` are the parameters of the statement.
 use Rattle.std.proofs.Common.{IsTrue, ◌≡◌, ◌/◌, ℕ, ℤ, Bool, false, List, [], ◌∷◌, ◌++◌, length, slice_get, Option, Some, None, Result, Ok, sym, ap, ◌∙◌, subst}
 use Rattle.sqlite_value.specs.Order.{Row, column}
 use Rattle.sqlite_trees.specs.Tree.{Trees, rowid}
@@ -157,6 +159,7 @@ PutsRow t key row = DoneBy (upsert t key) row (Puts t key row)
 abbrev pub DropsKey : Table → ℕ → Row → Type 1
 DropsKey t key k = DoneBy (deletion t key) k (Drops t key k)
 
+-- a statement that does `What` with the parameters `values` does it with parameters that are equal to these (`DoneBy`)
 pub done_by : (sql : List ℕ) (values : Row) (What : Database → Database → Type 0)
     → ((old new : State) (count : ℕ) → IsTrue old.in_transaction → ExecutesInside 0 sql values old new (Ok count) → DoesInside HasTables What old new)
     → DoneBy sql values What

@@ -1,4 +1,6 @@
 -- Laws on reading the rows of a query one by one as they come (`stream`).
+-- `old` is the connection before the query, `mid` once it has given the rows `given`, and `now` or `new` after a later
+-- step. `r` is the result of the read.
 use Rattle.std.proofs.Common.{◌≡◌, ℕ, false, List, [], ◌∷◌, ◌++◌, map, length, Option, Some, None, Result, Ok, Err, IsErrAnd, refl, sym, ap, ◌∙◌, subst, inl, inr, arith}
 use Rattle.std.specs.declared.vec.Vec.{Vec}
 use Rattle.sqlite_schema.specs.declared.command.Returning.{Returning}
@@ -72,6 +74,7 @@ asked_then old mid new one two = record {
   faults = omega (arith, one.faults, two.faults);
 }
 
+-- a query without RETURNING that doesn't read the time adds nothing to what a crash may leave (`Survives`)
 pub commits_nothing : (sql : List ℕ) (old new : State) → IsPlain (understood old.now.schema sql)
     → Survives old new (CommitsShowing sql [] old) → Survives old new (λ _. ⊥)
 commits_nothing sql old new plain = survives_weaker old new _ _ (λ _ db. never_commits sql [] old db plain)
@@ -166,12 +169,14 @@ module _ {S : Type 0} (g : Ghosts S) (sql : List ℕ) (old : Held S) where
         idle = idle giving.idle;
       }
 
+      -- if the old items were read of the rows given so far, the new items were read of these and the next row
       pub read_more : (old_items new_items : List A) (row : Row)
           → map shown old_items ≡ map (first_columns (length forms)) given → AddsRow forms shown old_items row new_items
           → map shown new_items ≡ map (first_columns (length forms)) (given ++ row ∷ [])
       read_more old_items new_items row read adds =
           ap (map shown) adds.1 ∙ map_at_end shown old_items adds.0 ∙ ap (λ rs. rs ++ shown adds.0 ∷ []) read ∙ ap (λ r. map (first_columns (length forms)) given ++ r ∷ []) adds.2 ∙ sym (map_at_end (first_columns (length forms)) given row)
 
+      -- and if the rows given so far are in the forms of their columns, so are these and the next row
       pub typed_more : (old_items new_items : List A) (row : Row) → AreTyped forms given
           → AddsRow forms shown old_items row new_items → AreTyped forms (given ++ row ∷ [])
       typed_more old_items new_items row typed adds one there = elim (has_either given (row ∷ []) one there) [
@@ -180,6 +185,7 @@ module _ {S : Type 0} (g : Ghosts S) (sql : List ℕ) (old : Held S) where
         | inr (inr none) ↦ absurd none
       ]
 
+    -- if the query gave one more row, and changed nothing, it is still running, and has given this row too (`IsGiving`)
     pub giving_more : (row : Row) → (HasCleanDisk (state g now) → Advances g mid now (Some row))
         → (HasCleanDisk (state g now) → IsUnchanged (state g mid) (state g now))
         → IsGiving g sql old (given ++ row ∷ []) now

@@ -1,4 +1,5 @@
 -- Small laws on SQL's casts and tests that each table's laws need.
+-- A cast is what a column makes of a value that is written to it.
 use Rattle.std.proofs.Common.{◌≡◌, ◌&&◌, ◌||◌, ℕ, Bool, true, false, cond, [], ◌∷◌, sym, ap, ◌∙◌, refl}
 use Rattle.std.specs.Ordering.{is_eq}
 use Rattle.std.proofs.lemmas.Cmp.{tied_itself}

@@ -1,4 +1,5 @@
 -- Laws on the statement of an upgrade on the table `campaign`: it sets format and world text.
+-- `head` has the values that stay. `before` is the old world text, and `text` the new one.
 use Rattle.std.proofs.Common.{◌≡◌, ℕ, pos, List, [], ◌∷◌, refl, sym, ap, ◌∙◌}
 use Rattle.sqlite_tied.specs.Compute.{everything}
 use Rattle.sqlite.specs.declared.types.Value.TheVariants.{Null, Int, Text}

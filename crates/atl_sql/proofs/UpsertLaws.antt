@@ -1,4 +1,6 @@
 -- Laws on INSERT .. ON CONFLICT (key) DO UPDATE of one row: which rows the table has afterwards.
+-- `new` is the row to insert, and `r` a row of the table. `db` are the trees before, and `next`, or those of `w`, the
+-- trees after.
 use Rattle.std.proofs.Common.{◌≡◌, ◌⊎◌, ℕ, ℤ, Bool, true, false, List, [], ◌∷◌, ◌++◌, map, flat_map, Option, Some, None, Ok, Ordering, Less, Equal, Greater, refl, sym, ap, ◌∙◌, subst, inl, inr, true≢false, arith}
 use Rattle.std.specs.Prelude.{cond}
 use Rattle.std.specs.List.{list_all}

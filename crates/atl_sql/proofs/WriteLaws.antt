@@ -1,6 +1,7 @@
 -- Laws on writes inside a transaction: what one statement, or several steps together, do, and which error they give.
 -- `own` is the set of statements that a write may run; `Does` says what the write does, of the states before and after.
 -- `a` is the connection before the first step, and `b`, `c` and `d` are the connection after each step.
+-- `r` is the result of the steps: what the last one returned, or the error of the one that failed.
 use Rattle.std.proofs.Common.{◌≡◌, ℕ, List, false, IsTrue, Result, Ok, Err, IsErr, IsErrAnd, OnOk, refl, sym, ◌∙◌, subst, inl, inr, arith}
 use Rattle.std.specs.Borrow.{MutBor}
 use Rattle.std.proofs.lemmas.Bool.{cases_Bool}
@@ -96,11 +97,13 @@ module _ {S : Type 0} (g : Ghosts S) where
 
   -- ---- one step after another
 
+  -- a write that does `First` does each `Does` that follows from it
   pub weaker : {own : Statements} {First Does : State → State → Type 0} {A : Type 0} {r : Result A Error} {a b : MutBor (Held S)}
       → ((old new : State) → First old new → Does old new) → Writes g own First r a b → Writes g own Does r a b
   weaker {r = r} less one =
       record { same_reference = one.same_reference; does = λ clean. on_ok r (less _ _) (one.does clean); goes_on = one.goes_on; reaches = one.reaches; error_given = one.error_given; kept = one.kept; survives = one.survives }
 
+  -- a write by statements of `own` is one by statements of `more`, if `more` has all of them
   pub writes_among_more : {own more : Statements} {Does : State → State → Type 0} {A : Type 0} {r : Result A Error} {a b : MutBor (Held S)}
       → ((sql : List ℕ) (params : Row) → own sql params → more sql params) → Writes g own Does r a b
       → Writes g more Does r a b
@@ -114,12 +117,14 @@ module _ {S : Type 0} (g : Ghosts S) where
     survives = one.survives;
   }
 
+  -- a write by this one statement is one by statements of `own`, if `own` has it
   pub among_only : {own : Statements} {Does : State → State → Type 0} {A : Type 0} {r : Result A Error} {a b : MutBor (Held S)} (text : List ℕ) (values : Row)
       → own text values → Writes g (OneStatement text values) Does r a b → Writes g own Does r a b
   among_only {own = own} text values is one =
       writes_among_more (λ sql params only. subst (λ s. own s params) (sym only.0) (subst (own text) (sym only.1) is))
       one
 
+  -- a write by statements of this text with these rows is one by statements of `own`, if `own` has all of them
   pub among_each : {own : Statements} {Does : State → State → Type 0} {A : Type 0} {r : Result A Error} {a b : MutBor (Held S)} (text : List ℕ) (rows : Set)
       → ((row : Row) → rows row → own text row) → Writes g (RowStatements text rows) Does r a b
       → Writes g own Does r a b
@@ -160,11 +165,15 @@ module _ {S : Type 0} (g : Ghosts S) where
     survives = one.survives;
   }
 
+  -- after a write without an error, a second one that ended with an error, which `r` hands on, ends both so, whatever
+  -- they were to do
   pub stops_second : {own : Statements} {First Second Does : State → State → Type 0} {A X Z : Type 0} {x : X} {e : Error} {r : Result A Error} {a b c : MutBor (Held S)}
       → Writes g own First (Ok x) a b → Writes g own Second {A = Z} (Err e) b c → HandsOn e r → Writes g own Does r a c
   stops_second {e = e} one two failed =
       stops (two_steps {Does = Any} {r = Err e} (λ old mid new first second. tt) one two) failed
 
+  -- three writes one after the other, the first two without an error, are one write with the result of the third, and
+  -- do `Does`, if `Does` follows from what the three do
   pub three_steps : {own : Statements} {First Second Third Does : State → State → Type 0} {A X Y : Type 0} {x : X} {y : Y} {r : Result A Error} {a b c d : MutBor (Held S)}
       → ((old one two new : State) → First old one → Second one two → Third two new → Does old new)
       → Writes g own First (Ok x) a b → Writes g own Second (Ok y) b c → Writes g own Third r c d

@@ -1,5 +1,6 @@
 -- Laws on the rows of any part but the campaign row: the upsert puts a row that can be written, and the DELETE by its
 -- whole key deletes it.
+-- `row` is a row as SQL shows it, `key` are the values of a key, and `part` is the part whose table it is.
 use Rattle.std.proofs.Common.{◌≡◌, ℕ, ℤ, suc, pos, negsuc, true, List, [], ◌∷◌, codes, drop, refl, sym, ap, ◌∙◌, subst, true≢false, Result}
 use Rattle.std.proofs.lemmas.Bool.{and_parts}
 use Rattle.sqlite.specs.declared.types.Value.{Value}

@@ -17,7 +17,8 @@ pub record PutsCampaignRow (head : CampaignRowValue) (world : List ℕ) (old new
       → HasExactly (rows_in campaign_table old.trees) (λ r. r ≡ campaign_row before text)
       → Puts campaign_table 1 (campaign_row head text) old new
 
--- a campaign row of the values `head` in the first format becomes the one in the second, with the world text `text`
+-- a campaign row of the values `head` in the first format, whatever its world text (`before`), becomes the one in the
+-- second, with the world text `text`
 abbrev pub UpgradesCampaignRow : CampaignRowValue → List ℕ → Database → Database → Type 0
 UpgradesCampaignRow head text old new =
     (before : List ℕ)

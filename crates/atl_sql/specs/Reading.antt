@@ -1,5 +1,6 @@
 -- What reading all rows of a table gives. `old` and `new` are the connection before and after the read. `forms` are the
--- forms of the columns, and `shown` gives the row that a value was read of.
+-- forms of the columns, and `shown` gives the row that a value was read of. `g` is the kind of store, in memory or in
+-- files.
 use Rattle.std.specs.Prelude.{◌≡◌, ◌≢◌, ◌≤◌, ◌⊎◌, ◌++◌, ℕ, List, [], ◌∷◌, length, map, IsTrue, IsPermutation, false, Option, Result, IfOk, IfErr, IfSome, OnOk}
 use Rattle.std.specs.declared.vec.Vec.{Vec}
 use Rattle.sqlite_trees.specs.declared.store.Store.{Ghosts}
@@ -37,7 +38,7 @@ pub record IsAsked (old before : State) : Type 0 where
   -- the connection's disk has failed at least as often as that of `old`
   pub faults : old.faults ≤ before.faults
 
--- `sql` is the text of a SELECT, and `g` the kind of store, in memory or in files
+-- `sql` is the text of a SELECT
 module _ {S : Type 0} (g : Ghosts S) (sql : List ℕ) (old : Held S) where
   -- the SELECT, asked on a connection with the tables of `old` (`IsAsked`), shows these rows
   abbrev pub Selects : List Row → Type 0

@@ -1,4 +1,5 @@
 -- The rows of each table as SQL shows them, and the forms of the columns. See docs/FORMATS.md, "Tables".
+-- Items and skills are given by their indexes in the world, and entries and things of the books by their numbers.
 use Rattle.std.specs.Prelude.{ℕ, ℤ, pos, List, [], ◌∷◌, ◌++◌}
 use Rattle.sqlite.specs.declared.types.Value.{Value}
 use Rattle.sqlite.specs.declared.types.Value.TheVariants.{Int, Text, Blob}

@@ -15,6 +15,8 @@ use sqlite_sql::ops::{BinaryOp, CompareOp};
 use sqlite_value::keys::Collation;
 use sqlite_value::value::Value;
 
+/// The indexes of the two nodes that a node compares by `=` under the collation BINARY; None for
+/// any other node.
 fn sides(node: Option<&Op>) -> Option<(usize, usize)>
     ensures equal { IfSome result
         (λ two. option_copied node.entry ≡ Some (variant.Binary (Compare Eq Binary) two.0 two.1)) }
@@ -29,6 +31,7 @@ fn sides(node: Option<&Op>) -> Option<(usize, usize)>
     }
 }
 
+/// `Column(1, 0)` is the row's number, which is the column `id` of `campaign`.
 fn is_number(node: Option<&Op>) -> bool
     ensures { IsTrue result ↔ (option_copied node.entry ≡ Some (variant.Column 1 0)) }
 {
@@ -41,6 +44,7 @@ fn is_one(node: Option<&Op>) -> bool
     matches!(node, Some(Op::Literal(Value::Int(1))))
 }
 
+/// Whether the term whose outermost node has the index `root` is `id = 1`.
 fn has_number_one(nodes: &[Op], root: usize) -> bool
     ensures { IsTrue result ↔
         (term_in nodes.now root ≡ op2 (Compare Eq Binary) (col 1 0) (lit (Int (pos 1)))) }
