@@ -1,4 +1,7 @@
 -- Law: two good campaigns of one world whose rows one database holds are equal, and so are the world texts.
+-- `c` and `d` are the two campaigns, and `one` and `other` their world texts; `db` has the trees of the database. `m`
+-- is a map of one campaign, such as its units, or its books, and `k` the same of the other; `line` makes the row of a
+-- number and its value.
 use Rattle.std.proofs.Common.{◌≡◌, ◌≢◌, ◌+◌, ◌∙◌, ℕ, ℤ, zero, suc, pos, negsuc, Bool, true, false, List, Some, inl, inr, refl, sym, ap, arith}
 use Rattle.std.specs.Prelude.{◌⊎◌}
 use Rattle.std.specs.Ordering.{nat_cmp}

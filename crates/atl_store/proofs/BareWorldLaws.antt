@@ -1,4 +1,5 @@
 -- Law: a good campaign with nothing in stock is good in each world that differs in markets alone.
+-- In the public law the worlds are `v` and `w`. `c` is the campaign, and `bare` says that nothing is in stock.
 use Rattle.std.proofs.Common.{◌≡◌, ℕ, false, Option, Some, None, refl, sym, ap, ◌∙◌, subst}
 use Rattle.std.specs.Prelude.{option_map}
 use Rattle.std.specs.Option.{option_map_or}

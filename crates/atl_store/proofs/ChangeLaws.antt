@@ -1,4 +1,7 @@
 -- Laws on `write_changes`: tables that hold a campaign's unmarked rows hold all of it once its marked rows are written.
+-- `c` is the campaign with its marks. `before` is a campaign that the tables held, which may differ from `c` in what is
+-- marked. `old` is the database, or the rows of a table, before the write, and `new` after it; `text` is the world
+-- text.
 use Rattle.std.proofs.Common.{◌≡◌, ◌+◌, ◌<◌, ◌&&◌, ◌||◌, ℕ, suc, ℤ, Bool, true, false, List, Option, Some, None, unwrap_or, nat_le, refl, sym, ap, subst, ◌∙◌, true≢false, arith}
 use Rattle.std.proofs.lemmas.Bool.Decides.{nat_tests}
 use Rattle.std.proofs.Math.Bool.{or-false}
@@ -61,6 +64,7 @@ unmarked_rows_agree is_marked Before After old ahead back was r is =
 
 -- ---- one row for each number
 
+-- `line` makes the row of a number and its value; such a row is marked exactly if its number is in `marks` (`heads`)
 module _ {V : Type 0} (line : ℕ → V → Row) (marks : FinSet nat_cmp) (heads : (n : ℕ) (v : V) → begins_marked marks (line n v) ≡ contains marks n) where
   -- Under each unmarked number under which the first map has a value, the second has one with the same row.
   abbrev pub Follows : FinMap nat_cmp V → FinMap nat_cmp V → Type 0

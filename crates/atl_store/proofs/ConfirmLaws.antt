@@ -1,4 +1,6 @@
 -- Laws on a query outside a transaction, as the one that confirms a load: it commits nothing and changes nothing.
+-- `sql` is the text of the query and `e` the error that it gives. `old` is the state, or the connection, before the
+-- query, and `new` or `during` after it. In the last law the schema begins with the tables of the format `f`.
 use Rattle.std.proofs.Common.{◌≡◌, ℕ, Bool, true, false, cond, List, [], Result, Ok, Err, IfErr, IsErrAnd, refl, sym, ◌∙◌, subst, inl, inr}
 use Rattle.sqlite.specs.declared.error.Error.{Error}
 use Rattle.sqlite_trees.specs.declared.store.Store.{Ghosts}

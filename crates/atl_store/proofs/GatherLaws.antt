@@ -2,6 +2,7 @@
 -- The connection is `old` before the first read, `mid` after some of them, and `new` after all. Of two lists of
 -- SELECTs, `xs` is asked first, with the result `one`, and then `ys`, with `two`. `r` is the result of all reads, and
 -- `P` and `Q` say what holds of what was found.
+-- `o` is what all reads found: None if a value is of another type than its column.
 use Rattle.std.proofs.Common.{◌≡◌, ◌≢◌, ◌⊎◌, ◌++◌, ℕ, List, [], ◌∷◌, Bool, true, false, not, true≢false, IsTrue, Option, Some, None, Result, Ok, Err, IfOk, IfErr, IsErrAnd, map, refl, sym, ◌∙◌, subst, inl, inr, arith}
 use Rattle.std.specs.Option.{option_zip}
 use Rattle.std.specs.declared.vec.Vec.{Vec}

@@ -1,6 +1,8 @@
 -- Laws on `write_join` and `write_mail`: tables that held the campaign before hold the one after.
 -- The faction `f` with the number `n` joins, with its unit `u` under the number `m`; `after` is the campaign then.
 -- `world` is the world text with which the campaign row is put; a row that is there keeps its own.
+-- `start` is the state before the steps of a law, and `one`, `two` and `three` are those after the first, the second
+-- and the third.
 use Rattle.std.proofs.Common.{◌≡◌, ◌≢◌, ◌⊎◌, ◌+◌, ℕ, ℤ, pos, List, [], ◌∷◌, map, Some, None, false, refl, sym, ap, ◌∙◌, subst, inl, inr, take, arith}
 use Rattle.std.specs.Prelude.{◌+ℤ◌}
 use Rattle.std.specs.Ordering.{nat_cmp}
@@ -275,7 +277,7 @@ joining_done n f m u report after world start one two found first second =
 
 -- ---- a mailing
 
--- tables that held a campaign hold it with a faction's mail once this is written
+-- tables that held a campaign (`a`) hold it with a faction's mail once this is written (`b`)
 pub mail_held : (faction : ℕ) (mail : List ℕ) (a b : Database) → WritesMail faction mail a b
     → (text : List ℕ) (before : CampaignValue) → Holds a.trees text before
     → Holds b.trees text (with_mail before faction mail)

@@ -1,5 +1,8 @@
 -- Laws on rows with different numbers in one column: keys of rows, and rowids that rows are read with.
 -- The listing of a part is the rows that its SELECT shows.
+-- `placed` are rows as they were read, each with its rowid. `reads` is all that was read, by part, and `p` the rows put
+-- together for the check (`Parts`), without rowids. `at` is the index of a column, from 0, and `db` has the trees of
+-- the database.
 use Rattle.std.proofs.Common.{◌≡◌, ◌≢◌, ◌++◌, ℕ, ℤ, pos, true, false, List, [], ◌∷◌, ◌⊎◌, take, map, Result, Ok, Err, IfErr, IsErrAnd, inl, inr, refl, sym, ap, ◌∙◌, subst, true≢false, arith}
 use Rattle.std.specs.Prelude.{if◌then◌else◌}
 use Rattle.std.specs.List.{AllByRecursion, IsDistinct}

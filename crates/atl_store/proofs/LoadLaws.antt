@@ -1,5 +1,6 @@
 -- Laws on rowids that a SELECT shows: they are integers, no two alike, exactly if those of the table's tree are.
 -- `f` gives the row that the SELECT shows of a row of the tree, with the rowid in the column at the index `at`.
+-- `tree` are the rows as they are stored, and `shown` the rows that the SELECT shows, in any order.
 use Rattle.std.proofs.Common.{◌≡◌, ℕ, false, List, [], ◌∷◌, map, Ordering, Less, Equal, Greater, refl, sym, ap, ◌∙◌}
 use Rattle.std.specs.List.{AllByRecursion, IsDistinct}
 use Rattle.std.specs.List.Sorted.{IsPermutation}

@@ -1,6 +1,8 @@
 -- Laws on reading the table `campaign`: it has one row that keeps the first rule, or a fault refuses the load.
 -- To judge the rows gives Ok with the row and its world, Damaged by the first rule, or Memory.
 -- That a fault refuses the load means: loading may return it (`RefusesToLoadIn`).
+-- The first rule is that on the campaign row (`AreOwnRow`). `rows` are the rows that the SELECT shows, and `items` the
+-- same, parsed. `own` is a parsed row, `h` a row without its world text, `text`; `r` is the result of judging.
 use Rattle.std.proofs.Common.{◌≡◌, ℕ, false, List, [], ◌∷◌, map, length, Result, Ok, Err, IfOk, IfErr, IsPermutation, refl, sym, ap, ◌∙◌, subst, inl, inr, IsUtf8}
 use Rattle.sqlite.specs.Held.{Held, state}
 use Rattle.sqlite.specs.Order.{Row, column}

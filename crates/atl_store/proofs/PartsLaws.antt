@@ -1,4 +1,6 @@
 -- Laws on tables whose rows are those of a campaign: if the rows that were read are made of it, the tables hold it.
+-- Rows are made of a campaign if they are those that it has in a format, each once, in any order (`AreRowsOf`). `p` are
+-- the rows that were read of all tables, `db` has the trees of the database, and `text` is the world text.
 use Rattle.std.proofs.Common.{◌≡◌, ◌≢◌, ◌==◌, ℕ, ℤ, pos, Bool, true, false, cond, not, unwrap_or, Some, None, List, [], ◌∷◌, filter, map, refl, sym, ap, ◌∙◌, subst, inl, inr, true≢false, IsTrue}
 use Rattle.std.specs.List.{AllByRecursion}
 use Rattle.std.specs.List.Sorted.{IsPermutation}

@@ -1,4 +1,6 @@
 -- Law: the schema table of a database lists only one schema, if this has no view.
+-- The schema table is the one whose rows list a database's tables, indexes and views. `db` has the trees of the
+-- database.
 use Rattle.std.proofs.Common.{◌≡◌, ℕ, ◌+◌, ◌<◌, ◌++◌, false, pos, codes, List, [], ◌∷◌, filter, slice_get, Some, refl, sym, ap, ◌∙◌, subst, arith}
 use Rattle.std.specs.Fmt.{decimal}
 use Rattle.std.specs.List.{AllZip}
@@ -105,7 +107,7 @@ no_views (r ∷ rows) none views is one two = absurd (subst (AllZip IsViewRow (r
 
 -- ---- the whole
 
--- two sound schemas of one database are equal, if the first has no views
+-- two schemas that the trees of one database list and obey (`IsSound`) are equal, if the first, `s`, has no views
 pub one_schema : (db : Trees) (s t : Schema) → IsSound s db → IsSound t db → s.views ≡ [] → t ≡ s
 one_schema db s t one two none =
     let first = one.lists.listed in

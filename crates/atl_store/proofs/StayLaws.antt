@@ -2,6 +2,7 @@
 -- `old` is the state before the transaction, and `new` after its commit or its end by a fault. The transaction does
 -- `Does` to tables that are as `Before` says. As a parameter, `Commits` says which trees a crash may leave besides
 -- those that it could have left before.
+-- `text` is the world text, and `g` the kind of store, in memory or in files.
 use Rattle.std.proofs.Common.{◌≡◌, ◌≢◌, ℕ, Bool, true, false, cond, List, IsTrue, Result, Ok, Err, OnErr, IfErr, IsErrAnd, refl, sym, ap, ◌∙◌, subst, inl, inr, arith}
 use Rattle.sqlite_trees.specs.Tree.{Trees}
 use Rattle.sqlite_trees.specs.declared.store.Store.{Ghosts}

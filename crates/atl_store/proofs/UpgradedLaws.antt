@@ -1,4 +1,7 @@
 -- Laws on `upgrade`: what it returns and leaves after its reads and after its transaction.
+-- `c` is the campaign that was loaded. `w` is the world of the new text and `before` that of the campaign; in
+-- `loaded_old` it is `w` that is the campaign's. `g` is the kind of store, in memory or in files, and `state g conn`
+-- the state of the database under a connection.
 use Rattle.std.proofs.Common.{◌≡◌, ◌≤◌, ℕ, Bool, true, false, cond, List, IsTrue, Result, Ok, Err, refl, sym, ap, ◌∙◌, subst, inl, inr, arith}
 use Rattle.sqlite_trees.specs.Tree.{Trees}
 use Rattle.sqlite_trees.specs.declared.store.Store.{Ghosts}

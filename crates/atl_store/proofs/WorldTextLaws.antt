@@ -1,4 +1,5 @@
 -- Laws on the world text: the text in the tables is the text with which they keep or hold a campaign.
+-- `s` is the state of a connection, `c` the campaign, and `text` the world text.
 use Rattle.std.proofs.Common.{◌≡◌, ℕ, List, [], ◌∷◌, refl, ap, inl}
 use Rattle.sqlite.specs.Order.{Row}
 use Rattle.sqlite.specs.State.{State}

@@ -1,6 +1,7 @@
 -- For proofs and for private functions: what each step of loading has read, and which fault it returns.
 -- `f` is the format that the file is to have, and `r` the result of a step. `g` is the kind of store, in memory or in
 -- files. `old` is the connection, or its state, before a step or before all of loading, and `new` after it.
+-- The first rule is that on the campaign row (`AreOwnRow`).
 use Rattle.std.specs.Prelude.{◌≡◌, ◌≢◌, ◌++◌, ℕ, List, [], ◌∷◌, Bool, false, true, if◌then◌else◌, ◌⊎◌, IsTrue, IsPermutation, drop, length, map, take, pos, Option, Some, None, Result, Ok, Err, IfOk, IfErr, ⊤}
 use Rattle.std.specs.List.{AllByRecursion, IsDistinct}
 use Rattle.std.specs.Ordering.{eq_by_cmp, int_cmp, is_eq}

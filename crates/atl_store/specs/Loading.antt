@@ -80,7 +80,8 @@ rows_read text p Reports = map report_stored p.reports
 rows_read text p Books = map books_values p.books
 rows_read text p Markets = map market_values p.markets
 
--- The tables of a format have exactly the rows in `p`, each as often as `p` has it.
+-- The tables of a format have exactly the rows in `p`, each as often as `p` has it. The campaign row has the world text
+-- `text`, which `p` lacks.
 -- In `p` there is no row of a part that the format doesn't have.
 pub record HaveRows (f : Format) (db : Trees) (text : List ℕ) (p : Parts) : Type 0 where
   -- the table of each part of the format has exactly the part's rows in `p`
@@ -91,7 +92,7 @@ pub record HaveRows (f : Format) (db : Trees) (text : List ℕ) (p : Parts) : Ty
 -- ---- the first rule
 
 -- The rows that SQL shows of `campaign` keep the first rule: there is one row, its id is 1, and its format is `f`.
--- The world text of the row is UTF-8 and reads as the world `w`.
+-- The world text of the row, `text`, is UTF-8 and reads as the world `w`. `h` is the row without this text.
 pub record AreOwnRow (f : Format) (rows : List Row) (h : StoredCampaignRow) (text : List ℕ) (w : WorldValue) : Type 0 where
   -- the SELECT of `campaign` shows one row, whose first columns show `h` and the world text
   pub shown : map (first_columns (length campaign_forms)) rows ≡ own_stored text h ∷ []
@@ -331,7 +332,8 @@ module _ (f : Format) {S : Type 0} (g : Ghosts S) (old : Held S) where
   abbrev pub CannotConfirm : Type 0
   CannotConfirm = AllSelectsShowTyped g old (other_selects f) × ((¬ AreMade) ⊎ (FailedMeanwhile g old ⊎ RefusesAgain g old false))
 
-  -- When Store may be returned: in a transaction, or if the SELECT of the campaign row could not go on (`is_failure`).
+  -- When Store may be returned: in a transaction, or if the SELECT of the campaign row is refused because of the disk,
+  -- the connection, a size limit or the step limit (`is_failure`).
   -- Also, where that row keeps the first rule, if another table can't be read or the tables can't be confirmed.
   abbrev pub MayReturnStore : Type 0
   MayReturnStore =
@@ -342,8 +344,8 @@ module _ (f : Format) {S : Type 0} (g : Ghosts S) (old : Held S) where
   abbrev pub HasOtherFormat : Type 0
   HasOtherFormat = (rows : List Row) × Selects g (selection campaign_table 1) old rows × AreOfOtherFormat f rows
 
-  -- When loading in the format `f` may return each fault. NotACampaign: the SELECT of `campaign` is refused.
-  -- OtherFormat: this SELECT shows one row, of the other format.
+  -- When loading in the format `f` may return each fault. NotACampaign: the SELECT of `campaign` is refused, but not
+  -- for memory or a failure (`is_failure`). OtherFormat: this SELECT shows one row, of the other format.
   -- Store, Damaged and Memory: as said above (`MayReturnStore`, `MayReturnDamaged`, `MayReturnMemory`).
   abbrev pub RefusesToLoadIn : LoadFault → Type 0
   RefusesToLoadIn Store = MayReturnStore

@@ -21,6 +21,8 @@ use own::read_own;
 use sqlite::{Alter, Connection};
 use std::alloc::Global;
 
+/// Damaged by the second rule, `Ranges`, if a value in a table other than `campaign` is of another
+/// type than its column.
 fn gather<S: Alter>(
     alloc: Global,
     conn: &mut Connection<S>,

@@ -16,6 +16,7 @@ use atl_writing::write_upgrade;
 use sqlite::{Alter, Connection};
 use std::alloc::Global;
 
+/// The world of the new text, and the campaign that the tables hold in the first format.
 fn world_and_campaign<S: Alter>(
     alloc: Global,
     conn: &mut Connection<S>,

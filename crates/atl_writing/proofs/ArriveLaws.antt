@@ -1,4 +1,7 @@
 -- Laws on what single statements make of a table: a row put under its number, and an amount of the books written.
+-- `c` is the campaign that is written; `e` and `t` are the entry and the thing of an amount in its books. `old` is the
+-- database before a statement, and `new` after it. As lists, `rows` are the rows of a table before, and `news` those
+-- after. `line` makes the row of a number and its value.
 use Rattle.std.proofs.Common.{◌≡◌, ◌≢◌, ◌⊎◌, ◌+◌, ℕ, ℤ, pos, List, [], ◌∷◌, take, None, refl, sym, ap, ◌∙◌, subst, inl, inr, arith}
 use Rattle.std.specs.Prelude.{◌↔◌}
 use Rattle.std.specs.Ordering.{nat_cmp, int_eq}
@@ -79,8 +82,8 @@ module _ (c : CampaignValue) (e : BooksEntry) (t : Thing) where
   abbrev row : Row
   row = books_row (entry_index e + 1) (thing_index t) (amount_in c.books e t)
 
-  -- writing the campaign's amount of entry `e` and thing `t` turns the rows of books `A` into those of `B`, if `B` is
-  -- `A` with this amount
+  -- writing the campaign's amount of entry `e` and thing `t` turns the rows `S` of books `A` into those of `B`, if `B`
+  -- is `A` with this amount
   pub written_amount_changes_books : (A B : BooksValue) (S : Set) → amount_in B e t ≡ amount_in c.books e t
       → ((f : BooksEntry) (u : Thing) → (entry_index f ≢ entry_index e) ⊎ (thing_index u ≢ thing_index t) → amount_in B f u ≡ amount_in A f u)
       → ((r : Row) → S r ↔ BooksRowsOf A r) → (r : Row) → rows_with_amount c e t S r ↔ BooksRowsOf B r
@@ -125,7 +128,8 @@ module _ (c : CampaignValue) (e : BooksEntry) (t : Thing) where
             elim far [ inl entries ↦ entries (omega (arith, keys.0)) | inr things ↦ things keys.1 ],
       )
 
--- the statements that write an amount of the books (`OfAmount`)
+-- the statements that write an amount of the books (`OfAmount`); `n` and `k` are the numbers that its row has for the
+-- entry and the thing
 module _ (c : CampaignValue) (e : BooksEntry) (t : Thing) (n k : ℕ) (entry : n ≡ entry_index e + 1) (thing : k ≡ thing_index t) where
   -- the statement that puts the row of an amount, which is not 0, is the one that writes it; the row has `n` and `k`
   -- for entry and thing
@@ -149,7 +153,8 @@ amount_changes c e t sql params (drops_amount zero) = drops_row Books (
       of.2 (ap (λ (a : Account). amount_in c.books a.0 a.1) (same_account of.0 e of.1 t entry keys.1) ∙ zero),
 )
 
--- an amount is written: its row is put, or deleted if the amount is 0
+-- an amount is written: its row is put, or deleted if the amount is 0; `n` and `k` are the numbers that the row has for
+-- the entry and the thing
 module _ (c : CampaignValue) (e : BooksEntry) (t : Thing) (n k : ℕ) (entry : n ≡ entry_index e + 1) (thing : k ≡ thing_index t) (old new : Database) where
   -- to put the row of an amount `z` that is not 0 writes the amount
   pub put_writes_amount : (z : ℤ) → z ≡ amount_in c.books e t → z ≢ pos 0 → Puts books_table 2 (books_row n k z) old new

@@ -1,4 +1,7 @@
 -- Laws on writing the marked amounts of the books: one entry and one thing after another, until all are written.
+-- To rewrite amounts is to make the rows of the marked ones among them those of the campaign `c`, where an amount of 0
+-- has no row (`RewritesAmounts`). Tests and lists of numbers give an entry or a thing by its index. `e` is an entry or
+-- its index, `t` a thing or its index, and `r` a row of `books`.
 use Rattle.std.proofs.Common.{◌≡◌, ◌≢◌, ◌+◌, ◌*◌, ◌<◌, ◌≤◌, ◌&&◌, ◌||◌, nat_le, ℕ, zero, suc, pos, Bool, true, false, List, [], ◌∷◌, map, take, refl, sym, ap, ◌∙◌, subst, inl, inr, true≢false, arith}
 use Rattle.std.specs.List.{range_with_len}
 use Rattle.std.specs.Ordering.{nat_cmp, int_eq, eq_by_cmp}

@@ -1,4 +1,4 @@
--- Law: a flag that is a parameter of a statement is stored as the number of the row.
+-- Law: a flag, true or false, that is given as a parameter is stored as the number that a row has for it: 1 or 0.
 use Rattle.std.proofs.Common.{◌≡◌, Bool, true, false, pos, if◌then◌else◌, refl}
 use Rattle.sqlite.specs.declared.types.Value.TheVariants.{Int}
 use Rattle.atl_campaign.specs.Rows.{flag}

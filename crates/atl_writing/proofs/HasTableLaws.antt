@@ -1,4 +1,7 @@
 -- Laws on the table `has`: one row for each item and skill of each unit, if its amount is not 0.
+-- `unit` or `n` is the number of a unit, `held` what it holds, and `sort` a kind of thing: item or skill. `e` is the
+-- number of a thing with its amount, `es` a list of such pairs, and `row` makes the row of one. `key` says how many
+-- columns, the first ones, are the key of a row.
 use Rattle.std.proofs.Common.{◌≡◌, ◌≢◌, ◌==◌, ℕ, Bool, true, false, if◌then◌else◌, List, [], ◌∷◌, take, Option, Some, None, unwrap_or, refl, sym, ap, ◌∙◌, subst, inl, inr, true≢false, arith}
 use Rattle.std.specs.Ordering.{nat_cmp}
 use Rattle.std.specs.FinMap.{FinMap, entries, get, get-empty, is_sorted}

@@ -1,4 +1,7 @@
 -- Laws on parts with one row for each number: their statements, and how their tables are filled and rewritten.
+-- A part is filled if its table, where that was empty, gets exactly the campaign's rows (`FillsPart`). It is rewritten
+-- if its marked rows become the campaign's (`RewritesPart`). `old` is the database before that, and `new` after it;
+-- `own` stands for any campaign row.
 use Rattle.std.proofs.Common.{◌≡◌, ℕ, Bool, true, false, List, [], ◌∷◌, None, take, refl, sym, ap, ◌∙◌, subst}
 use Rattle.std.specs.Prelude.{◌↔◌}
 use Rattle.std.specs.Ordering.{nat_cmp}

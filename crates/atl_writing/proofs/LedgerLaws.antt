@@ -1,4 +1,7 @@
 -- Laws on the table `books`: one row for each entry and thing, if its amount is not 0.
+-- `c` is the campaign whose books these are. The row of an amount has the index of its entry plus 1, the number of its
+-- thing, and the amount, `z`. `indices` are numbers of things. `old` are the rows of the table before it is filled, and
+-- `rows` those after.
 use Rattle.std.proofs.Common.{◌≡◌, ◌≢◌, ◌+◌, ◌<◌, ◌≤◌, ◌&&◌, ℕ, zero, suc, ℤ, pos, Bool, true, false, if◌then◌else◌, nat_lt, List, [], ◌∷◌, take, Some, refl, sym, ap, ◌∙◌, subst, inl, inr, arith}
 use Rattle.std.specs.List.{list_all, range_with_len, slice_get}
 use Rattle.std.specs.Ordering.{int_eq}

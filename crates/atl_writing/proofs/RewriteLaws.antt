@@ -166,6 +166,8 @@ listed_numbers_are_of_set marks ns all r =
 
 -- ---- the rows of all numbers of a set, one after another
 
+-- In a step `now` are the numbers that are left before it, `rest` those that are left after it, and `all` those with
+-- which the rewriting began.
 module _ (table : Table) (Wanted : Set) where
   -- Of the numbers `all`, `rest` are left to rewrite: once their rows are rewritten, the rows of all are (`Remaining`).
   abbrev pub RemainingNumbers : List ℕ → List ℕ → Database → Database → Type 0

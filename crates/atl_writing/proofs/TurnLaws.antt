@@ -1,4 +1,7 @@
 -- Laws on changes to the tables of a campaign's parts: a change of some tables leaves the others as they are.
+-- `Becomes` says of a part what the rows of its table become: the first list is those before, the second those after.
+-- `ps` and `qs` are lists of parts: the tables of `ps` change from `old` to `mid`, and those of `qs` from `mid` to
+-- `new`. Where only one step is spoken of, the database is `a` or `old` before it, and `b` or `new` after it.
 use Rattle.std.proofs.Common.{◌≡◌, ◌&&◌, ◌++◌, Bool, true, List, [], ◌∷◌, map, refl, sym, ap, ◌∙◌, subst, inl, inr}
 use Rattle.std.proofs.lemmas.Bool.{and_parts}
 use Rattle.sqlite.specs.Effect.{Database}

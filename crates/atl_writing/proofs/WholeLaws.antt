@@ -1,6 +1,8 @@
 -- Laws on a transaction as a whole: steps one after the other inside it, its commit, and what it leaves if it fails.
 -- BEGIN leads from `old` to `begun`, the steps inside from there to `mid`, and commit or rollback to `end`. A step does
 -- `Does` to tables that are as `Before` says.
+-- `g` is the kind of store, in memory or in files, and `state g conn` the state of the database under a connection. Of
+-- two steps the first leads from `a` to `b`, and the second on to `c` or `d`.
 use Rattle.std.proofs.Common.{◌≡◌, [], false, true, true≢false, IsTrue, Result, Ok, Err, OnOk, IfErr, sym, ap, subst, ◌∙◌, inl, inr, arith}
 use Rattle.std.specs.Borrow.{MutBor}
 use Rattle.sqlite.specs.declared.error.Error.{Error}

@@ -22,8 +22,8 @@ use Rattle.atl_sql.specs.Shown.{CampaignRowValue, campaign_row, mail_row, report
 use Rattle.atl_writing.specs.GroupedRows.{amount_lines}
 use Rattle.atl_writing.specs.Rows.{row_of_campaign, row_of_faction, row_of_unit}
 
--- What `write_join` needs of `c`, the campaign after a join: the faction `number`, which joined, its report, and the
--- unit that came last, `next_unit - 1`, are there. The books have money and people among their things.
+-- What writing a join needs of `c`, the campaign after it: the faction `number`, which joined, its report, and the unit
+-- that came last, `next_unit - 1`, are there. The books have money and people among their things.
 pub record HasArrival (c : CampaignValue) (number : ℕ) : Type 0 where
   -- `next_unit` is not 0, so there is a number before it, that of the unit that came last
   pub next : 1 ≤ c.next_unit

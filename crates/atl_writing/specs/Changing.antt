@@ -59,7 +59,7 @@ HasUnmarked table is_marked Wanted trees = (r : Row) → is_marked r ≡ false �
 
 -- The tables hold what is not marked of a campaign: the rows of all that is not marked are exactly the campaign's.
 -- The campaign row has this world text and, unless it is marked, says what the campaign says.
--- In such tables `write_changes` writes the rest, and then they hold the campaign.
+-- In such tables `write_marked` writes the rest, and then they hold the campaign.
 pub record HoldsUnmarked (trees : Trees) (text : List ℕ) (c : MarkedCampaign) : Type 0 where
   -- what the row of the table `campaign` says
   pub before : CampaignRowValue

@@ -47,7 +47,7 @@ pub record AreGroups {V : Type 0} (lines : ℕ → V → List Row) (key : ℕ) (
 abbrev pub thing_rows : (ℕ → ℕ → Row) → ℕ → ℕ → List Row
 thing_rows row thing amount = if amount == 0 then [] else row thing amount ∷ []
 
--- the rows for a list of things with their amounts: one row for each amount that isn't 0
+-- the rows that `row` makes of a list of things' numbers with their amounts: one row for each amount that isn't 0
 abbrev pub amount_rows : (ℕ → ℕ → Row) → List (ℕ × ℕ) → List Row
 amount_rows row amounts = flat_map (λ e. thing_rows row e.0 e.1) amounts
 

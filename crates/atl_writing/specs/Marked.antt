@@ -52,8 +52,8 @@ goods_marked marks r =
 abbrev pub stocks_marked : Marks → Row → Bool
 stocks_marked marks r = begins_marked marks.stocks r || region_and_item_pass (has_thing marks.stock_items) r
 
--- Whether the amount of an entry and a thing in the books is marked. The entry is given by its index, which has to be
--- below `entry_count`.
+-- Whether the amount of an entry and a thing in the books is marked: whether its number is in `marks`. Both are given
+-- by their indexes; that of the entry has to be below `entry_count`.
 abbrev pub is_marked_amount : FinSet nat_cmp → ℕ → ℕ → Bool
 is_marked_amount marks entry thing = nat_le (suc entry) entry_count && contains marks (entry_count * thing + entry)
 

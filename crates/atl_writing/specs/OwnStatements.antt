@@ -1,4 +1,5 @@
--- The statements that each write may run, with the values of their parameters.
+-- The statements that each write may run: each is a text (`sql`) with the values of its parameters (`params`). `c` is
+-- the campaign that is written.
 use Rattle.std.specs.Prelude.{◌≡◌, ◌≢◌, ◌+◌, ℕ, pos, List, [], ◌∷◌, Some, length, take}
 use Rattle.std.specs.FinMap.{get}
 use Rattle.sqlite.specs.Order.{Row}

@@ -65,6 +65,7 @@ pub trait Grouped: NumberedRow {
             tx.new.conn };
 }
 
+/// The rows are deleted first, also where no unit or region has the number any more.
 fn rewrite_group<V: Grouped + Drop, S: Alter>(
     tx: &mut Transaction<'_, S>,
     campaign: &Campaign,

@@ -17,6 +17,7 @@ use atl_rows::parts::StoredBooks;
 use atl_sql::rows::{put, take_out};
 use sqlite::{Alter, Error, Transaction, params};
 
+/// Entry and thing are given by their numbers, as the row has them.
 fn put_booked<S: Alter>(
     tx: &mut Transaction<'_, S>,
     entry: u32,
@@ -29,6 +30,7 @@ fn put_booked<S: Alter>(
     put::<StoredBooks, S>(tx, params![entry, thing, amount])
 }
 
+/// Puts no row if the amount is 0.
 fn put_amount<S: Alter>(
     tx: &mut Transaction<'_, S>,
     campaign: &Campaign,
@@ -98,6 +100,7 @@ pub fn put_all_books<S: Alter>(
     Ok(())
 }
 
+/// Writes the amount only if it is marked.
 fn rewrite_amount<S: Alter>(
     tx: &mut Transaction<'_, S>,
     campaign: &Campaign,

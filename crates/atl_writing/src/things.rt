@@ -17,6 +17,7 @@ use atl_sql::rows::take_out;
 use atl_world::{Entries, Numbered};
 use sqlite::{Alter, Error, Transaction, params};
 
+/// How much of the item, or how many days of the skill, the unit has; 0 if there is no such unit.
 fn amount_of(campaign: &Campaign, unit: u32, sort: ThingKind, thing: u32) -> u32
     ensures { result ≡ amount_under campaign.now.value.units unit sort thing }
 {
@@ -29,6 +30,7 @@ fn amount_of(campaign: &Campaign, unit: u32, sort: ThingKind, thing: u32) -> u32
     }
 }
 
+/// Puts the row of the amount, or deletes it if the amount is 0; marks aren't looked at.
 fn rewrite_thing<S: Alter>(
     tx: &mut Transaction<'_, S>,
     campaign: &Campaign,

@@ -142,7 +142,7 @@ fn rowids_of<T>(alloc: Global, placed: &[RowWithId<T>]) -> Result<Vec<i64>, Allo
     Ok(rowids)
 }
 
-/// Sound tables have no two rows with the same rowid.
+/// `IsSoundDatabase` allows no two rows of a table with the same rowid.
 fn have_distinct_rowids<T>(alloc: Global, placed: &[RowWithId<T>]) -> Result<bool, AllocError>
     ensures { IfOk result (λ yes. IsTrue yes ↔ (HaveDistinctRowids placed.now)) }
 {
