@@ -1,4 +1,6 @@
 -- Laws on serving connections one after another: what was served so far, with one more connection, and after a fault.
+-- `g` is the kind of store, in memory or in files, and `dice` has the club's seed. `old` is the service before the
+-- first request, `between` after those served so far, and `new` after one more.
 use Rattle.std.proofs.Common.{◌≡◌, ℕ, suc, ◌+◌, ◌<◌, subst, arith}
 use Rattle.std.specs.Prelude.{Ok, Err}
 use Rattle.sqlite_trees.specs.declared.store.Store.{Ghosts}

@@ -1,4 +1,7 @@
 -- Laws on heads: the result of parsing the first 8,192 bytes decides the verdict (`Judges`).
+-- `input` are the bytes received so far, `front` the first 8,192 of them or all if they are fewer, `more` bytes that
+-- follow, and `rest` the bytes after the head. `spans` says where the parts of the head begin and end in `front`, and
+-- `headers` where names and values of its fields do. `checks` is the result of the first four checks (`head_checks`).
 use Rattle.std.proofs.Common.{◌≡◌, ℕ, ◌≤◌, ◌<◌, List, [], ◌∷◌, ◌++◌, length, take, drop, min, sym, ap, ◌∙◌, subst, inl, inr, refl, arith}
 use Rattle.std.specs.Prelude.{Result, Ok, Err, IfOk}
 use Rattle.std.proofs.lemmas.List.{append_assoc, append-nil, take-append-drop, drop-append-le, length-take, length-map, take_min}
@@ -114,7 +117,7 @@ LeadsToVerdict input rest checks =
     ((after : List ℕ) → verdict_with_body checks after ≡ verdict_of head after)
 
 -- the checks of the head at the spans that the parser found in the front lead to the verdict on the input
--- (`LeadsToVerdict`)
+-- (`LeadsToVerdict`). `method` and `target` are the bytes at these spans, and `fields` the spans of the head's fields.
 pub finds_head : (input front method target rest : List ℕ) (headers fields : List HeaderSpan) (spans : RequestSpans)
     → front ≡ take most_head input → IsRequestWithin front headers spans × IsRequestOf front headers spans
     → length headers ≡ most_fields → method ≡ span_bytes front spans.method → target ≡ span_bytes front spans.path

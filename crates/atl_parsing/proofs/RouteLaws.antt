@@ -1,5 +1,8 @@
 -- Laws on the routes: the router's lookup of a path, with its parameter, gives the route of `route_of`. The pattern of
--- a route is its path with the byte `param_token` for the number, which is the parameter of the route.
+-- a route is its path with `param_token`, which is greater than any byte, for the number. This is the parameter of the
+-- route, and `walk` gives it with its name.
+-- `key` is the index of a route (`kept_at`), `front` its prefix, and `rest` what a path has after the prefix. `q` is a
+-- path without its first bytes, and `c` a byte. 47 is the slash, and 99, 106, 111 and 114 are `c`, `j`, `o` and `r`.
 use Rattle.std.proofs.Common.{add-zero, lit<, get_or, ltb, leb, length-append, ◌&&◌, ◌≡◌, ℕ, ◌+◌, ◌-◌, ◌<◌, ◌≤◌, ◌⊎◌, inl, inr, List, [], ◌∷◌, ◌++◌, length, drop, Option, Some, None, Bool, true, false, refl, sym, ap, ◌∙◌, subst, arith, ◌==◌}
 use Rattle.std.specs.Prelude.{MatchOption, bytes_eq, option_and_then, option_map, codes}
 use Rattle.std.proofs.lemmas.Bool.Decides.{nat_tests}
@@ -99,8 +102,8 @@ takes_report rest =
 -- if the number is faulty, `route_of` gives none.
 data Leads (path : List ℕ) : Type 0 where
   to_join : first rows path ≡ Some 1 → IsUtf8 path → route_of path ≡ Some route.Join → Leads path
-  -- the router finds a route whose parameter is `rest`, and `route_of` gives that route with the number of `rest`, or
-  -- none; `rest` is UTF-8 if the path is, and a path that has a route is UTF-8
+  -- The router finds a route whose parameter is `rest`, and `route_of` gives that route with the number of `rest`, or
+  -- none. `rest` is UTF-8 if the path is, and a path that has a route is UTF-8.
   to_number : (key : ℕ) → (rest : List ℕ) → first rows path ≡ Some key → TakesNumber key path rest
       → (IsUtf8 path → IsUtf8 rest) → (route_of path ≡ None) ⊎ IsUtf8 path
       → route_of path ≡ route_in (kept_at key).value (Some rest) → Leads path
@@ -338,7 +341,7 @@ matched_text_is view None text h = h
 matched_text_is view (Some x) text h = h
 
 -- For a UTF-8 path, the route made from the key that the router finds and the text of the parameter `number` is that of
--- `route_of`. `r` is this parameter, if there is one, and `view` gives its text.
+-- `route_of`. `e` is what the router finds, `r` is this parameter, if there is one, and `view` gives its text.
 pub found_route_is : {A : Type 0} (view : A → List ℕ) (r : Option A) (path given : List ℕ) (e : RouteOf RouteKey) (route : Option Route)
     → given ≡ path → IsUtf8 path → first route_rows path ≡ Some e
     → GetsParameter view r (walk e.pattern e.text given e.names 0 0) → route ≡ route_in e.value (option_map view r)

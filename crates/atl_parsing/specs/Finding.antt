@@ -1,5 +1,5 @@
 -- For proofs alone: the values found under a field's name, and when results of the code agree with those of the
--- definitions.
+-- definitions. A span says where a part begins and ends among the received bytes, `bytes` or `front`.
 use Rattle.std.specs.Prelude.{◌≡◌, ◌<◌, ℕ, List, [], ◌∷◌, ◌++◌, length, map, Result, Ok, Err, ⊤}
 use Rattle.httparse.specs.declared.spans.Span.{Span}
 use Rattle.httparse.specs.declared.spans.HeaderSpan.{HeaderSpan}

@@ -1,5 +1,5 @@
 -- `Judges`: the verdict on the bytes received so far, by their head: whole, unfinished, refused or too long. See
--- docs/FORMATS.md, "HTTP".
+-- docs/FORMATS.md, "HTTP". `input` and `seen` are the bytes received so far, and `rest` those after the head.
 use Rattle.std.specs.Prelude.{◌≡◌, ℕ, ◌≤◌, ◌<◌, ◌⊎◌, List, [], length, take, ◌++◌, ⊤}
 use Rattle.httparse.specs.Grammar.{RequestHead, print_request, ReadsRequest, NeverHasRequest, HasNoRequest, MayBecomeRequest}
 use Rattle.httparse.specs.Spans.{RequestExceeds, RequestOverflows}
@@ -69,7 +69,7 @@ abbrev pub as_verdict : FinalVerdict → Verdict
 as_verdict (outcome.Refused problem) = Refused problem
 as_verdict (outcome.Asks asked) = Asks asked
 
--- With fewer than `count` more bytes after `seen` the request isn't whole, so until then nothing is parsed.
+-- With fewer than `count` more bytes after `seen` the verdict stays More.
 abbrev pub IsShortBy : (seen : List ℕ) → (count : ℕ) → Type 0
 IsShortBy seen count = (more : List ℕ) → length more < count → Judges (seen ++ more) More
 
@@ -88,8 +88,8 @@ verdict_by (progress.Ends outcome) = as_verdict outcome
 abbrev pub most_at_once : ℕ
 most_at_once = 8192
 
--- No read was done after the request was whole or refused: before the last read, which gave the bytes `last`, the
--- verdict was More, or nothing was read at all.
+-- No read was done after the request was whole or refused: on the bytes before the last read (`front`) the verdict was
+-- More, or nothing was read at all. The last read gave the bytes `last`, at most 8,192.
 abbrev pub ReadsNoFurther : List ℕ → Type 0
 ReadsNoFurther seen =
     (seen ≡ [])

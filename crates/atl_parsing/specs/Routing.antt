@@ -1,5 +1,5 @@
--- For proofs alone: the four routes as the router of `matchit` stores them, and the route that each key means. The byte
--- `param_token` stands for a number in the text of a route.
+-- For proofs alone: the four routes as the router of `matchit` stores them, and the route that each key means. In the
+-- pattern of a route `param_token`, which is greater than any byte, stands for the number.
 use Rattle.std.specs.Prelude.{ℕ, zero, suc, ◌+◌, List, [], ◌∷◌, ◌++◌, length, codes, Option, Some, None, option_map}
 use Rattle.matchit.specs.Rows.{Rows, RowsOf, param_token}
 use Rattle.matchit.specs.Router.{RouteOf, rename}

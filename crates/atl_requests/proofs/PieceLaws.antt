@@ -1,5 +1,6 @@
 -- Laws on pieces: bytes after a final verdict change nothing, and no input has two final verdicts. A verdict is final
--- if the request is whole or refused.
+-- if the request is whole or refused. `input` are the bytes received so far, and `more` those that follow; `head` is a
+-- whole head, and `rest` the bytes after it. `v` and `w` are verdicts.
 use Rattle.std.proofs.Common.{◌≡◌, ℕ, ◌≤◌, ◌+◌, ◌-◌, Bool, true, false, cond, List, [], ◌++◌, length, take, nat_lt, refl, sym, ap, ◌∙◌, subst, inl, inr, arith}
 use Rattle.std.specs.Prelude.{Result, Ok, Err}
 use Rattle.std.proofs.lemmas.List.{append-nil, take-append-le, length-append}

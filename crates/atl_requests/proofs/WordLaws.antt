@@ -1,4 +1,5 @@
--- Laws on the words of the dice: the first words of a generator, one by one.
+-- Laws on the words of the dice: the first words of a generator, one by one. `g` is a generator, `w` its next word, and
+-- `next` the generator after this word.
 use Rattle.std.proofs.Common.{◌≡◌, ℕ, suc, ◌-◌, ◌+◌, ◌<◌, List, [], ◌∷◌, ◌++◌, sym, ap, ◌∙◌, arith}
 use Rattle.std.proofs.lemmas.List.{append_assoc}
 use Rattle.rand_pcg.specs.Lcg.{Lcg}

@@ -1,5 +1,7 @@
 -- What single reads and writes return, and how reading a request and writing its reply end. `before` and `after` are
--- the bytes, if they are known, that a reader has left or that a writer holds. See docs/FORMATS.md, "For developers".
+-- the bytes, if they are known, that a reader has left or that a writer holds. `room` is the buffer after a read,
+-- `rest` the bytes that are still to be written, and `old` and `new` are the counters before and after a call. See
+-- docs/FORMATS.md, "For developers".
 use Rattle.std.specs.Prelude.{◌≡◌, ◌≢◌, ◌≤◌, ◌<◌, ◌+◌, ◌⊎◌, ℕ, zero, List, [], length, take, Option, Result, Ok, Err, ⊤}
 use Rattle.std.specs.Io.KnownBytes.{Keeps, Appends, Consumes, IsAtEnd}
 use Rattle.std.specs.IoError.{error_kind}

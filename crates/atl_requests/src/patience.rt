@@ -60,6 +60,7 @@ impl<'a, C: Clock> Patience<'a, C> {
         Instant::now(self.clock)
     }
 
+    /// Takes off the time from `begun` to `ended`, down to 0; nothing if `ended` is the earlier.
     fn spend(&mut self, begun: Instant, ended: Instant)
         ensures { IsSpent self.old.left begun ended self.new.left }
     {

@@ -1,5 +1,8 @@
 -- Laws on a command's answer: Refused with nothing changed is right where `step` refuses the command (`Answers`). After
 -- a fault the campaign that a crash leaves is good (`LeavesGood`).
+-- `g` is the kind of store, in memory or in files, and `w` the world. `c` and `conn` are the campaign and the
+-- connection, which a refusal leaves as they are. After a fault `s` is the state of the database, and `text` the world
+-- text in its tables. `faults` is how often the disk had failed before the command.
 use Rattle.std.proofs.Common.{◌≡◌, ℕ, List, refl, inl, inr}
 use Rattle.sqlite_trees.specs.declared.store.Store.{Ghosts}
 use Rattle.sqlite.specs.Held.{Held}
@@ -27,8 +30,8 @@ is_refused g w c conn command why is good = record {
   tables = λ clean text keeps. keeps;
 }
 
--- if the campaigns before and after a write that ended in a fault are good, so is the one that a crash leaves
--- (`LeavesGood`)
+-- if the campaign `before` a write that ended in a fault is good, and so is the one that it was to store (`after`), the
+-- one that a crash leaves is good too (`LeavesGood`)
 pub leaves_good : (w : WorldValue) (faults : ℕ) (s : State) (text : List ℕ) (before after : CampaignValue)
     → IsGood w before → IsGood w after → LeavesAfterFault faults s text before after
     → LeavesGood w faults s text before after

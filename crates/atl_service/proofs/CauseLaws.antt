@@ -1,6 +1,8 @@
 -- Laws on the cause of a fault: for Memory a call of the write ran out of memory, for Store it gave another error.
 -- `own` has the SQL statements of the write, and `old` and `new` are the connection before and after it. A disk is
 -- clean if each read has returned what was written (docs/PROVED.md, "Premises").
+-- `g` is the kind of store, in memory or in files. `create_fault` and `write_fault` give the fault for an error of the
+-- database: Memory if the error is out of memory, else Store.
 use Rattle.std.proofs.Common.{◌≡◌, ◌≢◌, Bool, true, false, cond, Result, Ok, Err, IfErr, refl, sym, subst, inr}
 use Rattle.std.specs.Prelude.{IsErrAnd}
 use Rattle.sqlite_trees.specs.declared.store.Store.{Ghosts}
@@ -63,8 +65,8 @@ module _ {S : Type 0} (g : Ghosts S) (own : Statements) (old new : Held S) where
   write_has_cause write.Memory says = inr (λ clean. write_lacked_memory (says clean))
   write_has_cause write.Store says = λ clean. write_gave_other_error (says clean)
 
-  -- if a call can fail with this fault of a write alone, which on a clean disk reports an error of the write, the
-  -- call's fault has its cause (`HasCause`)
+  -- A call, whose result is `r`, failed with this fault of a write. If on a clean disk the fault reports an error of
+  -- the write, the service's fault for it has its cause (`HasCause`).
   pub call_has_cause : {A : Type 0} (fault : WriteFault) (r : Result A WriteFault) → IsErrAnd r (λ f. f ≡ fault)
       → (HasCleanDisk (state g new) → IsFaultOfError g own write_fault old new fault)
       → IfErr r (λ f. HasCause g own old new (fault_of_write f))

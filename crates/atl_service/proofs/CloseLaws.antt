@@ -1,5 +1,8 @@
 -- Laws on closing a month: the mail is read, the reports are stored, the result is the campaign of `closed`, and the
 -- marks have all changes.
+-- `w` is the world, `n` a faction's number, and `text` its mailing. `ms` are mailings that the code read. `es` are
+-- stored ones, each text with its faction's number. `faults` are the faulty lines of one mailing, or of each faction's.
+-- `events` are those of the month. In the laws on marks `c` is the campaign before a call, and `d` after it.
 use Rattle.std.proofs.Common.{◌≡◌, ◌≤◌, ℕ, Bool, true, false, cond, List, [], ◌∷◌, ◌++◌, map, length, Option, Some, None, option_map, Result, Ok, Err, refl, sym, ap, ap₂, ◌∙◌, subst, arith}
 use Rattle.std.specs.Prelude.{All, OnOk, filter, fold, nat_lt, not, unwrap_or}
 use Rattle.std.proofs.lemmas.Bool.Decides.{nat_tests}
@@ -166,7 +169,7 @@ active_there before after stay =
 -- ---- the month
 
 -- storing the reports after the month's phases, with the month counted and the mail removed, gives the campaign of
--- `closed`
+-- `closed`. The phases make `after` and `events` of the campaign `c` and its mail.
 pub closed_is : (w : WorldValue) (c after : CampaignValue) (events : List Event) (words : List ℕ) (faults : FinMap nat_cmp (List FaultyLine))
     → (after, events) ≡ month_of w c (by_faction (readings w c)) words
     → faults ≡ map_values (λ text. faults_of (reading w text)) c.mail
@@ -184,7 +187,7 @@ marked_as : (c d : MarkedCampaign) (what : CampaignValue) (marks : Marks) → d.
     → MarksChanges c (record { value = what; marks = marks }) → MarksChanges c d
 marked_as c d what marks is m h = subst (MarksChanges c) (sym (ap₂ (λ s n. record { value = s; marks = n }) is m)) h
 
--- setting the month and marking the campaign's row marks all that changed, and loses no mark (`MarksChanges`)
+-- setting the month to `n` and marking the campaign's row marks all that changed, and loses no mark (`MarksChanges`)
 pub month_marked : (c d : MarkedCampaign) (n : ℕ) → d.value ≡ with_month c.value n → d.marks ≡ mark_campaign_row c
     → MarksChanges c d
 month_marked c d n is m = marked_as c d (with_month c.value n) (mark_campaign_row c) is m (marks-month c n)
@@ -201,7 +204,7 @@ report_marked w c d n faults events is m =
     (marks-report c n (report_of w (view_of w c.value n) faults events))
 
 -- From before a month (`a`) to after it (`d`) no mark is lost, and all that changed is marked, if this holds of its
--- phases (from `a` to `b`). After the phases the month is counted (`c`) and then the mail removed (`d`).
+-- phases (from `a` to `b`). After the phases the month is set to `n` (`c`) and then the mail removed (`d`).
 pub turned_marked : (a b c d : MarkedCampaign) (n : ℕ) → MarksChanges a b → c.value ≡ with_month b.value n
     → c.marks ≡ mark_campaign_row b → d.value ≡ without_mail c.value → d.marks ≡ mark_all_mail c → MarksChanges a d
 turned_marked a b c d n run is m taken t =
@@ -235,7 +238,8 @@ read_begins w c ms faults all good is none none_wrong =
     )
 
 -- after one more mailing of the mail is read, the first of those left (`here`), what was read and what is left (`rest`)
--- still make the whole mail (`ReadSoFar`)
+-- still make the whole mail (`ReadSoFar`). The mailing is `text` of faction `n`, and was read as `m`. With it `ms` and
+-- `faults` become `ns` and `faults'`.
 pub read_goes_on : (w : WorldValue) (c : CampaignValue) (ms ns : List Mailing) (faults faults' : FinMap nat_cmp (List FaultyLine)) (here rest : List (ℕ × List ℕ)) (n : ℕ) (text : List ℕ) (m : Mailing)
     → here ≡ (n, text) ∷ rest → ns ≡ ms ++ m ∷ [] → IsReadWith w m → m.text ≡ text
     → faults' ≡ insert faults n m.faults → ReadSoFar w c ms faults here → ReadSoFar w c ns faults' rest
@@ -279,7 +283,8 @@ pub few_things : (w : WorldValue) (c : CampaignValue) → IsWorld w → IsGood w
 few_things w c world good = omega (arith, good.sound.steady.numbers.books.count, world.few_items)
 
 -- if storing a month's reports for factions of a good campaign makes the campaign of `closed`, the campaign after
--- storing them is that of `closed`, and good
+-- storing them is that of `closed`, and good. `turned` is the campaign before the first report, with the month counted
+-- and the mail removed.
 pub closed_after_reports : (w : WorldValue) (c turned after : CampaignValue) (words : List ℕ) (outcome : MonthResult)
     → reported_to_all w turned outcome ≡ closed w c words → after ≡ reported_to_all w turned outcome
     → AreFactions turned outcome.factions.items → IsGood w turned → (after ≡ closed w c words) × IsGood w after

@@ -1,5 +1,8 @@
 -- Law: a connection over files whose reads are compared with digests has a clean disk, or two digests have collided. A
 -- disk is clean if each read has returned what was written (docs/PROVED.md, "Premises").
+-- `D` is the type of a file, `start` gives the bytes that it began with, and `record_of` its calls since. By the two
+-- premises `g`, which has what contracts say of a file, agrees with these calls. It says whether no wrong bytes were
+-- taken as true (`is_clean`), or only such as passed the test of their digest (`is_fair`).
 use Rattle.std.proofs.Common.{◌≡◌, ◌⊎◌, ℕ, Bool, true, false, List, IsTrue, inl, inr, refl}
 use Rattle.std.proofs.lemmas.Bool.{false≢true}
 use Rattle.sqlite_disk.specs.Events.{Event, replay}

@@ -1,5 +1,8 @@
 -- Laws on `found`: it founds (`Founds`) or refuses (`RefusesFounding`) as promised; the new service is consistent. A
 -- disk is clean if each read has returned what was written (docs/PROVED.md, "Premises").
+-- `g` is the kind of store, in memory or in files. `old` and `new` are the connection before and after `found`; `conn`
+-- is that of the new service, or one that stays as it is. `text` and `pass` are the world text and the pass text, `w`
+-- is the world, and `c` the campaign founded in it. `is_there` says whether there is a table `campaign`.
 use Rattle.std.proofs.Common.{◌≡◌, ◌⊎◌, Bool, true, false, List, ℕ, Result, Ok, Some, refl, sym, ap, ◌∙◌, subst, inl, inr, arith}
 use Rattle.std.proofs.lemmas.Bool.{false≢true}
 use Rattle.sqlite_trees.specs.declared.store.Store.{Ghosts}

@@ -1,4 +1,6 @@
 -- Laws on a command Join: what `step` returns for each result of `join_of`, and that the store can write the result.
+-- `w` is the world, and `c` the campaign before the command, which has a name, a pass text and a word of the dice. `d`
+-- is the campaign in which faction `n` with its unit `m` has joined, before its first report is stored.
 use Rattle.std.proofs.Common.{◌≡◌, ◌+◌, ◌-◌, ℕ, pos, List, [], Bool, true, false, cond, not, Option, Some, is_some, IsSome, Ok, Err, refl, sym, ap, ◌∙◌, subst, arith}
 use Rattle.std.specs.FinMap.{get, insert}
 use Rattle.atl_world.specs.Names.{name_ok, pass_ok}

@@ -1,6 +1,10 @@
 -- Laws on lists of commands: if each command runs as promised (`Runs`), so does the list (`RunsAll`), which implies the
 -- main theorem (`Headline`). Promised is that the answers are those of `step` up to the first fault, and Closed after
 -- it. A disk is clean if each read has returned what was written (docs/PROVED.md, "Premises").
+-- `g` is the kind of store, in memory or in files. `old`, `mid` and `new` are the service before a list, after its
+-- first command, and after all of it. The first command is `x` and its answer `a`; `cs` and `rs` are the other commands
+-- and answers, or all of them where there is no `x`. `c` is the campaign before the list, `text` the world text in the
+-- tables, and `faults` how often the disk had failed before the list.
 use Rattle.std.proofs.Common.{◌≡◌, ◌⊎◌, ◌≤◌, ◌<◌, ◌+◌, ◌++◌, ◌∷◌, [], ℕ, List, map, drop, length, get_or, Option, Some, None, IfSome, refl, sym, ap, ap₂, ◌∙◌, subst, inl, inr, append_assoc, append-nil, arith}
 use native.Mathlib.Numerals.{unary_clauses}
 use Rattle.std.proofs.lemmas.List.{drop_more, drop_all}
@@ -170,7 +174,8 @@ module _ {S : Type 0} (g : Ghosts S) where
   -- after it; `sofar` are the answers before it
 
   -- If the answers before command `i`, with any that the commands from `i` on may get, are answers to the whole list
-  -- (`RunsAll`), so are they with the answer to command `i` added.
+  -- (`RunsAll`), so are they with the answer to command `i` added. This command is `c` and its answer `a`; the commands
+  -- after it are answered with `rs`, and leave the service `new`.
   pub one_more : (e mid now new : ServiceValue S) (cs : List Command) (i : ℕ) (c : Command) (a : Answer) (sofar rs : List Answer)
       → i < length cs → c ≡ get_or cs i c
       → ((ts : List Answer) (n : ServiceValue S) → RunsAll g mid (drop i cs) ts n → RunsAll g e cs (sofar ++ ts) n)

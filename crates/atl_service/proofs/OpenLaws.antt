@@ -1,5 +1,7 @@
--- Laws on `open`: it returns what was stored, or refuses and leaves the tables unchanged; the opened service is
--- consistent. A disk is clean if each read has returned what was written (docs/PROVED.md, "Premises").
+-- Laws on `open`: on a clean disk it returns what was stored, or refuses and leaves the tables unchanged; the opened
+-- service is consistent. A disk is clean if each read has returned what was written (docs/PROVED.md, "Premises").
+-- `g` is the kind of store, in memory or in files. `old` and `new` are the connection before and after loading, and
+-- `conn` is one that isn't touched. `w` and `c` are the world and the campaign that were loaded.
 use Rattle.std.proofs.Common.{◌≡◌, false, true, Some, refl, ap, ◌∙◌, subst, inl, arith}
 use Rattle.sqlite_trees.specs.declared.store.Store.{Ghosts}
 use Rattle.sqlite.specs.Effect.{Database}

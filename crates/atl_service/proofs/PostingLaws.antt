@@ -1,4 +1,7 @@
 -- Laws on stored mailings: only the last one of each faction counts for closing a month (`OnlyTheLastMailCounts`).
+-- `w` is the world, `c` the campaign before the commands, and `n` or `faction` a faction's number. `sent` and `others`
+-- are two lists of commands, and `mail` has the stored mailing of each faction. `who` is the faction that a lookup
+-- gave, or why it gave none.
 use Rattle.std.proofs.Common.{◌≡◌, ◌==◌, ℕ, Bool, true, false, cond, not, List, [], ◌∷◌, Option, Some, None, Result, Ok, Err, refl, sym, ap, ◌∙◌}
 use Rattle.std.specs.Option.{option_or}
 use Rattle.std.specs.Ordering.{nat_cmp}

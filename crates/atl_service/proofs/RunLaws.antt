@@ -1,6 +1,8 @@
 -- Laws on `run`: what `answer_to` promises (`Answers`, `CommandLeavesAfterFault`) implies what `run` promises (`Runs`).
 -- An answered command keeps the service consistent. A disk is clean if each read has returned what was written
 -- (docs/PROVED.md, "Premises").
+-- `g` is the kind of store, in memory or in files, and `w` the world. `is_open` is the service's field before the
+-- command, and `old` all of the service then.
 use Rattle.std.proofs.Common.{◌≡◌, Bool, true, false, cond, Some, None, IfSome, refl, sym, ap, ap₂, ◌∙◌, subst}
 use Rattle.std.proofs.lemmas.Bool.{false≢true}
 use Rattle.sqlite_trees.specs.declared.store.Store.{Ghosts}
@@ -99,7 +101,7 @@ module _ {S : Type 0} (g : Ghosts S) where
         record { same = refl; tables = λ clean. gave_up clean (text_in g conn) (before.tables refl (leaves.later.clean clean)) }
 
     -- if a command of a consistent open service ended in a fault of a write that has its cause (`HasCause`), `run` may
-    -- answer the service's fault for it and close (`Runs`)
+    -- answer the service's fault for it (`says`) and close (`Runs`)
     pub closes_for : (old : ServiceValue S) (fault : WriteFault) (says : Failure) (is_open : Bool)
         → says ≡ fault_of_write fault → service_value conn w c is_open ≡ old → is_open ≡ true
         → IsConsistent g conn w c is_open → LeavesIdle g conn conn' → EndedInFault

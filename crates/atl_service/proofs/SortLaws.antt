@@ -1,4 +1,6 @@
 -- Laws on sorting events by faction: each list has the faction's own events, and a report needs only these.
+-- `events` or `es` are events of a month in their order. `sorted` has, under each faction's number, its events that are
+-- sorted so far, and `new` has one event more. `n` is a faction's number.
 use Rattle.std.proofs.Common.{Result, Ok, Err, ◌≡◌, ◌==◌, ◌++◌, ◌+◌, ◌<◌, ℕ, Bool, true, false, cond, List, [], ◌∷◌, Option, Some, unwrap_or, refl, sym, ap, ◌∙◌, length, get_or, drop}
 use Rattle.std.specs.Prelude.{OnOk}
 use Rattle.std.specs.Ordering.{nat_cmp}
@@ -35,7 +37,7 @@ event_goes_on sorted e es n =
     ∙ by_faction (e.faction == n) (get sorted n) (events_of sorted e.faction) (own_events n es) e (same_list sorted n e.faction)
 
 -- the list of faction `n` followed by this faction's unsorted events stays the same when event `i` is added to the list
--- of its own faction
+-- of its own faction. This list is `whole`; before that the events from event `i` on are unsorted.
 pub sorted_on : (sorted new : FinMap nat_cmp (List Event)) (events : List Event) (i : ℕ) (d : Event) (whole : List Event) (n : ℕ)
     → i < length events → new ≡ with_event sorted (get_or events i d)
     → events_of sorted n ++ own_events n (drop i events) ≡ whole
@@ -64,7 +66,8 @@ own_again n (e ∷ es) = by_test (e.faction == n) refl (own_again n es)
     by_test false is rest = rest
 
 -- a report of faction `n` made from its own events is the one made from all events: where a call answers Ok and stores
--- the first, campaign `d` is `c` with the second
+-- the first, campaign `d` is `c` with the second. `own` are its own events, and `lines` are equal to `faults`, the
+-- faulty lines of its mailing.
 pub stored_own : {A E : Type 0} (w : WorldValue) (c d : CampaignValue) (n : ℕ) (faults lines : List FaultyLine) (events own : List Event) (r : Result A E)
     → lines ≡ faults → own ≡ own_events n events → OnOk r (d ≡ reported_with w c n lines own)
     → OnOk r (d ≡ reported_with w c n faults events)

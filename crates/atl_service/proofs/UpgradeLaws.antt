@@ -1,4 +1,7 @@
 -- Laws on `upgrade`: an upgraded file is as `upgrade` promises (`UpgradesTo`), and its service is consistent.
+-- `g` is the kind of store, in memory or in files, and `text` the new world text. `old` and `new` are the connection
+-- before and after the upgrade, `w` is the world of the text, and `c` the upgraded campaign. A disk is clean if each
+-- read has returned what was written (docs/PROVED.md, "Premises").
 use Rattle.std.proofs.Common.{List, ℕ, true, Some, refl}
 use Rattle.sqlite_trees.specs.declared.store.Store.{Ghosts}
 use Rattle.sqlite.specs.Held.{Held, state}

@@ -53,16 +53,17 @@ pub record Answers {S : Type 0} (g : Ghosts S) (w : WorldValue) (before : Campai
   -- if the disk is clean, tables that held the campaign before hold the campaign after, with the same world text
   pub tables : HasCleanDisk (state g new) → (text : List ℕ) → Keeps (state g old) text before → Keeps (state g new) text after
 
--- A command ended in a fault: on a clean disk, tables that held the campaign before the command still do. A crash
--- leaves that campaign or the one after `step`, and the one that it leaves is good (`LeavesGood`).
+-- What a command that ended in a fault leaves on a clean disk: tables that held the campaign before the command still
+-- do, while the connection is open. A crash leaves that campaign or the one after `step`, and the one that it leaves is
+-- good (`LeavesGood`).
 abbrev pub CommandLeavesAfterFault : {S : Type 0} → Ghosts S → WorldValue → CampaignValue → Held S → Command → Held S → Type 0
 CommandLeavesAfterFault g w before old command new =
     HasCleanDisk (state g new) → (text : List ℕ) → Keeps (state g old) text before
     → LeavesGood w (state g old).faults (state g new) text before (step w before command).0
 
 -- After any command, answered or failed, the connection is in no transaction. A disk that isn't clean stays so, no
--- failure of it is forgotten, and reads that are compared with digests stay so (`IsLater`). If the disk is clean,
--- tables that aren't the campaign's hold what they held.
+-- failure of it is forgotten, and reads that are compared with digests stay so (`IsLater`). If the disk is clean and
+-- the connection open, tables that aren't the campaign's hold what they held.
 pub record LeavesIdle {S : Type 0} (g : Ghosts S) (old new : Held S) : Type 0 where
   pub idle : new.in_transaction ≡ false
   -- a disk that isn't clean stays so, no failure of it is forgotten, and reads that are compared with digests stay so

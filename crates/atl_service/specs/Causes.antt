@@ -22,8 +22,8 @@ use Rattle.atl_service.specs.declared.command.Fault.{Fault}
 use Rattle.atl_service.specs.declared.command.Fault.TheVariants.{Memory, Store, Closed}
 use Rattle.atl_service.specs.Step.{step}
 
--- the set of the SQL statements that store what a command changes, with the rows of the campaign after the command; for
--- a report it is empty
+-- the set of the SQL statements that store what a command changes in campaign `c`, with the rows of the campaign after
+-- the command; for a report it is empty
 abbrev pub OfCommand : WorldValue → CampaignValue → Command → Statements
 OfCommand w c (Join name pass word) = OfJoining c.next_faction (step w c (Join name pass word)).0
 OfCommand w c (Mail faction pass text) = OfMail faction text

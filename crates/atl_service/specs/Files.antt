@@ -1,5 +1,6 @@
 -- When a digest has collided: bytes that were read from a database file or its log differ from those written, but their
--- digests are equal.
+-- digests are equal. `D` is the type of a file, and `g` has what contracts say of one: `key_of` gives the key with
+-- which digests are computed.
 use Rattle.std.specs.Prelude.{◌⊎◌, ℕ, List}
 use Rattle.sqlite_disk.specs.Events.{Event, HasCollision}
 use Rattle.sqlite_disk.specs.declared.Disk as disk

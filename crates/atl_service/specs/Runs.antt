@@ -1,7 +1,8 @@
 -- What `run` and `run_all` return and leave: answers, campaign and tables of one command, and of a list. `Headline` is
 -- the main theorem. `old` and `new` are the service before and after the command or the list. `g` is the kind of store,
 -- in memory or in files, and `state g conn` the state of the database under a connection. A disk is clean if each read
--- has returned what was written (docs/PROVED.md, "Premises").
+-- has returned what was written (docs/PROVED.md, "Premises"). `c` is the campaign before the command or the list, and
+-- `cs` and `rs` are the commands and answers after the first.
 use Rattle.std.specs.Prelude.{◌≡◌, ◌≢◌, ◌⊎◌, ◌<◌, ◌+◌, ◌∷◌, ◌++◌, [], ℕ, List, map, take, drop, length, slice_get, Option, Some, None, ⊤}
 use Rattle.sqlite_trees.specs.declared.store.Store.{Ghosts}
 use Rattle.sqlite.specs.Held.{state}
@@ -37,14 +38,14 @@ pub record Accepts {S : Type 0} (g : Ghosts S) (c : CampaignValue) (old : Servic
 abbrev pub Refuses : {S : Type 0} → CampaignValue → ServiceValue S → Command → Answer → ServiceValue S → Type 0
 Refuses c old command answer new = (step old.world c command ≡ (c, answer)) × (new ≡ old)
 
--- A fault closed the service: if the disk is clean, the tables hold the campaign before the command. A crash leaves
--- that campaign or the one after `step`, and the one that it leaves is good (`LeavesGood`).
+-- A fault closed the service: if the disk is clean, the tables hold the campaign before the command. On a clean disk, a
+-- crash leaves that campaign or the one after `step`, and the one that it leaves is good (`LeavesGood`).
 pub record Closes {S : Type 0} (g : Ghosts S) (c : CampaignValue) (old : ServiceValue S)
     (command : Command) (new : ServiceValue S) : Type 0 where
   -- the service is closed, so has no campaign; its world is as before
   pub same : new ≡ record old { conn = new.conn; campaign = None }
-  -- if the disk is clean, the tables hold the campaign before the command while the connection is open, and a crash
-  -- leaves that campaign or the one after `step`; the one that it leaves is good (`LeavesGood`)
+  -- If the disk is clean, the tables hold the campaign before the command while the connection is open. On a clean
+  -- disk, a crash leaves that campaign or the one after `step`; the one that it leaves is good (`LeavesGood`).
   pub tables : HasCleanDisk (state g new.conn)
       → LeavesGood old.world (state g old.conn).faults (state g new.conn) (text_in g old.conn)
       c (step old.world c command).0

@@ -100,6 +100,7 @@ impl From<MailFault> for MailError {
     }
 }
 
+/// The refusals come in the order of docs/RULES.md, "Mail".
 #[tactic(auto, unfolding(crate::specs::Step::step))]
 fn mailing_to_keep(
     alloc: Global,

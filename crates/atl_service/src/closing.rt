@@ -97,6 +97,7 @@ fn turn_month(
     })
 }
 
+/// The refusal is the first of docs/RULES.md, "Closing a month", that applies.
 #[tactic(auto, unfolding(crate::specs::Step::step))]
 fn check_close(
     world: &World,

@@ -344,7 +344,7 @@ impl From<AllocError> for Cause {
 }
 
 /// What a refused `found`, `open` or `upgrade` returns: the cause and the connection. On a clean
-/// disk its tables are as they were.
+/// disk its tables are as they were, while it is open.
 #[derive(Drop)]
 pub struct Refused<S: Alter> {
     pub why: Cause,

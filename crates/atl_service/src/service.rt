@@ -225,8 +225,8 @@ pub fn found<S: Alter>(
     }
 }
 
-/// Opens the campaign that the tables hold, with its world; on a clean disk both are as they were
-/// stored. The tables are unchanged, also after a refusal, which returns the connection.
+/// Opens the campaign that the tables hold, with its world. On a clean disk both are as they were
+/// stored, and the tables are unchanged, also after a refusal, which returns the connection.
 /// NotACampaign: there is no table `campaign`, or it lacks a column. OldFormat: the table
 /// `campaign` has one row, whose format is the first, whatever else it says; `upgrade` is for such
 /// tables. Damaged: this is the first rule that the rows of the tables break. Store: the connection
