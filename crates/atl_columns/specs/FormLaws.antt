@@ -1,7 +1,7 @@
 -- For proofs alone: each form writes what it read, and reads exactly the values of its form. The laws of `Form` cite
 -- these lemmas.
--- `FORM_same`: a value `v` that was read as a field is the value as which the field is written. `FORM_typed`: a value
--- that was read is of the form. `FORM_other`: a value that wasn't read isn't of the form.
+-- A name that ends in `same`: a value v that was read as a field is the value as which the field is written. One in
+-- `typed`: a value that was read is of the form. One in `other`: a value that wasn't read isn't of the form.
 use Rattle.std.proofs.Common.{◌≡◌, ℕ, ℤ, List, Bool, true, false, Option, Some, None, refl, sym, ap}
 use Rattle.std.specs.Str.{is_utf8}
 use Rattle.std.proofs.lemmas.Str.{is_utf8-from_IsUtf8, IsUtf8-from_is_utf8}
