@@ -1,14 +1,5 @@
-pub mod GroupedLaws
-pub mod PassingLaws
-pub mod SweepLaws
-pub mod SweepAllLaws
-pub mod ReceiverLaws
-pub mod RestockLaws
-pub mod SeasonLaws
 pub mod CountLaws
 pub mod MonthLaws
-pub mod UpkeepSharingLaws
-pub mod UpkeepLaws
 pub mod UnmailedEndLaws
 pub mod PhaseLaws
 pub mod MoveLaws

@@ -25,7 +25,7 @@ use Rattle.atl_phase.specs.Bounds.{HaveRoom}
 use Rattle.atl_phase.proofs.MonthLaws.{mailings_have_no_order}
 use Rattle.atl_phase.proofs.MeaningLaws.{IsBoundWithin, near_more, room_when_sound}
 use Rattle.atl_month.specs.Month.{BooksAreNear, MailOrderDoesNotCount, after_month, month_meaning, month_moves, month_of, new_month, phases_bound, early_phases, last_phases, later_phases, month_keeps}
-use Rattle.atl_month.specs.Sweep.{IsSwept}
+use Rattle.atl_upkeep.specs.Sweep.{IsSwept}
 use Rattle.atl_month.proofs.CountLaws.{has_all_back}
 use Rattle.atl_month.proofs.MoveLaws.{month_within, moves_in_month, phases_little}
 use Rattle.std.specs.List.{AllByRecursion}

@@ -42,10 +42,10 @@ use Rattle.atl_market.specs.Work.{is_work}
 use Rattle.atl_market.proofs.TakenLaws.{build_gives, buy_gives, is_buying, is_selling, produce_gives, recruit_gives, sell_gives, tax_gives, work_gives}
 use Rattle.atl_month.specs.Month.{last_phases, later_phases, month_meaning, new_month}
 use Rattle.atl_month.specs.OneEvent.{EachOrderHasOneEvent, aliases_for}
-use Rattle.atl_month.specs.Season.{season_spec}
-use Rattle.atl_month.specs.Sweep.{sweep_spec}
-use Rattle.atl_month.specs.Upkeep.{starved_event, starves, upkeep_results, upkeep_spec}
-use Rattle.atl_month.specs.declared.upkeep_sharing.UpkeepResult.{UpkeepResult}
+use Rattle.atl_upkeep.specs.Season.{season_spec}
+use Rattle.atl_upkeep.specs.Sweep.{sweep_spec}
+use Rattle.atl_upkeep.specs.Upkeep.{starved_event, starves, upkeep_results, upkeep_spec}
+use Rattle.atl_shares.specs.declared.upkeep_sharing.UpkeepResult.{UpkeepResult}
 
 -- ---- the phases without orders
 

@@ -34,9 +34,9 @@ use Rattle.atl_action.specs.Walk.{walk_spec}
 use Rattle.atl_action.specs.Sail.{sail_spec}
 use Rattle.atl_action.specs.Study.{learn_spec}
 use Rattle.atl_month.specs.Month.{early_phases, last_phases, later_phases}
-use Rattle.atl_month.specs.Season.{season_spec}
-use Rattle.atl_month.specs.Sweep.{sweep_spec}
-use Rattle.atl_month.specs.Upkeep.{upkeep_spec}
+use Rattle.atl_upkeep.specs.Season.{season_spec}
+use Rattle.atl_upkeep.specs.Sweep.{sweep_spec}
+use Rattle.atl_upkeep.specs.Upkeep.{upkeep_spec}
 use Rattle.atl_month.proofs.UnmailedEndLaws.{season_leaves, sweep_leaves, upkeep_leaves}
 
 -- ---- the books

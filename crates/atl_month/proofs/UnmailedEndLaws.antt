@@ -20,14 +20,14 @@ use Rattle.atl_phase.specs.Month.{MonthValue}
 use Rattle.atl_phase.specs.Unmailed.{IsLessBy, men_starved_by, starved_in}
 use Rattle.atl_phase.proofs.UnmailedLaws.{ClosesUnmailed, LeavesUnmailed, men_same, whole_leaves}
 use Rattle.atl_pots.proofs.PotLaws.{found_other}
-use Rattle.atl_month.specs.declared.upkeep_sharing.UpkeepInput.{UpkeepInput}
-use Rattle.atl_month.specs.declared.upkeep_sharing.UpkeepResult.{UpkeepResult}
-use Rattle.atl_month.specs.Season.{season_keeps, season_meaning}
-use Rattle.atl_month.specs.Sweep.{sweep_keeps, sweep_meaning}
-use Rattle.atl_month.specs.Upkeep.{starved_event, starves, upkeep_input_of, upkeep_inputs_of, upkeep_keeps, upkeep_meaning, upkeep_results}
-use Rattle.atl_month.specs.UpkeepSharing.{peers_of}
-use Rattle.atl_month.proofs.UpkeepLaws.{unit_after_upkeep, upkeep_result_each, upkeep_result_one}
-use Rattle.atl_month.proofs.UpkeepSharingLaws.{can_spare}
+use Rattle.atl_shares.specs.declared.upkeep_sharing.UpkeepInput.{UpkeepInput}
+use Rattle.atl_shares.specs.declared.upkeep_sharing.UpkeepResult.{UpkeepResult}
+use Rattle.atl_upkeep.specs.Season.{season_keeps, season_meaning}
+use Rattle.atl_upkeep.specs.Sweep.{sweep_keeps, sweep_meaning}
+use Rattle.atl_upkeep.specs.Upkeep.{starved_event, starves, upkeep_input_of, upkeep_inputs_of, upkeep_keeps, upkeep_meaning, upkeep_results}
+use Rattle.atl_shares.specs.UpkeepSharing.{peers_of}
+use Rattle.atl_upkeep.proofs.UpkeepLaws.{unit_after_upkeep, upkeep_result_each, upkeep_result_one}
+use Rattle.atl_shares.proofs.UpkeepSharingLaws.{can_spare}
 use Rattle.std.proofs.lemmas.Bool.Decides.{nat_tests}
 
 -- ---- upkeep

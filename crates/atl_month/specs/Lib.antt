@@ -1,12 +1,3 @@
-pub mod Limits
-pub mod Restock
-pub mod Season
-pub mod UpkeepSharing
-pub mod Accounts
-pub mod Upkeep
-pub mod UpkeepTaken
 pub mod Month
 pub mod OneEvent
-pub mod Sweep
-pub mod Receivers
 pub mod Unmailed

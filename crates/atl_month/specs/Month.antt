@@ -31,9 +31,9 @@ use Rattle.atl_market.specs.Recruit.{recruit_spec}
 use Rattle.atl_market.specs.Tax.{tax_spec}
 use Rattle.atl_market.specs.Trade.{buy_spec, sell_spec}
 use Rattle.atl_market.specs.Work.{work_spec}
-use Rattle.atl_month.specs.Season.{season_spec}
-use Rattle.atl_month.specs.Sweep.{sweep_spec}
-use Rattle.atl_month.specs.Upkeep.{upkeep_spec}
+use Rattle.atl_upkeep.specs.Season.{season_spec}
+use Rattle.atl_upkeep.specs.Sweep.{sweep_spec}
+use Rattle.atl_upkeep.specs.Upkeep.{upkeep_spec}
 
 -- What a month carries as its first phase begins: the mailings as they were read, each under its faction's number, the
 -- words of the dice, no alias and no event.

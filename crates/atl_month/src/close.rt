@@ -14,13 +14,11 @@ ghost use Rattle.atl_month.specs.OneEvent.{EachOrderHasOneEvent};
 ghost use Rattle.atl_month.specs.Unmailed.{UnmailedAreLeft};
 
 use crate::orders::OrderPhases;
-use crate::season::SeasonPhase;
-use crate::sweep::SweepPhase;
-use crate::upkeep::UpkeepPhase;
 use atl_campaign::{Campaign, Event};
 use atl_market::WorkPhase;
 use atl_orders::Mailing;
 use atl_phase::{Month, Phase};
+use atl_upkeep::{SeasonPhase, SweepPhase, UpkeepPhase};
 use atl_world::World;
 use std::alloc::{AllocError, Global};
 

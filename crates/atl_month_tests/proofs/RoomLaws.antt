@@ -14,7 +14,7 @@ use Rattle.atl_market.specs.Recruit.{recruit_spec}
 use Rattle.atl_market.specs.Tax.{tax_spec}
 use Rattle.atl_market.specs.Trade.{buy_spec, sell_spec}
 use Rattle.atl_market.specs.Work.{work_spec}
-use Rattle.atl_month.specs.Upkeep.{upkeep_spec}
+use Rattle.atl_upkeep.specs.Upkeep.{upkeep_spec}
 use Rattle.atl_month.proofs.PhaseLaws.{early_are, later_are, upkeep_alone, work_alone}
 
 -- `moved`, how far a phase moves one amount of the books, is at most 5*10^18 if it keeps the phase's bound. That

@@ -11,7 +11,6 @@ pub mod OneOrder
 pub mod Reports
 pub mod OrderEffects
 pub mod Outcomes
-pub mod InTurn
 pub mod Holdings
 pub mod Inside
 pub mod Unbooked

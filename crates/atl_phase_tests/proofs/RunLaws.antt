@@ -13,9 +13,9 @@ use Rattle.atl_phase.specs.PhaseSpecs.{MovesItsOwn, PhaseSpec, may_move}
 use Rattle.atl_phase.proofs.MeaningLaws.{room_less, room_when_sound}
 use Rattle.atl_market.specs.Work.{work_spec}
 use Rattle.atl_month.specs.Month.{orders_bound}
-use Rattle.atl_month.specs.Season.{season_spec}
-use Rattle.atl_month.specs.Sweep.{sweep_spec}
-use Rattle.atl_month.specs.Upkeep.{upkeep_spec}
+use Rattle.atl_upkeep.specs.Season.{season_spec}
+use Rattle.atl_upkeep.specs.Sweep.{sweep_spec}
+use Rattle.atl_upkeep.specs.Upkeep.{upkeep_spec}
 use Rattle.atl_month.proofs.MoveLaws.{phases_little}
 use Rattle.atl_month.proofs.PhaseLaws.{season_alone, sweep_alone, upkeep_alone, work_alone}
 use Rattle.atl_phase_tests.specs.Roomy.{IsRoomy, asked_room}

@@ -1,1 +1,3 @@
 pub mod ShareLaws
+pub mod GroupedLaws
+pub mod UpkeepSharingLaws

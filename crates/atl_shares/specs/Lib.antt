@@ -1,1 +1,4 @@
 pub mod Share
+pub mod InTurn
+pub mod UpkeepSharing
+pub mod Accounts

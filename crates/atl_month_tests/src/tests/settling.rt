@@ -1,7 +1,7 @@
 //! Tests of how much money upkeep takes from each unit, and how many men starve. The results are
 //! worked out by hand (docs/RULES.md, "Upkeep").
 ghost use Rattle.std.specs.Prelude.{All, IfOk};
-ghost use Rattle.atl_month.specs.UpkeepSharing.{AreInOrder, IsUpkeepInput};
+ghost use Rattle.atl_shares.specs.UpkeepSharing.{AreInOrder, IsUpkeepInput};
 
 use super::row_text::{assert_row, write_pair};
 use atl_month::{UpkeepInput, upkeep_payments};

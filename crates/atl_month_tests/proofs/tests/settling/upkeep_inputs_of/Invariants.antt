@@ -1,6 +1,6 @@
 use Rattle.std.specs.Prelude.{All, ◌≤◌}
-use Rattle.atl_month.specs.declared.upkeep_sharing.UpkeepInput.{UpkeepInput}
-use Rattle.atl_month.specs.UpkeepSharing.{AreInOrder, IsUpkeepInput}
+use Rattle.atl_shares.specs.declared.upkeep_sharing.UpkeepInput.{UpkeepInput}
+use Rattle.atl_shares.specs.UpkeepSharing.{AreInOrder, IsUpkeepInput}
 use Rattle.atl_month_tests.proofs.tests.settling.upkeep_inputs_of.Given as goal
 
 -- before each unit of a case: the inputs made of the units so far are each within their limits (`IsUpkeepInput`), and

@@ -1,5 +1,0 @@
-use Rattle.atl_month.proofs.UpkeepSharingLaws.{can_spare}
-use Rattle.atl_month.proofs.upkeep_sharing.each_unit_can_spare.Goals as goal
-
-pub returns : goal.returns
-returns c = can_spare
