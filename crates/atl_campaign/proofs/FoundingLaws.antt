@@ -26,7 +26,7 @@ use Rattle.atl_campaign.specs.KeptLists.{AreUnitLists, AreListsAndMarksKept}
 use Rattle.atl_world.specs.Names.{name_ok, pass_ok}
 use Rattle.atl_world.specs.declared.world.RegionPlan.{RegionPlan}
 use Rattle.atl_world.specs.ByNumber.{is_land_at, market_of, size_of}
-use Rattle.atl_orders.specs.Mailing.{IsMailingOf}
+use Rattle.atl_words.specs.Header.{IsMailingOf}
 use Rattle.atl_records.specs.Limits.{entry_count, most_days}
 use Rattle.atl_records.specs.Amounts.{region_amount, unit_amount}
 use Rattle.atl_campaign.specs.Totals.{total, Balances}

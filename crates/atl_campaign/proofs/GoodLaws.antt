@@ -6,7 +6,7 @@ use Rattle.std.specs.Cmp.Derive.{both_true}
 use Rattle.std.specs.Ordering.{nat_cmp}
 use Rattle.std.specs.FinMap.{FinMap, empty, insert}
 use Rattle.atl_world.specs.Worlds.{WorldValue}
-use Rattle.atl_orders.specs.Mailing.{IsMailingOf}
+use Rattle.atl_words.specs.Header.{IsMailingOf}
 use Rattle.atl_records.specs.declared.records.JoinFault.{JoinFault}
 use Rattle.atl_records.specs.declared.records.JoinFault.TheVariants.{NameTaken, Full}
 use Rattle.atl_records.specs.declared.records.Faction.{Faction}

@@ -17,7 +17,7 @@ use Rattle.atl_world.specs.Worlds.{WorldValue, IsWorld, land_of, is_land}
 use Rattle.atl_world.specs.declared.world.RegionPlan.{RegionPlan}
 use Rattle.atl_world.proofs.SumLaws.{numbers_where-insert_other}
 use Rattle.atl_world.specs.ByNumber.{is_land_at}
-use Rattle.atl_lines.specs.Limits.{last_faction}
+use Rattle.atl_words.specs.Limits.{last_faction}
 use Rattle.atl_records.specs.Limits.{most_units, last_unit, most_days, holding_limit}
 use Rattle.atl_records.specs.declared.books.BooksEntry.TheVariants.{Joining}
 use Rattle.atl_records.specs.declared.books.Thing.{Thing}

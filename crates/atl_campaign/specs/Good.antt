@@ -9,8 +9,8 @@ use Rattle.atl_world.specs.ByNumber.{is_land_at, market_of, size_of}
 use Rattle.atl_world.specs.Limits.{most_amount, most_regions}
 use Rattle.atl_world.specs.Names.{name_ok, pass_ok}
 use Rattle.atl_world.specs.Worlds.{WorldValue}
-use Rattle.atl_lines.specs.Limits.{last_faction}
-use Rattle.atl_orders.specs.Mailing.{IsMailingOf}
+use Rattle.atl_words.specs.Limits.{last_faction}
+use Rattle.atl_words.specs.Header.{IsMailingOf}
 use Rattle.atl_records.specs.Limits.{last_month, last_unit, most_days, most_in_joining, most_in_month, most_structures, most_units}
 use Rattle.atl_records.specs.declared.books.BooksEntry.{BooksEntry}
 use Rattle.atl_records.specs.declared.books.Thing.{Thing}

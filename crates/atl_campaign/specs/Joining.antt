@@ -5,7 +5,7 @@ use Rattle.std.specs.Fmt.{decimal}
 use Rattle.std.specs.Cmp.Lexicographic.{pointwise}
 use Rattle.std.specs.FinMap.{insert, entries, len, empty}
 use Rattle.atl_world.specs.Worlds.{WorldValue, land_of}
-use Rattle.atl_lines.specs.Limits.{last_faction}
+use Rattle.atl_words.specs.Limits.{last_faction}
 use Rattle.atl_records.specs.Limits.{most_units, last_unit}
 use Rattle.atl_records.specs.declared.books.BooksEntry.TheVariants.{Joining}
 use Rattle.atl_records.specs.declared.books.Thing.TheVariants.{Money, People}

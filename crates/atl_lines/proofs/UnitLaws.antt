@@ -1,14 +1,15 @@
 -- Laws of the units that the words of a TEACH order name: the first unit, and then the others. ws are the words left to
 -- read, u is the unit that they begin with, `rest` are the words after it, and `front` are the units read before.
 use Rattle.std.proofs.Common.{◌≡◌, ℕ, ◌+◌, ◌<◌, ◌≤◌, Bool, true, false, cond, List, [], ◌∷◌, ◌++◌, length, codes, Option, Some, None, Result, Ok, Err, refl, sym, ap, ◌∙◌, arith}
-use Rattle.atl_lines.specs.Limits.{last_alias, most_number}
+use Rattle.atl_words.specs.Limits.{last_alias, most_number}
 use Rattle.atl_lines.specs.declared.order.UnitRef.{UnitRef}
 use Rattle.atl_lines.specs.declared.order.UnitRef.TheVariants.{Number, Alias}
 use Rattle.atl_lines.specs.declared.fault.LineFault.{LineFault}
 use Rattle.atl_lines.specs.declared.fault.LineFault.TheVariants.{BadNumber, BadAlias}
-use Rattle.atl_lines.specs.Words.{WordText, is_word, number_of}
+use Rattle.atl_words.specs.Words.{WordText, is_word, number_of}
 use Rattle.atl_world.specs.Steps.{◌>>=◌}
-use Rattle.atl_lines.specs.Operands.{or_fault, not_zero, count_at, unit_at, units_of, and_then_units}
+use Rattle.atl_lines.specs.Operands.{or_fault, count_at, unit_at, units_of, and_then_units}
+use Rattle.atl_words.specs.Words.{not_zero}
 use Rattle.atl_lines.specs.Views.{with_units}
 use Rattle.std.proofs.lemmas.Bool.{cond_both}
 use Rattle.std.proofs.lemmas.List.{append_assoc, append-nil}

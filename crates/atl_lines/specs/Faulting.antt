@@ -1,9 +1,7 @@
--- The numbers and names of line faults and mail faults. See docs/FORMATS.md, "Line faults".
-use Rattle.std.specs.Prelude.{ℕ, List, codes, Option, Some, None}
+-- The numbers and names of line faults. See docs/FORMATS.md, "Line faults".
+use Rattle.std.specs.Prelude.{ℕ, List, codes}
 use Rattle.atl_lines.specs.declared.fault.LineFault.{LineFault}
 use Rattle.atl_lines.specs.declared.fault.LineFault.TheVariants.{NoUnit, UnknownOrder, BadNumber, UnknownThing, MissingWord, BadByte, BadAlias, NestedForm, EndAlone, BadDirection, BadName}
-use Rattle.atl_lines.specs.declared.fault.MailFault.{MailFault}
-use Rattle.atl_lines.specs.declared.fault.MailFault.TheVariants.{TooLong, NoHeader, BadHeader, Memory}
 
 -- the number and the name of a line fault
 abbrev pub line_fault : LineFault → ℕ × List ℕ
@@ -26,10 +24,3 @@ fault_number fault = (line_fault fault).0
 -- the name of a line fault, as in `BadNumber`
 abbrev pub fault_name : LineFault → List ℕ
 fault_name fault = (line_fault fault).1
-
--- the number of a mail fault, from 1 to 3; Memory has none
-abbrev pub mail_fault_number : MailFault → Option ℕ
-mail_fault_number TooLong = Some 1
-mail_fault_number NoHeader = Some 2
-mail_fault_number BadHeader = Some 3
-mail_fault_number Memory = None

@@ -1,12 +1,7 @@
-pub mod Letters
-pub mod Limits
 pub mod Aliasing
 pub mod Faulting
-pub mod Words
-pub mod TextLines
 pub mod Verbs
 pub mod Operands
 pub mod Orders
 pub mod Reading
-pub mod Positions
 pub mod Views

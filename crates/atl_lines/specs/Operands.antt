@@ -1,6 +1,6 @@
 -- How the words after a keyword are read. See docs/RULES.md, "Orders", and docs/RULES.md, "Names in orders".
 use Rattle.std.specs.Prelude.{ℕ, List, [], ◌∷◌, codes, Option, Some, None, Result, Ok, Err, ◌==◌, if◌then◌else◌}
-use Rattle.atl_lines.specs.Limits.{last_alias, most_number}
+use Rattle.atl_words.specs.Limits.{last_alias, most_number}
 use Rattle.atl_world.specs.Worlds.{WorldValue}
 use Rattle.atl_world.specs.Steps.{◌>>=◌}
 use Rattle.atl_world.specs.Lookup.{item_named, skill_named, kind_named}
@@ -10,17 +10,12 @@ use Rattle.atl_world.specs.declared.direction.Direction.{Direction}
 use Rattle.atl_world.specs.declared.direction.Direction.TheVariants.{North, South, East, West}
 use Rattle.atl_lines.specs.declared.fault.LineFault.{LineFault}
 use Rattle.atl_lines.specs.declared.fault.LineFault.TheVariants.{BadNumber, UnknownThing, MissingWord, BadAlias, BadDirection}
-use Rattle.atl_lines.specs.Words.{WordText, is_word, number_of}
+use Rattle.atl_words.specs.Words.{WordText, is_word, number_of}
 
 -- the value of an option as a result, or the given fault where the option has none
 abbrev pub or_fault : {X : Type 0} → LineFault → Option X → Result X LineFault
 or_fault fault None = Err fault
 or_fault fault (Some x) = Ok x
-
--- an optional number, or None if it is 0
-abbrev pub not_zero : Option ℕ → Option ℕ
-not_zero None = None
-not_zero (Some n) = if n == 0 then None else Some n
 
 -- the next word, and the words after it; else MissingWord
 abbrev pub word_at : List WordText → Result (WordText × List WordText) LineFault

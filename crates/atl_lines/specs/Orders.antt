@@ -16,7 +16,7 @@ use Rattle.atl_world.specs.declared.verb.Shape.{Shape}
 use Rattle.atl_world.specs.declared.verb.Shape.TheVariants as shapes
 use Rattle.atl_world.specs.declared.verb.Verb.{Verb}
 use Rattle.atl_world.specs.Verbs.{row_of}
-use Rattle.atl_lines.specs.Words.{WordText, is_word, number_of}
+use Rattle.atl_words.specs.Words.{WordText, is_word, number_of}
 use Rattle.atl_world.specs.Steps.{◌>>=◌}
 use Rattle.atl_lines.specs.Operands.{or_fault, word_at, number_at, alias_at, unit_at, item_at, amount_of_item_at, skill_at, kind_at, direction_at, some_units_at}
 

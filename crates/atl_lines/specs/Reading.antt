@@ -5,7 +5,7 @@ use Rattle.std.specs.List.{list_all}
 use Rattle.std.specs.Option.{option_map}
 use Rattle.atl_world.specs.Letters.{space, tilde}
 use Rattle.atl_world.specs.Worlds.{WorldValue}
-use Rattle.atl_lines.specs.Letters.{tab}
+use Rattle.atl_words.specs.Letters.{tab}
 use Rattle.atl_lines.specs.declared.order.UnitRef.{UnitRef}
 use Rattle.atl_lines.specs.declared.order.UnitRef.TheVariants.{Number, Alias}
 use Rattle.atl_lines.specs.declared.fault.LineFault.{LineFault}
@@ -15,7 +15,7 @@ use Rattle.atl_lines.specs.declared.reading.Keyword.TheVariants as keywords
 use Rattle.atl_lines.specs.declared.reading.ReaderState.{ReaderState}
 use Rattle.atl_lines.specs.declared.reading.ReaderState.TheVariants.{Nowhere, At, Forming, Skipping}
 use Rattle.atl_lines.specs.Aliasing.{with_alias}
-use Rattle.atl_lines.specs.Words.{WordText, words, is_word}
+use Rattle.atl_words.specs.Words.{WordText, words, is_word}
 use Rattle.atl_lines.specs.Verbs.{verb_of}
 use Rattle.atl_lines.specs.Operands.{number_at, alias_at}
 use Rattle.atl_lines.specs.declared.order.Operands.TheVariants as operands

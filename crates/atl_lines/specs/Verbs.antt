@@ -3,7 +3,7 @@ use Rattle.std.specs.Prelude.{List, [], ◌∷◌, codes, Option, Some, find, if
 use Rattle.atl_world.specs.declared.verb.Verb.{Verb}
 use Rattle.atl_world.specs.declared.verb.Verb.TheVariants.{Name, Guard, Enter, Leave, Promote, Give, Pay, Transfer, Sell, Buy, Tax, Recruit, Quit, Move, Sail, Build, Teach, Study, Produce, Work}
 use Rattle.atl_world.specs.Verbs.{keyword}
-use Rattle.atl_lines.specs.Words.{WordText, is_word}
+use Rattle.atl_words.specs.Words.{WordText, is_word}
 
 -- the verbs that an order's line can begin with; FORM is left out, since it has lines of its own
 abbrev pub listed_verbs : List Verb

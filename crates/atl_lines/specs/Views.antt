@@ -6,26 +6,12 @@ use Rattle.atl_lines.specs.declared.order.UnitRef.{UnitRef}
 use Rattle.atl_lines.specs.declared.reading.LineResult.{LineResult}
 use Rattle.atl_lines.specs.declared.reading.LineResult.TheVariants as outcomes
 use Rattle.atl_lines.specs.declared.reading.ReaderState.{ReaderState}
-use Rattle.atl_lines.specs.declared.words.Word.{Word}
-use Rattle.atl_lines.specs.TextLines.{lines}
+use Rattle.atl_words.specs.declared.words.Word.{Word}
+use Rattle.atl_words.specs.TextLines.{lines}
 use Rattle.atl_world.specs.Steps.{◌>>=◌}
 use Rattle.atl_lines.specs.Orders.{order_value}
 use Rattle.atl_lines.specs.Reading.{Effect, nothing, faulty, says, LineStep, step}
-use Rattle.atl_lines.specs.Words.{WordText}
-
--- a word of the code as its bytes and whether it is in quotes
-abbrev pub word_text : Word → WordText
-word_text w = record { bytes = w.bytes.now; quoted = w.quoted }
-
--- the lines of the text that is left after a line feed; none if no line feed was found
-abbrev pub lines_of_rest : Option (List ℕ) → List (List ℕ)
-lines_of_rest None = []
-lines_of_rest (Some text) = lines text
-
--- a bound on how many lines are left to read; 0 if no text is left
-abbrev pub rest_size : Option (List ℕ) → ℕ
-rest_size None = 0
-rest_size (Some text) = length text + 1
+use Rattle.atl_words.specs.Words.{WordText}
 
 -- a result with its value mapped by the function; a fault stays
 abbrev pub view_of_result : {X Y : Type 0} → (X → Y) → Result X LineFault → Result Y LineFault

@@ -1,9 +1,9 @@
 //! The set of the aliases that the FORM lines of a mailing have given so far.
 //! See docs/RULES.md, "Reading a mailing".
 ghost use Rattle.std.specs.Prelude.{◌≡◌, ◌≤◌, ◌+◌, ℕ, false, vec_len, slice_index_or, IfOk};
-ghost use Rattle.atl_lines.specs.Limits.{last_alias};
+ghost use Rattle.atl_words.specs.Limits.{last_alias};
 
-use crate::limits::LAST_ALIAS;
+use atl_words::LAST_ALIAS;
 use std::alloc::{AllocError, Global};
 
 fn no_aliases(alloc: Global, count: usize) -> Result<Vec<bool>, AllocError>

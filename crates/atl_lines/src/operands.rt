@@ -1,16 +1,16 @@
 //! Reads the next words of a line as a number, a unit or a thing, or gives their first fault.
 //! See docs/RULES.md, "Orders" and "Names in orders".
 ghost use Rattle.std.specs.Prelude.{◌≡◌, ◌≤◌, IfOk};
-ghost use Rattle.atl_lines.specs.Limits.{most_number, last_alias};
-ghost use Rattle.atl_lines.specs.Words.{words};
-ghost use Rattle.atl_lines.specs.Views.{word_text, Agrees};
-ghost use Rattle.atl_lines.specs.Positions.{IsPartOf, EndsWith};
+ghost use Rattle.atl_words.specs.Limits.{most_number, last_alias};
+ghost use Rattle.atl_words.specs.Words.{words};
+ghost use Rattle.atl_lines.specs.Views.{Agrees};
+ghost use Rattle.atl_words.specs.WordViews.{word_text};
+ghost use Rattle.atl_words.specs.Positions.{IsPartOf, EndsWith};
 ghost use Rattle.atl_lines.specs.Operands.{word_at, count_at, number_at, alias_at, unit_at, item_at, amount_of_item_at, skill_at, kind_at, direction_of, direction_at, units_of};
 
 use crate::fault::LineFault;
-use crate::limits::{LAST_ALIAS, MOST_NUMBER};
 use crate::order::UnitRef;
-use crate::words::{Word, next_word, number};
+use atl_words::{LAST_ALIAS, MOST_NUMBER, Word, next_word, number};
 use atl_world::{Direction, Sequence, World};
 use std::alloc::{AllocError, Global};
 

@@ -1,9 +1,10 @@
 //! Reads the words after a verb as the order table says, or gives their first fault.
 //! See docs/RULES.md, "Orders".
 ghost use Rattle.std.specs.Prelude.{◌≡◌, IfOk};
-ghost use Rattle.atl_lines.specs.Words.{words};
-ghost use Rattle.atl_lines.specs.Views.{word_text, Agrees};
-ghost use Rattle.atl_lines.specs.Positions.{IsCursor};
+ghost use Rattle.atl_words.specs.Words.{words};
+ghost use Rattle.atl_lines.specs.Views.{Agrees};
+ghost use Rattle.atl_words.specs.WordViews.{word_text};
+ghost use Rattle.atl_words.specs.Positions.{IsCursor};
 ghost use Rattle.atl_lines.specs.Orders.{kind_of_name, named, order_value, read_order, read_flag, read_units, read_unit_and_number, read_unit_and_goods, read_name, read_kind, read_operands};
 
 use crate::fault::LineFault;
@@ -12,7 +13,7 @@ use crate::operands::{
     units_of, word_at,
 };
 use crate::order::{NameKind, Operands, Order, Span};
-use crate::words::{Cursor, Word, next_word, number};
+use atl_words::{Cursor, Word, next_word, number};
 use atl_world::{Shape, Verb, World, word_ok};
 use std::alloc::{AllocError, Global};
 
@@ -69,7 +70,7 @@ fn kind_of_name(word: Word) -> Option<NameKind>
     }
 }
 
-#[tactic(auto, using(crate::proofs::WordLaws::ends_at_fits, crate::proofs::WordLaws::ends_at_further, crate::proofs::WordLaws::part_shorter, crate::proofs::WordLaws::ends_shorter))]
+#[tactic(auto, using(atl_words::proofs::WordLaws::ends_at_fits, atl_words::proofs::WordLaws::ends_at_further, atl_words::proofs::WordLaws::part_shorter, atl_words::proofs::WordLaws::ends_shorter))]
 fn read_name(cursor: Cursor) -> Result<Operands, LineFault>
     requires { IsCursor cursor }
     ensures { Agrees (named cursor.entry.text.now) result

@@ -1,23 +1,24 @@
 //! Reads one line of a mailing. See docs/RULES.md, "Reading a mailing".
 ghost use Rattle.std.specs.Prelude.{◌≡◌, ℕ, List, IfOk};
 ghost use Rattle.std.specs.List.{list_all};
-ghost use Rattle.atl_lines.specs.Views.{alias_set, word_text, effect_of, step_of};
-ghost use Rattle.atl_lines.specs.Words.{words};
-ghost use Rattle.atl_lines.specs.Positions.{IsCursor};
+ghost use Rattle.atl_lines.specs.Views.{alias_set, effect_of, step_of};
+ghost use Rattle.atl_words.specs.WordViews.{word_text};
+ghost use Rattle.atl_words.specs.Words.{words};
+ghost use Rattle.atl_words.specs.Positions.{IsCursor};
 ghost use Rattle.atl_lines.specs.Operands.{number_at};
 ghost use Rattle.atl_lines.specs.Orders.{read_order};
 ghost use Rattle.atl_lines.specs.Reading.{is_plain, keyword_of, unit_step, end_step, form_step, target, order_effect, line_step};
 
 use crate::aliases::Aliases;
 use crate::fault::LineFault;
-use crate::letters::TAB;
 use crate::operands::{alias_at, number_at};
 use crate::order::{Operands, Order, UnitRef};
 use crate::orders::order_at;
 use crate::verb::verb_of_word;
-use crate::words::{Cursor, Word, next_word};
 use LineResult::{Faulty, Nothing, Says};
 use ReaderState::{At, Forming, Nowhere, Skipping};
+use atl_words::letters::TAB;
+use atl_words::{Cursor, Word, next_word};
 use atl_world::letters::{SPACE, TILDE};
 use atl_world::{Verb, World};
 use std::alloc::{AllocError, Global};
@@ -156,7 +157,7 @@ fn order_line(
 
 /// What a line of a mailing gives, and the reader's next state. A FORM without fault adds its alias
 /// to `aliases`.
-#[tactic(auto, using(crate::proofs::WordLaws::ends_at_further, crate::proofs::WordLaws::ends_shorter), unfolding(crate::specs::Reading::line_step))]
+#[tactic(auto, using(atl_words::proofs::WordLaws::ends_at_further, atl_words::proofs::WordLaws::ends_shorter), unfolding(crate::specs::Reading::line_step))]
 pub fn read_line(
     alloc: Global,
     world: &World,

@@ -1,11 +1,11 @@
 //! Reads the keyword of an order: a word as a verb. See docs/RULES.md, "Orders".
 ghost use Rattle.std.specs.Prelude.{◌≡◌, find};
-ghost use Rattle.atl_lines.specs.Words.{is_word};
-ghost use Rattle.atl_lines.specs.Views.{word_text};
+ghost use Rattle.atl_words.specs.Words.{is_word};
+ghost use Rattle.atl_words.specs.WordViews.{word_text};
 ghost use Rattle.atl_lines.specs.Verbs.{listed_verbs, verb_of};
 ghost use Rattle.atl_world.specs.Verbs.{keyword};
 
-use crate::words::Word;
+use atl_words::Word;
 use atl_world::{Verb, variants};
 
 /// The verbs that an order's line can begin with; FORM is left out, since it has lines of its own.

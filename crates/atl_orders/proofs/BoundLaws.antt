@@ -5,24 +5,25 @@ use Rattle.std.proofs.Common.{◌≡◌, ℕ, ◌+◌, ◌<◌, Bool, List, [], 
 use Rattle.std.specs.List.{All, list_all, flat_map}
 use Rattle.std.proofs.lemmas.Bool.{cond_both}
 use Rattle.std.proofs.lemmas.List.Elements.{All-nil, All-cons, All-append}
-use Rattle.atl_lines.specs.Limits.{most_bytes, most_number, last_alias, last_faction}
+use Rattle.atl_words.specs.Limits.{most_bytes, most_number, last_alias, last_faction}
 use Rattle.atl_world.specs.Worlds.{WorldValue}
 use Rattle.atl_lines.specs.declared.order.UnitRef.{UnitRef}
 use Rattle.atl_lines.specs.declared.order.UnitRef.TheVariants.{Number, Alias}
 use Rattle.atl_lines.specs.declared.fault.LineFault.{LineFault}
 use Rattle.atl_lines.specs.declared.fault.LineFault.TheVariants.{BadNumber, BadAlias}
-use Rattle.atl_lines.specs.declared.fault.MailFault.{MailFault}
+use Rattle.atl_words.specs.declared.mail_fault.MailFault.{MailFault}
 use Rattle.atl_lines.specs.declared.reading.Keyword.{Keyword}
 use Rattle.atl_lines.specs.declared.reading.Keyword.TheVariants as keywords
 use Rattle.atl_lines.specs.declared.reading.ReaderState.{ReaderState}
 use Rattle.atl_lines.specs.declared.reading.ReaderState.TheVariants.{Nowhere, At, Forming, Skipping}
-use Rattle.atl_lines.specs.Words.{WordText, words, begins, number_of}
+use Rattle.atl_words.specs.Words.{WordText, words, begins, number_of}
 use Rattle.atl_lines.specs.Operands.{number_at, alias_at}
 use Rattle.atl_lines.specs.Orders.{OrderValue, read_order}
 use Rattle.atl_lines.specs.Aliasing.{no_alias}
-use Rattle.atl_lines.specs.TextLines.{lines}
+use Rattle.atl_words.specs.TextLines.{lines}
 use Rattle.atl_lines.specs.Reading.{is_plain, keyword_of, Effect, nothing, faulty, says, LineStep, target, effect_for, order_effect, unit_step, end_step, block_step, form_step, keyword_step, words_step, line_step}
-use Rattle.atl_orders.specs.Mailing.{EntryValue, entry_of, effects, faction_of, HeaderValue, header_line, header_from, after_header, reading}
+use Rattle.atl_orders.specs.Mailing.{EntryValue, entry_of, effects, after_header, reading}
+use Rattle.atl_words.specs.Header.{faction_of, HeaderValue, header_line, header_from}
 use Rattle.atl_orders.proofs.OperandLaws.{Holds, NumberRead, IsOrderInBounds, count_holds, nonzero_is_from_one, number_within, said_sound}
 use Rattle.atl_orders.specs.Bounds.{IsWithin, IsNumber, IsAlias, IsUnitRef, IsOrderOf, IsEntry, LinesRise, IsReading, ReadingsKeepBounds}
 

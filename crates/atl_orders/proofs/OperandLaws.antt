@@ -8,7 +8,7 @@ use Rattle.std.proofs.lemmas.Bool.{cond_both}
 use Rattle.std.proofs.lemmas.Bool.Decides.{nat_tests}
 use Rattle.std.proofs.lemmas.List.Elements.{All-nil, All-cons}
 use Rattle.std.proofs.lemmas.List.Quantifiers.{position-Some}
-use Rattle.atl_lines.specs.Limits.{last_alias, most_number}
+use Rattle.atl_words.specs.Limits.{last_alias, most_number}
 use Rattle.atl_world.specs.Names.{name_ok}
 use Rattle.atl_world.specs.Worlds.{WorldValue}
 use Rattle.atl_world.specs.Lookup.{index_named, name_of}
@@ -16,9 +16,10 @@ use Rattle.atl_lines.specs.declared.order.UnitRef.{UnitRef}
 use Rattle.atl_lines.specs.declared.fault.LineFault.{LineFault}
 use Rattle.atl_lines.specs.declared.fault.LineFault.TheVariants.{BadNumber, UnknownThing, BadAlias}
 use Rattle.atl_world.specs.declared.verb.Verb.{Verb}
-use Rattle.atl_lines.specs.Words.{WordText, is_word, number_of}
+use Rattle.atl_words.specs.Words.{WordText, is_word, number_of}
 use Rattle.atl_world.specs.Steps.{◌>>=◌}
-use Rattle.atl_lines.specs.Operands.{or_fault, not_zero, word_at, count_at, number_at, alias_at, unit_at, item_at, amount_of_item_at, skill_at, kind_at, direction_at, unit_by_number, new_unit_ref, and_then_units, units_of, some_units_at}
+use Rattle.atl_lines.specs.Operands.{or_fault, word_at, count_at, number_at, alias_at, unit_at, item_at, amount_of_item_at, skill_at, kind_at, direction_at, unit_by_number, new_unit_ref, and_then_units, units_of, some_units_at}
+use Rattle.atl_words.specs.Words.{not_zero}
 use Rattle.atl_world.specs.declared.verb.Shape.{Shape}
 use Rattle.atl_world.specs.declared.verb.Shape.TheVariants as shapes
 use Rattle.atl_world.specs.Verbs.{row_of}

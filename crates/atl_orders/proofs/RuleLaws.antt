@@ -14,7 +14,7 @@ use Rattle.atl_lines.specs.declared.reading.Keyword.{Keyword}
 use Rattle.atl_lines.specs.declared.reading.Keyword.TheVariants as keywords
 use Rattle.atl_lines.specs.declared.reading.ReaderState.{ReaderState}
 use Rattle.atl_lines.specs.declared.reading.ReaderState.TheVariants.{Nowhere, At, Forming, Skipping}
-use Rattle.atl_lines.specs.Words.{WordText, words, begins}
+use Rattle.atl_words.specs.Words.{WordText, words, begins}
 use Rattle.atl_lines.specs.Operands.{number_at, alias_at}
 use Rattle.atl_lines.specs.Orders.{OrderValue, read_order}
 use Rattle.atl_lines.specs.Reading.{is_plain, state_naming_unit, Effect, nothing, faulty, keyword_of, target, order_effect, LineStep, step, unit_step, end_step, block_step, form_step, keyword_step, words_step, line_step}

@@ -2,11 +2,12 @@
 use Rattle.std.proofs.Common.{◌≡◌, ◌≤◌, List, ℕ, length, Result, Ok, Err, nat_lt, refl, ap, ◌∙◌, arith}
 use Rattle.std.proofs.lemmas.Bool.{cond_both}
 use Rattle.std.proofs.lemmas.Bool.Decides.{nat_tests}
-use Rattle.atl_lines.specs.Limits.{most_bytes}
+use Rattle.atl_words.specs.Limits.{most_bytes}
 use Rattle.atl_world.specs.Worlds.{WorldValue}
-use Rattle.atl_lines.specs.declared.fault.MailFault.{MailFault}
-use Rattle.atl_lines.specs.TextLines.{lines}
-use Rattle.atl_orders.specs.Mailing.{HeaderValue, header_from, Reading, after_header, reading, IsMailingOf}
+use Rattle.atl_words.specs.declared.mail_fault.MailFault.{MailFault}
+use Rattle.atl_words.specs.TextLines.{lines}
+use Rattle.atl_orders.specs.Mailing.{Reading, after_header, reading}
+use Rattle.atl_words.specs.Header.{HeaderValue, header_from, IsMailingOf}
 
 one_reading : (a b : Reading) → ◌≡◌ {A = Result Reading MailFault} (Ok a) (Ok b) → a ≡ b
 one_reading a b e = cc

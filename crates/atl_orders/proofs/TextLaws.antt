@@ -7,14 +7,15 @@ use Rattle.std.proofs.lemmas.Bool.Decides.{nat_tests}
 use Rattle.std.proofs.lemmas.List.Elements.{All-nil, All-cons, All-head, All-tail}
 use Rattle.std.proofs.Math.Nat.{zero-add}
 use Rattle.atl_world.specs.Worlds.{WorldValue}
-use Rattle.atl_lines.specs.declared.fault.MailFault.{MailFault}
-use Rattle.atl_lines.specs.declared.fault.MailFault.TheVariants.{NoHeader}
+use Rattle.atl_words.specs.declared.mail_fault.MailFault.{MailFault}
+use Rattle.atl_words.specs.declared.mail_fault.MailFault.TheVariants.{NoHeader}
 use Rattle.atl_lines.specs.declared.reading.ReaderState.TheVariants.{Nowhere}
-use Rattle.atl_lines.specs.Limits.{most_bytes}
+use Rattle.atl_words.specs.Limits.{most_bytes}
 use Rattle.atl_lines.specs.Aliasing.{no_alias}
-use Rattle.atl_lines.specs.TextLines.{lines}
-use Rattle.atl_lines.specs.Words.{words}
-use Rattle.atl_orders.specs.Mailing.{faction_of, header_line, header_from, Reading, after_header, reading}
+use Rattle.atl_words.specs.TextLines.{lines}
+use Rattle.atl_words.specs.Words.{words}
+use Rattle.atl_orders.specs.Mailing.{Reading, after_header, reading}
+use Rattle.atl_words.specs.Header.{faction_of, header_line, header_from}
 use Rattle.atl_orders.specs.Rules.{is_header, HaveNoHeader, HaveHeader, TextSays, too_long, no_header, bad_header, mailing}
 use Rattle.atl_orders.proofs.RuleLaws.{body_fits, body_only}
 

@@ -2,7 +2,7 @@
 -- of the world.
 use Rattle.std.specs.Prelude.{◌≡◌, ◌≤◌, ◌<◌, ℕ, true, List, [], ◌∷◌, length, Some, None, Ok}
 use Rattle.std.specs.List.{All}
-use Rattle.atl_lines.specs.Limits.{most_number, last_alias, last_faction}
+use Rattle.atl_words.specs.Limits.{most_number, last_alias, last_faction}
 use Rattle.atl_world.specs.Names.{name_ok}
 use Rattle.atl_world.specs.Worlds.{WorldValue}
 use Rattle.atl_lines.specs.declared.order.UnitRef.{UnitRef}

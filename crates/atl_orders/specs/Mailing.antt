@@ -1,20 +1,20 @@
 -- The reading of a mailing: its faction, orders and faulty lines. See docs/RULES.md, "Reading a mailing".
 use Rattle.std.specs.Prelude.{◌≡◌, ◌≤◌, ℕ, ◌+◌, Bool, List, [], ◌∷◌, length, map, codes, Option, Some, None, Result, Ok, Err, nat_lt, if◌then◌else◌}
 use Rattle.std.specs.List.{flat_map}
-use Rattle.atl_lines.specs.Limits.{last_faction, most_bytes}
+use Rattle.atl_words.specs.Limits.{last_faction, most_bytes}
 use Rattle.atl_world.specs.Worlds.{WorldValue}
 use Rattle.atl_lines.specs.declared.order.UnitRef.{UnitRef}
 use Rattle.atl_lines.specs.declared.reading.ReaderState.{ReaderState}
 use Rattle.atl_lines.specs.declared.reading.ReaderState.TheVariants.{Nowhere}
 use Rattle.atl_lines.specs.declared.fault.FaultyLine.{FaultyLine}
-use Rattle.atl_lines.specs.declared.fault.MailFault.{MailFault}
-use Rattle.atl_lines.specs.declared.fault.MailFault.TheVariants.{TooLong, NoHeader, BadHeader, Memory}
+use Rattle.atl_words.specs.declared.mail_fault.MailFault.{MailFault}
+use Rattle.atl_words.specs.declared.mail_fault.MailFault.TheVariants.{TooLong, NoHeader, BadHeader, Memory}
 use Rattle.atl_orders.specs.declared.mailing.Entry.{Entry}
 use Rattle.atl_orders.specs.declared.mailing.Mailing.{Mailing}
 use Rattle.atl_lines.specs.Aliasing.{no_alias}
-use Rattle.atl_lines.specs.Words.{WordText, words, begins, number_of}
-use Rattle.atl_lines.specs.TextLines.{lines}
-use Rattle.atl_lines.specs.Operands.{not_zero}
+use Rattle.atl_words.specs.Words.{WordText, words, begins, number_of}
+use Rattle.atl_words.specs.TextLines.{lines}
+use Rattle.atl_words.specs.Words.{not_zero}
 use Rattle.atl_lines.specs.Orders.{OrderValue, order_value}
 use Rattle.atl_lines.specs.Reading.{Effect, nothing, faulty, says, line_step}
 
@@ -46,30 +46,6 @@ fault_of (n, nothing) = []
 fault_of (n, faulty fault) = record { line = n; fault = fault } ∷ []
 fault_of (n, says unit order_value) = []
 
--- the faction's number, from 1 to 9,999, that is the second word of a header; None if that word is no such number
-abbrev pub faction_of : List WordText → Option ℕ
-faction_of [] = None
-faction_of (w ∷ []) = None
-faction_of (w ∷ v ∷ ws) = not_zero (number_of last_faction v.bytes)
-
--- what a header gives: its faction's number, and the lines after it, of which the first has the number `next`
-pub record HeaderValue : Type 0 where
-  pub faction : ℕ
-  pub next : ℕ
-  pub rest : List (List ℕ)
-
--- what the header at line n gives: its faction and the lines after it; BadHeader if it names no faction
-abbrev pub header_line : ℕ → List (List ℕ) → Option ℕ → Result HeaderValue MailFault
-header_line n rest None = Err BadHeader
-header_line n rest (Some faction) = Ok (record { faction = faction; next = n + 1; rest = rest })
-
--- what the first header in a list of lines gives, else NoHeader or BadHeader; the first line has the number n
-unfoldable pub header_from : ℕ → List (List ℕ) → Result HeaderValue MailFault
-header_from n [] = Err NoHeader
-header_from n (line ∷ rest) =
-    if begins (codes "#ATLANTIS") (words line) then header_line n rest (faction_of (words line))
-    else header_from (n + 1) rest
-
 -- what reading a mailing gives: its faction, its orders, and its faulty lines
 pub record Reading : Type 0 where
   pub faction : ℕ
@@ -90,13 +66,6 @@ unfoldable pub reading : WorldValue → List ℕ → Result Reading MailFault
 reading world text =
     if nat_lt most_bytes (length text) then Err TooLong
     else after_header world (header_from 1 (lines text))
-
--- a text is a mailing of a faction: it isn't too long, and its header names the faction
-pub record IsMailingOf (faction : ℕ) (text : List ℕ) : Type 0 where
-  pub short : length text ≤ most_bytes
-  pub header :
-      (next : ℕ) × (rest : List (List ℕ))
-      × (header_from 1 (lines text) ≡ Ok (record { faction = faction; next = next; rest = rest }))
 
 -- ---- what the code returns
 

@@ -14,16 +14,17 @@ use Rattle.atl_lines.specs.declared.reading.Keyword.{Keyword}
 use Rattle.atl_lines.specs.declared.reading.Keyword.TheVariants as keywords
 use Rattle.atl_lines.specs.declared.reading.ReaderState.{ReaderState}
 use Rattle.atl_lines.specs.declared.reading.ReaderState.TheVariants.{Nowhere, At, Forming, Skipping}
-use Rattle.atl_lines.specs.declared.fault.MailFault.{MailFault}
-use Rattle.atl_lines.specs.declared.fault.MailFault.TheVariants.{TooLong, NoHeader, BadHeader}
-use Rattle.atl_lines.specs.Limits.{most_bytes}
+use Rattle.atl_words.specs.declared.mail_fault.MailFault.{MailFault}
+use Rattle.atl_words.specs.declared.mail_fault.MailFault.TheVariants.{TooLong, NoHeader, BadHeader}
+use Rattle.atl_words.specs.Limits.{most_bytes}
 use Rattle.atl_lines.specs.Aliasing.{no_alias, with_alias}
-use Rattle.atl_lines.specs.TextLines.{lines}
-use Rattle.atl_lines.specs.Words.{WordText, words, begins}
+use Rattle.atl_words.specs.TextLines.{lines}
+use Rattle.atl_words.specs.Words.{WordText, words, begins}
 use Rattle.atl_lines.specs.Operands.{number_at, alias_at}
 use Rattle.atl_lines.specs.Orders.{OrderValue, read_order}
 use Rattle.atl_lines.specs.Reading.{is_plain, keyword_of, nothing, faulty, says, LineStep, step, form_value, target, state_naming_unit, line_step}
-use Rattle.atl_orders.specs.Mailing.{EntryValue, entry_of, fault_of, effects, faction_of, Reading, reading}
+use Rattle.atl_orders.specs.Mailing.{EntryValue, entry_of, fault_of, effects, Reading, reading}
+use Rattle.atl_words.specs.Header.{faction_of}
 
 -- the reader's state once the open block is closed, None if no block is open
 abbrev pub state_after_block : ReaderState → Option ReaderState

@@ -2,9 +2,10 @@
 use Rattle.std.specs.Prelude.{ℕ, ◌+◌, ◌++◌}
 use Rattle.std.specs.Option.{option_copied}
 use Rattle.atl_orders.specs.declared.mailing.Header.{Header}
-use Rattle.atl_orders.specs.Mailing.{entry_of, fault_of, HeaderValue, Reading}
+use Rattle.atl_orders.specs.Mailing.{entry_of, fault_of, Reading}
+use Rattle.atl_words.specs.Header.{HeaderValue}
 use Rattle.atl_lines.specs.Reading.{Effect}
-use Rattle.atl_lines.specs.Views.{lines_of_rest}
+use Rattle.atl_words.specs.WordViews.{lines_of_rest}
 
 -- a header of the code, as its faction and the lines after it
 abbrev pub header_value : Header → HeaderValue

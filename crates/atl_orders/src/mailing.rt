@@ -2,14 +2,16 @@
 ghost use Rattle.std.specs.Prelude.{IfSome, ◌≡◌, ◌≢◌, ◌+◌, ◌<◌, ◌≤◌, ◌^◌, length, Ok, IfOk, IfErr, OnOk, ◌↔◌, IsTrue};
 ghost use Rattle.std.specs.List.{slice_range};
 ghost use Rattle.std.specs.Option.{option_copied};
-ghost use Rattle.atl_lines.specs.declared.fault.MailFault.TheVariants.{Memory};
-ghost use Rattle.atl_lines.specs.Limits.{most_bytes};
-ghost use Rattle.atl_lines.specs.Words.{words};
-ghost use Rattle.atl_lines.specs.Positions.{EndsWith};
-ghost use Rattle.atl_lines.specs.TextLines.{lines};
-ghost use Rattle.atl_lines.specs.Views.{rest_size, effect_of};
+ghost use Rattle.atl_words.specs.declared.mail_fault.MailFault.TheVariants.{Memory};
+ghost use Rattle.atl_words.specs.Limits.{most_bytes};
+ghost use Rattle.atl_words.specs.Words.{words};
+ghost use Rattle.atl_words.specs.Positions.{EndsWith};
+ghost use Rattle.atl_words.specs.TextLines.{lines};
+ghost use Rattle.atl_lines.specs.Views.{effect_of};
+ghost use Rattle.atl_words.specs.WordViews.{rest_size};
 ghost use Rattle.atl_orders.specs.Views.{header_value, with_line};
-ghost use Rattle.atl_orders.specs.Mailing.{faction_of, header_from, after_header, reading, reading_of, IsMailingOf, IsReadWith, AgreesOrMemory};
+ghost use Rattle.atl_orders.specs.Mailing.{after_header, reading, reading_of, IsReadWith, AgreesOrMemory};
+ghost use Rattle.atl_words.specs.Header.{faction_of, header_from, IsMailingOf};
 
 use atl_lines::{
     Aliases, Cursor, FaultyLine, LAST_FACTION, LineResult, MOST_BYTES, MailFault, Order,
@@ -131,7 +133,7 @@ struct Header<'a> {
     rest: Option<&'a [u8]>,
 }
 
-#[tactic(auto, using(atl_lines::proofs::WordLaws::ends_further, atl_lines::proofs::WordLaws::ends_with_all), unfolding(crate::specs::Mailing::header_from))]
+#[tactic(auto, using(atl_words::proofs::WordLaws::ends_further, atl_words::proofs::WordLaws::ends_with_all), unfolding(atl_words::specs::Header::header_from))]
 fn find_header(text: &[u8]) -> Result<Header<'_>, MailFault>
     requires { length text.now ≤ most_bytes }
     ensures exact { AgreesOrMemory header_value result (header_from 1 (lines text.now)) }
@@ -166,7 +168,7 @@ pub fn is_mailing_of(faction: u32, text: &[u8]) -> bool
 }
 
 /// Reads the lines after the header, up to the first that begins with `#END`.
-#[tactic(auto, using(atl_lines::proofs::LineLaws::line_ends_at, atl_lines::proofs::WordLaws::ends_further, atl_lines::proofs::LineLaws::starts_shorter, atl_lines::proofs::WordLaws::ends_shorter), unfolding(crate::specs::Mailing::effects))]
+#[tactic(auto, using(atl_words::proofs::LineLaws::line_ends_at, atl_words::proofs::WordLaws::ends_further, atl_words::proofs::LineLaws::starts_shorter, atl_words::proofs::WordLaws::ends_shorter), unfolding(crate::specs::Mailing::effects))]
 fn read_body(
     alloc: Global,
     world: &World,

@@ -16,7 +16,7 @@ use Rattle.atl_parsing.specs.declared.request.Request.TheVariants as request
 use Rattle.atl_parsing.specs.declared.request.Verdict.{Verdict}
 use Rattle.atl_parsing.specs.declared.request.Verdict.TheVariants.{More, Refused, Asks}
 use Rattle.atl_world.specs.Steps.{◌>>=◌}
-use Rattle.atl_lines.specs.Limits.{most_bytes}
+use Rattle.atl_words.specs.Limits.{most_bytes}
 use Rattle.atl_parsing.specs.Routes.{number_of, path_of, route_of, method_of}
 use Rattle.atl_parsing.specs.Fields.{Pair, fields_of, values_of, single_value}
 

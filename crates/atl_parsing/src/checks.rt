@@ -11,7 +11,7 @@ use crate::fields::{FieldLookup, find_value, only_value};
 use crate::problem::{CheckError, Problem};
 use crate::request::Request;
 use crate::route::{Route, number_of, path_of, route_of};
-use atl_lines::MOST_BYTES;
+use atl_words::MOST_BYTES;
 use atl_world::Sequence;
 use httparse::spans::HeaderSpan;
 use serde_json::Value;

@@ -72,7 +72,7 @@ fn first_question(bytes: &[u8]) -> Option<usize>
 }
 
 /// The index of the first question mark, or the length of the target without one.
-#[tactic(auto, using(atl_lines::proofs::WordLaws::found_or_len, atl_lines::proofs::WordLaws::found_within))]
+#[tactic(auto, using(atl_words::proofs::WordLaws::found_or_len, atl_words::proofs::WordLaws::found_within))]
 fn end_of_path(target: &[u8]) -> usize
     ensures value { result ≡ position_or_len is_question target.now }
     ensures within { result ≤ length target.now }

@@ -17,12 +17,13 @@ use Rattle.atl_world.specs.Sums.{map_values, numbers_among}
 use Rattle.atl_world.proofs.MappedLaws.{entries-mapped, get-mapped, insert_last}
 use Rattle.atl_world.proofs.Maps.{entries-empty}
 use Rattle.atl_lines.specs.declared.fault.FaultyLine.{FaultyLine}
-use Rattle.atl_lines.specs.declared.fault.MailFault.{MailFault}
-use Rattle.atl_lines.specs.declared.fault.MailFault.TheVariants.{TooLong, NoHeader, BadHeader, Memory}
+use Rattle.atl_words.specs.declared.mail_fault.MailFault.{MailFault}
+use Rattle.atl_words.specs.declared.mail_fault.MailFault.TheVariants.{TooLong, NoHeader, BadHeader, Memory}
 use Rattle.atl_orders.specs.declared.mailing.Mailing.{Mailing}
-use Rattle.atl_lines.specs.Limits.{most_bytes}
-use Rattle.atl_lines.specs.TextLines.{lines}
-use Rattle.atl_orders.specs.Mailing.{IsMailingOf, IsReadWith, Reading, AgreesOrMemory, after_header, header_from, reading, reading_of}
+use Rattle.atl_words.specs.Limits.{most_bytes}
+use Rattle.atl_words.specs.TextLines.{lines}
+use Rattle.atl_orders.specs.Mailing.{IsReadWith, Reading, AgreesOrMemory, after_header, reading, reading_of}
+use Rattle.atl_words.specs.Header.{IsMailingOf, header_from}
 use Rattle.atl_records.specs.declared.event.Event.{Event}
 use Rattle.atl_records.specs.declared.records.Faction.{Faction}
 use Rattle.atl_campaign.specs.Covers.{MarksChanges}

@@ -6,8 +6,8 @@ use Rattle.sqlite_trees.specs.declared.store.Store.{Ghosts}
 use Rattle.sqlite.specs.Held.{Held, state}
 use Rattle.sqlite.specs.State.{HasCleanDisk}
 use Rattle.atl_world.specs.Worlds.{WorldValue}
-use Rattle.atl_lines.specs.declared.fault.MailFault.{MailFault}
-use Rattle.atl_lines.specs.declared.fault.MailFault.TheVariants as mail
+use Rattle.atl_words.specs.declared.mail_fault.MailFault.{MailFault}
+use Rattle.atl_words.specs.declared.mail_fault.MailFault.TheVariants as mail
 use Rattle.atl_campaign.specs.Campaign.{CampaignValue, MarkedCampaign}
 use Rattle.atl_campaign.specs.Good.{IsGood}
 use Rattle.atl_campaign.specs.Marks.{no_marks}

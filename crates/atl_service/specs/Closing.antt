@@ -4,7 +4,7 @@ use Rattle.std.specs.List.{flat_map}
 use Rattle.std.specs.FinMap.{entries, get}
 use Rattle.atl_world.specs.Worlds.{WorldValue}
 use Rattle.atl_lines.specs.declared.fault.FaultyLine.{FaultyLine}
-use Rattle.atl_lines.specs.declared.fault.MailFault.{MailFault}
+use Rattle.atl_words.specs.declared.mail_fault.MailFault.{MailFault}
 use Rattle.atl_orders.specs.Mailing.{Reading, reading}
 use Rattle.atl_records.specs.declared.event.Event.{Event}
 use Rattle.atl_campaign.specs.Campaign.{CampaignValue, active, with_report}

@@ -7,7 +7,8 @@ use Rattle.atl_world.specs.Worlds.{WorldValue, IsWorld}
 use Rattle.atl_world.specs.Sums.{map_values}
 use Rattle.atl_lines.specs.declared.fault.FaultyLine.{FaultyLine}
 use Rattle.atl_orders.specs.declared.mailing.Mailing.{Mailing}
-use Rattle.atl_orders.specs.Mailing.{IsMailingOf, IsReadWith, reading, reading_of}
+use Rattle.atl_orders.specs.Mailing.{IsReadWith, reading, reading_of}
+use Rattle.atl_words.specs.Header.{IsMailingOf}
 use Rattle.atl_world.specs.Every.{EachEntry, HasValue}
 use Rattle.atl_records.specs.Limits.{last_month}
 use Rattle.atl_campaign.specs.Campaign.{CampaignValue}

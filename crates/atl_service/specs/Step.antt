@@ -4,8 +4,8 @@ use Rattle.std.specs.Cmp.Lexicographic.{pointwise}
 use Rattle.std.specs.FinMap.{get, len}
 use Rattle.atl_world.specs.Names.{name_ok, pass_ok}
 use Rattle.atl_world.specs.Worlds.{WorldValue}
-use Rattle.atl_lines.specs.declared.fault.MailFault.{MailFault}
-use Rattle.atl_lines.specs.declared.fault.MailFault.TheVariants as mail
+use Rattle.atl_words.specs.declared.mail_fault.MailFault.{MailFault}
+use Rattle.atl_words.specs.declared.mail_fault.MailFault.TheVariants as mail
 use Rattle.atl_orders.specs.Mailing.{Reading, reading}
 use Rattle.atl_records.specs.declared.records.Faction.{Faction}
 use Rattle.atl_records.specs.declared.records.JoinFault.{JoinFault}

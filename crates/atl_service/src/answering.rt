@@ -2,7 +2,7 @@
 //! See docs/RULES.md, "Refusals and faults".
 ghost use Rattle.std.specs.Prelude.{◌≡◌, length, Ok, Err, Some, IfOk, IfErr, OnOk};
 ghost use Rattle.std.specs.FinMap as map;
-ghost use Rattle.atl_orders.specs.Mailing.{IsMailingOf};
+ghost use Rattle.atl_words.specs.Header.{IsMailingOf};
 ghost use Rattle.atl_campaign.specs.Good.{IsActive};
 ghost use Rattle.atl_campaign.specs.Campaign.{with_mail};
 ghost use Rattle.atl_service.specs.Step.{faction_with_pass, step};

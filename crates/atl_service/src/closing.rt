@@ -2,8 +2,9 @@
 //! docs/RULES.md, "Closing a month".
 ghost use Rattle.std.specs.Prelude.{◌≡◌, ◌<◌, ℕ, IfOk, IfErr, OnOk, length};
 ghost use Rattle.std.specs.FinMap as map;
-ghost use Rattle.atl_lines.specs.declared.fault.MailFault.TheVariants.{Memory};
-ghost use Rattle.atl_orders.specs.Mailing.{IsMailingOf, IsReadWith};
+ghost use Rattle.atl_words.specs.declared.mail_fault.MailFault.TheVariants.{Memory};
+ghost use Rattle.atl_orders.specs.Mailing.{IsReadWith};
+ghost use Rattle.atl_words.specs.Header.{IsMailingOf};
 ghost use Rattle.atl_campaign.specs.Covers.{MarksChanges};
 ghost use Rattle.atl_campaign.specs.Good.{IsGood};
 ghost use Rattle.atl_records.specs.Limits.{last_month};

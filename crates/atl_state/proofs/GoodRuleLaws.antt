@@ -20,7 +20,7 @@ use Rattle.atl_world.specs.Worlds.{WorldValue, IsWorld}
 use Rattle.atl_world.specs.ByNumber.{market_of, size_of}
 use Rattle.atl_world.specs.declared.format.Format.{Format}
 use Rattle.atl_world.specs.declared.format.Format.TheVariants.{First, Second}
-use Rattle.atl_lines.specs.Limits.{last_faction}
+use Rattle.atl_words.specs.Limits.{last_faction}
 use Rattle.atl_state.specs.declared.checking.CheckFault.{CheckFault}
 use Rattle.atl_state.specs.declared.checking.CheckFault.TheVariants.{Damaged, Memory}
 use Rattle.atl_state.specs.declared.checking.Rule.{Rule}

@@ -20,7 +20,7 @@ use Rattle.atl_world.specs.declared.world.Kind.{Kind}
 use Rattle.atl_world.specs.declared.world.Market.{Market}
 use Rattle.atl_world.specs.declared.world.RegionPlan.{RegionPlan}
 use Rattle.atl_world.specs.ByNumber.{market_of, size_of}
-use Rattle.atl_lines.specs.Limits.{last_faction}
+use Rattle.atl_words.specs.Limits.{last_faction}
 use Rattle.atl_rows.specs.declared.parts.Parts.{Parts}
 use Rattle.atl_rows.specs.declared.parts.StoredCampaignRow.{StoredCampaignRow}
 use Rattle.atl_rows.specs.declared.parts.StoredFaction.{StoredFaction}

@@ -16,11 +16,11 @@ ghost use Rattle.atl_records.specs.Limits.{holding_limit, last_unit};
 ghost use Rattle.atl_campaign.specs.Marking.{mark_join};
 
 use super::Campaign;
-use atl_orders::LAST_FACTION;
 use atl_records::{
     Books, BooksEntry, Faction, Holding, JoinFault, LAST_UNIT, MOST_UNITS, Thing, Unit,
     amount_number,
 };
+use atl_words::LAST_FACTION;
 use atl_world::{MarkedMap, Numbered, Text, World};
 use std::alloc::{AllocError, Global};
 

@@ -11,11 +11,11 @@ use atl_campaign::parts::{
     StoredStructure, StoredUnit,
 };
 use atl_campaign::{as_u16, as_u32, campaign_row_of, is_set};
-use atl_orders::LAST_FACTION;
 use atl_records::{
     HOLDING_LIMIT, LAST_MONTH, LAST_UNIT, MEN_LIMIT, MOST_IN_JOINING, MOST_IN_MONTH,
     MOST_STRUCTURES, MOST_UNITS,
 };
+use atl_words::LAST_FACTION;
 use atl_world::World;
 use atl_world::limits::{MOST_AMOUNT, MOST_REGIONS};
 use std::alloc::{AllocError, Global};

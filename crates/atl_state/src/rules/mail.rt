@@ -1,7 +1,7 @@
 //! The part of rule 12 on mail: it is of factions that aren't gone, and of the right length and
 //! header.
 ghost use Rattle.std.specs.Prelude.{◌↔◌, IsTrue};
-ghost use Rattle.atl_orders.specs.Mailing.{IsMailingOf};
+ghost use Rattle.atl_words.specs.Header.{IsMailingOf};
 ghost use Rattle.atl_campaign.specs.Good.{IsActive, HasValidMail};
 
 use atl_campaign::Campaign;

@@ -1,5 +1,5 @@
 use Rattle.std.proofs.Common.{arith, ap, sym, ◌∙◌, length}
-use Rattle.atl_lines.specs.Words.{words}
+use Rattle.atl_words.specs.Words.{words}
 use Rattle.atl_lines.proofs.UnitLaws.{fault_stays}
 use Rattle.atl_lines.proofs.operands.units_of.Goals as goal
 

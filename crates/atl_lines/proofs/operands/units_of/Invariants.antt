@@ -1,5 +1,5 @@
 use Rattle.std.proofs.Common.{◌≡◌, length}
-use Rattle.atl_lines.specs.Words.{words}
+use Rattle.atl_words.specs.Words.{words}
 use Rattle.atl_lines.specs.Operands.{units_of}
 use Rattle.atl_lines.specs.Views.{with_units}
 use Rattle.atl_lines.proofs.operands.units_of.Given as goal

@@ -1,6 +1,6 @@
 use Rattle.std.proofs.Common.{◌≡◌, ◌+◌, ◌-◌, length, rules}
 use Rattle.std.specs.List.{slice_range}
-use Rattle.atl_lines.proofs.WordLaws.{ends_at_further, bytes_in_span}
+use Rattle.atl_words.proofs.WordLaws.{ends_at_further, bytes_in_span}
 use Rattle.atl_lines.proofs.orders.read_name.Goals as goal
 
 -- the operands read after NAME are those of the definition, since the span covers the bytes of the name

@@ -1,9 +1,9 @@
 use Rattle.std.proofs.Common.{IfSome, ◌≡◌, ◌+◌, ◌≤◌, length}
 use Rattle.std.specs.Option.{option_copied}
-use Rattle.atl_lines.specs.Positions.{EndsWith}
-use Rattle.atl_lines.specs.TextLines.{lines}
-use Rattle.atl_lines.specs.Views.{lines_of_rest, rest_size}
-use Rattle.atl_orders.specs.Mailing.{header_from}
+use Rattle.atl_words.specs.Positions.{EndsWith}
+use Rattle.atl_words.specs.TextLines.{lines}
+use Rattle.atl_words.specs.WordViews.{lines_of_rest, rest_size}
+use Rattle.atl_words.specs.Header.{header_from}
 use Rattle.atl_orders.proofs.mailing.find_header.Given as goal
 
 -- The text ends with the lines left, whose first header is that of the text. The number of the next line and the bound

@@ -1,7 +1,7 @@
 use Rattle.std.proofs.Common.{arith}
 use Rattle.std.proofs.lemmas.Grind.{common_steps}
 use Rattle.atl_orders.specs.Mailing.{effects}
-use Rattle.atl_lines.proofs.LineLaws.{rest_further}
+use Rattle.atl_words.proofs.LineLaws.{rest_further}
 use Rattle.atl_orders.proofs.mailing.read_body.Goals as goal
 
 pub loop-rest-preserved : goal.loop-rest-preserved

@@ -3,9 +3,10 @@ use Rattle.std.specs.List.{flat_map}
 use Rattle.std.specs.Option.{option_copied}
 use Rattle.atl_lines.specs.declared.reading.ReaderState.TheVariants.{Nowhere}
 use Rattle.atl_lines.specs.Aliasing.{no_alias}
-use Rattle.atl_lines.specs.Views.{alias_set, lines_of_rest, rest_size}
+use Rattle.atl_lines.specs.Views.{alias_set}
+use Rattle.atl_words.specs.WordViews.{lines_of_rest, rest_size}
 use Rattle.atl_orders.specs.Views.{header_value}
-use Rattle.atl_lines.specs.Positions.{EndsWith}
+use Rattle.atl_words.specs.Positions.{EndsWith}
 use Rattle.atl_orders.specs.Mailing.{effects, entry_of, fault_of, reading_of}
 use Rattle.atl_orders.proofs.mailing.read_body.Given as goal
 

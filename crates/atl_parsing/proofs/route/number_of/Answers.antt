@@ -3,7 +3,7 @@ use Rattle.std.proofs.lemmas.List.Folds.{list_all_more}
 use Rattle.std.proofs.lemmas.Grind.{common_steps}
 use Rattle.std.proofs.lemmas.Bool.Decides.{nat_tests}
 use Rattle.std.specs.Char.{is_ascii_digit}
-use Rattle.atl_lines.proofs.WordLaws.{one_digit_more}
+use Rattle.atl_words.proofs.WordLaws.{one_digit_more}
 use Rattle.atl_parsing.proofs.DigitLaws.{digit_more}
 use Rattle.atl_parsing.proofs.route.number_of.Goals as goal
 

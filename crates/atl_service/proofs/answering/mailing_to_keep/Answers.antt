@@ -1,6 +1,7 @@
 use Rattle.std.proofs.Common.{◌≡◌, subst, arith}
 use Rattle.std.proofs.lemmas.Bool.Decides.{nat_tests}
-use Rattle.atl_orders.specs.Mailing.{reading_of, IsMailingOf}
+use Rattle.atl_orders.specs.Mailing.{reading_of}
+use Rattle.atl_words.specs.Header.{IsMailingOf}
 use Rattle.atl_orders.proofs.SenderLaws.{read_is_mailing}
 use Rattle.atl_service.proofs.answering.mailing_to_keep.Goals as goal
 

@@ -1,6 +1,6 @@
 use Rattle.std.proofs.Common.{rules}
 use borrow.Author.Tests.{tests}
-use Rattle.atl_orders.specs.Mailing.{IsMailingOf}
+use Rattle.atl_words.specs.Header.{IsMailingOf}
 use Rattle.atl_campaign.specs.Good.{IsActive}
 use Rattle.atl_campaign.proofs.RuleLaws.{every_by_all}
 use Rattle.atl_state.proofs.rules.mail.are_mailings.Goals as goal

@@ -1,6 +1,6 @@
 -- For proofs alone: at which index of a text a word or a line is.
 use Rattle.std.specs.Prelude.{◌≡◌, ℕ, ◌++◌, List, length}
-use Rattle.atl_lines.specs.declared.words.Cursor.{Cursor}
+use Rattle.atl_words.specs.declared.words.Cursor.{Cursor}
 
 -- a text starts with `front`
 pub record StartsWith (text front : List ℕ) : Type 0 where

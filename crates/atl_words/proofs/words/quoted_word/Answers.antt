@@ -1,6 +1,6 @@
-use Rattle.atl_lines.proofs.WordLaws.{found_or_len, words-quoted, after_closing, ends_further, ends_after, ends_at}
-use Rattle.atl_lines.specs.Words.{is_quote}
-use Rattle.atl_lines.proofs.words.quoted_word.Goals as goal
+use Rattle.atl_words.proofs.WordLaws.{found_or_len, words-quoted, after_closing, ends_further, ends_after, ends_at}
+use Rattle.atl_words.specs.Words.{is_quote}
+use Rattle.atl_words.proofs.words.quoted_word.Goals as goal
 
 pub returns-clause-words : goal.returns-clause-words
 returns-clause-words c =

@@ -1,15 +1,15 @@
 -- How the first line of a text is split off, and at which index of the text it ends. Lines are the pieces between line
 -- feeds, each without a carriage return at its end. `left` is what is left of the text, `front` a part with which a
 -- text begins, and `rest` what follows a line feed, if there is one.
-use Rattle.atl_lines.proofs.WordLaws.{ends_further}
+use Rattle.atl_words.proofs.WordLaws.{ends_further}
 use Rattle.std.proofs.Common.{Option, Some, None, IfSome, ◌≡◌, ◌≢◌, ℕ, zero, suc, ◌+◌, ◌-◌, ◌<◌, ◌≤◌, Bool, true, false, not, cond, List, [], ◌∷◌, ◌++◌, length, get_or, take, drop, map, refl, sym, ap, ◌∙◌, arith}
 use Rattle.std.specs.List.{position, position_or_len}
 use Rattle.std.proofs.lemmas.List.{append-nil, take-append-drop, append_assoc, length-append}
-use Rattle.atl_lines.specs.Positions.{EndsWith, EndsAt, StartsWith}
+use Rattle.atl_words.specs.Positions.{EndsWith, EndsAt, StartsWith}
 use Rattle.std.proofs.lemmas.Bool.{eq-eqb, ne_eqb}
 use Rattle.std.proofs.lemmas.Bool.Decides.{nat_tests}
-use Rattle.atl_lines.specs.Letters.{carriage_return}
-use Rattle.atl_lines.specs.TextLines.{is_feed, with_front, pieces, without_return, lines}
+use Rattle.atl_words.specs.Letters.{carriage_return}
+use Rattle.atl_words.specs.TextLines.{is_feed, with_front, pieces, without_return, lines}
 
 -- a text b ∷ bs with a line feed is split at its first one, whether that is b or in bs, if bs is split at its own first
 feed_step : (t : Bool) (b : ℕ) (bs : List ℕ) (m : ℕ) → cond (not t) (1 + m) 0 < suc (length bs)

@@ -1,5 +1,5 @@
-use Rattle.atl_lines.proofs.LineLaws.{front_further, take_front}
-use Rattle.atl_lines.proofs.lines.next_line.Goals as goal
+use Rattle.atl_words.proofs.LineLaws.{front_further, take_front}
+use Rattle.atl_words.proofs.lines.next_line.Goals as goal
 
 pub returns-in-Some-clause-front : goal.returns-in-Some-clause-front
 returns-in-Some-clause-front c =

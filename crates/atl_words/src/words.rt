@@ -3,10 +3,10 @@
 ghost use Rattle.std.specs.Prelude.{◌≡◌, ◌≤◌, ◌<◌, ◌∷◌, [], MatchOption, IfSome, length, slice_index, false};
 ghost use Rattle.std.specs.List.{position};
 ghost use Rattle.atl_world.specs.Letters.{quote};
-ghost use Rattle.atl_lines.specs.Limits.{most_number};
-ghost use Rattle.atl_lines.specs.Words.{is_quote, is_blank, ends_word, words, begins, number_of};
-ghost use Rattle.atl_lines.specs.Views.{word_text};
-ghost use Rattle.atl_lines.specs.Positions.{IsPartOf, EndsWith};
+ghost use Rattle.atl_words.specs.Limits.{most_number};
+ghost use Rattle.atl_words.specs.Words.{is_quote, is_blank, ends_word, words, begins, number_of};
+ghost use Rattle.atl_words.specs.WordViews.{word_text};
+ghost use Rattle.atl_words.specs.Positions.{IsPartOf, EndsWith};
 
 use crate::letters::{SEMICOLON, TAB};
 use atl_world::letters::{QUOTE, SPACE};

@@ -1,6 +1,6 @@
 -- The lines of a text. See docs/RULES.md, "Reading a mailing".
 use Rattle.std.specs.Prelude.{ℕ, Bool, List, [], ◌∷◌, map, ◌==◌, if◌then◌else◌}
-use Rattle.atl_lines.specs.Letters.{line_feed, carriage_return}
+use Rattle.atl_words.specs.Letters.{line_feed, carriage_return}
 
 -- whether a byte is a line feed
 abbrev pub is_feed : ℕ → Bool

@@ -5,7 +5,7 @@ use Rattle.std.specs.Char.{is_ascii_digit}
 use Rattle.std.specs.Str.{str_eq_ignore_ascii_case}
 use Rattle.std.specs.Str.Parse.{digits_value}
 use Rattle.atl_world.specs.Letters.{space, quote}
-use Rattle.atl_lines.specs.Letters.{tab, semicolon}
+use Rattle.atl_words.specs.Letters.{tab, semicolon}
 
 -- a word: its bytes, and whether it is in quotes
 pub record WordText : Type 0 where
@@ -55,3 +55,8 @@ abbrev pub number_of : ℕ → List ℕ → Option ℕ
 number_of most bytes =
     if nat_lt 0 (length bytes) && list_all is_ascii_digit bytes && nat_le (digits_value 10 bytes) most
     then Some (digits_value 10 bytes) else None
+
+-- an optional number, or None if it is 0
+abbrev pub not_zero : Option ℕ → Option ℕ
+not_zero None = None
+not_zero (Some n) = if n == 0 then None else Some n

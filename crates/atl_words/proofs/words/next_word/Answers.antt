@@ -1,6 +1,6 @@
 use Rattle.std.proofs.Common.{◌+◌}
-use Rattle.atl_lines.proofs.WordLaws.{part_further, ends_further, ends_at}
-use Rattle.atl_lines.proofs.words.next_word.Goals as goal
+use Rattle.atl_words.proofs.WordLaws.{part_further, ends_further, ends_at}
+use Rattle.atl_words.proofs.words.next_word.Goals as goal
 
 pub returns-then-byte-eq-QUOTE-clause-part : goal.returns-then-byte-eq-QUOTE-clause-part
 returns-then-byte-eq-QUOTE-clause-part c =

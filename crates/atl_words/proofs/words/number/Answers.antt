@@ -3,8 +3,8 @@ use Rattle.std.proofs.lemmas.List.Folds.{list_all_more}
 use Rattle.std.proofs.lemmas.Grind.{common_steps}
 use Rattle.std.proofs.lemmas.Bool.Decides.{nat_tests}
 use Rattle.std.specs.Char.{is_ascii_digit}
-use Rattle.atl_lines.proofs.WordLaws.{one_digit_more}
-use Rattle.atl_lines.proofs.words.number.Goals as goal
+use Rattle.atl_words.proofs.WordLaws.{one_digit_more}
+use Rattle.atl_words.proofs.words.number.Goals as goal
 
 pub loop-byte-preserved : goal.loop-byte-preserved
 loop-byte-preserved c =

@@ -13,9 +13,9 @@ use Rattle.std.proofs.lemmas.Bool.{cond-true, cond-false, or_parts, true≢false
 use Rattle.std.proofs.lemmas.List.{length-append, drop_at, take_at, drop-drop, take-append-drop, append_assoc, drop_min, take_rest, at_drop_more, at_drop_all}
 use Rattle.std.proofs.Math.Nat.{min_comm}
 use Rattle.atl_world.specs.Letters.{quote}
-use Rattle.atl_lines.specs.Letters.{semicolon}
-use Rattle.atl_lines.specs.Words.{is_blank, is_quote, ends_word, words_after, words}
-use Rattle.atl_lines.specs.Positions.{IsPartOf, EndsWith, EndsAt}
+use Rattle.atl_words.specs.Letters.{semicolon}
+use Rattle.atl_words.specs.Words.{is_blank, is_quote, ends_word, words_after, words}
+use Rattle.atl_words.specs.Positions.{IsPartOf, EndsWith, EndsAt}
 
 -- ---- the index of the first element that passes a test, or the length
 

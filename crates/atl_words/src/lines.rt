@@ -3,9 +3,9 @@
 ghost use Rattle.std.specs.Prelude.{◌≡◌, ◌≤◌, ◌<◌, ◌∷◌, length, IfSome};
 ghost use Rattle.std.specs.List.{position};
 ghost use Rattle.std.specs.Option.{option_copied};
-ghost use Rattle.atl_lines.specs.TextLines.{is_feed, without_return, lines};
-ghost use Rattle.atl_lines.specs.Views.{lines_of_rest, rest_size};
-ghost use Rattle.atl_lines.specs.Positions.{StartsWith, EndsWith};
+ghost use Rattle.atl_words.specs.TextLines.{is_feed, without_return, lines};
+ghost use Rattle.atl_words.specs.WordViews.{lines_of_rest, rest_size};
+ghost use Rattle.atl_words.specs.Positions.{StartsWith, EndsWith};
 
 use crate::letters::{CARRIAGE_RETURN, LINE_FEED};
 
