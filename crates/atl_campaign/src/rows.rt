@@ -351,6 +351,55 @@ fn books_rows(alloc: Global, books: &Books) -> Result<Sequence<StoredBooks>, All
     Ok(rows)
 }
 
+/// The rows of what stands under a number of its own.
+#[derive(Drop)]
+struct NumberedRows {
+    factions: Sequence<StoredFaction>,
+    regions: Sequence<StoredRegion>,
+    units: Sequence<StoredUnit>,
+    structures: Sequence<StoredStructure>,
+}
+
+fn numbered_rows(alloc: Global, campaign: &Campaign) -> Result<NumberedRows, AllocError>
+    ensures { IfOk result (λ rows. rows
+        ≡ record {
+          factions = rows_by faction_row (map.entries campaign.now.value.factions);
+          regions = rows_by region_row (map.entries campaign.now.value.regions);
+          units = rows_by unit_row (map.entries campaign.now.value.units);
+          structures = rows_by structure_row (map.entries campaign.now.value.structures);
+        }) }
+{
+    Ok(NumberedRows {
+        factions: faction_rows(alloc, campaign)?,
+        regions: region_rows(alloc, campaign)?,
+        units: unit_rows(alloc, campaign)?,
+        structures: structure_rows(alloc, campaign)?,
+    })
+}
+
+/// The rows of what there is of things: of units, of the books, and of markets.
+#[derive(Drop)]
+struct AmountRows {
+    has: Sequence<StoredHas>,
+    books: Sequence<StoredBooks>,
+    markets: Sequence<StoredMarket>,
+}
+
+fn amount_rows(alloc: Global, format: Format, campaign: &Campaign) -> Result<AmountRows, AllocError>
+    ensures { IfOk result (λ rows. rows
+        ≡ record {
+          has = has_rows (map.entries campaign.now.value.units);
+          books = books_rows campaign.now.value.books;
+          markets = market_rows format (map.entries campaign.now.value.regions);
+        }) }
+{
+    Ok(AmountRows {
+        has: has_rows(alloc, campaign)?,
+        books: books_rows(alloc, campaign.books())?,
+        markets: market_rows(alloc, format, campaign)?,
+    })
+}
+
 impl Campaign {
     /// The rows of the campaign in the second format, in the order of their keys. AllocError
     /// without memory. See docs/FORMATS.md, "Tables".
@@ -367,17 +416,31 @@ impl Campaign {
         ensures { IfOk result (λ parts. parts ≡ rows_of format self.now.value) }
     {
         let alloc = self.alloc();
+        let campaign = campaign_rows(alloc, format, self)?;
+        let mail = mail_rows(alloc, self)?;
+        let reports = report_rows(alloc, self)?;
+        let AmountRows {
+            has,
+            books,
+            markets,
+        } = amount_rows(alloc, format, self)?;
+        let NumberedRows {
+            factions,
+            regions,
+            units,
+            structures,
+        } = numbered_rows(alloc, self)?;
         Ok(Parts {
-            campaign: campaign_rows(alloc, format, self)?,
-            factions: faction_rows(alloc, self)?,
-            regions: region_rows(alloc, self)?,
-            units: unit_rows(alloc, self)?,
-            has: has_rows(alloc, self)?,
-            structures: structure_rows(alloc, self)?,
-            mail: mail_rows(alloc, self)?,
-            reports: report_rows(alloc, self)?,
-            books: books_rows(alloc, self.books())?,
-            markets: market_rows(alloc, format, self)?,
+            campaign,
+            factions,
+            regions,
+            units,
+            has,
+            structures,
+            mail,
+            reports,
+            books,
+            markets,
         })
     }
 }

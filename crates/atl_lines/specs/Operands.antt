@@ -10,7 +10,7 @@ use Rattle.atl_world.specs.declared.direction.Direction.{Direction}
 use Rattle.atl_world.specs.declared.direction.Direction.TheVariants.{North, South, East, West}
 use Rattle.atl_lines.specs.declared.fault.LineFault.{LineFault}
 use Rattle.atl_lines.specs.declared.fault.LineFault.TheVariants.{BadNumber, UnknownThing, MissingWord, BadAlias, BadDirection}
-use Rattle.atl_words.specs.Words.{WordText, is_word, number_of}
+use Rattle.atl_words.specs.Words.{WordText, is_word, not_zero, number_of}
 
 -- the value of an option as a result, or the given fault where the option has none
 abbrev pub or_fault : {X : Type 0} → LineFault → Option X → Result X LineFault

@@ -1,5 +1,5 @@
--- For proofs alone: values of the code (words, results, orders) as values of the definitions.
-use Rattle.std.specs.Prelude.{◌≡◌, ℕ, ◌+◌, ◌++◌, Bool, false, List, [], length, Option, Some, None, Result, Ok, Err, slice_index_or}
+-- For proofs alone: values of the code (results, aliases, orders) as values of the definitions.
+use Rattle.std.specs.Prelude.{◌≡◌, ℕ, ◌++◌, Bool, false, List, Result, Ok, Err, slice_index_or}
 use Rattle.atl_lines.specs.declared.aliases.Aliases.{Aliases}
 use Rattle.atl_lines.specs.declared.fault.LineFault.{LineFault}
 use Rattle.atl_lines.specs.declared.order.UnitRef.{UnitRef}
@@ -7,11 +7,9 @@ use Rattle.atl_lines.specs.declared.reading.LineResult.{LineResult}
 use Rattle.atl_lines.specs.declared.reading.LineResult.TheVariants as outcomes
 use Rattle.atl_lines.specs.declared.reading.ReaderState.{ReaderState}
 use Rattle.atl_words.specs.declared.words.Word.{Word}
-use Rattle.atl_words.specs.TextLines.{lines}
 use Rattle.atl_world.specs.Steps.{◌>>=◌}
 use Rattle.atl_lines.specs.Orders.{order_value}
 use Rattle.atl_lines.specs.Reading.{Effect, nothing, faulty, says, LineStep, step}
-use Rattle.atl_words.specs.Words.{WordText}
 
 -- a result with its value mapped by the function; a fault stays
 abbrev pub view_of_result : {X Y : Type 0} → (X → Y) → Result X LineFault → Result Y LineFault

@@ -1,4 +1,6 @@
 //! The faults of lines. See docs/FORMATS.md, "Line faults".
+ghost use Rattle.std.specs.Prelude.{◌≡◌};
+
 use atl_world::name_of;
 use std::error::Error;
 use std::fmt;

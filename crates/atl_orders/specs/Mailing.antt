@@ -1,7 +1,7 @@
 -- The reading of a mailing: its faction, orders and faulty lines. See docs/RULES.md, "Reading a mailing".
-use Rattle.std.specs.Prelude.{◌≡◌, ◌≤◌, ℕ, ◌+◌, Bool, List, [], ◌∷◌, length, map, codes, Option, Some, None, Result, Ok, Err, nat_lt, if◌then◌else◌}
+use Rattle.std.specs.Prelude.{◌≡◌, ℕ, ◌+◌, Bool, List, [], ◌∷◌, length, map, codes, Result, Ok, Err, nat_lt, if◌then◌else◌}
 use Rattle.std.specs.List.{flat_map}
-use Rattle.atl_words.specs.Limits.{last_faction, most_bytes}
+use Rattle.atl_words.specs.Limits.{most_bytes}
 use Rattle.atl_world.specs.Worlds.{WorldValue}
 use Rattle.atl_lines.specs.declared.order.UnitRef.{UnitRef}
 use Rattle.atl_lines.specs.declared.reading.ReaderState.{ReaderState}
@@ -12,9 +12,9 @@ use Rattle.atl_words.specs.declared.mail_fault.MailFault.TheVariants.{TooLong, N
 use Rattle.atl_orders.specs.declared.mailing.Entry.{Entry}
 use Rattle.atl_orders.specs.declared.mailing.Mailing.{Mailing}
 use Rattle.atl_lines.specs.Aliasing.{no_alias}
-use Rattle.atl_words.specs.Words.{WordText, words, begins, number_of}
+use Rattle.atl_words.specs.Header.{HeaderValue, header_from}
+use Rattle.atl_words.specs.Words.{words, begins}
 use Rattle.atl_words.specs.TextLines.{lines}
-use Rattle.atl_words.specs.Words.{not_zero}
 use Rattle.atl_lines.specs.Orders.{OrderValue, order_value}
 use Rattle.atl_lines.specs.Reading.{Effect, nothing, faulty, says, line_step}
 
