@@ -12,7 +12,6 @@ use Rattle.sqlite_schema.specs.declared.schema.Kind.TheVariants as kinds
 pub data Form : Type 0 where
   -- an integer
   Number : Form
-  -- a text of UTF-8
   Utf8Text : Form
   -- the bytes of a text, UTF-8 or not
   TextBytes : Form
