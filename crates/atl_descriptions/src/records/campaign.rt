@@ -38,7 +38,7 @@ const CAMPAIGN: Table = Table {
 pub struct StoredCampaign {
     /// All columns of the row but the world text.
     pub head: StoredCampaignRow,
-    /// Any text; that of a good campaign is the world text, byte for byte as it was handed in.
+    /// Any text; in a row that the program wrote, the world text, byte for byte as handed in.
     pub world: Text,
 }
 
