@@ -1,5 +1,5 @@
--- For proofs alone: columns give back the fields that they were given, if each column does. The laws of `Fields` cite
--- these.
+-- For proofs alone: columns write the row that they read, and read exactly the values of their forms, if each column
+-- does. The laws of `Fields` cite these.
 -- `x` has the fields of a row: that of the first value, and those of the others. `at` is the index of the first column
 -- that is read.
 use Rattle.std.proofs.Common.{length, ℕ, suc, ◌≡◌, ◌+◌, ◌⊎◌, inl, inr, List, [], ◌∷◌, Option, Some, None, refl, ap}

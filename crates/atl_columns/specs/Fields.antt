@@ -10,11 +10,11 @@ use Rattle.sqlite_schema.specs.declared.schema.Column.{Column}
 use Rattle.sqlite_rules.specs.Cast.{cast}
 use Rattle.atl_columns.specs.Forms.{Form, kind_of}
 
--- the values in `count` columns of a row, from the column at index `at` on
+-- the values in `count` columns of a row, from the column at index `at` on; NULL past the row's end
 abbrev pub columns_from : ℕ → ℕ → Row → Row
 columns_from at count row = map (column row) (range_with_len at count)
 
--- a column of this name and kind, STRICT and NOT NULL, without a default
+-- a column of this name and kind, STRICT and NOT NULL, without a default; texts in it are compared by their bytes
 abbrev pub strict_column : List ℕ → Kind → Column
 strict_column name kind = record { name = name; kind = kind; is_strict = true; not_null = true; default = Null; collation = Binary }
 
@@ -25,14 +25,14 @@ strict_columns [] names = []
 strict_columns (form ∷ forms) [] = []
 strict_columns (form ∷ forms) (name ∷ names) = strict_column name (kind_of form) ∷ strict_columns forms names
 
--- the row has one value for each column, and SQL stores it there unchanged
+-- the row has one value for each column, and the column's type leaves it as it is (`cast`)
 abbrev pub Fits : List Column → Row → Type 0
 Fits [] [] = Unit {0}
 Fits [] (v ∷ vs) = ⊥
 Fits (c ∷ cs) [] = ⊥
 Fits (c ∷ cs) (v ∷ vs) = (cast c.kind v ≡ v) × Fits cs vs
 
--- two values, if both are there
+-- two values, if both are there, else None
 abbrev pub both : {X Y : Type 0} → Option X → Option Y → Option (X × Y)
 both None b = None
 both (Some x) None = None

@@ -1,4 +1,5 @@
--- The forms of columns: which values of SQL are of each, and what a value is read as.
+-- The forms of columns: which values of SQL are of each, and what a value is read as; None if it is of another form.
+-- A column of a row goes by its index from 0. Past the end of the row it has NULL, which is of no form.
 use Rattle.std.specs.Prelude.{◌≡◌, ◌+◌, ℕ, ℤ, Bool, true, false, List, [], ◌∷◌, IsUtf8, ⊤, Option, Some, None}
 use Rattle.std.specs.Str.{is_utf8}
 use Rattle.sqlite_value.specs.declared.value.Value.{Value}
@@ -11,7 +12,6 @@ use Rattle.sqlite_schema.specs.declared.schema.Kind.TheVariants as kinds
 pub data Form : Type 0 where
   -- an integer
   Number : Form
-  -- a text of UTF-8
   Utf8Text : Form
   -- the bytes of a text, UTF-8 or not
   TextBytes : Form
@@ -32,16 +32,14 @@ HasForm Utf8Text v = (t : List ℕ) × (v ≡ Text t) × IsUtf8 t
 HasForm TextBytes v = (t : List ℕ) × (v ≡ Text t)
 HasForm Bytes v = (b : List ℕ) × (v ≡ Blob b)
 
--- the values of the row from the column `at` on can be read in the forms of the list, one after another
+-- the values of the row from the column `at` on can be read in these forms, one for each; others may follow them
 abbrev pub IsTypedFrom : ℕ → List Form → Row → Type 0
 IsTypedFrom at [] row = ⊤
 IsTypedFrom at (form ∷ forms) row = HasForm form (column row at) × IsTypedFrom (at + 1) forms row
 
--- each value of the row can be read in its column's form
+-- the first values of the row can be read in these forms, one for each; others may follow them
 abbrev pub IsTyped : List Form → Row → Type 0
 IsTyped forms row = IsTypedFrom 0 forms row
-
--- ---- what a value is read as; None if it is of another form
 
 -- the integer that a value is
 abbrev pub number_of : Value → Option ℤ
@@ -64,7 +62,7 @@ abbrev pub keep_if : {X : Type 0} → Bool → X → Option X
 keep_if true x = Some x
 keep_if false x = None
 
--- these bytes if they are UTF-8
+-- these bytes if they are UTF-8, else None
 abbrev pub if_utf8 : List ℕ → Option (List ℕ)
 if_utf8 t = keep_if (is_utf8 t) t
 

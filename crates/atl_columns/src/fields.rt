@@ -19,18 +19,19 @@ pub trait Fields {
 
     ghost forms: { List ColumnForm };
 
-    // The fields as a row, and a row as the fields, if it is one.
+    // The fields as a row, and the fields that a row is read as; None for a row of other forms.
     ghost encode: { Self.Value → SqlRow };
 
     ghost decode: { SqlRow → Option Self.Value };
 
-    /// Whether these columns are STRICT and NOT NULL, without a default, and have these names and
-    /// the types.
+    /// Whether the columns found have these names, of which there is one for each form, and the
+    /// forms' types, and are as `strict_column` says.
     fn are_columns(found: &[Column], names: &[&str]) -> bool
         requires { length names.now ≡ length forms }
         ensures { IsTrue result ↔ (found.now ≡ strict_columns forms (map (λ n. n.now) names.now)) };
 
-    /// The fields that a row has from a column on; None if a value is of another form.
+    /// The fields of a row from the column `at` on; None if a value is of another form, as is NULL,
+    /// which stands past the row's end. The columns end below 2^32.
     fn decode(alloc: Global, row: &Row, at: usize) -> Result<Option<Self::Value>, AllocError>
         requires { at + length forms < 2 ^ 32 }
         ensures { IfOk result
@@ -39,7 +40,7 @@ pub trait Fields {
     // Fields that were read are written as the row that they were read of.
     ghost same: { (row : SqlRow) (x : Self.Value) → decode row ≡ Some x → encode x ≡ row };
 
-    // Exactly the rows whose values have the forms are read.
+    // Of the columns from `at` on, exactly those whose values have the forms are read.
     ghost typed: { (row : SqlRow) (at : ℕ) (x : Self.Value) → decode (columns_from at (length forms) row) ≡ Some x → IsTypedFrom at forms row };
 
     ghost other: { (row : SqlRow) (at : ℕ) → decode (columns_from at (length forms) row) ≡ None → ¬ IsTypedFrom at forms row };

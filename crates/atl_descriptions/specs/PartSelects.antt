@@ -21,7 +21,7 @@ pub record PartSelect : Type 0 where
   pub names : List (List ℕ)
   -- the text of the SELECT that reads the part
   pub select : List ℕ
-  -- the rows that the SELECT shows, computed from the trees
+  -- the rows that the SELECT shows, computed from the trees, maybe in another order
   pub in_table : Trees → List Row
 
 -- how to read all columns of table `t`, whose key is its first `key` columns; `since` is the first format that has it

@@ -23,29 +23,29 @@ use Rattle.atl_world.specs.declared.format.Format.TheVariants.{First, Second}
 use Rattle.atl_columns.specs.Fields.{strict_column}
 use Rattle.atl_descriptions.specs.Sets.{table, AreKeyedByRowid}
 
--- the column of this name that holds integers, STRICT and NOT NULL
+-- the column of this name that holds integers, STRICT and NOT NULL (`strict_column`)
 abbrev pub integer_column : List ℕ → Column
 integer_column name = strict_column name Integer
 
--- the column of this name that holds texts, STRICT and NOT NULL
+-- the column of this name that holds texts, STRICT and NOT NULL (`strict_column`)
 abbrev pub text_column : List ℕ → Column
 text_column name = strict_column name Text
 
 -- ---- the unique key of a table, besides the row's number, by its columns' indexes in a stored row (0 is the rowid)
 
--- the unique key of `faction`, by its column's index in a stored row: joined_as
+-- the unique key of the table `faction`, by its column's index in a stored row: joined_as
 abbrev pub faction_unique : List ℕ
 faction_unique = 2 ∷ []
 
--- the unique key of `has`, by its columns' indexes in a stored row: unit, sort and thing
+-- the unique key of the table `has`, by its columns' indexes in a stored row: unit, sort and thing
 abbrev pub has_unique : List ℕ
 has_unique = 1 ∷ 2 ∷ 3 ∷ []
 
--- the unique key of `books`, by its columns' indexes in a stored row: entry and thing
+-- the unique key of the table `books`, by its columns' indexes in a stored row: entry and thing
 abbrev pub books_unique : List ℕ
 books_unique = 1 ∷ 2 ∷ []
 
--- the unique key of `market`, by its columns' indexes in a stored row: region and item
+-- the unique key of the table `market`, by its columns' indexes in a stored row: region and item
 abbrev pub market_unique : List ℕ
 market_unique = 1 ∷ 2 ∷ []
 
@@ -79,7 +79,8 @@ unit_table = table 4 (codes "unit")
     ∷ integer_column (codes "men") ∷ integer_column (codes "money") ∷ integer_column (codes "guard") ∷ [])
     (Some 0) (0 ∷ []) [] []
 
--- the table `has` of what units have: a row for each item and each skill of a unit
+-- The table `has`: items and days of study of units. A row says how much (`amount`) a unit has of an item, or how many
+-- days in a skill; `sort` tells the two apart, and `thing` is the number of the item or the skill.
 abbrev pub has_table : Table
 has_table = table 5 (codes "has")
     (integer_column (codes "unit") ∷ integer_column (codes "sort") ∷ integer_column (codes "thing") ∷ integer_column (codes "amount") ∷ [])
@@ -100,7 +101,7 @@ mail_table = table 8 (codes "mail") (integer_column (codes "faction") ∷ strict
 abbrev pub report_table : Table
 report_table = table 9 (codes "report") (integer_column (codes "faction") ∷ text_column (codes "text") ∷ []) (Some 0) (0 ∷ []) [] []
 
--- the table `books`: a row for each entry and thing with an amount
+-- the table `books`: a row for each entry and thing whose amount isn't 0
 abbrev pub books_table : Table
 books_table = table 10 (codes "books")
     (integer_column (codes "entry") ∷ integer_column (codes "thing") ∷ integer_column (codes "amount") ∷ [])
@@ -207,12 +208,12 @@ all_indexes =
 abbrev pub first_tables : ℕ → ℕ → Schema
 first_tables tables indexes = record { tables = take tables all_tables; indexes = take indexes all_indexes; views = [] }
 
--- the schema without a table, an index or a view
+-- the schema without a table, an index or `views`
 abbrev pub no_tables : Schema
 no_tables = first_tables 0 0
 
--- The schema of the first `count` of the ten tables and then `tables`, without a view. Its indexes are the first `keys`
--- of the four that the ten tables have, and then `indexes`.
+-- The schema of the first `count` of the ten tables and then `tables`, without `views`. Its indexes are the first
+-- `keys` of the four that the ten tables have, and then `indexes`.
 abbrev pub first_tables_and_others : ℕ → ℕ → List Table → List Index → Schema
 first_tables_and_others count keys tables indexes =
     record {
@@ -238,8 +239,8 @@ pub record AreIndexes (count keys : ℕ) (all : List Index) : Type 0 where
   pub made_of : all ≡ take keys all_indexes ++ others
   pub plain : AllByRecursion (IsHarmless count) others
 
--- The schema begins with the first `count` tables and `keys` indexes of a campaign, and has no view. After them it has
--- only tables without a foreign key, and indexes that make nothing unique in these `count` tables.
+-- The schema begins with the first `count` tables and `keys` indexes of a campaign, and has no `views`. After them it
+-- has only tables without a foreign key, and indexes that make nothing unique in these `count` tables.
 pub record Begins (count keys : ℕ) (schema : Schema) : Type 0 where
   pub tables : List Table
   pub indexes : List Index
@@ -280,7 +281,8 @@ HasTablesOf f = Begins (table_count_in f) (index_count_in f)
 abbrev pub IsFirstFormatOnly : Schema → Type 0
 IsFirstFormatOnly schema = schema ≡ first_tables (table_count_in First) (index_count_in First)
 
--- For proofs alone: the schema of all ten tables with their indexes, then these other tables and indexes.
+-- For proofs alone: the schema of the ten tables and then these tables, without `views`. Its indexes are those of the
+-- ten tables and then these indexes.
 abbrev pub all_tables_and_others : List Table → List Index → Schema
 all_tables_and_others = first_tables_and_others table_count index_count
 

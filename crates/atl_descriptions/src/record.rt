@@ -1,4 +1,4 @@
-//! Records that are rows of a table of a campaign.
+//! The traits of records that are rows of a table of a campaign.
 ghost use Rattle.std.specs.Prelude.{◌≡◌, ◌<◌, ◌^◌, IfOk, IfSome, None, length, map};
 ghost use Rattle.atl_columns.specs.Fields.{columns_from, strict_columns};
 ghost use Rattle.atl_columns.specs.Forms.{IsTyped};
@@ -42,8 +42,8 @@ pub trait Record: Drop + Sized {
     fn of_fields(fields: <Self::Fields as Fields>::Value) -> Self
         ensures { result ≡ of_fields fields };
 
-    /// The record that the first columns of a row are read as; None if a value is of another form than
-    /// its column.
+    /// The record that the first columns of a row are read as; None if a value is of another form
+    /// than its column.
     final fn read_columns(alloc: Global, row: &Row) -> Result<Option<Self>, AllocError>
         ensures ok { IfOk result (λ read. IfSome read
             (λ one. Self.Fields.encode (to_fields one) ≡ columns_from 0 (length Self.Fields.forms) row.now)) }

@@ -1,4 +1,5 @@
-//! A table and the texts of its statements, made of the names and types of its columns by `table!`.
+//! A table and the texts of its statements, and `table!`, which makes them of the names and types
+//! of the columns.
 
 use atl_world::Format;
 
@@ -13,21 +14,21 @@ pub struct UniqueKey {
     pub tree: u32,
 }
 
-/// A table: its tree, its name, its columns' names in their order, its keys, the text that makes it,
-/// and the SELECT of all its rows in the order of its key. Tables and the indexes of their keys take
-/// the trees of a file in the order in which they are made.
+/// A table: its tree, its name, its columns' names in their order, its keys, the text that makes
+/// it, and the SELECT of all its rows in the order of its key. Tables and the indexes of their keys
+/// take the trees of a file in the order in which they are made.
 #[derive(Clone, Copy)]
 pub struct Table {
     /// The number of the tree that holds the rows.
     pub tree: u32,
     pub name: &'static str,
     pub names: &'static [&'static str],
-    /// The index, among the columns, of the one that is the row's number; None if the table has none.
+    /// The index, among the columns, of the one that is the row's number; None if there is none.
     pub number: Option<usize>,
     /// The indexes of the primary key's columns in a stored row; 0 is the row's number.
     pub primary: &'static [usize],
     pub unique: Option<UniqueKey>,
-    /// Whether the table has the check `id = 1` of its first column, and no other; else it has none.
+    /// Whether its only check is `id = 1` of its first column; else the table has no check.
     pub is_single: bool,
     pub create: &'static str,
     /// The first format that has the table.
@@ -35,8 +36,8 @@ pub struct Table {
     pub select: &'static str,
 }
 
-/// The INSERT of a row, which changes the row with its key if there is one; and the DELETE of the row
-/// with a given key.
+/// The INSERT of a row, which changes the row with its key if there is one; and the DELETE of the
+/// row with a given key.
 #[derive(Clone, Copy)]
 pub struct Statements {
     pub upsert: &'static str,
@@ -44,9 +45,9 @@ pub struct Statements {
 }
 
 /// A table and its statements by its columns, each with its parameter's number, its name and its
-/// type. Before them stand the first format that has the table, and the number of the table's tree.
-/// The key is the row's number (`number`), or several columns (`keys`, with the tree of its index);
-/// then the SELECT shows the rowid as a last column.
+/// type. Before them stand the first format that has the table, its tree's number and its name. The
+/// key is the row's number (`number`, without a type), or several columns (`keys`, with the tree of
+/// its index); then the SELECT shows the rowid as a last column.
 #[macro_export]
 macro_rules! table {
     ($since:ident $tree:literal $name:literal

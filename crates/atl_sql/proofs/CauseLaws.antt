@@ -1,6 +1,7 @@
 -- Laws on causes: an error that a step returns was given by a statement of the step, or by the commit (`Gives`).
--- `own` is the set of statements that the step may run; `more` is a set that has all of these.
--- `e` is the error. `old` and `new` are the connection, or its state, before and after a call, a step or a transaction.
+-- `own` is the set of statements that the step may run; `more` is a set that has all of these. `e` is the error.
+-- `old` and `new` are the connection, or its state, before and after a call, a step or a transaction. `g` is the kind
+-- of store.
 use Rattle.std.proofs.Common.{◌≡◌, ◌⊎◌, ◌≤◌, ℕ, List, zero, suc, true, false, true≢false, IsTrue, Result, Ok, Err, IsErrAnd, IfErr, refl, sym, ap, ◌∙◌, subst, inl, inr, arith}
 use Rattle.std.proofs.lemmas.Bool.{cases_Bool}
 use Rattle.sqlite_disk.specs.Disk.{MoreFaults}
@@ -110,7 +111,7 @@ module _ {S : Type 0} (g : Ghosts S) (own : Statements) (e : Error) where
       record { before = old; after = new; reached = (0, as_begun old inside); kept = record { was_open = λ up. up; committed = λ _. refl }; given = given; cause = call_caused (state g old) (state g new) own e given }
 
   -- an error that a transaction gives from `mid` on is one that it gives from `old` on (`Gives`), if statements lead
-  -- from `old` to `mid` on a clean disk, and commit nothing
+  -- from `old` to `mid` on a clean disk, and commit nothing, and the disk has failed at least as often at `new`
   pub gives_after : (old mid new : Held S) → IsTrue (state g old).in_transaction → IsTrue (state g mid).in_transaction
       → IsReached g own old mid → HasCleanDisk (state g mid) → KeepsCommit (state g old) (state g mid)
       → Survives (state g old) (state g mid) (λ _. ⊥) → (state g mid).faults ≤ (state g new).faults

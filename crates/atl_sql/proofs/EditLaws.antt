@@ -2,6 +2,7 @@
 -- `db` are the trees before, each with the rows of one table, and `next`, or those of `w`, are the trees after. `p` is
 -- the test that a row passes if it is to go, and `found` has the rowids of the rows that pass. A query reads `db'`,
 -- which has its temporary tables beside the trees of `db`. An edit takes some rows out of one tree and puts others in.
+-- Before and after it the rowids in the tree are integers, no two alike (`AreKeyedByRowid`).
 use Rattle.std.proofs.Common.{◌≡◌, ◌≢◌, ◌⊎◌, ℕ, pos, negsuc, Bool, true, false, List, [], ◌∷◌, ◌++◌, map, flat_map, Option, Some, None, Result, Ok, Err, refl, sym, ap, ◌∙◌, subst, inl, inr}
 use Rattle.std.specs.Prelude.{cond}
 use Rattle.std.specs.List.{list_all}
@@ -42,7 +43,7 @@ ok_step_did (inr on) = on
 pub same_value : {B E : Type 0} {a b : B} → ◌≡◌ {A = Result B E} (Ok a) (Ok b) → a ≡ b
 same_value e = cc
 
--- after an edit the rows that pass the test `p` are gone, and no other row and no other table changed
+-- after an edit the rows that pass the test `p` are gone, and no other row and no other table of the schema changed
 pub record Loses (schema : Schema) (table : Table) (p : Row → Bool) (db next : Trees) : Type 0 where
   pub from : (r : Row) → Has (next table.tree) r → Has (db table.tree) r × (p r ≡ false)
   pub kept : (r : Row) → Has (db table.tree) r → p r ≡ false → Has (next table.tree) r

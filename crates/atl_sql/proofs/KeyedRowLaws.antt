@@ -195,7 +195,8 @@ module _ (tree : ℕ) (name : List ℕ) (columns : List Column) (positions : Lis
           done_with t old.now new.now has key.ours _ _ (λ did. did) makes,
     )
 
-    -- the text of the upsert puts its row, in place of the row with the same key (`DoneBy`)
+    -- a text that means an upsert (`MeansUpsert`), and is `AlwaysPlain`, puts the row that its terms make
+    -- (`MakesValues`), in place of the row with the same key (`DoneBy`)
     pub puts_keyed : (sql : List ℕ) (width hole : ℕ) (terms project : List Term)
         → MeansUpsert tree at positions sql width terms hole project
         → AlwaysPlain sql → (values : Row) → MakesValues t positions width terms hole project values

@@ -1,4 +1,4 @@
--- Laws on the statements of `has`, `books` and `market`, whose key is several numbers: what they mean and do.
+-- Laws on the statements of the tables `has`, `books`, `market`, whose key is several numbers: what they mean and do.
 -- `puts_has`, `puts_books` and `puts_market` put a row. `drops_has`, `drops_books` and `drops_stock` delete the row of
 -- a whole key, `drops_goods` all rows of a unit, and `drops_stocks` all rows of a region.
 use Rattle.std.proofs.Common.{◌≡◌, ◌+◌, ◌-◌, ◌++◌, ℕ, ℤ, pos, true, List, [], ◌∷◌, codes, length, map, refl, sym, true≢false}

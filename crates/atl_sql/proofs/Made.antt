@@ -10,8 +10,8 @@ use Rattle.sqlite_schema.specs.declared.schema.Table.{Table}
 use Rattle.atl_descriptions.specs.Sets.{Set, HasExactly, rows_in}
 use Rattle.atl_descriptions.specs.Tables.{IsSoundDatabase}
 
--- A statement wrote one table: its rows are now the set `S`, and every other table is unchanged. The database is sound
--- under its schema.
+-- A statement wrote one table: its rows are now the set `S`, and every other table of the schema is unchanged. The
+-- database has this schema, and is sound under it.
 pub record Makes (schema : Schema) (table : Table) (old new : Database) (S : Set) : Type 0 where
   pub schema_is : new.schema ≡ schema
   pub rows : HasExactly (rows_in table new.trees) S

@@ -103,7 +103,8 @@ module _ (schema : Schema) (among : (u : Table) → Has all_tables u → Has sch
     listed = subst (λ s. IsSound s new.trees) is base;
   }
 
-  -- the edit of `swaps_set` leaves a sound database sound, with `v` in place of the rows with its key (`Makes`)
+  -- if the schema stays and the trees list it (`IsDatabase`), the edit of `swaps_set` leaves a sound database sound,
+  -- with `v` in place of the rows with its key (`Makes`)
   pub swaps_make : (p : Row → Bool) (n v : Row) (old new : Database) → Swaps schema t p n old.trees new.trees
       → visible_row t n ≡ v → Tests p (take key v) (old.trees t.tree)
       → IsSoundDatabase schema old.trees → IsDatabase new → new.schema ≡ schema
@@ -115,7 +116,8 @@ module _ (schema : Schema) (among : (u : Table) → Has all_tables u → Has sch
     sound = stays_sound old new sound base is swap.keyed swap.others;
   }
 
-  -- the edit of `loses_set` leaves a sound database sound, without the rows with the key `k` (`Makes`)
+  -- if the schema stays and the trees list it (`IsDatabase`), the edit of `loses_set` leaves a sound database sound,
+  -- without the rows with the key `k` (`Makes`)
   pub loses_make : (p : Row → Bool) (k : Row) (old new : Database) → Loses schema t p old.trees new.trees
       → Tests p k (old.trees t.tree)
       → IsSoundDatabase schema old.trees → IsDatabase new → new.schema ≡ schema
@@ -164,7 +166,7 @@ module _ (schema : Schema) (among : (u : Table) → Has all_tables u → Has sch
 
     -- An upsert whose INSERT and whose UPDATE both make rows that show `v` makes of the table its old rows with `v` in
     -- place of the row with its key (`Makes`). Premises: `hits` finds just the rows with this key, there is one row for
-    -- a key (`OneRow`), the database was sound before, and its schema stays.
+    -- a key (`OneRow`), the database was sound before, its schema stays, and the trees list it (`IsDatabase`).
     pub upserts_make : Upserted schema t unlinked limit params target position project plain new old.trees next.trees
         → visible_row t (cast_row t new) ≡ v → UpdateShowsValues
         → Tests (hits schema t unlinked limit params target position project plain new) (take key v) (old.trees t.tree)
@@ -177,7 +179,7 @@ module _ (schema : Schema) (among : (u : Table) → Has all_tables u → Has sch
         over_make over.0 over.1 over.2 over.3 changed tests alone listed sound base is
 
     -- if a row with the key is there, an upsert whose UPDATE makes a row that shows `v` puts the row `v` (`Makes`),
-    -- whatever the INSERT would have made
+    -- whatever the INSERT would have made; the premises of `upserts_make` are needed here too
     pub updates_make : Upserted schema t unlinked limit params target position project plain new old.trees next.trees
         → (r : Row) → Has (old.trees t.tree) r → take key (visible_row t r) ≡ take key v → UpdateShowsValues
         → Tests (hits schema t unlinked limit params target position project plain new) (take key v) (old.trees t.tree)

@@ -140,6 +140,6 @@ module _ (tree : ℕ) (name key_name : List ℕ) (columns : List Column) (unique
           done_with t old.now new.now has is.ours _ _ (λ did. did) makes,
     )
 
-    -- the text of the upsert puts its row, in place of the row with the same number (`PutsRow`)
+    -- if the values fit their columns (`Fits`), the upsert puts its row in place of that with its number (`PutsRow`)
     pub puts_numbered : (n : ℕ) (values : Row) → Fits columns values → PutsRow t 1 (int n ∷ values)
     puts_numbered n values fits = done_by put (int n ∷ values) (Puts t 1 (int n ∷ values)) (puts n values fits)

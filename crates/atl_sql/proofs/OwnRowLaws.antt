@@ -54,7 +54,7 @@ changed_to project head world r =
     visible_row campaign_table
     (cast_row campaign_table (eval_all project ((campaign_row_values head world ++ rowid r ∷ shown campaign_table (stored_own_row head world)) ∷ r ∷ [])))
 
--- an upsert of `campaign` inserts the row where there is none, or changes the one that is there by the terms `project`
+-- an upsert of `campaign` inserts a row if there is none, or changes the only one by the terms `project`; tables stay
 pub record PutsOwn (project : List Term) (head : CampaignRowValue) (world : List ℕ) (old new : Database) : Type 0 where
   pub first : rows_in campaign_table old.trees ≡ [] → Puts campaign_table 1 (campaign_row head world) old new
   -- a campaign row `before` that is there is replaced by the row `after` that the UPDATE makes of it, if both have id 1

@@ -1,4 +1,4 @@
--- Laws on tables whose rows are a key of two numbers and one number more (`books`, `market`).
+-- Laws on tables whose rows are a key of two numbers and one number more (the tables `books` and `market`).
 -- In a term, `col 0 n` is the parameter at the index `n`, and `col 1 n` the value at the index `n` of the row that is
 -- there, where 0 is the rowid.
 use Rattle.std.proofs.Common.{◌≡◌, ℕ, ℤ, pos, true, List, [], ◌∷◌, None, refl, sym, true≢false}

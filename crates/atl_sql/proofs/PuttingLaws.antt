@@ -1,7 +1,7 @@
 -- Laws on writing the rows of a list step by step: the steps together write the whole list, or end with an error.
 -- `all` are the rows of the list, and `rest` those that are still to put. `old` or `a` is the connection before the
 -- first step, and `b` and `c`, or `now`, are the connection after later steps. `r` is the result of the steps: what the
--- last one returned, or the error of the one that failed.
+-- last one returned, or the error of the one that failed. `g` is the kind of store.
 use Rattle.std.proofs.Common.{◌≡◌, ◌++◌, ℕ, List, [], ◌∷◌, Result, Ok, Err, refl, sym, subst, inl}
 use Rattle.std.specs.Borrow.{MutBor}
 use Rattle.sqlite_trees.specs.declared.store.Store.{Ghosts}

@@ -109,7 +109,7 @@ reads_part part count same old new rows h has =
     let says : IsPermutation (listing.in_table old.now.trees) (map cut rows) = subst (λ was. IsPermutation was (map cut rows)) (is.rows old.now.trees) (whole_shown shown cut is.whole (old.now.trees (table_of part).tree) rows all) in
     subst (λ n. IsPermutation (listing.in_table old.now.trees) (map (first_columns n) rows)) (sym same) says
 
--- a part's SELECT has no RETURNING and doesn't read the time (`IsPlain`)
+-- under the tables of the first format that has it, a part's SELECT has no RETURNING and doesn't read the time
 pub part_plain : (part : Part) (schema : Schema) → HasTablesOf (select_of_part part).since schema
     → IsPlain (understood schema (select_of_part part).select)
 part_plain part schema has =

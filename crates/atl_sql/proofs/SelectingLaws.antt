@@ -1,6 +1,6 @@
 -- Laws on a SELECT inside a transaction: what it leaves, and what is left once the transaction is rolled back.
 -- `rows` are the rows that it shows, and `e` is the error of a SELECT that is refused. `r` is the result of the call
--- that reads. `KeepsCommit` says that nothing was committed.
+-- that reads, and `g` the kind of store. `KeepsCommit` says that nothing was committed.
 use Rattle.std.proofs.Common.{◌≡◌, ◌≢◌, ◌≤◌, ◌⊎◌, ℕ, Bool, List, [], true, false, cond, IsTrue, Option, Some, None, Result, Ok, Err, IsErrAnd, IfOk, IfErr, map, length, refl, sym, ap, ◌∙◌, subst, inl, inr, arith}
 use Rattle.std.specs.declared.vec.Vec.{Vec}
 use Rattle.sqlite_trees.specs.declared.store.Store.{Ghosts}

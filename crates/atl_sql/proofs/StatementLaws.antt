@@ -1,6 +1,7 @@
 -- Laws on the statements of one table: which rows it has after an upsert or a DELETE, and what a text of SQL does.
 -- `old` and `new` are the states before and after a statement, and `count` is how many rows it changed. `db` are the
--- trees before it, and `out` has the database after it. `params` and `values` are the parameters of the statement.
+-- trees before it, and `out` has the database after it. `params` and `values` are the parameters of the statement, and
+-- `g` is the kind of store.
 use Rattle.std.proofs.Common.{IsTrue, ◌≡◌, ◌/◌, ℕ, ℤ, Bool, false, List, [], ◌∷◌, ◌++◌, length, slice_get, Option, Some, None, Result, Ok, sym, ap, ◌∙◌, subst}
 use Rattle.sqlite_value.specs.Order.{Row, column}
 use Rattle.sqlite_trees.specs.Tree.{Trees, rowid}
@@ -144,18 +145,18 @@ abbrev pub AlwaysPlain : List ℕ → Type 0
 AlwaysPlain sql =
     (more : List Table) (indexes : List Index) → IsPlain (understood (all_tables_and_others more indexes) sql)
 
--- inside a transaction a statement of this text with these parameters does to the database what the relation `What`
--- says
+-- inside a transaction a statement of this text with these parameters does `What` to a database with a campaign's
+-- tables (`HasTables`), and keeps them and all other tables (`DoesInside`)
 abbrev pub DoneBy : List ℕ → Row → (Database → Database → Type 0) → Type 1
 DoneBy sql values What =
     (old new : State) (count : ℕ) (params : Row) → IsTrue old.in_transaction → ExecutesInside 0 sql params old new
     (Ok count) → params ≡ values → DoesInside HasTables What old new
 
--- inside a transaction the upsert of a table, whose key is its first `key` columns, puts this row
+-- inside a transaction the upsert of a table, whose key is its first `key` columns, puts this row (`DoneBy`)
 abbrev pub PutsRow : Table → ℕ → Row → Type 1
 PutsRow t key row = DoneBy (upsert t key) row (Puts t key row)
 
--- inside a transaction the DELETE by the first `key` columns removes the rows whose first columns are `k`
+-- inside a transaction the DELETE by the first `key` columns removes the rows in which these are `k` (`DoneBy`)
 abbrev pub DropsKey : Table → ℕ → Row → Type 1
 DropsKey t key k = DoneBy (deletion t key) k (Drops t key k)
 

@@ -1,6 +1,7 @@
 -- Laws on reading the rows of a query one by one as they come (`stream`).
 -- `old` is the connection before the query, `mid` once it has given the rows `given`, and `now` or `new` after a later
--- step. `r` is the result of the read.
+-- step. `r` is the result of the read. `forms` are the forms of the columns, and `shown` gives the row that a value is
+-- read of. `g` is the kind of store.
 use Rattle.std.proofs.Common.{◌≡◌, ℕ, false, List, [], ◌∷◌, ◌++◌, map, length, Option, Some, None, Result, Ok, Err, IsErrAnd, refl, sym, ap, ◌∙◌, subst, inl, inr, arith}
 use Rattle.std.specs.declared.vec.Vec.{Vec}
 use Rattle.sqlite_schema.specs.declared.command.Returning.{Returning}
@@ -90,7 +91,7 @@ map_at_end : {A B : Type 0} (f : A → B) (xs : List A) (x : A) → map f (xs ++
 map_at_end f [] x = refl
 map_at_end f (y ∷ xs) x = ap (λ ys. f y ∷ ys) (map_at_end f xs x)
 
--- a query is running, has given the rows `given`, and changed nothing
+-- outside a transaction a query is running; if the disk is clean, it has given the rows `given`, and changed nothing
 pub record IsGiving {S : Type 0} (g : Ghosts S) (sql : List ℕ) (old : Held S) (given : List Row) (now : Held S) : Type 0 where
   pub idle : now.in_transaction ≡ false
   pub survives : Survives (state g old) (state g now) (λ _. ⊥)
@@ -98,9 +99,9 @@ pub record IsGiving {S : Type 0} (g : Ghosts S) (sql : List ℕ) (old : Held S) 
 
 -- the query `sql` is asked on the connection `old`
 module _ {S : Type 0} (g : Ghosts S) (sql : List ℕ) (old : Held S) where
-  -- the columns have these forms, and `shown` gives the row that a value is read of
   module _ {A : Type 0} (forms : List Form) (shown : A → Row) where
-    -- if the query is refused at the start with `e`, and `r` is the fault of `e`, the read is as promised (`Streams`)
+    -- if the query, which is plain (`IsPlain`), is refused at the start with `e`, and `r` is the fault of `e`, the read
+    -- is as promised (`Streams`)
     pub not_begun : {Z : Type 0} (now : Held S) (e : Error) (r : Result (Option (Vec A Z)) ReadFault)
         → IsPlain (understood old.schema sql) → IsErrAnd r (λ fault. fault ≡ read_fault e)
         → (HasCleanDisk (state g now) → FailsToQuery sql [] (state g old) (state g now) e)
@@ -138,7 +139,8 @@ module _ {S : Type 0} (g : Ghosts S) (sql : List ℕ) (old : Held S) where
     same_before clean = (giving.given_so (clean_before clean)).1
 
     module _ {A : Type 0} (forms : List Form) (shown : A → Row) where
-      -- if the next row is refused with `e`, and `r` is the fault of `e`, the read is as promised (`Streams`)
+      -- if the next row of a plain query is refused with `e`, and `r` is the fault of `e`, the read is as promised
+      -- (`Streams`)
       pub not_advanced : {Z : Type 0} (e : Error) (r : Result (Option (Vec A Z)) ReadFault)
           → IsPlain (understood old.schema sql) → IsErrAnd r (λ fault. fault ≡ read_fault e)
           → (HasCleanDisk (state g now) → FailsToAdvance g mid now e) → Streams g sql old forms shown r now
@@ -197,8 +199,7 @@ module _ {S : Type 0} (g : Ghosts S) (sql : List ℕ) (old : Held S) where
 
 -- ---- what was streamed, as rows that are read
 
--- The query `sql` is asked on the connection `old`. The columns have these forms, and `shown` gives the row that a
--- value is read of.
+-- the query `sql` is asked on the connection `old`
 module _ {S A Z : Type 0} (g : Ghosts S) (sql : List ℕ) (old : Held S) (forms : List Form) (shown : A → Row) where
   -- rows that were all read one by one are read as promised (`ReadsRows`)
   pub streamed : (all : Vec A Z) (new : Held S) → Streams g sql old {Z = Z} forms shown (Ok (Some all)) new → ReadsRows g sql old {Z = Z} forms shown (Ok all) new

@@ -16,7 +16,7 @@ pub record HasTables (db : Database) : Type 0 where
   pub begins : HasAll db.schema
   pub sound : IsSoundDatabase db.schema db.trees
 
--- the database has no table, no index and no view
+-- the schema of the database has nothing: no table, no index, and no `views` (specs/Tables of atl_descriptions)
 abbrev pub IsBlank : Database → Type 0
 IsBlank db = db.schema ≡ no_tables
 

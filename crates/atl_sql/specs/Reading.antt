@@ -17,7 +17,7 @@ use Rattle.atl_sql.specs.Stored.{first_columns, AreTyped}
 use Rattle.atl_sql.specs.declared.fault.ReadFault.{ReadFault}
 use Rattle.atl_sql.specs.declared.fault.ReadFault.TheVariants.{OtherType, Memory}
 
--- Nothing is changed: an open connection was open before, and its tables are as they were or as last committed.
+-- Nothing is committed: an open connection was open before, and its tables are as they were or as last committed.
 pub record Rests (old new : State) : Type 0 where
   -- a connection that is open afterwards was open before
   pub was_open : IsTrue new.is_open → IsTrue old.is_open
@@ -83,7 +83,7 @@ module _ {S : Type 0} (g : Ghosts S) (sql : List ℕ) (old : Held S) where
         → IfErr result (λ fault. fault ≡ OtherType → (rows : List Row) × Selects rows × ¬ AreTyped forms rows)
     -- A fault other than OtherType and Memory is that of the SELECT's refusal.
     pub refused : HasCleanDisk (state g new) → IfErr result (λ fault. fault ≢ OtherType → fault ≢ Memory → RefusesToSelect fault)
-    -- Memory is returned only if the SELECT is refused for lack of memory, or shows rows, for which memory may run out.
+    -- Memory is returned only if the SELECT is refused for lack of memory, or isn't refused: its rows need memory too.
     pub memory : HasCleanDisk (state g new)
         → IfErr result (λ fault. fault ≡ Memory → RefusesToSelect Memory ⊎ ((rows : List Row) × Selects rows))
     -- On a clean disk an open connection was open before, with its tables as they were or as last committed (`Rests`).

@@ -1,5 +1,6 @@
 -- The rows of each table as SQL shows them, and the forms of the columns. See docs/FORMATS.md, "Tables".
 -- Items and skills are given by their indexes in the world, and entries and things of the books by their numbers.
+-- `mail`, `has` and the like are tables. The table `has` has items and days of study of units.
 use Rattle.std.specs.Prelude.{ℕ, ℤ, pos, List, [], ◌∷◌, ◌++◌}
 use Rattle.sqlite.specs.declared.types.Value.{Value}
 use Rattle.sqlite.specs.declared.types.Value.TheVariants.{Int, Text, Blob}

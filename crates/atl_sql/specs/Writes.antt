@@ -44,25 +44,25 @@ pub record Writes {S : Type 0} (g : Ghosts S) (own : Statements) (Does : State �
 abbrev pub RunsStatement : List ℕ → Row → State → State → Type 0
 RunsStatement sql params old new = IsTrue old.in_transaction × (count : ℕ) × ExecutesInside 0 sql params old new (Ok count)
 
--- A step of a transaction that puts this row into the table, whose key is its first `key` columns.
+-- A step (`Writes`) that puts this row, whose key is its first `key` columns, if `HasTables` holds (`Puts`).
 abbrev pub WritesRow : {S A : Type 0} → Ghosts S → Table → ℕ → Row → Result A Error → MutBor (Held S) → MutBor (Held S) → Type 0
 WritesRow g table key row result old new =
     Writes g (OneStatement (upsert table key) row) (DoesInside HasTables (Puts table key row)) result old new
 
--- A step of a transaction that deletes the rows whose key, the first `key` columns, is `k`.
+-- A step (`Writes`) that deletes the rows whose first `key` columns are `k`, if `HasTables` holds (`Drops`).
 abbrev pub TakesOut : {S A : Type 0} → Ghosts S → Table → ℕ → Row → Result A Error → MutBor (Held S) → MutBor (Held S) → Type 0
 TakesOut g table key k result old new =
     Writes g (OneStatement (deletion table key) k) (DoesInside HasTables (Drops table key k)) result old new
 
--- A step of a transaction that puts these rows one after another into the table, whose key is its first `key` columns.
+-- A step (`Writes`) that puts these rows in turn, by their first `key` columns, if `HasTables` holds (`PutsRows`).
 abbrev pub WritesRows : {S A : Type 0} → Ghosts S → Table → ℕ → List Row
     → Result A Error → MutBor (Held S) → MutBor (Held S) → Type 0
 WritesRows g table key rows result old new =
     Writes g (RowStatements (upsert table key) (Has rows)) (DoesInside HasTables (PutsRows table key rows)) result old new
 
--- A whole transaction of statements of `own`: with Ok it did `Does` and committed it, with an error it did nothing.
--- `Does` is said only of tables that were as `Before` says.
--- That the connection was in no transaction is a premise of the calls.
+-- A whole transaction of statements of `own`: with Ok it did `Does`, if the tables were as `Before` says, and committed
+-- it. With an error the tables are those of the last commit, unless the connection is shut. All this is so if the disk
+-- is clean. That the connection was in no transaction is a premise of the calls.
 pub record Transacts {S : Type 0} (g : Ghosts S) (own : Statements)
     (Before : Database → Type 0) (Does : Database → Database → Type 0)
     {A : Type 0} (result : Result A Error) (old new : Held S) : Type 0 where

@@ -20,15 +20,15 @@ is_natural (Real x) = false
 is_natural (Text t) = false
 is_natural (Blob b) = false
 
--- whether a value is of a column's type: an integer, a text or a blob
+-- whether a value is of a column's type, which is INTEGER, TEXT or BLOB; false for any other type
 abbrev pub is_of_kind : Kind → Value → Bool
 is_of_kind kinds.Integer (Int n) = true
 is_of_kind kinds.Text (Text t) = true
 is_of_kind kinds.Blob (Blob b) = true
 is_of_kind _ _ = false
 
--- whether a row can be written to these columns, of which the first `key` are the key: its key is of whole numbers from
--- 0, and each other value is of its column's type
+-- Whether a row can be written to these columns, of which the first `key` are the key. It has one value for each
+-- column: those of the key are whole numbers from 0, and each other one is of its column's type.
 abbrev pub can_be_written : List Column → (key : ℕ) → Row → Bool
 can_be_written [] key [] = true
 can_be_written [] key (v ∷ vs) = false
@@ -54,7 +54,7 @@ head_shown row =
       pass = row.pass.now;
     }
 
--- the number of a kind of goods in the column `sort` of `has`: 0 for an item, 1 for a skill
+-- the number of a kind of goods in the column `sort` of the table `has`: 0 for an item, 1 for a skill
 abbrev pub sort_number : ThingKind → ℕ
 sort_number Item = 0
 sort_number Skill = 1

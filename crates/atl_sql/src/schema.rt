@@ -53,9 +53,9 @@ fn begins(schema: &Schema, tables: usize, keys: usize) -> bool
     schema.views.is_empty()
 }
 
-/// Whether the schema begins with a format's tables and their indexes, and has no view. After them
-/// only tables without a foreign key may follow, and indexes that make nothing unique in the first
-/// ones.
+/// Whether the schema begins with a format's tables and their indexes, and has no view, no trigger,
+/// and nothing that the database keeps as it is. After them only tables without a foreign key may
+/// follow, and indexes that make nothing unique in the first ones.
 pub fn has_tables_of(schema: &Schema, format: Format) -> bool
     ensures { IsTrue result ↔ (HasTablesOf format schema.now) }
 {
@@ -65,7 +65,7 @@ pub fn has_tables_of(schema: &Schema, format: Format) -> bool
     }
 }
 
-/// Whether the schema has exactly the tables and indexes of the first format.
+/// Whether the schema is exactly the tables and indexes of the first format, and has nothing else.
 pub fn is_first_format_only(schema: &Schema) -> bool
     ensures { IsTrue result ↔ (IsFirstFormatOnly schema.now) }
 {
@@ -74,10 +74,10 @@ pub fn is_first_format_only(schema: &Schema) -> bool
         && has_tables_of(schema, Format::First)
 }
 
-/// Whether the schema begins with the ten tables of a campaign and their indexes, and has no view
-/// or trigger. After them only tables without a foreign key may follow, and indexes that make
-/// nothing unique in the ten. The schema that `create` of atl_store makes is such a one. See
-/// docs/FORMATS.md, "Tables".
+/// Whether the schema begins with the ten tables of a campaign and their indexes, and has no view,
+/// no trigger, and nothing that the database keeps as it is. After them only tables without a
+/// foreign key may follow, and indexes that make nothing unique in the ten. The schema that
+/// `create` of atl_store makes is such a one. See docs/FORMATS.md, "Tables".
 pub fn has_all_tables(schema: &Schema) -> bool
     ensures { IsTrue result ↔ (HasAll schema.now) }
 {

@@ -6,7 +6,6 @@ ghost use Rattle.atl_sql.specs.Writes.{Writes, RunsStatement};
 use sqlite::types::ValueRef;
 use sqlite::{Alter, Error, Transaction};
 
-/// Runs a statement with these parameters inside a transaction, however many rows it changes.
 pub(crate) fn run<S: Alter>(
     tx: &mut Transaction<'_, S>,
     sql: &str,

@@ -93,7 +93,8 @@ fn create_each<S: Alter>(tx: &mut Transaction<'_, S>, tables: &[Description]) ->
     Ok(())
 }
 
-/// Makes the ten tables, each without a row, in a database that has no table.
+/// Makes the ten tables, each without a row, in a database without tables, indexes and views
+/// (`IsBlank`).
 pub fn create_tables<S: Alter>(tx: &mut Transaction<'_, S>) -> Result<(), Error>
     ensures { Writes S.Store Creations (DoesInside IsBlank AreEmpty) result tx.old.conn
         tx.new.conn }

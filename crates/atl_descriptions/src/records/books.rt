@@ -1,4 +1,4 @@
-//! The table `books`: a row for each entry and thing with an amount.
+//! The table `books`: a row for each entry and thing whose amount isn't 0.
 ghost use Rattle.std.specs.Prelude.{refl};
 ghost use Rattle.std.proofs.Common.{lit<};
 ghost use Rattle.atl_descriptions.specs.Tables.{Books};

@@ -1,5 +1,5 @@
-//! The table `campaign` of one row, the campaign row. Its texts are written out, since the table has a
-//! check.
+//! The table `campaign` of one row, the campaign row. Its texts are written out, since the table
+//! has a check.
 ghost use Rattle.std.specs.Prelude.{◌≡◌, refl};
 ghost use Rattle.std.proofs.Common.{lit<};
 ghost use Rattle.atl_descriptions.specs.Tables.{Own};
@@ -33,12 +33,12 @@ const CAMPAIGN: Table = Table {
     select: "SELECT id, format, month, next_faction, next_unit, next_structure, pass, world FROM campaign ORDER BY id",
 };
 
-/// A row of `campaign` as it is in the table, whoever wrote it, with its world text.
+/// A row of the table `campaign`, whoever wrote it, with its world text.
 #[derive(Debug)]
 pub struct StoredCampaign {
     /// All columns of the row but the world text.
     pub head: StoredCampaignRow,
-    /// The text of a world file, byte for byte as it was handed in.
+    /// Any text; in a row that the program wrote, the world text, byte for byte as handed in.
     pub world: Text,
 }
 

@@ -1,5 +1,5 @@
-//! The table `faction`: a row for each faction, gone or not. Its texts are written out, since no two
-//! factions join under one name.
+//! The table `faction`: a row for each faction, gone or not. Its texts are written out, since no
+//! two factions join under one name.
 ghost use Rattle.std.specs.Prelude.{refl};
 ghost use Rattle.std.proofs.Common.{lit<};
 ghost use Rattle.atl_descriptions.specs.Tables.{Factions};

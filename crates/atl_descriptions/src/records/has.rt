@@ -1,4 +1,4 @@
-//! The table `has` of what units have: a row for each item and each skill of a unit.
+//! The table `has`: items and days of study of units, a row for each item or skill of a unit.
 ghost use Rattle.std.specs.Prelude.{refl};
 ghost use Rattle.std.proofs.Common.{lit<};
 ghost use Rattle.atl_descriptions.specs.Tables.{Goods};

@@ -1,4 +1,5 @@
-//! The table `campaign`, whose one row is the campaign row: how it is put and read.
+//! The table `campaign`, whose one row is the campaign row: how it is put, beside the other tables
+//! of a campaign (`HasTables`), and how it is read.
 ghost use Rattle.std.specs.Prelude.{◌≡◌, false};
 ghost use Rattle.atl_descriptions.specs.Tables.{campaign_table};
 ghost use Rattle.atl_sql.specs.Written.{head_shown};
@@ -28,8 +29,8 @@ pub struct CampaignRow<'a> {
     pub pass: &'a str,
 }
 
-/// Inserts the campaign row with this world text; a row that is there is changed, but keeps its
-/// format and its world text.
+/// Inserts the campaign row with this world text; a row of the second format that is there is
+/// changed, but keeps its world text (`PutsCampaignRow`).
 pub fn put_campaign<S: Alter>(
     tx: &mut Transaction<'_, S>,
     row: &CampaignRow<'_>,
@@ -54,8 +55,8 @@ pub fn put_campaign<S: Alter>(
     )
 }
 
-/// Sets the format of the campaign row to 2, and its world text to `world`; inserts the row if
-/// there is none.
+/// Of a campaign row of the first format with the values `row`, sets the format to 2 and the world
+/// text to `world` (`UpgradesCampaignRow`). The statement inserts the row if there is none.
 pub fn put_upgraded<S: Alter>(
     tx: &mut Transaction<'_, S>,
     row: &CampaignRow<'_>,
@@ -81,8 +82,8 @@ pub fn put_upgraded<S: Alter>(
     )
 }
 
-/// Reads the rows of `campaign` as SQL shows them, whatever their values are. Nothing is changed.
-/// A fault is Memory, Store or Refused, and never OtherType.
+/// Reads the rows of the table `campaign` as SQL shows them, whatever their values are. `conn` is
+/// in no transaction. Nothing is changed. A fault is Memory, Store or Refused, never OtherType.
 pub fn select_campaign<S: Alter>(conn: &mut Connection<S>) -> Result<Vec<Row>, ReadFault>
     requires { conn.old.in_transaction ≡ false }
     ensures { Asks S.Store (selection campaign_table 1) conn.old result conn.new }

@@ -8,7 +8,7 @@ ghost use Rattle.atl_sql.specs.Writes.{TakesOut};
 use crate::statement::run;
 use sqlite::{Alter, Error, Transaction, params};
 
-/// What a row of `has` is about: an item, with an amount, or a skill, with days.
+/// What a row of the table `has` is about: an item, with an amount, or a skill, with days.
 #[derive(Clone, Copy, PartialEq, Eq)]
 pub enum ThingKind {
     Item,
@@ -27,7 +27,7 @@ impl ThingKind {
     }
 }
 
-/// Deletes all rows of this unit from `has`.
+/// Deletes all rows of this unit from the table `has`.
 pub fn drop_goods<S: Alter>(tx: &mut Transaction<'_, S>, unit: u32) -> Result<(), Error>
     ensures { TakesOut S.Store has_table 1 (int unit ∷ []) result tx.old.conn tx.new.conn }
 {

@@ -7,7 +7,7 @@ ghost use Rattle.atl_sql.specs.Writes.{TakesOut};
 use crate::statement::run;
 use sqlite::{Alter, Error, Transaction, params};
 
-/// Deletes all rows of this region from `market`.
+/// Deletes all rows of this region from the table `market`.
 pub fn drop_stocks<S: Alter>(tx: &mut Transaction<'_, S>, region: u32) -> Result<(), Error>
     ensures { TakesOut S.Store market_table 1 (int region ∷ []) result tx.old.conn tx.new.conn }
 {

@@ -1,5 +1,5 @@
-//! The ten tables as they are read: each by its record, and `has`, `books` and `market` with rowids.
-//! A row that is read is the record that is shown as it (specs/Shown).
+//! The ten tables as they are read: each by its record, and the tables `has`, `books` and `market`
+//! with rowids. A row that is read is the record that is shown as it (specs/Shown).
 ghost use Rattle.std.specs.Prelude.{refl};
 ghost use Rattle.atl_descriptions.specs.Tables.{Own, Factions, Regions, Units, Goods, Structures, Mail, Reports, Books, Markets};
 ghost use Rattle.atl_sql.specs.Shown.{campaign_forms, campaign_stored, faction_forms, faction_stored, region_forms, region_stored, unit_forms, unit_stored, has_forms, has_stored, structure_forms, structure_stored, mail_forms, mail_stored, report_forms, report_stored, books_forms, books_stored, market_forms, market_stored};

@@ -19,8 +19,8 @@ use atl_world::Format;
 use sqlite::{Alter, Connection, Row};
 use std::alloc::{AllocError, Global};
 
-/// A row of a table as the table's SELECT shows it, whoever wrote it: a record, or a record with its
-/// row's rowid.
+/// A row of a table as the table's SELECT shows it, whoever wrote it: a record, or a record with
+/// its row's rowid.
 pub trait Stored: Drop + Sized {
     // The forms of the columns, and the row as SQL shows it.
     ghost forms: { List Form };
@@ -42,9 +42,9 @@ pub trait Stored: Drop + Sized {
         ensures since { result.0 ≡ (select_of_part part).since }
         ensures select { result.1.now ≡ (select_of_part part).select };
 
-    /// Reads all rows of the table, in the order of its key. Nothing is changed. Rows of `has`,
-    /// `books` and `market` come with their rowids. Each fault is returned as `ReadFault` says,
-    /// OtherType also for a report or a world text that isn't UTF-8.
+    /// Reads what the table's SELECT shows; under the tables of a campaign this is each row of the
+    /// table, in the order of its key. Rows of the tables `has`, `books` and `market` come with
+    /// rowids. `conn` is in no transaction. Nothing is changed. `ReadFault` has the faults.
     final fn read<S: Alter>(alloc: Global, conn: &mut Connection<S>) -> Result<Vec<Self>, ReadFault>
         requires { conn.old.in_transaction ≡ false }
         ensures select { ReadsRows S.Store (select_of_part part).select conn.old forms shown result
@@ -90,7 +90,6 @@ pub(crate) fn read_with_id<T: Record>(
     }
 }
 
-/// The first format that has the table of a record, and the text of its SELECT.
 pub(crate) fn select_of<T: Record>() -> (Format, &'static str)
     ensures since { result.0 ≡ (select_of_part T.Record.part).since }
     ensures select { result.1.now ≡ (select_of_part T.Record.part).select }

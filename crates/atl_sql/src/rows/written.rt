@@ -1,4 +1,5 @@
-//! How a row of a record's table is put, and deleted by its key.
+//! How a row of a record's table is put, and deleted by its key. It is said of databases with the
+//! tables of a campaign (`HasTables`).
 ghost use Rattle.std.specs.Prelude.{◌≡◌, [], ◌∷◌, true};
 ghost use Rattle.sqlite.specs.Values.{bound};
 ghost use Rattle.atl_descriptions.specs.Tables.{IsNumberedPart, key_width_of, table_of};
@@ -11,7 +12,8 @@ use atl_descriptions::Written;
 use sqlite::types::ValueRef;
 use sqlite::{Alter, Error, Transaction, params};
 
-/// Inserts a row into the table of the records `T`, or changes the row with its key.
+/// Inserts a row into the table of the records `T`, or changes the row with its key. The row has
+/// numbers from 0 as its key, and then values of its columns' types (`can_be_written`).
 pub fn put<T: Written, S: Alter>(
     tx: &mut Transaction<'_, S>,
     row: &[ValueRef<'_>],
@@ -24,7 +26,8 @@ pub fn put<T: Written, S: Alter>(
     run(tx, T::statements().upsert, row)
 }
 
-/// Deletes the row with this key, if there is one, from the table of the records `T`.
+/// Deletes the row with this key, if there is one, from the table of the records `T`. The key is
+/// one number from 0 for each column of the table's key.
 pub fn take_out<T: Written, S: Alter>(
     tx: &mut Transaction<'_, S>,
     key: &[ValueRef<'_>],
@@ -37,7 +40,7 @@ pub fn take_out<T: Written, S: Alter>(
 }
 
 /// Deletes the row with this number, if there is one, from the table of the records `T`, whose key
-/// is a number.
+/// is the row's number (`IsNumberedPart`).
 pub fn take_out_number<T: Written, S: Alter>(
     tx: &mut Transaction<'_, S>,
     number: u32,

@@ -44,7 +44,6 @@ fn is_one(node: Option<&Op>) -> bool
     matches!(node, Some(Op::Literal(Value::Int(1))))
 }
 
-/// Whether the term whose outermost node has the index `root` is `id = 1`.
 fn has_number_one(nodes: &[Op], root: usize) -> bool
     ensures { IsTrue result ↔
         (term_in nodes.now root ≡ op2 (Compare Eq Binary) (col 1 0) (lit (Int (pos 1)))) }
@@ -55,7 +54,6 @@ fn has_number_one(nodes: &[Op], root: usize) -> bool
     }
 }
 
-/// Whether a table has exactly one CHECK, and this is `id = 1`.
 pub(crate) fn checks_id_is_one(checks: &Terms) -> bool
     ensures { IsTrue result ↔
         (checks.now ≡ op2 (Compare Eq Binary) (col 1 0) (lit (Int (pos 1))) ∷ []) }

@@ -105,8 +105,6 @@ fn are_harmless(indexes: &[Index], count: usize) -> bool
     true
 }
 
-/// Whether a schema's indexes are the first `keys` ones of a campaign, and then indexes that make
-/// nothing unique in the first `tables` tables.
 pub(crate) fn are_indexes(indexes: &[Index], tables: usize, keys: usize) -> bool
     requires tables { tables ≤ length all_tables }
     requires keys { keys ≤ length all_indexes }

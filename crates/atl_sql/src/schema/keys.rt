@@ -58,7 +58,6 @@ fn has_unique(found: &Table, unique: Option<UniqueKey>) -> bool
     }
 }
 
-/// Whether the keys of a table are as described.
 pub(crate) fn has_keys(found: &Table, made: &Description) -> bool
     ensures { IsTrue result ↔
         ((found.now.key ≡ made.now.number) × (found.now.primary ≡ made.now.primary.now)

@@ -1,5 +1,5 @@
-//! Compares a table of a schema with the description of a campaign's table: its tree, name, columns,
-//! keys and check.
+//! Compares a table of a schema with the description of a campaign's table: its tree, name,
+//! columns, keys and check.
 ghost use Rattle.std.specs.Prelude.{◌≡◌, [], false, ◌↔◌, IsTrue};
 ghost use Rattle.atl_descriptions.specs.Described.{checks_of, unique_columns};
 ghost use Rattle.atl_descriptions.specs.Sets.{table};
@@ -64,7 +64,6 @@ fn has_columns<R: Record>(columns: &[Column]) -> bool
     R::Fields::are_columns(columns, R::table().names)
 }
 
-/// Whether a table of a schema is that of a record.
 pub(crate) fn is_table_of<R: Record>(found: &Table) -> bool
     ensures { IsTrue result ↔ (found.now ≡ table_of R.part) }
 {
