@@ -1,4 +1,5 @@
--- The rows of goods, of stocks and of books as lists, in the order in which they are put into empty tables.
+-- The rows of goods (the table `has`), of stocks and of books as lists, in the order in which they are put into empty
+-- tables.
 use Rattle.std.specs.Prelude.{◌≡◌, ◌≢◌, ◌==◌, ◌+◌, ◌++◌, ℕ, pos, List, [], ◌∷◌, Some, ⊤, take, if◌then◌else◌}
 use Rattle.std.specs.List.{flat_map}
 use Rattle.std.specs.Ordering.{int_eq, nat_cmp}
@@ -29,16 +30,12 @@ DifferInKey key (x ∷ xs) = ((y : Row) → Has xs y → take key x ≢ take key
 abbrev pub groups_of : {V : Type 0} → (ℕ → V → List Row) → List (ℕ × V) → List Row
 groups_of lines entries = flat_map (λ e. lines e.0 e.1) entries
 
--- `lines` gives the rows of each value of the map: they begin with its number and differ in their key, the first `key`
--- columns. The rows of all values together are exactly those of the set `Wanted`.
+-- `lines` gives the rows of a number and a value: they begin with the number and differ in their key, the first `key`
+-- columns. The rows of all values of the map together are exactly those of the set `Wanted`.
 pub record AreGroups {V : Type 0} (lines : ℕ → V → List Row) (key : ℕ) (values : FinMap nat_cmp V) (Wanted : Set) : Type 0 where
-  -- the rows that `lines` gives for a value begin with the value's number
   pub numbered : (n : ℕ) (v : V) (r : Row) → Has (lines n v) r → take 1 r ≡ int n ∷ []
-  -- the rows that `lines` gives for a value differ in their key
   pub apart : (n : ℕ) (v : V) → DifferInKey key (lines n v)
-  -- the rows that `lines` gives for each value of the map are wanted
   pub wanted : (n : ℕ) (v : V) → get values n ≡ Some v → (r : Row) → Has (lines n v) r → Wanted r
-  -- each wanted row is one that `lines` gives for a value of the map
   pub lined : (r : Row) → Wanted r → (n : ℕ) × (v : V) × (get values n ≡ Some v) × Has (lines n v) r
 
 -- ---- amounts of things

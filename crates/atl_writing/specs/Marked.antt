@@ -1,4 +1,4 @@
--- Which rows of each table are marked, by the marks of a campaign.
+-- Which rows of each table are marked, by the marks of a campaign. The table `has` has the items and skills of units.
 use Rattle.std.specs.Prelude.{◌==◌, ◌+◌, ◌*◌, ◌&&◌, ◌||◌, ℕ, Bool, true, false, pos, suc, is_some, nat_le, ◌∷◌}
 use Rattle.std.specs.Ordering.{nat_cmp}
 use Rattle.std.specs.FinMap.{get}
