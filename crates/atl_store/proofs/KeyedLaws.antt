@@ -1,5 +1,5 @@
 -- Laws on rows with different numbers in one column: keys of rows, and rowids that rows are read with.
--- The listing of a part is the rows that its SELECT shows.
+-- The listing of a part is the rows that its SELECT shows; `rows` are these.
 -- `placed` are rows as they were read, each with its rowid. `reads` is all that was read, by part, and `p` the rows put
 -- together for the check (`Parts`), without rowids. `at` is the index of a column, from 0, and `db` has the trees of
 -- the database.
@@ -196,7 +196,7 @@ module _ {A : Type 0} {part : Part} {stored : RowWithId A → Row} {values : A �
   pub placed_apart : HaveDistinctIntegers (column_count part) (map stored placed) → HaveDistinctRowids placed
   placed_apart keys = numbers_apart stored (λ s. s.rowid) (column_count part) is.place_is placed keys.apart
 
--- a row of `has` is shown as its values and after them the rowid
+-- a row of the table `has` is shown as its values and after them the rowid
 pub has_placed : IsPlacedAs Goods has_stored has_row_values
 has_placed = record { values_are = λ s. refl; place_is = λ s. refl }
 
