@@ -38,6 +38,7 @@ use Rattle.atl_store.proofs.LoadLaws.{keyed_by, keyed_shown}
 
 -- ---- rows by a number that each of them has in a column
 
+-- `shown` gives the row as SQL shows it, and `number` the integer that this row has in the column `at`
 module _ {A : Type 0} (shown : A → Row) (number : A → ℤ) (at : ℕ) (is : (a : A) → column (shown a) at ≡ Int (number a)) where
   same_test : (a b : A) → is_eq (value_cmp (column (shown a) at) (column (shown b) at)) ≡ int_eq (number a) (number b)
   same_test a b = ap (λ v. is_eq (value_cmp v (column (shown b) at))) (is a) ∙ ap (λ v. is_eq (value_cmp (Int (number a)) v)) (is b) ∙ ap is_eq (value_cmp-Int (number a) (number b))

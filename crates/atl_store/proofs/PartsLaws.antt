@@ -54,6 +54,7 @@ use Rattle.atl_sql.proofs.PartLaws.{all_among, is_among, not_among}
 
 -- ---- rows of a table, rows that were read of it, and rows that are made of a campaign
 
+-- `rows` are those of a table, `read` those read of it, `made` those made of `c`; `shown` gives a row as SQL shows it
 module _ {A : Type 0} (shown : A → Row) (rows : List Row) (read made : List A) (in_table : IsPermutation rows (map shown read)) (of_them : IsPermutation made read) where
   rows_made : IsPermutation rows (map shown made)
   rows_made = IsPermutation-trans rows (map shown read) (map shown made) in_table (IsPermutation-sym (map shown made) (map shown read) (IsPermutation-map shown made read of_them))

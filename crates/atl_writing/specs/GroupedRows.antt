@@ -50,20 +50,20 @@ amount_rows row amounts = flat_map (λ e. thing_rows row e.0 e.1) amounts
 
 -- ---- what units have
 
--- the rows of `has` for things of one kind that the unit with this number has; `things` are their numbers with their
--- amounts, and an amount of 0 has no row
+-- the rows of the table `has` for things of one kind that the unit with this number has; `things` are their numbers
+-- with their amounts, and an amount of 0 has no row
 abbrev pub kind_lines : ℕ → ThingKind → List (ℕ × ℕ) → List Row
 kind_lines unit sort things = amount_rows (has_row unit (sort_number sort)) things
 
--- the rows of `has` for what a unit holds, its items and then its skills, whose amount isn't 0
+-- the rows of the table `has` for what a unit holds, its items and then its skills, whose amount isn't 0
 abbrev pub goods_lines : ℕ → HoldingValue → List Row
 goods_lines unit held = kind_lines unit Item (entries held.items) ++ kind_lines unit Skill (entries held.days)
 
--- the rows of `has` for one unit: of its items and then of its skills, whose amount isn't 0
+-- the rows of the table `has` for one unit: of its items and then of its skills, whose amount isn't 0
 abbrev pub unit_goods_lines : ℕ → Unit → List Row
 unit_goods_lines n unit = goods_lines n unit.holding
 
--- the rows of `has` for all amounts of items and skills that aren't 0, one unit after another
+-- the rows of the table `has` for all amounts of items and skills that aren't 0, one unit after another
 abbrev pub all_goods_lines : List (ℕ × Unit) → List Row
 all_goods_lines units = groups_of unit_goods_lines units
 

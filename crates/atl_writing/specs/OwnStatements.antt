@@ -57,7 +57,7 @@ pub data OfChange (c : CampaignValue) : List ℕ → Row → Type 0 where
   changes_row : {sql : List ℕ} {params : Row} → OfRow c sql params → OfChange c sql params
   -- the row with this key is deleted from the part's table: the campaign has no row with the key (`HasNoRow`)
   drops_row : (part : Part) {key : Row} → HasNoRow c part key → OfChange c (deletion (table_of part) (key_width_of part)) key
-  -- all rows of one unit are deleted from `has`, or all rows of one region from `market`
+  -- all rows of one unit are deleted from the table `has`, or all rows of one region from `market`
   drops_group : (part : Part) {n : ℕ} → IsGroupedPart part → OfChange c (deletion (table_of part) 1) (int n ∷ [])
 
 -- the statements of an upgrade: make the table `market`, and set the second format and the new world text in the
