@@ -44,6 +44,7 @@ abbrev Determines : {V : Type 0} → (ℕ → V → Row) → FinMap nat_cmp V �
 Determines {V} line m k =
     (n p : ℕ) (v u : V) → get m n ≡ Some v → get k p ≡ Some u → line n v ≡ line p u → (n ≡ p) × (v ≡ u)
 
+-- `rows` are the rows of a table that are those of both maps
 module _ {V : Type 0} (line : ℕ → V → Row) (rows : List Row) where
   other_line : (m k : FinMap nat_cmp V) → HasExactly rows (RowsOf line m) → HasExactly rows (RowsOf line k)
       → (n : ℕ) (v : V) → get m n ≡ Some v → RowsOf line k (line n v)

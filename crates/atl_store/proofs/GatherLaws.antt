@@ -2,7 +2,7 @@
 -- The connection is `old` before the first read, `mid` after some of them, and `new` after all. Of two lists of
 -- SELECTs, `xs` is asked first, with the result `one`, and then `ys`, with `two`. `r` is the result of all reads, and
 -- `P` and `Q` say what holds of what was found.
--- `o` is what all reads found: None if a value is of another type than its column.
+-- `o` is what all reads found: None if a value is of another type than its column. `g` is the kind of store.
 use Rattle.std.proofs.Common.{◌≡◌, ◌≢◌, ◌⊎◌, ◌++◌, ℕ, List, [], ◌∷◌, Bool, true, false, not, true≢false, IsTrue, Option, Some, None, Result, Ok, Err, IfOk, IfErr, IsErrAnd, map, refl, sym, ◌∙◌, subst, inl, inr, arith}
 use Rattle.std.specs.Option.{option_zip}
 use Rattle.std.specs.declared.vec.Vec.{Vec}
@@ -235,6 +235,7 @@ module _ {S : Type 0} (g : Ghosts S) where
   fails_then old mid first selects Memory (inl refused) = inl (refuses_then old mid first selects read.Memory refused)
   fails_then old mid first selects Memory (inr answers) = inr (answers_then old mid first selects answers)
 
+  -- each SELECT of the list `few` is in the list `more`
   module _ (old : Held S) (few more : List (List ℕ × List Form)) (within : (select : List ℕ × List Form) → Has few select → Has more select) where
     refuses_within : (fault : ReadFault) → RefusesOne g old few fault → RefusesOne g old more fault
     refuses_within fault refused = record { select = refused.select; one = within refused.select refused.one; before = refused.before; leaves = refused.leaves; refused = refused.refused }

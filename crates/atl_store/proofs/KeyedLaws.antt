@@ -1,5 +1,5 @@
 -- Laws on rows with different numbers in one column: keys of rows, and rowids that rows are read with.
--- The listing of a part is the rows that its SELECT shows.
+-- The listing of a part is the rows that its SELECT shows; `rows` are these.
 -- `placed` are rows as they were read, each with its rowid. `reads` is all that was read, by part, and `p` the rows put
 -- together for the check (`Parts`), without rowids. `at` is the index of a column, from 0, and `db` has the trees of
 -- the database.
@@ -38,6 +38,7 @@ use Rattle.atl_store.proofs.LoadLaws.{keyed_by, keyed_shown}
 
 -- ---- rows by a number that each of them has in a column
 
+-- `shown` gives the row as SQL shows it, and `number` the integer that this row has in the column `at`
 module _ {A : Type 0} (shown : A → Row) (number : A → ℤ) (at : ℕ) (is : (a : A) → column (shown a) at ≡ Int (number a)) where
   same_test : (a b : A) → is_eq (value_cmp (column (shown a) at) (column (shown b) at)) ≡ int_eq (number a) (number b)
   same_test a b = ap (λ v. is_eq (value_cmp v (column (shown b) at))) (is a) ∙ ap (λ v. is_eq (value_cmp (Int (number a)) v)) (is b) ∙ ap is_eq (value_cmp-Int (number a) (number b))
@@ -196,7 +197,7 @@ module _ {A : Type 0} {part : Part} {stored : RowWithId A → Row} {values : A �
   pub placed_apart : HaveDistinctIntegers (column_count part) (map stored placed) → HaveDistinctRowids placed
   placed_apart keys = numbers_apart stored (λ s. s.rowid) (column_count part) is.place_is placed keys.apart
 
--- a row of `has` is shown as its values and after them the rowid
+-- a row of the table `has` is shown as its values and after them the rowid
 pub has_placed : IsPlacedAs Goods has_stored has_row_values
 has_placed = record { values_are = λ s. refl; place_is = λ s. refl }
 

@@ -2,7 +2,8 @@
 -- That a fault refuses the load means: loading may return it (`RefusesToLoadIn`).
 -- `f` is the format, `g` the kind of store, `w` the world of the campaign row, and `p` the rows of all tables, put
 -- together for the check (`Parts`). The first rule is that on the campaign row (`AreOwnRow`). The connection is `old`
--- before all reads, `mid` after some of them, and `new` after all.
+-- before all reads, `mid` after some of them, and `new` after all. `reads` is what was read of all tables but
+-- `campaign`, by part.
 use Rattle.std.proofs.Common.{◌≡◌, ℕ, List, [], ◌∷◌, Bool, true, false, not, filter, map, IsTrue, IsPermutation, true≢false, Option, Result, Ok, Err, IfErr, IsErrAnd, ◌⊎◌, Some, None, inl, arith, refl, sym, ap, ◌∙◌, subst, inr}
 use Rattle.std.specs.List.{IsDistinct}
 use Rattle.std.proofs.lemmas.Bool.{cases_Bool}

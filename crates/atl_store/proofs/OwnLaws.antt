@@ -2,7 +2,8 @@
 -- To judge the rows gives Ok with the row and its world, Damaged by the first rule, or Memory.
 -- That a fault refuses the load means: loading may return it (`RefusesToLoadIn`).
 -- The first rule is that on the campaign row (`AreOwnRow`). `rows` are the rows that the SELECT shows, and `items` the
--- same, parsed. `own` is a parsed row, `h` a row without its world text, `text`; `r` is the result of judging.
+-- same, parsed. `own` is a parsed row, `h` a row without its world text, `text`; `r` is the result of judging. `f` is
+-- the format that the file is to have, `g` the kind of store, and `old` the connection before the SELECT.
 use Rattle.std.proofs.Common.{◌≡◌, ℕ, false, List, [], ◌∷◌, map, length, Result, Ok, Err, IfOk, IfErr, IsPermutation, refl, sym, ap, ◌∙◌, subst, inl, inr, IsUtf8}
 use Rattle.sqlite.specs.Held.{Held, state}
 use Rattle.sqlite.specs.Order.{Row, column}
@@ -124,8 +125,8 @@ judged_as Is Nothing P read lacks broken (Err (Damaged Books)) judged = absurd j
 judged_as Is Nothing P read lacks broken (Err (Damaged Mail)) judged = absurd judged
 
 module _ (f : Format) where
-  -- a result that judging the parsed rows `items` may give (`JudgesOwn`) is one that judging the rows that SQL shows,
-  -- `rows`, may give (`JudgesRows`)
+  -- if `items` show the first columns of `rows`, and each value there is of its column's form, a result that judging
+  -- `items` may give (`JudgesOwn`) is one that judging `rows` may give (`JudgesRows`)
   pub judged_rows : (items : List StoredCampaign) (rows : List Row) (r : Result (StoredCampaign × WorldValue) LoadFault)
       → map campaign_stored items ≡ map (first_columns (length campaign_forms)) rows → AreTyped campaign_forms rows
       → JudgesOwn f items r → JudgesRows f rows r

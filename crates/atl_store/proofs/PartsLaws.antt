@@ -1,6 +1,6 @@
 -- Laws on tables whose rows are those of a campaign: if the rows that were read are made of it, the tables hold it.
--- Rows are made of a campaign if they are those that it has in a format, each once, in any order (`AreRowsOf`). `p` are
--- the rows that were read of all tables, `db` has the trees of the database, and `text` is the world text.
+-- Rows are made of a campaign `c` if they are those that it has in a format `f`, each once, in any order (`AreRowsOf`).
+-- `p` are the rows that were read of all tables, `db` has the trees of the database, and `text` is the world text.
 use Rattle.std.proofs.Common.{◌≡◌, ◌≢◌, ◌==◌, ℕ, ℤ, pos, Bool, true, false, cond, not, unwrap_or, Some, None, List, [], ◌∷◌, filter, map, refl, sym, ap, ◌∙◌, subst, inl, inr, true≢false, IsTrue}
 use Rattle.std.specs.List.{AllByRecursion}
 use Rattle.std.specs.List.Sorted.{IsPermutation}
@@ -54,6 +54,7 @@ use Rattle.atl_sql.proofs.PartLaws.{all_among, is_among, not_among}
 
 -- ---- rows of a table, rows that were read of it, and rows that are made of a campaign
 
+-- `rows` are those of a table, `read` those read of it, `made` those made of `c`; `shown` gives a row as SQL shows it
 module _ {A : Type 0} (shown : A → Row) (rows : List Row) (read made : List A) (in_table : IsPermutation rows (map shown read)) (of_them : IsPermutation made read) where
   rows_made : IsPermutation rows (map shown made)
   rows_made = IsPermutation-trans rows (map shown read) (map shown made) in_table (IsPermutation-sym (map shown made) (map shown read) (IsPermutation-map shown made read of_them))
@@ -103,6 +104,7 @@ own_held f text c rows read in_table of_them = (
 
 -- ---- amounts that are not 0
 
+-- `row` makes the row of a thing's number and its amount, and `amount` gives the amount of a row
 module _ {R : Type 0} (amount : R → ℤ) (row : ℕ → ℕ → R) (is : (thing count : ℕ) → amount (row thing count) ≡ pos count) where
   amount_row_is_of_entry : (es : List (ℕ × ℕ)) (s : R) → Has (amount_rows amount row es) s
       → (e : ℕ × ℕ) × Has es e × (e.1 ≢ 0) × (s ≡ row e.0 e.1)

@@ -30,8 +30,9 @@ held_campaign_is_stored : (db : Database) (text : List ℕ) (c : CampaignValue) 
 held_campaign_is_stored db text c has rows =
     record { schema = db.schema; begins = has.begins; sound = has.sound; rows = rows }
 
+-- `settled` says that of an open connection a crash leaves the last commit
 module _ (old new : State) (text : List ℕ) (settled : (db : Trees) → IsTrue new.is_open → new.may_leave db → db ≡ new.committed.trees) where
-  -- after a commit the connection keeps the campaign that the transaction wrote, if a crash leaves what was committed
+  -- after a commit the connection keeps the campaign that the transaction wrote, if the tables were as `Before` says
   pub commits_keeps : (Before : Database → Type 0) (Does : Database → Database → Type 0) (after : CampaignValue)
       → Commits Before Does old new → Before old.now → (Does old.now new.now → Holds new.now.trees text after)
       → Keeps new text after
@@ -47,7 +48,8 @@ module _ (old new : State) (text : List ℕ) (settled : (db : Trees) → IsTrue 
         crash = λ db may. subst (λ t. Stores t text after) (sym (settled db done.is_open may ∙ ap (λ (d : Database). d.trees) done.committed)) (held_campaign_is_stored new.now text after did.tables rows);
       }
 
-  -- after a failed transaction the campaign before is kept, and a crash leaves that or the one after, on a clean disk
+  -- on a clean disk a failed transaction leaves the campaign that was kept, and a crash leaves it or the one after
+  -- (`LeavesAfterFault`)
   pub leaves_stops : (Does : Database → Database → Type 0) (before after : CampaignValue) → HasCleanDisk new
       → LeavesOff old new → Survives old new (MayLeave HasTables Does old) → Keeps old text before
       → ((db : Database) → Does old.now db → Holds db.trees text after)

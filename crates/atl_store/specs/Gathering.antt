@@ -131,8 +131,8 @@ JudgesFormat f rows r = (AreOfOtherFormat f rows × (r ≡ Err OtherFormat)) ⊎
 abbrev pub ReadRows : Type 0
 ReadRows = List (Part × List Row)
 
--- the rows read are all rows of the part's table, if the schema begins with the tables of the earliest format that has
--- the part
+-- the rows read are exactly those that the part's SELECT shows of its table, in any order, if the schema begins with
+-- the tables of the earliest format that has the part
 abbrev pub AreRows : Database → Part → List Row → Type 0
 AreRows db part rows =
     HasTablesOf (select_of_part part).since db.schema → IsPermutation ((select_of_part part).in_table db.trees) rows
@@ -143,7 +143,6 @@ AreAllRows db reads = (read : Part × List Row) → Has reads read → AreRows d
 
 -- for each part that was read: all rows of its table (`AreRows`) if the format has the part, else no row
 pub record AreOfFormat (f : Format) (db : Database) (reads : ReadRows) : Type 0 where
-  -- each part that was read has all rows of its table, or no row if the format lacks the part
   pub each : (read : Part × List Row) → Has reads read
       → (Has (parts_in f) read.0 × AreRows db read.0 read.1) ⊎ ((¬ Has (parts_in f) read.0) × (read.1 ≡ []))
 
@@ -257,7 +256,6 @@ pub record HaveDistinctIntegers (at : ℕ) (rows : List Row) : Type 0 where
 
 -- in each part that is shown with rowids, the rowids are integers, no two alike
 pub record AllHaveDistinctRowids (reads : ReadRows) : Type 0 where
-  -- the rowids of each part that is shown with rowids are integers, no two alike
   pub each : (read : Part × List Row) → Has reads read → shows_rowids read.0 ≡ true → HaveDistinctIntegers (column_count read.0) read.1
 
 -- the rows of a part without the rowids that they are shown with

@@ -36,13 +36,11 @@ pub record Stores (db : Trees) (text : List ℕ) (c : CampaignValue) : Type 0 wh
 -- The connection is open and in no transaction, and its tables hold exactly the rows of the text and the campaign.
 -- All is committed, and a crash leaves just this.
 pub record Keeps (s : State) (text : List ℕ) (c : CampaignValue) : Type 0 where
-  -- the connection is in no transaction
   pub idle : s.in_transaction ≡ false
-  -- the connection is open
   pub is_open : IsTrue s.is_open
   -- nothing is uncommitted
   pub settled : s.committed ≡ s.now
-  -- the database has the tables of a campaign
+  -- the database has the tables of a campaign, and its trees are sound (`HasTables`)
   pub tables : HasTables s.now
   -- the tables hold exactly the rows of the text and the campaign
   pub rows : Holds s.now.trees text c
@@ -141,8 +139,9 @@ RefusesToCreate g text c old new Memory = FailsToCreate g text c old new × Brea
 
 -- ---- writing
 
--- `after` is the good campaign `before` once the faction has joined it and its first report is stored. The faction has
--- this name and pass text; `word`, a number from the dice, picks where its unit is (`after_join`).
+-- `after` is `before`, a good campaign of some world, once the faction, which gets the next number, has joined it with
+-- some name and pass text (`after_join`), and some report of it is stored. `word`, a word of the dice, picks where its
+-- unit is.
 abbrev pub IsJoining : CampaignValue → ℕ → CampaignValue → Type 0
 IsJoining before faction after =
     (w : WorldValue) × (name : List ℕ) × (pass : List ℕ) × (word : ℕ) × (report : List ℕ)

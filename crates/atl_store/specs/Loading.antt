@@ -54,7 +54,7 @@ use Rattle.atl_store.specs.declared.fault.StoreFault.TheVariants as store
 abbrev pub own_stored : List ℕ → StoredCampaignRow → Row
 own_stored text h = campaign_row_stored h ++ Text text ∷ []
 
--- a row of `has` that was read, as SQL shows it, without its rowid
+-- a row of the table `has` that was read, as SQL shows it, without its rowid
 abbrev pub has_row_values : StoredHas → Row
 has_row_values s = Int s.unit ∷ Int s.sort ∷ Int s.thing ∷ Int s.amount ∷ []
 
@@ -86,7 +86,6 @@ rows_read text p Markets = map market_values p.markets
 pub record HaveRows (f : Format) (db : Trees) (text : List ℕ) (p : Parts) : Type 0 where
   -- the table of each part of the format has exactly the part's rows in `p`
   pub rows : (part : Part) → Has (parts_in f) part → IsPermutation (rows_in (table_of part) db) (rows_read text p part)
-  -- `p` has no row of a part that the format lacks
   pub none : (part : Part) → ¬ Has (parts_in f) part → rows_read text p part ≡ []
 
 -- ---- the first rule
@@ -96,13 +95,9 @@ pub record HaveRows (f : Format) (db : Trees) (text : List ℕ) (p : Parts) : Ty
 pub record AreOwnRow (f : Format) (rows : List Row) (h : StoredCampaignRow) (text : List ℕ) (w : WorldValue) : Type 0 where
   -- the SELECT of `campaign` shows one row, whose first columns show `h` and the world text
   pub shown : map (first_columns (length campaign_forms)) rows ≡ own_stored text h ∷ []
-  -- the id of the campaign row is 1
   pub id : h.id ≡ pos 1
-  -- the format of the campaign row is `f`
   pub format : h.format ≡ pos (format_number f)
-  -- the world text of the campaign row is UTF-8
   pub utf8 : IsUtf8 text
-  -- the world text of the campaign row reads as the world `w`
   pub world : world_of_text f text ≡ Ok w
 
 -- the other one of the two formats; if the only campaign row is of that format, the fault is OtherFormat, not Damaged
@@ -408,7 +403,7 @@ module _ {S : Type 0} (g : Ghosts S) (old : Held S) where
     pub unmarked : c.marks ≡ no_marks
 
   -- Loading changes nothing of the connection (`ChangesNothing`), whatever is answered, if the disk is clean.
-  -- What `Survives` says holds too, with nothing committed, and the connection is in a transaction if it was in one.
+  -- `Survives` holds too, with nothing committed, and the connection is in a transaction exactly if it was in one.
   pub record LeavesAlone (new : Held S) : Type 0 where
     -- nothing of the connection is changed, if the disk is clean
     pub unchanged : HasCleanDisk (state g new) → ChangesNothing (state g old) (state g new)
@@ -417,5 +412,4 @@ module _ {S : Type 0} (g : Ghosts S) (old : Held S) where
     -- If the disk is clean, only a failure closes the connection, and a crash leaves only what it could have left
     -- before (`Survives`).
     pub survives : Survives (state g old) (state g new) (λ _. ⊥)
-    -- the connection is in a transaction exactly if it was in one
     pub mode : new.in_transaction ≡ old.in_transaction

@@ -56,15 +56,11 @@ module _ {S : Type 0} (g : Ghosts S) (text : List ℕ) (old new : Held S) where
     pub world : world_of text ≡ Ok w
     -- if the disk is clean, the tables held the campaign in the first format, with a text of `w` without markets
     pub held_before : HasCleanDisk (state g new) → HoldsOld (state g old) (without_markets w) c.value
-    -- nothing is in stock
     pub bare : HasNoStocks c.value
     -- the connection keeps the campaign, with the new text
     pub tables : HoldsCampaign g new text c.value
-    -- the campaign is good
     pub good : IsGood w c.value
-    -- nothing of the campaign is marked
     pub unmarked : c.marks ≡ no_marks
-    -- the connection is in no transaction
     pub idle : new.in_transaction ≡ false
 
   -- The upgrade broke off: its reads changed nothing, and then a statement of its transaction, or the commit, failed.
@@ -98,7 +94,6 @@ module _ {S : Type 0} (g : Ghosts S) (text : List ℕ) (old new : Held S) where
     pub matches : MatchesNewText (state g old) text world campaign
     -- the schema begins with the tables of the first format
     pub begins : HasTablesOf First old.schema
-    -- the schema has more than the tables and indexes of the first format
     pub more : ¬ IsFirstFormatOnly old.schema
 
   -- the tables hold a good campaign in the first format

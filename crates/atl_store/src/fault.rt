@@ -42,7 +42,7 @@ pub enum StoreFault {
     Store,
     /// The rows of the tables break this rule, and none before it.
     Damaged(Rule),
-    /// There is no table `campaign`, or it lacks a column.
+    /// The campaign row can't be selected, as when the table `campaign` or a column is missing.
     NotACampaign,
     /// `campaign` has one row, whose format is the first: the file is to be upgraded.
     OldFormat,
@@ -58,7 +58,7 @@ pub enum LoadFault {
     Store,
     /// The rows of the tables break this rule, and none before it.
     Damaged(Rule),
-    /// There is no table `campaign`, or it lacks a column.
+    /// The campaign row can't be selected, as when the table `campaign` or a column is missing.
     NotACampaign,
     /// `campaign` has one row, whose format is the other one.
     OtherFormat,
@@ -75,7 +75,7 @@ pub enum UpgradeFault {
     Store,
     /// The rows of the tables break this rule of the first format, and none before it.
     Damaged(Rule),
-    /// There is no table `campaign`, or it lacks a column.
+    /// The campaign row can't be selected, as when the table `campaign` or a column is missing.
     NotACampaign,
     /// `campaign` has one row, whose format is the second.
     NotOld,

@@ -36,14 +36,16 @@ fn is_ready<S: Alter>(conn: &Connection<S>) -> bool
     is_blank(conn.schema()) && conn.is_autocommit()
 }
 
-/// Makes the tables and writes the whole campaign with its world text, in one transaction. With Ok
-/// the connection holds the campaign, of which nothing is marked any more, and no table `campaign`
-/// was there. NotEmpty: a table `campaign` is there, and nothing is changed. Store: the connection
-/// is in a transaction or the database has other tables, an index or a view, and nothing is
-/// changed; or the database gives an error that is not lack of memory. Memory: the database says
-/// that it has none. After Store and Memory the tables are as they were while the connection is
-/// open, and a crash leaves what it left before or the campaign. After any fault the marks are as
-/// they were. See docs/FORMATS.md, "Tables".
+/// Makes the tables and writes the whole campaign with this world text, in one transaction. The
+/// books may have no more things than a world can have. With Ok the connection holds the campaign,
+/// of which nothing is marked any more, and no table `campaign` was there. NotEmpty: a table
+/// `campaign` is there, and nothing is changed. Store: the connection is in a transaction or the
+/// database has other tables, an index or a view, and nothing is changed; or the database gives an
+/// error that is not lack of memory. Memory: the database says that it has none. After Store and
+/// Memory the tables are as they were while the connection is open, and a crash leaves what it left
+/// before or the campaign. After any fault the marks are as they were. What the tables hold, and
+/// what a crash leaves, is promised on a clean disk (docs/PROVED.md, "Premises"). See
+/// docs/FORMATS.md, "Tables".
 pub fn create<S: Alter>(
     conn: &mut Connection<S>,
     world_text: &str,

@@ -120,12 +120,14 @@ fn write_joining<S: Alter>(
     tx.commit()
 }
 
-/// Writes a join into a store that holds the campaign before it, in one transaction: the campaign
-/// row, the faction, its unit and its report, and what joining booked. The campaign is the one
-/// after the join, with the faction's first report stored. With Ok the store holds this campaign,
-/// and no other row is touched. Memory: the database says that it has none. Store: it gives another
-/// error. After a fault the store holds the campaign before while the connection is open, and a
-/// crash leaves the one before or the one after. See docs/FORMATS.md, "Tables".
+/// Writes a join into a database that holds the campaign before it, in one transaction: the
+/// campaign row, the faction, its unit and its report, and what joining booked. `campaign` has to
+/// be the one after the join of `faction`, with this faction's first report stored (`HasArrival`,
+/// `IsJoining`); `conn` has to be in no transaction. With Ok the database holds this campaign, and
+/// no other row is touched. Memory: the database says that it has none. Store: it gives another
+/// error. After a fault the database holds the campaign before while the connection is open, and a
+/// crash leaves the one before or the one after. All of this is promised on a clean disk
+/// (docs/PROVED.md, "Premises"). See docs/FORMATS.md, "Tables".
 pub fn write_join<S: Alter>(
     conn: &mut Connection<S>,
     campaign: &Campaign,

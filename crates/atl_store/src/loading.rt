@@ -62,10 +62,7 @@ fn load_idle<S: Alter>(
     Ok((world, campaign))
 }
 
-/// Loads the campaign that the tables hold in a format, with its world; nothing of it is marked,
-/// and it is good. Nothing is changed, whatever is answered. OtherFormat: `campaign` has one row,
-/// of the other format, whatever else it says. The other faults are those of `load`. See
-/// docs/FORMATS.md, "Rules of the tables".
+/// `load` is the case of the second format; its OldFormat is OtherFormat here.
 pub(crate) fn load_as<S: Alter>(
     alloc: Global,
     conn: &mut Connection<S>,
@@ -83,14 +80,17 @@ pub(crate) fn load_as<S: Alter>(
 }
 
 /// Loads the campaign that the tables hold, with its world; nothing of it is marked, and it is
-/// good. Nothing is changed, whatever is answered. NotACampaign: the campaign row can't be asked
-/// for. OldFormat: `campaign` has one row, whose format is the first, whatever else it says.
-/// Damaged: the rows break this rule of the tables, and none before it; a value of another type in
-/// the campaign row breaks the first, one in another table the second. Store: the connection is in
-/// a transaction, a table can't be read, or the disk fails. Store also comes if the tables or
-/// indexes are not made as `create` makes them, two rows of `has`, `books` or `market` have the
-/// same rowid, or there is a view or a trigger. Memory: memory runs out. See docs/FORMATS.md,
-/// "Rules of the tables".
+/// good. Nothing is changed, whatever is answered. NotACampaign: the SELECT of the campaign row is
+/// refused, and not for memory, the disk, a closed connection, size or too many steps. OldFormat:
+/// the table `campaign` has one row, whose format is the first, whatever else it says. Damaged: the
+/// rows break this rule of the tables, and none before it; a value of another type in the campaign
+/// row breaks the first, one in another table the second. Store: the connection is in a
+/// transaction, this SELECT is refused for one of those causes but memory, a later one for any
+/// cause but memory, or the disk fails. Store also comes if the tables or indexes are not made as
+/// `create` makes them, two rows of the table `has`, `books` or `market` have the same rowid, or
+/// there is a view or a trigger. Memory: memory runs out. All of this, but that the campaign is
+/// good and unmarked, is promised on a clean disk (docs/PROVED.md, "Premises"). See
+/// docs/FORMATS.md, "Rules of the tables".
 pub fn load<S: Alter>(
     alloc: Global,
     conn: &mut Connection<S>,

@@ -11,11 +11,10 @@ use sqlite::{Alter, Connection};
 use sqlite_trees::store::Reopen;
 use std::alloc::Global;
 
-/// Ends the connection as a crash does, and opens again what this leaves of its database. What the
-/// connection held of a campaign is there again, its tables and the rows in them; if a write was
-/// stopped by a fault, it is the campaign before or the one after. Memory: there is no memory to
-/// open the database. Store: the disk fails. After a fault there is no connection any more, and the
-/// files of the database stay as they are.
+/// Ends the connection as a crash does, and opens again what this leaves of its database. On a
+/// clean disk (docs/PROVED.md, "Premises") a campaign that the connection held is held again; if a
+/// write was stopped by a fault, it is the campaign before or the one after. Memory: memory ran
+/// out. Store: there is another error. No clause says when a fault comes, or what it leaves.
 pub fn reopen_connection<S: Alter + Reopen + Drop>(
     alloc: Global,
     conn: Connection<S>,

@@ -69,7 +69,8 @@ module _ (c : CampaignValue) where
       let now = rows_in (table_of part) new.trees in
       groups_filled lines more m (rows_for own c part) (are own) now was none (subst (λ (l : List (ℕ × V)). HasExactly now (puts (suc more) (groups_of lines l) (Has was))) same made))
 
-  -- putting the rows of all amounts that are not 0 fills the books
+  -- putting the rows of all amounts that are not 0 fills the books, if these list no 0 and only their own things
+  -- (`AreBooks`)
   pub books_fill : AreBooks c.books.things c.books → (old new : Database)
       → PutsRows books_table 2 (things_lines c (range_with_len 0 c.books.things)) old new
       → FillsParts c (Books ∷ []) old new

@@ -75,7 +75,7 @@ module _ (row : ℕ → ℕ → Row) where
 
 -- ---- the things of one kind: items or skills
 
--- two keys of `has` are equal only if unit, kind and thing are
+-- two keys of the table `has` are equal only if unit, kind and thing are
 pub three_same : (a b c d e f : ℕ) → ◌≡◌ {A = Row} (has_key a b c) (has_key d e f) → (a ≡ d) × (b ≡ e) × (c ≡ f)
 three_same a b c d e f same = (cc, cc, cc)
 
@@ -137,7 +137,7 @@ goods_rows units n u got r there =
     let row = goods_has n u.holding r there in
     (n, u, got, row.0, row.1.0, row.1.1, entry_got (things_of row.0 u.holding) row.1.0 row.1.1 row.2, row.3, row.4)
 
--- the rows of `has` come in groups, one for each unit, whose rows begin with its number (`AreGroups`)
+-- the rows of the table `has` come in groups, one for each unit, whose rows begin with its number (`AreGroups`)
 pub goods_grouped : (units : FinMap nat_cmp Unit) → AreGroups unit_goods_lines 3 units (HasRowsOf units)
 goods_grouped units = record {
   numbered = λ n u. goods_begin n u.holding;
@@ -172,7 +172,7 @@ module _ (units : FinMap nat_cmp Unit) where
   amount_some n sort thing u there =
       ap (λ o. amount_of (things_under sort o) thing) there ∙ ap (λ things. amount_of things thing) (under_unit sort u)
 
-  -- each row of `has` gives the amount, which is not 0, of an item or skill of its unit
+  -- each row of the table `has` gives the amount, which is not 0, of an item or skill of its unit
   pub row_has_amount : (r : Row) → HasRowsOf units r
       → (n : ℕ) × (sort : ThingKind) × (thing : ℕ) × (amount_under units n sort thing ≢ 0)
       × (r ≡ has_row n (sort_number sort) thing (amount_under units n sort thing))
@@ -180,7 +180,7 @@ module _ (units : FinMap nat_cmp Unit) where
       let amount : amount_under units of.0 of.3 of.4 ≡ of.5 = amount_some of.0 of.3 of.4 of.1 of.2 ∙ ap (λ (o : Option ℕ). unwrap_or o 0) of.6 in
       (of.0, of.3, of.4, λ none. of.7 (sym amount ∙ none), of.8 ∙ ap (has_row of.0 (sort_number of.3) of.4) (sym amount))
 
-  -- each amount of a unit's item or skill that is not 0 has its row of `has`
+  -- each amount of a unit's item or skill that is not 0 has its row of the table `has`
   pub amount_has_row : (n : ℕ) (sort : ThingKind) (thing amount : ℕ) → amount ≡ amount_under units n sort thing
       → amount ≢ 0 → HasRowsOf units (has_row n (sort_number sort) thing amount)
   amount_has_row n sort thing amount is some = there (get units n) refl

@@ -140,7 +140,7 @@ module _ (c : CampaignValue) where
       (row.0, thing_at found.0, row.2, row.3)
 
   -- an empty table filled with the rows of all things has exactly the books' rows, if each listed amount is of one of
-  -- the books' things
+  -- the books' things and is not 0 (`AreBooks`)
   pub books_filled : AreBooks c.books.things c.books → (rows old : List Row) → old ≡ []
       → HasExactly rows (puts 2 (things_lines c (range_with_len 0 c.books.things)) (Has old))
       → HasExactly rows (BooksRowsOf c.books)

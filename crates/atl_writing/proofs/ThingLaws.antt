@@ -1,4 +1,4 @@
--- Laws on writing a single item or skill of a unit: its row alone is put or deleted.
+-- Laws on writing a single item or skill of a unit: its row alone, of the table `has`, is put or deleted.
 -- `unit` and `thing` are numbers, `sort` is the kind of the thing (item or skill), and `amount` what the unit has of it
 -- in the campaign `c`. To rewrite rows is to make them those of the campaign (`RewritesThings`). `old` is the state
 -- before the row is put or deleted, and `new` after it.
@@ -23,8 +23,8 @@ use Rattle.atl_writing.proofs.RewriteLaws.{rewrites_key, kept_only}
 use Rattle.atl_writing.proofs.WholeLaws.{inside_weaker}
 use Rattle.atl_world.proofs.GeneralLaws.{same_key, key_itself, is_equal, equal_itself}
 
--- `unit_and_thing_pass` finds rows of `has` by unit and thing: a test "`f` or `g`" finds what `f` or `g` finds, and a
--- test that is always false finds nothing (`FindsByNumbers`)
+-- `unit_and_thing_pass` finds rows of one kind by unit and thing: a test "`f` or `g`" finds what `f` or `g` finds, and
+-- a test that is always false finds nothing (`FindsByNumbers`)
 pub finds_things : (sort : ThingKind) → FindsByNumbers (unit_and_thing_pass sort)
 finds_things sort = record { either = either; none = none }
   where
@@ -82,12 +82,12 @@ module _ (unit : ℕ) (sort : ThingKind) (thing : ℕ) where
         let says : Determines unit sort thing = subst (λ n. Determines n sort thing) keys.0 (subst (λ s. Determines had.0 s thing) (same_sort had.1 sort keys.1) (subst (Determines had.0 had.1) keys.2 (had.3, had.4))) in
         (λ none. says.0 (sym is ∙ none), says.1 ∙ ap (has_row unit (sort_number sort) thing) (sym is))
 
-    -- if the amount is 0, no row that `has` has to have is of this unit and thing
+    -- if the amount is 0, no row that the table `has` has to have is of this unit, kind and thing
     pub zero_amount_has_no_row : amount ≡ 0 → (r : Row) → HasRowsOf c.units r
         → take 3 r ≢ has_key unit (sort_number sort) thing
     zero_amount_has_no_row none r of key = (wanted_here r (of_key r key) of).0 none
 
-    -- to put the row of an amount that is not 0 rewrites the rows of its unit and thing, and no others
+    -- to put the row of an amount that is not 0 rewrites the rows of its unit, kind and thing, and no others
     pub thing_put : amount ≢ 0 → (old new : State) → DoesInside HasTables (Puts has_table 3 row) old new
         → DoesInside HasTables (RewritesThings c sort (is_owner_and_thing unit thing)) old new
     thing_put some old new did =
@@ -98,7 +98,7 @@ module _ (unit : ℕ) (sort : ThingKind) (thing : ℕ) where
         has_table old.now new.now puts.rows puts.others)
         did
 
-    -- to delete the row of an amount that is 0 rewrites the rows of its unit and thing, and no others
+    -- to delete the row of an amount that is 0 rewrites the rows of its unit, kind and thing, and no others
     pub thing_dropped : amount ≡ 0 → (old new : State)
         → DoesInside HasTables (Drops has_table 3 (has_key unit (sort_number sort) thing)) old new
         → DoesInside HasTables (RewritesThings c sort (is_owner_and_thing unit thing)) old new

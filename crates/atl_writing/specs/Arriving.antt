@@ -1,4 +1,4 @@
--- What writing a join, or a mailing, changes in the tables. See docs/FORMATS.md, "Tables".
+-- What writing a join, or a mailing, changes in the ten tables. See docs/FORMATS.md, "Tables".
 -- `old` is the database before the write, and `new` after it. `faction` is the number of a faction, and `after` the
 -- campaign once this faction has joined.
 use Rattle.std.specs.Prelude.{◌≡◌, ◌≢◌, ◌⊎◌, ◌+◌, ◌-◌, ◌≤◌, ℕ, List, [], ◌∷◌, Some, IsSome, take}
@@ -27,7 +27,6 @@ use Rattle.atl_writing.specs.Rows.{row_of_campaign, row_of_faction, row_of_unit}
 pub record HasArrival (c : CampaignValue) (number : ℕ) : Type 0 where
   -- `next_unit` is not 0, so there is a number before it, that of the unit that came last
   pub next : 1 ≤ c.next_unit
-  -- the things of the books include money and people
   pub things : 2 ≤ c.books.things
   pub faction : IsSome (get c.factions number)
   pub unit : IsSome (get c.units (c.next_unit - 1))
@@ -41,7 +40,6 @@ pub record HasArrivalWith (c : CampaignValue) (number : ℕ) (faction : Faction)
   pub faction_is : get c.factions number ≡ Some faction
   pub unit_is : get c.units unit_number ≡ Some unit
   pub report_is : get c.reports number ≡ Some report
-  -- the things of the books include money and people
   pub things : 2 ≤ c.books.things
 
 -- the rows of `books` once the amount of `entry` and `thing` is written: its row, or none if it is 0, and the other
@@ -60,7 +58,8 @@ abbrev pub HasPut : Table → Row → Database → Database → Type 0
 HasPut table row old new = HasExactly (rows_in table new.trees) (put 1 row (Has (rows_in table old.trees)))
 
 -- What a join writes: the campaign row, the faction, its unit, which came last, its report, and what joining booked.
--- The campaign row keeps this world text, and every other row and table is as it was.
+-- The campaign row has this world text, and every other row and table is as it was. If `after` lacks the faction, the
+-- unit or the report, nothing is said of the table of what it lacks.
 pub record AddsJoin (faction : ℕ) (after : CampaignValue) (text : List ℕ) (old new : Database) : Type 0 where
   -- the campaign row is that of the campaign after the join, with this world text
   pub campaign : HasExactly (rows_in campaign_table new.trees) (λ r. r ≡ row_of_campaign text after)
@@ -80,7 +79,8 @@ pub record AddsJoin (faction : ℕ) (after : CampaignValue) (text : List ℕ) (o
   pub others : (part : Part) → ¬ Has (Own ∷ Factions ∷ Units ∷ Reports ∷ Books ∷ []) part
       → new.trees (table_of part).tree ≡ old.trees (table_of part).tree
 
--- a join is written (`AddsJoin`), if the table `campaign` held one row, whatever that row said
+-- a join is written (`AddsJoin`), if the table `campaign` held one row, of the second format, whatever else that row
+-- said
 abbrev pub WritesJoin : ℕ → CampaignValue → Database → Database → Type 0
 WritesJoin faction after old new =
     (before : CampaignRowValue) (text : List ℕ)

@@ -37,14 +37,14 @@ campaign_row_after false c before = before
 abbrev pub own_after : MarkedCampaign → CampaignRowValue → List ℕ → Row
 own_after c before text = campaign_row (campaign_row_after c.marks.row c.value before) text
 
--- In each table the rows with a marked key become those that the campaign has, and all others stay.
+-- In each table the rows with a marked key become those that the campaign has, and all others stay (`AreRewritten`).
 -- The campaign row said `before`; it keeps this world text.
 pub record WritesMarked (c : MarkedCampaign) (before : CampaignRowValue) (text : List ℕ) (old new : Database) : Type 0 where
-  -- in each part's table the marked rows become those that the campaign has, and the others stay (`AreRewritten`)
   pub rows : (part : Part)
       → AreRewritten (table_of part) (is_marked c.marks part) (rows_for (own_after c before text) c.value part) old new
 
--- All that is marked is written (`WritesMarked`), if the table `campaign` held one row, whatever that row said.
+-- All that is marked is written (`WritesMarked`), if the table `campaign` held one row, of the second format, whatever
+-- else that row said.
 abbrev pub WritesChanges : MarkedCampaign → Database → Database → Type 0
 WritesChanges c old new =
     (before : CampaignRowValue) (text : List ℕ)
@@ -61,12 +61,9 @@ HasUnmarked table is_marked Wanted trees = (r : Row) → is_marked r ≡ false �
 -- The campaign row has this world text and, unless it is marked, says what the campaign says.
 -- In such tables `write_marked` writes the rest, and then they hold the campaign.
 pub record HoldsUnmarked (trees : Trees) (text : List ℕ) (c : MarkedCampaign) : Type 0 where
-  -- what the row of the table `campaign` says
   pub before : CampaignRowValue
   -- the table `campaign` has one row, which says `before` and has this world text
   pub campaign : HasExactly (rows_in campaign_table trees) (λ r. r ≡ campaign_row before text)
-  -- unless the campaign row is marked, `before` is what the campaign says
   pub head : campaign_row_after c.marks.row c.value before ≡ campaign_row_of c.value
-  -- in each part's table the rows that aren't marked are the campaign's
   pub rest : (part : Part)
       → HasUnmarked (table_of part) (is_marked c.marks part) (rows_for (row_of_campaign text c.value) c.value part) trees

@@ -1,4 +1,4 @@
--- For proofs and for private functions: what writing a whole campaign into empty tables does.
+-- What writing a whole campaign into empty tables does; all but `WritesFounding` is for proofs and private functions.
 -- `old` is the database before the write, and `new` after it.
 use Rattle.std.specs.Prelude.{◌≡◌, [], ◌∷◌, List, ℕ}
 use Rattle.sqlite.specs.Effect.{Database}
@@ -14,20 +14,18 @@ use Rattle.atl_writing.specs.Rows.{row_of_campaign, rows_for, Holds}
 abbrev pub Fills : CampaignValue → Row → Part → List Row → List Row → Type 0
 Fills c own part before after = before ≡ [] → HasExactly after (rows_for own c part)
 
--- The table of each listed part, if it was empty, gets exactly the campaign's rows.
--- The campaign row isn't among the parts; the tables of all other parts stay.
+-- The table of each listed part, if it was empty, gets exactly the campaign's rows; the tables of all other parts stay.
+-- This is said of any campaign row, `own`, so it is meant for lists without the part of that row.
 abbrev pub FillsParts : CampaignValue → List Part → Database → Database → Type 0
 FillsParts c parts old new = (own : Row) → Changes (Fills c own) parts old new
 
 -- The table of this part, if it was empty, gets exactly the campaign's rows; the tables of all other parts stay.
--- The part isn't the campaign row.
+-- As `FillsParts`, it isn't meant for the campaign row.
 abbrev pub FillsPart : CampaignValue → Part → Database → Database → Type 0
 FillsPart c part = FillsParts c (part ∷ [])
 
--- The listed parts, the campaign row among them, are filled: each of their tables that was empty gets exactly the
--- campaign's rows.
--- This is so if the table `campaign` was empty. The campaign row has this world text; the tables of all other parts
--- stay.
+-- If the table `campaign` was empty, the table of each listed part that was empty gets exactly the campaign's rows, and
+-- the tables of all other parts stay. The campaign row, which may be among the parts, gets this world text.
 abbrev pub FillsWithOwn : List ℕ → CampaignValue → List Part → Database → Database → Type 0
 FillsWithOwn text c parts old new = rows_in campaign_table old.trees ≡ [] → Changes (Fills c (row_of_campaign text c)) parts old new
 

@@ -1,4 +1,5 @@
--- The rows of goods, of stocks and of books as lists, in the order in which they are put into empty tables.
+-- The rows of goods (the table `has`), of stocks and of books as lists, in the order in which they are put into empty
+-- tables.
 use Rattle.std.specs.Prelude.{◌≡◌, ◌≢◌, ◌==◌, ◌+◌, ◌++◌, ℕ, pos, List, [], ◌∷◌, Some, ⊤, take, if◌then◌else◌}
 use Rattle.std.specs.List.{flat_map}
 use Rattle.std.specs.Ordering.{int_eq, nat_cmp}
@@ -29,16 +30,12 @@ DifferInKey key (x ∷ xs) = ((y : Row) → Has xs y → take key x ≢ take key
 abbrev pub groups_of : {V : Type 0} → (ℕ → V → List Row) → List (ℕ × V) → List Row
 groups_of lines entries = flat_map (λ e. lines e.0 e.1) entries
 
--- `lines` gives the rows of each value of the map: they begin with its number and differ in their key, the first `key`
--- columns. The rows of all values together are exactly those of the set `Wanted`.
+-- `lines` gives the rows of a number and a value: they begin with the number and differ in their key, the first `key`
+-- columns. The rows of all values of the map together are exactly those of the set `Wanted`.
 pub record AreGroups {V : Type 0} (lines : ℕ → V → List Row) (key : ℕ) (values : FinMap nat_cmp V) (Wanted : Set) : Type 0 where
-  -- the rows that `lines` gives for a value begin with the value's number
   pub numbered : (n : ℕ) (v : V) (r : Row) → Has (lines n v) r → take 1 r ≡ int n ∷ []
-  -- the rows that `lines` gives for a value differ in their key
   pub apart : (n : ℕ) (v : V) → DifferInKey key (lines n v)
-  -- the rows that `lines` gives for each value of the map are wanted
   pub wanted : (n : ℕ) (v : V) → get values n ≡ Some v → (r : Row) → Has (lines n v) r → Wanted r
-  -- each wanted row is one that `lines` gives for a value of the map
   pub lined : (r : Row) → Wanted r → (n : ℕ) × (v : V) × (get values n ≡ Some v) × Has (lines n v) r
 
 -- ---- amounts of things
@@ -53,20 +50,20 @@ amount_rows row amounts = flat_map (λ e. thing_rows row e.0 e.1) amounts
 
 -- ---- what units have
 
--- the rows of `has` for things of one kind that the unit with this number has; `things` are their numbers with their
--- amounts, and an amount of 0 has no row
+-- the rows of the table `has` for things of one kind that the unit with this number has; `things` are their numbers
+-- with their amounts, and an amount of 0 has no row
 abbrev pub kind_lines : ℕ → ThingKind → List (ℕ × ℕ) → List Row
 kind_lines unit sort things = amount_rows (has_row unit (sort_number sort)) things
 
--- the rows of `has` for what a unit holds, its items and then its skills, whose amount isn't 0
+-- the rows of the table `has` for what a unit holds, its items and then its skills, whose amount isn't 0
 abbrev pub goods_lines : ℕ → HoldingValue → List Row
 goods_lines unit held = kind_lines unit Item (entries held.items) ++ kind_lines unit Skill (entries held.days)
 
--- the rows of `has` for one unit: of its items and then of its skills, whose amount isn't 0
+-- the rows of the table `has` for one unit: of its items and then of its skills, whose amount isn't 0
 abbrev pub unit_goods_lines : ℕ → Unit → List Row
 unit_goods_lines n unit = goods_lines n unit.holding
 
--- the rows of `has` for all amounts of items and skills that aren't 0, one unit after another
+-- the rows of the table `has` for all amounts of items and skills that aren't 0, one unit after another
 abbrev pub all_goods_lines : List (ℕ × Unit) → List Row
 all_goods_lines units = groups_of unit_goods_lines units
 

@@ -1,4 +1,4 @@
--- Which rows of each table are marked, by the marks of a campaign.
+-- Which rows of each table are marked, by the marks of a campaign. The table `has` has the items and skills of units.
 use Rattle.std.specs.Prelude.{◌==◌, ◌+◌, ◌*◌, ◌&&◌, ◌||◌, ℕ, Bool, true, false, pos, suc, is_some, nat_le, ◌∷◌}
 use Rattle.std.specs.Ordering.{nat_cmp}
 use Rattle.std.specs.FinMap.{get}
@@ -24,8 +24,8 @@ abbrev pub entry_and_thing_pass : (ℕ → ℕ → Bool) → Row → Bool
 entry_and_thing_pass is_so (Int (pos (suc entry)) ∷ Int (pos thing) ∷ row) = is_so entry thing
 entry_and_thing_pass is_so row = false
 
--- whether a row of `has` is of this kind (item or skill), and the test `is_so` is true of its unit and its item or
--- skill
+-- whether a row of the table `has` is of this kind (item or skill), and the test `is_so` is true of its unit and its
+-- item or skill
 abbrev pub unit_and_thing_pass : ThingKind → (ℕ → ℕ → Bool) → Row → Bool
 unit_and_thing_pass sort is_so (Int (pos unit) ∷ Int (pos number) ∷ Int (pos thing) ∷ row) = number == sort_number sort && is_so unit thing
 unit_and_thing_pass sort is_so row = false
@@ -43,7 +43,7 @@ begins_marked marks r = first_column_passes (contains marks) r
 abbrev pub has_thing : MarkedThings → ℕ → ℕ → Bool
 has_thing things unit thing = is_some (get (group_of things unit) thing)
 
--- whether a row of `has` is marked: with all goods of its unit, or as a single item or skill
+-- whether a row of the table `has` is marked: with all goods of its unit, or as a single item or skill
 abbrev pub goods_marked : Marks → Row → Bool
 goods_marked marks r =
     begins_marked marks.goods r || unit_and_thing_pass Item (has_thing marks.items) r || unit_and_thing_pass Skill (has_thing marks.skills) r

@@ -19,11 +19,9 @@ use Rattle.atl_descriptions.specs.Tables.{Part, Markets, books_table, creation_o
 -- the statement, with its parameters, that writes an amount of the books: it puts the amount's row, or deletes the row
 -- if the amount is 0
 pub data OfAmount (c : CampaignValue) (entry : BooksEntry) (thing : Thing) : List ℕ → Row → Type 0 where
-  -- an amount other than 0: its row is put
   puts_amount : amount_in c.books entry thing ≢ pos 0
       → OfAmount c entry thing (upsert books_table 2)
       (books_row (entry_index entry + 1) (thing_index thing) (amount_in c.books entry thing))
-  -- an amount of 0: the row with its key is deleted
   drops_amount : amount_in c.books entry thing ≡ pos 0
       → OfAmount c entry thing (deletion books_table 2) (books_key (entry_index entry + 1) (thing_index thing))
 
@@ -31,20 +29,18 @@ pub data OfAmount (c : CampaignValue) (entry : BooksEntry) (thing : Thing) : Lis
 abbrev pub IsRowOf : CampaignValue → Part → Row → Type 0
 IsRowOf c part row = (own : Row) → rows_for own c part row
 
--- the key has as many columns as the part's keys have, and no row of the part has it
+-- the key has as many columns as the part's keys have, and no row of the part has it, whatever the campaign row is
 abbrev pub HasNoRow : CampaignValue → Part → Row → Type 0
 HasNoRow c part key = (length key ≡ key_width_of part) × ((own row : Row) → rows_for own c part row → take (key_width_of part) row ≢ key)
 
 -- the statements that put a row of the campaign, other than the campaign row, into the table of its part
 pub data OfRow (c : CampaignValue) : List ℕ → Row → Type 0 where
-  -- the row of the part is put
   puts_row : (part : Part) {row : Row} → IsRowOf c part row → OfRow c (upsert (table_of part) (key_width_of part)) row
 
 -- ---- the statements of each write
 
 -- the statements of a founding: they make the tables, and put the campaign row and the rows of the campaign
 pub data OfFounding (text : List ℕ) (c : CampaignValue) : List ℕ → Row → Type 0 where
-  -- a statement that makes the tables
   founds_tables : {sql : List ℕ} {params : Row} → Creations sql params → OfFounding text c sql params
   -- the campaign row is put, with the world text
   founds_head : OfFounding text c campaign_upsert (campaign_row_values (campaign_row_of c) text)
@@ -52,7 +48,8 @@ pub data OfFounding (text : List ℕ) (c : CampaignValue) : List ℕ → Row →
   founds_row : {sql : List ℕ} {params : Row} → OfRow c sql params → OfFounding text c sql params
 
 -- The statements of a change: put the campaign row or another row of the campaign, or delete rows.
--- Deleted is the row of a key that the campaign lacks, or all rows of a unit in `has` or of a region in `market`.
+-- Deleted is the row of a key that the campaign lacks, or all rows of a unit in the table `has` or of a region in
+-- `market`, whether marked or not.
 pub data OfChange (c : CampaignValue) : List ℕ → Row → Type 0 where
   -- the campaign row is put; a row that is there keeps its world text
   changes_head : OfChange c campaign_upsert (campaign_row_values (campaign_row_of c) [])
@@ -60,14 +57,13 @@ pub data OfChange (c : CampaignValue) : List ℕ → Row → Type 0 where
   changes_row : {sql : List ℕ} {params : Row} → OfRow c sql params → OfChange c sql params
   -- the row with this key is deleted from the part's table: the campaign has no row with the key (`HasNoRow`)
   drops_row : (part : Part) {key : Row} → HasNoRow c part key → OfChange c (deletion (table_of part) (key_width_of part)) key
-  -- all rows of one unit are deleted from `has`, or all rows of one region from `market`
+  -- all rows of one unit are deleted from the table `has`, or all rows of one region from `market`
   drops_group : (part : Part) {n : ℕ} → IsGroupedPart part → OfChange c (deletion (table_of part) 1) (int n ∷ [])
 
--- the statements of an upgrade: make the table `market`, and set the format and the world text of the campaign row
+-- the statements of an upgrade: make the table `market`, and set the second format and the new world text in the
+-- campaign row
 pub data OfUpgrade (text : List ℕ) (c : CampaignValue) : List ℕ → Row → Type 0 where
-  -- the table `market` is made
   upgrades_tables : OfUpgrade text c (creation_of Markets) []
-  -- the campaign row gets the second format and the new world text
   upgrades_head : OfUpgrade text c upgrading_upsert (campaign_row_values (campaign_row_of c) text)
 
 -- The statements of a join: put the campaign row, the faction, its unit, its report, and two amounts of the books.

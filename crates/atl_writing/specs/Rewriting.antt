@@ -1,4 +1,4 @@
--- For proofs and for private functions: what the steps of writing a campaign's changes do.
+-- For proofs and for private functions: what the steps of writing a campaign's changes do to the ten tables.
 -- `old` is the database before the step, and `new` after it. `line` makes the row of a number and its value; `values`
 -- are the campaign's values by number, and `marks` the marked numbers.
 use Rattle.std.specs.Prelude.{◌≡◌, ◌+◌, ◌*◌, ◌&&◌, ◌||◌, ℕ, Bool, false, List, [], ◌∷◌, is_some}
@@ -54,12 +54,9 @@ abbrev pub is_owner_and_listed : {V : Type 0} → (owner : ℕ) → FinMap nat_c
 is_owner_and_listed owner things n t = equals_number owner n && is_some (get things t)
 
 -- `finds` chooses rows by a test of two of their numbers: the test "`f` or `g`" chooses exactly the rows that `f` or
--- `g` chooses.
--- A test that is always false chooses no row.
+-- `g` chooses, and a test that is always false chooses no row.
 pub record FindsByNumbers (finds : (ℕ → ℕ → Bool) → Row → Bool) : Type 0 where
-  -- the test "`f` or `g`" finds a row exactly if `f` or `g` finds it
   pub either : (f g : ℕ → ℕ → Bool) (r : Row) → finds (λ n t. f n t || g n t) r ≡ (finds f r || finds g r)
-  -- the test that is always false finds no row
   pub none : (r : Row) → finds (λ n t. false) r ≡ false
 
 -- the row of the number `n` becomes that of the campaign, or is deleted if the campaign has no row of the number; all
@@ -73,13 +70,13 @@ abbrev pub RewritesMarked : {V : Type 0} → Table → (ℕ → V → Row) → F
     → Database → Database → Type 0
 RewritesMarked table line values marks old new = Rewrites table (begins_marked marks) (RowsOf line values) old new
 
--- in one table the rows of one unit or region, whose key begins with its number `n`, become those of the set `Wanted`;
--- all others stay
+-- in one table the rows of one unit or region, whose key begins with its number `n`, become those of the set `Wanted`
+-- that begin with it; all others stay
 abbrev pub RewritesGroup : Table → Set → ℕ → Database → Database → Type 0
 RewritesGroup table Wanted n old new = Rewrites table (first_column_passes (equals_number n)) Wanted old new
 
--- in one table the rows whose key begins with the number of a marked unit or region become those of the set `Wanted`;
--- all others stay
+-- in one table the rows whose key begins with the number of a marked unit or region become those of the set `Wanted`
+-- that begin so; all others stay
 abbrev pub RewritesGroups : Table → Set → FinSet nat_cmp → Database → Database → Type 0
 RewritesGroups table Wanted marks old new = Rewrites table (begins_marked marks) Wanted old new
 
@@ -92,8 +89,8 @@ RewritesChosenStocks c stocks old new = Rewrites market_table (region_and_item_p
 abbrev pub RewritesStocks : MarkedCampaign → Database → Database → Type 0
 RewritesStocks c old new = Rewrites market_table (stocks_marked c.marks) (MarketRowsOf c.value.regions) old new
 
--- the rows of `has` of this kind, and of the units and things that `things` chooses, become those of the campaign; all
--- other rows and tables stay
+-- the rows of the table `has` of this kind, and of the units and things that `things` chooses, become those of the
+-- campaign; all other rows and tables stay
 abbrev pub RewritesThings : CampaignValue → ThingKind → (ℕ → ℕ → Bool) → Database → Database → Type 0
 RewritesThings c sort things old new = Rewrites has_table (unit_and_thing_pass sort things) (HasRowsOf c.units) old new
 
@@ -102,7 +99,7 @@ abbrev pub marked_things : Marks → ThingKind → MarkedThings
 marked_things marks Item = marks.items
 marked_things marks Skill = marks.skills
 
--- all marked rows of `has` become those that the campaign has; all other rows and tables stay
+-- all marked rows of the table `has` become those that the campaign has; all other rows and tables stay
 abbrev pub RewritesGoods : MarkedCampaign → Database → Database → Type 0
 RewritesGoods c old new = Rewrites has_table (goods_marked c.marks) (HasRowsOf c.value.units) old new
 
@@ -116,7 +113,8 @@ RewritesAmounts c entries things old new =
 abbrev pub RewritesBooks : MarkedCampaign → Database → Database → Type 0
 RewritesBooks c old new = Rewrites books_table (amount_marked c.marks.books) (BooksRowsOf c.value.books) old new
 
--- If `campaign` held one row, this row then says what the campaign says if it is marked, else what it said before.
+-- If `campaign` held one row, of the second format, it then says what the campaign says if it is marked, else what it
+-- said before.
 -- The world text of the row stays, and every other table is as it was.
 abbrev pub RewritesCampaignRow : MarkedCampaign → Database → Database → Type 0
 RewritesCampaignRow c old new =
@@ -133,16 +131,17 @@ Becomes c own part before after =
     HasExactly after (rows_after_rewrite (is_marked c.marks part) (rows_for own c.value part) (Has before))
 
 -- The marked rows of the listed parts become those of the campaign; all other rows stay.
--- The campaign row isn't among the parts.
+-- This is said of any campaign row, `own`, so it is meant for lists without the part of that row.
 abbrev pub RewritesParts : MarkedCampaign → List Part → Database → Database → Type 0
 RewritesParts c parts old new = (own : Row) → Changes (Becomes c own) parts old new
 
--- the marked rows of one part, which isn't the campaign row, become those of the campaign; all other rows stay
+-- the marked rows of one part, meant to be other than the campaign row, become those of the campaign; all other rows
+-- stay
 abbrev pub RewritesPart : MarkedCampaign → Part → Database → Database → Type 0
 RewritesPart c part = RewritesParts c (part ∷ [])
 
--- If `campaign` held one row, the marked rows of the listed parts become those of the campaign; all other rows stay.
--- The campaign row is among the parts.
+-- If `campaign` held one row, of the second format, the marked rows of the listed parts become those of the campaign;
+-- all other rows stay. The campaign row may be among the parts.
 abbrev pub RewritesWithOwn : MarkedCampaign → List Part → Database → Database → Type 0
 RewritesWithOwn c parts old new =
     (before : CampaignRowValue) (text : List ℕ)

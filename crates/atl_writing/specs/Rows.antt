@@ -77,7 +77,7 @@ things_under Skill = days_under
 abbrev pub amount_under : FinMap nat_cmp Unit → ℕ → ThingKind → ℕ → ℕ
 amount_under units n sort thing = amount_of (things_under sort (get units n)) thing
 
--- the rows of `has`: one for each unit and each item or skill of it, if the amount is not 0
+-- the rows of the table `has`: one for each unit and each item or skill of it, if the amount is not 0
 abbrev pub HasRowsOf : FinMap nat_cmp Unit → Row → Type 0
 HasRowsOf units r =
     (n : ℕ) × (u : Unit) × (get units n ≡ Some u)
@@ -117,11 +117,9 @@ rows_for own c Markets = MarketRowsOf c.regions
 
 -- the ten tables have exactly the rows of the world text and the campaign
 pub record Holds (trees : Trees) (text : List ℕ) (c : CampaignValue) : Type 0 where
-  -- each part's table has exactly the part's rows
   pub rows : (part : Part) → HasExactly (rows_in (table_of part) trees) (rows_for (row_of_campaign text c) c part)
 
 -- the tables of a format have exactly the rows of the world text and the campaign
 pub record HoldsIn (f : Format) (trees : Trees) (text : List ℕ) (c : CampaignValue) : Type 0 where
-  -- the table of each part that the format has holds exactly the part's rows
   pub rows : (part : Part) → Has (parts_in f) part
       → HasExactly (rows_in (table_of part) trees) (rows_for (campaign_row_in f (campaign_row_of c) text) c part)

@@ -1,4 +1,4 @@
--- Which database is of the first format; for proofs and private functions, what the transaction of an upgrade does.
+-- Which database is of the first format; what the transaction of an upgrade does, and its first step.
 -- `old` is the database before this transaction, or before a step of it, and `new` after it.
 use Rattle.std.specs.Prelude.{◌≡◌, [], List, ℕ, map}
 use Rattle.sqlite.specs.Effect.{Database}
@@ -12,7 +12,7 @@ use Rattle.atl_writing.specs.Rows.{Holds, HoldsIn}
 use Rattle.atl_descriptions.specs.Sets.{AreKeyedByRowid}
 use Rattle.atl_descriptions.specs.Tables.{IsFirstFormatOnly, market_table, parts_in, table_of}
 
--- The database has exactly the tables of the first format, and its trees list and obey the schema.
+-- The database has exactly the tables and indexes of the first format, and its trees list and obey the schema.
 -- The rowids of each table are integers, no two alike.
 pub record IsFirstFormat (db : Database) : Type 0 where
   pub just : IsFirstFormatOnly db.schema

@@ -1,5 +1,6 @@
 //! Writes the campaign row: in a founding, a join, a change, and an upgrade; and tests the id and
-//! the format of one.
+//! the format of one. Each write is a step of a transaction: an error is one that the database
+//! gave.
 ghost use Rattle.std.specs.Prelude.{◌≡◌, pos, ◌↔◌, IsTrue};
 ghost use Rattle.atl_world.specs.Formats.{format_number};
 ghost use Rattle.atl_writing.specs.Rows.{campaign_row_of};
@@ -30,8 +31,8 @@ fn own_row(campaign: &Campaign) -> CampaignRow<'_>
     }
 }
 
-/// Inserts the campaign row with this world text, or changes the row that is there; its own world
-/// text stays.
+/// Without a campaign row, inserts it, in the second format, with this world text. A row of the
+/// second format that is there becomes the campaign's; its own world text stays.
 pub fn put_campaign_row<S: Alter>(
     tx: &mut Transaction<'_, S>,
     campaign: &Campaign,
@@ -48,7 +49,8 @@ pub fn put_campaign_row<S: Alter>(
     put_campaign(tx, &row, world)
 }
 
-/// Gives the campaign row the second format and this world text.
+/// Gives the campaign row the second format and this world text. It has to be the row of `campaign`
+/// in the first format.
 pub fn upgrade_campaign_row<S: Alter>(
     tx: &mut Transaction<'_, S>,
     campaign: &Campaign,
@@ -64,7 +66,8 @@ pub fn upgrade_campaign_row<S: Alter>(
     put_upgraded(tx, &row, world)
 }
 
-/// Puts the campaign row if it is marked; the world text that is in the table stays.
+/// Puts the campaign row if it is marked. One row, of the second format, has to be there; its world
+/// text stays.
 pub fn rewrite_campaign_row<S: Alter>(
     tx: &mut Transaction<'_, S>,
     campaign: &Campaign,

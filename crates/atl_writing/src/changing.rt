@@ -1,4 +1,4 @@
-//! Writes the rows of a campaign that are marked.
+//! Writes what is marked of a campaign.
 ghost use Rattle.std.specs.Prelude.{◌≡◌, ◌≤◌, false};
 ghost use Rattle.atl_records.specs.Limits.{most_things};
 ghost use Rattle.atl_writing.specs.Changing.{WritesChanges};
@@ -20,8 +20,11 @@ fn rewrite_parts<S: Alter>(tx: &mut Transaction<'_, S>, campaign: &Campaign) -> 
     OtherParts::rewrite(tx, campaign)
 }
 
-/// Writes the campaign row and the marked rows of a campaign in one transaction. Where the database
-/// gives an error, the transaction is undone, and the error is the answer.
+/// Makes the rows with marked keys those of the campaign, in one transaction; a row that it lacks
+/// is deleted. All other rows, and the world text, stay. `conn` has to be in no transaction, with
+/// the ten tables and one row in the table `campaign`, of the second format. The books may have no
+/// more things than a world can have. After an error the tables are as at the last commit, if the
+/// connection is still open. All this is promised on a clean disk (docs/PROVED.md, "Premises").
 pub fn write_marked<S: Alter>(conn: &mut Connection<S>, campaign: &Campaign) -> Result<(), Error>
     requires idle { conn.old.in_transaction ≡ false }
     requires things { campaign.now.value.books.things ≤ most_things }

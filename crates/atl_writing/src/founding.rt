@@ -27,8 +27,11 @@ fn put_founding<S: Alter>(
     OtherParts::fill(tx, campaign)
 }
 
-/// Makes the tables and writes all rows of a campaign, with its world text, in one transaction.
-/// Where the database gives an error, the transaction is undone, and the error is the answer.
+/// Makes the ten tables and writes all rows of a campaign, with the world text `text`, in one
+/// transaction. `conn` has to be in no transaction, and its database without table, index and view.
+/// The books may have no more things than a world can have. After an error the tables are as at the
+/// last commit, if the connection is still open. All this is promised on a clean disk
+/// (docs/PROVED.md, "Premises").
 pub fn write_founding<S: Alter>(
     conn: &mut Connection<S>,
     text: &str,

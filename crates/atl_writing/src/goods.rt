@@ -1,4 +1,5 @@
-//! Writes what units have, one row for each item and each skill of a unit.
+//! Writes what units have into the table `has`: a row for each item and each skill of a unit whose
+//! amount is not 0.
 ghost use Rattle.std.specs.Prelude.{refl};
 ghost use Rattle.atl_descriptions.specs.Tables.{Goods, has_table};
 ghost use Rattle.atl_sql.specs.Shown.{has_row};
@@ -20,7 +21,8 @@ use atl_sql::rows::put;
 use atl_world::MarkedNumbers;
 use sqlite::{Alter, Error, Transaction, params};
 
-/// Inserts the row of an item or a skill of a unit into `has`, or changes the row that is there.
+/// Inserts the row of an item or a skill of a unit, also of an amount of 0, or changes the row with
+/// the same key.
 pub fn put_thing<S: Alter>(
     tx: &mut Transaction<'_, S>,
     unit: u32,
@@ -79,7 +81,7 @@ fn put_goods<S: Alter>(
     put_amounts(tx, skills, holding.days())
 }
 
-/// Puts the rows of the items and skills of these units, one unit after another.
+/// Puts the rows of all items and skills of these units that are not 0, one unit after another.
 pub fn put_all_goods<S: Alter>(
     tx: &mut Transaction<'_, S>,
     units: SlotEntries<'_, Unit>,
@@ -124,8 +126,8 @@ impl Grouped for Unit {
     }
 }
 
-/// Writes the marked rows of `has`: first those of units whose goods are all marked, then those of
-/// items, and then of skills, that are marked one by one.
+/// Puts or deletes the marked rows of `has`: first those of units whose goods are all marked, then
+/// those of items, and then of skills, that are marked one by one.
 pub fn rewrite_goods<S: Alter>(
     tx: &mut Transaction<'_, S>,
     campaign: &Campaign,

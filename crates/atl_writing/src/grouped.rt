@@ -85,7 +85,8 @@ fn rewrite_group<V: Grouped + Drop, S: Alter>(
 }
 
 /// Rewrites the rows of all marked numbers: deletes those whose key begins with such a number, and
-/// puts those of the units or regions that have such numbers.
+/// puts those of the units or regions that have such numbers. `lines` has to make exactly the rows
+/// that are wanted (`AreGroups`).
 pub fn rewrite_marked_groups<V: Grouped + Drop, S: Alter>(
     tx: &mut Transaction<'_, S>,
     campaign: &Campaign,

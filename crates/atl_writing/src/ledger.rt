@@ -48,7 +48,8 @@ fn put_amount<S: Alter>(
     put_booked(tx, entry.number(), thing.number(), amount)
 }
 
-/// Puts the row of an amount of the books, or deletes the row if the amount is 0.
+/// Puts the row of an amount of the books, or deletes the row if the amount is 0, as a step of a
+/// transaction. The thing has to be one of the books'. An error is one that the database gave.
 pub fn write_amount<S: Alter>(
     tx: &mut Transaction<'_, S>,
     campaign: &Campaign,
@@ -83,7 +84,8 @@ fn put_entries<S: Alter>(
     Ok(())
 }
 
-/// Puts the rows of all amounts of the books that are not 0.
+/// Puts the rows of all amounts of the books that are not 0, one thing after another. The books
+/// list only such amounts, and only of their own things (`AreBooks`).
 pub fn put_all_books<S: Alter>(
     tx: &mut Transaction<'_, S>,
     campaign: &Campaign,

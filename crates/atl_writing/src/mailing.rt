@@ -8,8 +8,10 @@ ghost use Rattle.atl_writing.specs.Arriving.{WritesMail};
 use crate::numbered_rows::put_mail;
 use sqlite::{Alter, Connection, Error};
 
-/// Puts a faction's mailing into `mail`, in place of the faction's row there, in one transaction.
-/// Where the database gives an error, the transaction is undone, and the error is the answer.
+/// Puts a faction's mailing into the table `mail`, in place of the faction's row, if there is one,
+/// in one transaction. `conn` has to be in no transaction, and to have the ten tables. After an
+/// error the tables are as at the last commit, if the connection is still open. All this is
+/// promised on a clean disk (docs/PROVED.md, "Premises").
 pub fn write_mailing<S: Alter>(
     conn: &mut Connection<S>,
     faction: u32,

@@ -146,8 +146,8 @@ impl SingleAmounts for SingleStocks {
     }
 }
 
-/// Writes the marked rows of `market`: first those of regions whose stocks are all marked, then
-/// those of stocks that are marked one by one.
+/// Puts or deletes the marked rows of `market`: first those of regions whose stocks are all marked,
+/// then those of stocks that are marked one by one.
 pub fn rewrite_stocks<S: Alter>(
     tx: &mut Transaction<'_, S>,
     campaign: &Campaign,

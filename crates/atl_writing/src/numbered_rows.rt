@@ -28,7 +28,8 @@ pub use mail::put_mail;
 use sqlite::{Alter, Error, Transaction};
 
 /// A type, such as `Faction`, each of whose values has a number and one row in a table, with the
-/// number as its key.
+/// number as its key. `put` and `take_out` are steps of a transaction: an error is one that the
+/// database gave.
 pub trait NumberedRow: Sized {
     // The part of a campaign that has a row for each value of the type.
     ghost part: { Part };
@@ -45,7 +46,7 @@ pub trait NumberedRow: Sized {
     // The values of the type that a campaign has, by number.
     ghost values: { CampaignValue → FinMap nat_cmp Self };
 
-    // The numbers of the values that the marks of a campaign mark.
+    // The numbers whose rows the marks of a campaign mark.
     ghost marks: { Marks → FinSet nat_cmp };
 
     // The rows of the part are those of all values of the type that the campaign has.
@@ -59,7 +60,8 @@ pub trait NumberedRow: Sized {
     fn find_value(campaign: &Campaign, number: u32) -> Option<&Self>
         ensures { option_copied result ≡ get (values campaign.now.value) number };
 
-    /// The numbers of the values whose rows are marked in a campaign, in rising order.
+    /// The numbers whose rows are marked in a campaign, also where no value has the number any
+    /// more, in rising order.
     fn marked_numbers(campaign: &Campaign) -> MarkedNumbers<'_>
         ensures { IsAscendingListOf (marks campaign.now.marks) result };
 

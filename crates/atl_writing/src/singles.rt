@@ -24,7 +24,7 @@ pub trait SingleAmounts: Copy {
     // The set of rows that the table has to have for a campaign.
     ghost wanted: { CampaignValue → SqlRow → Type 0 };
 
-    // Whether a test of owner and thing holds of those of a row.
+    // Whether a row is of this kind, and the test holds of its owner and its thing.
     ghost finds: { Self → (ℕ → ℕ → Bool) → SqlRow → Bool };
 
     // The single amounts that are marked, by the numbers of owner and thing.
@@ -34,7 +34,8 @@ pub trait SingleAmounts: Copy {
     fn marked_singles(self, campaign: &Campaign) -> Entries<'_, Numbered<()>>
         ensures { result ≡ entries (marks self campaign.now.marks) };
 
-    /// Puts the row of an amount of the campaign, or deletes the row if the amount is 0.
+    /// Puts the row of the amount that the campaign has of the thing `number` of this owner, or
+    /// deletes the row if the amount is 0.
     fn rewrite_single<S: Alter>(
         self,
         tx: &mut Transaction<'_, S>,
@@ -67,6 +68,7 @@ fn rewrite_amounts_of_owner<A: SingleAmounts, S: Alter>(
 }
 
 /// Puts the rows of the marked single amounts of a kind, and deletes the rows of those that are 0.
+/// `finds` has to choose rows by the numbers of owner and thing (`FindsByNumbers`).
 pub fn rewrite_singles<A: SingleAmounts, S: Alter>(
     tx: &mut Transaction<'_, S>,
     campaign: &Campaign,

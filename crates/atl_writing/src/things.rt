@@ -1,4 +1,4 @@
-//! Writes the single items and skills of units that are marked, row by row.
+//! Writes the single items and skills of units that are marked, row by row, into the table `has`.
 ghost use Rattle.std.specs.Prelude.{◌≡◌};
 ghost use Rattle.atl_writing.specs.Rows.{HasRowsOf, amount_under};
 ghost use Rattle.atl_writing.specs.OwnStatements.{OfChange};

@@ -1,4 +1,4 @@
-//! Writes what an upgrade changes: the table of markets, and the campaign row.
+//! Writes what an upgrade changes: the table `market`, and the campaign row.
 ghost use Rattle.std.specs.Prelude.{◌≡◌, false};
 ghost use Rattle.atl_sql.specs.Inside.{DoesInside};
 ghost use Rattle.atl_writing.specs.OwnStatements.{OfUpgrade};
@@ -23,9 +23,11 @@ fn put_upgrade<S: Alter>(
     upgrade_campaign_row(tx, campaign, text)
 }
 
-/// Makes the table of markets and gives the campaign row the second format and a world text, in one
-/// transaction. Where the database gives an error, the transaction is undone, and the error is the
-/// answer. See docs/FORMATS.md, "Upgrading a file".
+/// Makes the table `market`, and gives the campaign row the second format and the world text
+/// `text`, in one transaction. `conn` has to be in no transaction, its database of the first format
+/// (`IsFirstFormat`), and `campaign` what its tables hold, without stocks. After an error the
+/// tables are as at the last commit, if the connection is still open. All this is promised on a
+/// clean disk (docs/PROVED.md, "Premises"). See docs/FORMATS.md, "Upgrading a file".
 pub fn write_upgrade<S: Alter>(
     conn: &mut Connection<S>,
     text: &str,

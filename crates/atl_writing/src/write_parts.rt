@@ -48,7 +48,8 @@ pub struct UnitRows;
 /// The items and skills of all units, as a part to write.
 pub struct UnitGoods;
 
-/// One or more parts of a campaign that are written together, each into its table.
+/// One or more parts of a campaign that are written together, each into its table. The books may
+/// have no more things than a world can have.
 pub trait WrittenPart {
     // The parts that are written, in their order.
     ghost parts: { List Part };

@@ -10,10 +10,9 @@ use atl_sql::schema::has_tables_of;
 use atl_world::Format;
 use sqlite::{Alter, Connection};
 
-/// Tests that the schema begins with the tables of the format and that the connection is open; the
-/// fault is Store if not, or Memory if memory runs out. A disk that failed while a read was rolled
-/// back has shut the connection, which only the next statement shows. That statement reads the
-/// books: a short table, since the world's items bound its length.
+/// A disk that failed while a read was rolled back has shut the connection, which only the next
+/// statement shows. That statement reads the books: a short table, since the world's items bound
+/// its length.
 pub(crate) fn confirm<S: Alter>(conn: &mut Connection<S>, format: Format) -> Result<(), LoadFault>
     requires idle { conn.old.in_transaction ≡ false }
     requires settled { IsCommitted (state S.Store conn.old) }

@@ -170,8 +170,6 @@ fn check_apart(are_apart: bool) -> Result<(), LoadFault>
     }
 }
 
-/// The rows of a table without their rowids; the fault Store if two of them have the same rowid, or
-/// Memory if memory runs out.
 pub(crate) fn rows_after_check<T: Drop>(
     alloc: Global,
     placed: Vec<RowWithId<T>>,

@@ -15,7 +15,7 @@ use atl_world::{Format, Sequence};
 use sqlite::{Alter, Connection};
 use std::alloc::Global;
 
-/// The rows of `faction`, `region`, `unit` and `has`.
+/// The rows of the tables `faction`, `region`, `unit` and `has`.
 type RowsToGoods = (
     Vec<StoredFaction>,
     (
@@ -42,7 +42,6 @@ type SecondFormatRows = Vec<RowWithId<StoredMarket>>;
 /// The rows of all tables but `campaign`, in the order in which the tables are made.
 pub(crate) type OtherRows = (FirstFormatRows, SecondFormatRows);
 
-/// Reads all tables of the format but `campaign`; None if a value is not of its column's type.
 pub(crate) fn read_others<S: Alter>(
     alloc: Global,
     conn: &mut Connection<S>,
@@ -58,7 +57,7 @@ pub(crate) fn read_others<S: Alter>(
 }
 
 /// Puts the campaign row and the rows read of all other tables together. The fault is Store if two
-/// rows of `has`, `books` or `market` have the same rowid, or Memory if memory runs out.
+/// rows of the table `has`, `books` or `market` have the same rowid, or Memory if memory runs out.
 pub(crate) fn parts_with(
     alloc: Global,
     head: StoredCampaignRow,

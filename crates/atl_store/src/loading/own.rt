@@ -127,8 +127,7 @@ fn judge_format(
     judge_rows(alloc, rows, format)
 }
 
-/// Reads the campaign row and its world, or gives the fault of the SELECT or of the row. Whether
-/// the row is of the other format is tested before the types of its values.
+/// Whether the row is of the other format is tested before the types of its values.
 pub(crate) fn read_own<S: Alter>(
     alloc: Global,
     conn: &mut Connection<S>,

@@ -54,7 +54,6 @@ impl NumberedRow for Faction {
     }
 }
 
-/// Lets a campaign's factions be listed by number.
 impl Mapped for Faction {
     fn all(campaign: &Campaign) -> Entries<'_, Faction> {
         campaign.factions()

@@ -58,7 +58,6 @@ impl NumberedRow for Sequence<u8> {
     }
 }
 
-/// Lets a campaign's mailings be listed by the numbers of their factions.
 impl Mapped for Sequence<u8> {
     fn all(campaign: &Campaign) -> Entries<'_, Sequence<u8>> {
         campaign.mail()

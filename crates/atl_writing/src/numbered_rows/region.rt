@@ -45,7 +45,6 @@ impl NumberedRow for Region {
     }
 }
 
-/// Lets a campaign's regions be listed by number.
 impl Mapped for Region {
     fn all(campaign: &Campaign) -> Entries<'_, Region> {
         campaign.regions()

@@ -45,7 +45,6 @@ impl NumberedRow for Text {
     }
 }
 
-/// Lets a campaign's reports be listed by the numbers of their factions.
 impl Mapped for Text {
     fn all(campaign: &Campaign) -> Entries<'_, Text> {
         campaign.reports()

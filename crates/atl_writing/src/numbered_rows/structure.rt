@@ -55,7 +55,6 @@ impl NumberedRow for Structure {
     }
 }
 
-/// Lets a campaign's structures be listed by number.
 impl Mapped for Structure {
     fn all(campaign: &Campaign) -> Entries<'_, Structure> {
         campaign.structures()

@@ -11,7 +11,7 @@ use atl_world::MarkedNumbers;
 use sqlite::{Alter, Error, Transaction, params};
 
 /// Its row has its number, faction, name, place, men, money and guard flag; its items and days of
-/// study are rows of `has`.
+/// study are rows of the table `has`.
 impl NumberedRow for Unit {
     ghost part = { Units };
 
