@@ -9,7 +9,7 @@ use std::marker::Model;
 /// remove an element moves those on its nearer side, and now and then, to make room or give it up,
 /// all.
 #[derive(Drop)]
-pub struct GapVec<T> {
+pub(crate) struct GapVec<T> {
     items: Vec<T>,
     free: usize,
 }

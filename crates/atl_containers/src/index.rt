@@ -14,7 +14,7 @@ use std::slice::Iter;
 
 /// An entry of an index: a number, and the slot of the arena where its value is.
 #[derive(Drop, Clone, Copy)]
-pub struct IndexEntry {
+pub(crate) struct IndexEntry {
     pub number: u32,
     pub slot: usize,
 }

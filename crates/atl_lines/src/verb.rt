@@ -23,7 +23,7 @@ fn listed_verb(word: Word) -> Option<Verb>
 
 /// The verb whose keyword a word is, in any case, and ENTER for BOARD; `None` for other words.
 /// FORM is left out, since it has lines of its own.
-pub fn verb_of_word(word: Word) -> Option<Verb>
+pub(crate) fn verb_of_word(word: Word) -> Option<Verb>
     ensures { result ≡ verb_of (word_text word.entry) }
 {
     if word.bytes.eq_ignore_ascii_case(b"BOARD") {

@@ -130,7 +130,7 @@ fn pass_of<'a>(route: Route, bytes: &'a [u8], fields: &[HeaderSpan]) -> Result<&
 
 /// A head that passed the first four checks: its route, the length of its body, its pass text.
 #[derive(Drop, Clone, Copy)]
-pub struct ParsedHead<'a> {
+pub(crate) struct ParsedHead<'a> {
     pub route: Route,
     pub size: usize,
     pub pass: &'a [u8],

@@ -9,7 +9,7 @@ use httparse::spans::{HeaderSpan, Span};
 
 /// The result of a lookup by name: no field, one field with the span of its value, or several.
 #[derive(Drop, Clone, Copy)]
-pub enum FieldLookup {
+pub(crate) enum FieldLookup {
     Nowhere,
     Once(Span),
     Several,
@@ -48,7 +48,11 @@ pub fn find_value(bytes: &[u8], fields: &[HeaderSpan], name: &[u8]) -> FieldLook
 
 /// The value of the field of this name, if exactly one field has the name, ignoring ASCII case;
 /// else None. The fields are given as spans that lie within `bytes`.
-pub fn only_value<'a>(bytes: &'a [u8], fields: &[HeaderSpan], name: &[u8]) -> Option<&'a [u8]>
+pub(crate) fn only_value<'a>(
+    bytes: &'a [u8],
+    fields: &[HeaderSpan],
+    name: &[u8],
+) -> Option<&'a [u8]>
     requires { All (IsHeaderWithin (length bytes.now)) fields.now }
     ensures { option_map (λ value. value.now) result
         ≡ single_value (values_of name.now (field_pairs bytes.now fields.now)) }

@@ -61,7 +61,7 @@ fn front_of(seen: &[u8]) -> &[u8]
 
 /// The result of parsing the first bytes as a head: whole, unfinished or refused.
 #[derive(Drop, Clone, Copy)]
-pub enum HeadParse {
+pub(crate) enum HeadParse {
     Whole(RequestSpans),
     /// The head isn't whole, and may become so.
     Partial,

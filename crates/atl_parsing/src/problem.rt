@@ -71,7 +71,7 @@ impl Error for Problem {}
 
 /// Why checking a request ended: out of memory, or a check failed.
 #[derive(Drop, Clone, Copy)]
-pub enum CheckError {
+pub(crate) enum CheckError {
     Memory,
     /// The request fails a check, with this problem.
     Failed(Problem),

@@ -28,7 +28,7 @@ pub enum Route {
 
 /// A route without its number, as the router stores it.
 #[derive(Drop, Clone, Copy)]
-pub enum RouteKey {
+pub(crate) enum RouteKey {
     Join,
     Orders,
     Close,
@@ -134,7 +134,7 @@ fn route_by(router: &Router<RouteKey>, path: &str) -> Option<Route>
 
 /// The route of a path; None if it has none, as each path that isn't UTF-8. AllocError without
 /// memory for the routes.
-pub fn route_of(alloc: Global, path: &[u8]) -> Result<Option<Route>, AllocError>
+pub(crate) fn route_of(alloc: Global, path: &[u8]) -> Result<Option<Route>, AllocError>
     ensures { IfOk result (λ route. route ≡ route_of path.now) }
 {
     let Ok(path) = str::from_utf8(path) else {

@@ -24,7 +24,7 @@ pub fn is_watching(unit: &Unit, faction: u32) -> bool
 }
 
 /// Whether a unit guards: it has the guard flag set, and men.
-pub fn is_guard(unit: &Unit) -> bool
+pub(crate) fn is_guard(unit: &Unit) -> bool
     ensures { result ≡ guards unit.now }
 {
     unit.holding.guard() && unit.holding.men() > 0

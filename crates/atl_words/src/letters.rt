@@ -4,10 +4,10 @@
 pub const TAB: u8 = b'\t';
 
 /// The line feed, at which a line ends.
-pub const LINE_FEED: u8 = b'\n';
+pub(crate) const LINE_FEED: u8 = b'\n';
 
 /// The carriage return, of which one is dropped at a line's end.
-pub const CARRIAGE_RETURN: u8 = b'\r';
+pub(crate) const CARRIAGE_RETURN: u8 = b'\r';
 
 /// The semicolon, with which a comment begins.
-pub const SEMICOLON: u8 = b';';
+pub(crate) const SEMICOLON: u8 = b';';

@@ -10,7 +10,7 @@ use sqlite::{Alter, Error, Transaction};
 
 /// An owner, a unit or a region, whose amounts of things are written as rows of one table. Each
 /// amount that is not 0 has a row.
-pub trait AmountWriter: Copy {
+pub(crate) trait AmountWriter: Copy {
     // The table that has the amounts' rows.
     ghost table: { Table };
 
@@ -47,7 +47,7 @@ fn put_nonzero<O: AmountWriter, S: Alter>(
 }
 
 /// Puts the rows of all amounts of an owner that are not 0.
-pub fn put_amounts<O: AmountWriter, S: Alter>(
+pub(crate) fn put_amounts<O: AmountWriter, S: Alter>(
     tx: &mut Transaction<'_, S>,
     owner: O,
     amounts: Entries<'_, u32>,

@@ -51,7 +51,7 @@ pub fn put_campaign_row<S: Alter>(
 
 /// Gives the campaign row the second format and this world text. It has to be the row of `campaign`
 /// in the first format.
-pub fn upgrade_campaign_row<S: Alter>(
+pub(crate) fn upgrade_campaign_row<S: Alter>(
     tx: &mut Transaction<'_, S>,
     campaign: &Campaign,
     world: &str,
@@ -68,7 +68,7 @@ pub fn upgrade_campaign_row<S: Alter>(
 
 /// Puts the campaign row if it is marked. One row, of the second format, has to be there; its world
 /// text stays.
-pub fn rewrite_campaign_row<S: Alter>(
+pub(crate) fn rewrite_campaign_row<S: Alter>(
     tx: &mut Transaction<'_, S>,
     campaign: &Campaign,
 ) -> Result<(), Error>

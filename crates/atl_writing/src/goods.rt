@@ -82,7 +82,7 @@ fn put_goods<S: Alter>(
 }
 
 /// Puts the rows of all items and skills of these units that are not 0, one unit after another.
-pub fn put_all_goods<S: Alter>(
+pub(crate) fn put_all_goods<S: Alter>(
     tx: &mut Transaction<'_, S>,
     units: SlotEntries<'_, Unit>,
 ) -> Result<(), Error>
@@ -128,7 +128,7 @@ impl Grouped for Unit {
 
 /// Puts or deletes the marked rows of `has`: first those of units whose goods are all marked, then
 /// those of items, and then of skills, that are marked one by one.
-pub fn rewrite_goods<S: Alter>(
+pub(crate) fn rewrite_goods<S: Alter>(
     tx: &mut Transaction<'_, S>,
     campaign: &Campaign,
 ) -> Result<(), Error>

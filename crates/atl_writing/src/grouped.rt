@@ -22,7 +22,7 @@ use sqlite::{Alter, Error, Transaction};
 
 /// A unit or a region: it has its own row and, in another table, rows whose key begins with its
 /// number, for its items and skills, or for its stocks.
-pub trait Grouped: NumberedRow {
+pub(crate) trait Grouped: NumberedRow {
     // The part whose table has the rows.
     ghost part: { Part };
 
@@ -87,7 +87,7 @@ fn rewrite_group<V: Grouped + Drop, S: Alter>(
 /// Rewrites the rows of all marked numbers: deletes those whose key begins with such a number, and
 /// puts those of the units or regions that have such numbers. `lines` has to make exactly the rows
 /// that are wanted (`AreGroups`).
-pub fn rewrite_marked_groups<V: Grouped + Drop, S: Alter>(
+pub(crate) fn rewrite_marked_groups<V: Grouped + Drop, S: Alter>(
     tx: &mut Transaction<'_, S>,
     campaign: &Campaign,
 ) -> Result<(), Error>

@@ -86,7 +86,7 @@ fn put_entries<S: Alter>(
 
 /// Puts the rows of all amounts of the books that are not 0, one thing after another. The books
 /// list only such amounts, and only of their own things (`AreBooks`).
-pub fn put_all_books<S: Alter>(
+pub(crate) fn put_all_books<S: Alter>(
     tx: &mut Transaction<'_, S>,
     campaign: &Campaign,
 ) -> Result<(), Error>
@@ -138,7 +138,7 @@ fn rewrite_entries<S: Alter>(
 }
 
 /// Puts the rows of all marked amounts of the books, and deletes the rows of those that are 0.
-pub fn rewrite_books<S: Alter>(
+pub(crate) fn rewrite_books<S: Alter>(
     tx: &mut Transaction<'_, S>,
     campaign: &Campaign,
 ) -> Result<(), Error>

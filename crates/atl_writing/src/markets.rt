@@ -69,7 +69,7 @@ fn put_stocks<S: Alter>(
 }
 
 /// Puts the rows of all stocks of these regions that are not 0, one region after another.
-pub fn put_all_stocks<S: Alter>(
+pub(crate) fn put_all_stocks<S: Alter>(
     tx: &mut Transaction<'_, S>,
     regions: Entries<'_, Region>,
 ) -> Result<(), Error>
@@ -148,7 +148,7 @@ impl SingleAmounts for SingleStocks {
 
 /// Puts or deletes the marked rows of `market`: first those of regions whose stocks are all marked,
 /// then those of stocks that are marked one by one.
-pub fn rewrite_stocks<S: Alter>(
+pub(crate) fn rewrite_stocks<S: Alter>(
     tx: &mut Transaction<'_, S>,
     campaign: &Campaign,
 ) -> Result<(), Error>

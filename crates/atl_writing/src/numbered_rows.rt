@@ -77,7 +77,7 @@ pub trait NumberedRow: Sized {
 }
 
 /// A type with numbered rows (`NumberedRow`) whose values a campaign holds in a map, by number.
-pub trait Mapped: NumberedRow {
+pub(crate) trait Mapped: NumberedRow {
     /// All values of the type that a campaign has, in rising order of their numbers.
     fn all(campaign: &Campaign) -> Entries<'_, Self>
         ensures { result ≡ entries (Self.values campaign.now.value) };
@@ -99,7 +99,7 @@ pub fn put_each<V: NumberedRow + Drop, S: Alter>(
 }
 
 /// Inserts the row of each of these units into `unit`, or changes the row that has its number.
-pub fn put_units<S: Alter>(
+pub(crate) fn put_units<S: Alter>(
     tx: &mut Transaction<'_, S>,
     units: SlotEntries<'_, Unit>,
 ) -> Result<(), Error>

@@ -27,7 +27,7 @@ fn rewrite<V: NumberedRow + Drop, S: Alter>(
 
 /// For each marked number puts the row of the value that the campaign has under it, or deletes the
 /// number's row if there is none.
-pub fn rewrite_marked<V: NumberedRow + Drop, S: Alter>(
+pub(crate) fn rewrite_marked<V: NumberedRow + Drop, S: Alter>(
     tx: &mut Transaction<'_, S>,
     campaign: &Campaign,
 ) -> Result<(), Error>

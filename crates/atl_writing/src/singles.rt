@@ -17,7 +17,7 @@ use sqlite::{Alter, Error, Transaction};
 
 /// Amounts of one kind, each under the numbers of an owner and a thing, such as a unit's items or a
 /// region's stocks. Each amount has a row if it is not 0, and can be marked by itself.
-pub trait SingleAmounts: Copy {
+pub(crate) trait SingleAmounts: Copy {
     // The table that has the amounts' rows.
     ghost table: { Table };
 
@@ -69,7 +69,7 @@ fn rewrite_amounts_of_owner<A: SingleAmounts, S: Alter>(
 
 /// Puts the rows of the marked single amounts of a kind, and deletes the rows of those that are 0.
 /// `finds` has to choose rows by the numbers of owner and thing (`FindsByNumbers`).
-pub fn rewrite_singles<A: SingleAmounts, S: Alter>(
+pub(crate) fn rewrite_singles<A: SingleAmounts, S: Alter>(
     tx: &mut Transaction<'_, S>,
     campaign: &Campaign,
     amounts: A,

@@ -19,7 +19,7 @@ use sqlite::{Alter, Error, Transaction};
 
 /// All parts of a campaign but the campaign row, in the order in which they are written:
 /// factions, reports, regions, structures, books, stocks, units, what these have, and mail.
-pub type OtherParts = (
+pub(crate) type OtherParts = (
     Numbered<Faction>,
     (
         Numbered<Text>,
@@ -37,20 +37,20 @@ pub type OtherParts = (
 );
 
 /// The books, as a part to write.
-pub struct Ledger;
+pub(crate) struct Ledger;
 
 /// The stocks of all markets, as a part to write.
 pub struct Stocks;
 
 /// The units themselves, which the campaign holds in slots, as a part to write.
-pub struct UnitRows;
+pub(crate) struct UnitRows;
 
 /// The items and skills of all units, as a part to write.
-pub struct UnitGoods;
+pub(crate) struct UnitGoods;
 
 /// One or more parts of a campaign that are written together, each into its table. The books may
 /// have no more things than a world can have.
-pub trait WrittenPart {
+pub(crate) trait WrittenPart {
     // The parts that are written, in their order.
     ghost parts: { List Part };
 

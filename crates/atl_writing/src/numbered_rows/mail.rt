@@ -12,7 +12,7 @@ use atl_world::{Entries, MarkedNumbers, Sequence};
 use sqlite::{Alter, Error, Transaction, params};
 
 /// Inserts the row of a faction's mailing into `mail`, or replaces the text of the faction's row.
-pub fn put_mail<S: Alter>(
+pub(crate) fn put_mail<S: Alter>(
     tx: &mut Transaction<'_, S>,
     faction: u32,
     text: &[u8],
