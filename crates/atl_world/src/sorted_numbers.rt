@@ -147,7 +147,6 @@ impl SortedNumbers {
     }
 }
 
-/// Ok is the index of the number, Err the index where it belongs.
 fn index_of(numbers: &[u32], number: u32) -> Result<usize, usize>
     requires { IsStrictlySortedBy nat_cmp numbers.now }
     ensures found { IfOk result (λ index. IsAt numbers.now number index) }
