@@ -112,7 +112,6 @@ pub(crate) fn keys_name_items(
     Ok(())
 }
 
-/// The amount of the first entry that names the item, 0 if none does.
 #[tactic(auto, unfolding(crate::specs::OutputTable::amount_of))]
 fn amount_of(outputs: &[Output], item: &Text) -> u32
     requires { All IsOutput outputs.now }
