@@ -143,7 +143,6 @@ fn is_above(entries: &[IndexEntry], number: u32) -> bool
     }
 }
 
-/// Ok is the index of the number's entry, Err the index where such an entry belongs.
 fn position_of(entries: &[IndexEntry], number: u32) -> Result<usize, usize>
     requires { IsStrictlySortedBy nat_cmp (index_numbers entries.now) }
     ensures found { IfOk result (λ position. IsAt (index_numbers entries.now) number position) }
