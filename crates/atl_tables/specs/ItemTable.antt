@@ -13,7 +13,8 @@ use Rattle.atl_tables.specs.declared.item_table.Recipe.{Recipe}
 use Rattle.atl_tables.specs.declared.world_draft.WorldDraft.{WorldDraft}
 use Rattle.atl_world.specs.declared.world.Item.{Item}
 
--- reads the keys of a table `[[item]]` for what making an item takes: skill, level, raw item and its count
+-- reads the keys of a table `[[item]]` for what making an item takes: skill, level, raw item and its count. Each may be
+-- missing; level and count are 1 then.
 unfoldable pub making_at : TableReader Recipe
 making_at = do
   skill ← optional_text_key (codes "skill")

@@ -23,7 +23,8 @@ building_needs_at = do
   level ← number_key 1 last_level (codes "level")
   value_only (record { material = material; size = size; skill = skill; level = level })
 
--- reads the keys of a table `[[kind]]` for what a structure is good for: capacity, crew and the skill that it helps
+-- reads the keys of a table `[[kind]]` for what a structure is good for: capacity, crew and the skill that it helps.
+-- Each may be missing; capacity and crew are 0 then.
 unfoldable pub purpose_at : TableReader Purpose
 purpose_at = do
   capacity ← number_or_key 0 0 most_amount (codes "capacity")

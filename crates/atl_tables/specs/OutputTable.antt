@@ -1,5 +1,6 @@
 -- The table `output` of a terrain: each key is the name of an item, with the amount that a region gives in a month.
 -- See docs/FORMATS.md, "The world file". A key with a fault gives a default value (`value_or`).
+-- `all` has all tables of the file as read, or all entries of the output, and o is the i-th entry.
 use Rattle.std.specs.Prelude.{ℕ, List, [], ◌∷◌, map, codes, take, if◌then◌else◌, Some, None, Result}
 use Rattle.std.specs.List.{find, list_any}
 use Rattle.std.specs.Option.{option_map_or}

@@ -93,7 +93,8 @@ keys_conditions format doc =
     ++ (optional_conditions doc
     ++ regions_conditions format doc))
 
--- the conditions that no two terrains, items, skills or kinds have the same name, ignoring ASCII case
+-- the conditions that no two terrains, no two items, no two skills and no two kinds have the same name, ignoring ASCII
+-- case
 unfoldable pub titles_differ : WorldDraft → Conditions
 titles_differ all =
     no_duplicates (λ d. d.name) (codes "terrain") (codes "name") all.terrains
