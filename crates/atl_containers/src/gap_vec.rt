@@ -53,7 +53,7 @@ fn put_before<T: Copy + Drop>(items: &mut Vec<T>, free: usize, position: usize, 
     items[first + position] = thing;
 }
 
-/// `position` is an index of the list. Returns how many elements are unused after it.
+/// `position` is at most the list's length. Returns how many elements are unused after it.
 fn insert_at<T: Copy + Drop>(
     items: &mut Vec<T>,
     free: usize,

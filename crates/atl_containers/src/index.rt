@@ -132,7 +132,7 @@ fn guess_position(entries: &[IndexEntry], number: u32) -> Option<usize>
     }
 }
 
-/// Whether a number is above those of all entries; true without entries.
+/// True without entries.
 fn is_above(entries: &[IndexEntry], number: u32) -> bool
     requires { IsStrictlySortedBy nat_cmp (index_numbers entries.now) }
     ensures { result ≡ true → BelongsAt (index_numbers entries.now) number (length entries.now) }
