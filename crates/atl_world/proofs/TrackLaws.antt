@@ -27,7 +27,7 @@ holds_of_key_test n q P here other =
     [ true ↦ λ e. here (same_key q n e) | false ↦ λ _. other ] refl
 
 module _ {V : Type 0} where
-  -- ---- the numbers that have a value or a mark
+  -- ---- the numbers that have a value or a mark: they are held
 
   pub contains-held : (v : FinMap nat_cmp V) (m : set.FinSet nat_cmp) (q : ℕ)
       → set.contains (valued_or_marked v m) q ≡ (set.contains m q || is_some (get v q))
