@@ -1,4 +1,4 @@
--- Laws of a gap vector, which has free slots and then a list: what the list is once an element is inserted or removed.
+-- Laws of a gap vector, which has unused elements and then a list: the list once an element is inserted or removed.
 use Rattle.std.proofs.Common.{◌≡◌, ℕ, suc, ◌+◌, ◌-◌, ◌<◌, ◌≤◌, List, ◌∷◌, ◌++◌, length, take, drop, set, get_or, sym, ap, ◌∙◌, append_assoc, length-drop, arith}
 use Rattle.std.proofs.lemmas.List.{drop_at, drop-drop, drop-take, drop-append-le, drop-set-add, drop_more, length-take-le, set_at}
 use Rattle.std.specs.List.{insert, remove, copy_within}
@@ -11,22 +11,22 @@ list_after_copy xs from to at l =
     ap (drop at) (append_assoc (take at xs) (take (to - from) (drop from xs)) (drop (at + (to - from)) xs))
     ∙ drop_at (take at xs) (take (to - from) (drop from xs) ++ drop (at + (to - from)) xs) at (length-take-le at xs l)
 
--- xs are all slots of the vector, the first `free` of them are free, and the others are the list
+-- xs has all elements of the vector: first the `free` unused ones, then the list, in which `position` is an index
 module _ {A : Type 0} (xs : List A) (free position : ℕ) where
-  -- for closed and opened: index `free + position` of the vector, less its `free` free slots, is index `position` of
-  -- the list that follows them
+  -- for closed and opened: index `free + position` of the vector, less its `free` unused elements, is index `position`
+  -- of the list that follows them
   count : free + position - free ≡ position
   count = omega arith
 
-  -- moving the elements between the free slots and an index up by one removes the element at that index from the list
+  -- moving the elements between the unused ones and an index up by one removes the element at that index from the list
   pub closed : free + position < length xs
       → drop (free + 1) (copy_within xs free (free + position) (free + 1)) ≡ remove (drop free xs) position
   closed l =
       let after : free + 1 + position ≡ free + suc position = omega arith in
       rw (list_after_copy xs free (free + position) (free + 1) (omega arith), count, after) (ap (λ ys. take position (drop free xs) ++ ys) (sym (drop-drop (suc position) free xs)))
 
-  -- where a slot is free, moving the elements before an index down by one, and putting x into the gap, inserts x into
-  -- the list at that index
+  -- where an element is unused, moving the list's elements before an index down by one, and putting x into the gap,
+  -- inserts x into the list at that index
   pub opened : (x : A) → 0 < free → free + position ≤ length xs
       → drop (free - 1) (set (copy_within xs free (free + position) (free - 1)) (free - 1 + position) x)
       ≡ insert (drop free xs) position x
@@ -36,7 +36,7 @@ module _ {A : Type 0} (xs : List A) (free position : ℕ) where
       rw (drop-set-add (free - 1) (copy_within xs free (free + position) (free - 1)) position x, list_after_copy xs free (free + position) (free - 1) (omega arith), count, drop_more xs (free - 1 + position) x (omega arith), after)
       (set_at (take position (drop free xs)) (get_or xs (free - 1 + position) x) (drop (free + position) xs) x position (length-take-le position (drop free xs) long) ∙ ap (λ ys. take position (drop free xs) ++ x ∷ ys) (sym (drop-drop position free xs)))
 
-  -- removing the element behind the free slots and `position` more removes the one at index `position` of the list
+  -- removing the element behind the unused ones and `position` more removes the one at index `position` of the list
   pub removed : free + position ≤ length xs → drop free (remove xs (free + position)) ≡ remove (drop free xs) position
   removed l =
       let long : free ≤ length (take (free + position) xs) = omega (arith, length-take-le (free + position) xs l) in
@@ -44,7 +44,7 @@ module _ {A : Type 0} (xs : List A) (free position : ℕ) where
       drop-append-le free (take (free + position) xs) (drop (suc (free + position)) xs) long
       ∙ rw (drop-take free position xs, after) (ap (λ ys. take position (drop free xs) ++ ys) (sym (drop-drop (suc position) free xs)))
 
-  -- inserting x behind the free slots and `position` more elements inserts it at index `position` of the list
+  -- inserting x behind the unused elements and `position` more inserts it at index `position` of the list
   pub inserted : (x : A) → free + position ≤ length xs
       → drop free (insert xs (free + position) x) ≡ insert (drop free xs) position x
   inserted x l =

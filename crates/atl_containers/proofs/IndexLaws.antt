@@ -46,6 +46,7 @@ module _ {X : Type 0} where
   put_back (x ∷ xs) zero d l = refl
   put_back (x ∷ xs) (suc i) d l = ap (λ ys. x ∷ ys) (put_back xs i d (omega (arith, l)))
 
+-- f maps the elements of a list
 module _ {X Y : Type 0} (f : X → Y) where
   map-insert : (xs : List X) (i : ℕ) (x : X) → map f (insert xs i x) ≡ insert (map f xs) i (f x)
   map-insert xs zero x = refl

@@ -17,7 +17,7 @@ use Rattle.std.specs.List.{remove}
 use Rattle.atl_containers.specs.Ordered.{first_not_below, put_number, take_number}
 use Rattle.atl_world.proofs.EveryLaws.{none_some}
 
--- ---- put_number and take_number as recursions
+-- ---- put_number and take_number as recursions: n is the number, x the first of the list, and xs are the others
 
 -- for put_number-cons: n is put in front of a first element x where t is true, as n is at most x, and else into the
 -- rest of the list

@@ -1,6 +1,6 @@
 -- Laws of an arena: a map i from numbers to slots, and a slab s of values in these slots, are a map of values. t is the
--- slab after a change, k a slot, and n a number that leads to it. x is the value that the slot k gets, and q any
--- number.
+-- slab after a change, k a slot, and n a number that leads to it. x (or w) is the value that the slot k gets, m the map
+-- of values, o a slot or None, and q any number.
 use Rattle.std.proofs.Common.{◌≡◌, ◌≢◌, ℕ, ◌+◌, ◌-◌, ◌<◌, Bool, true, false, cond, List, [], ◌∷◌, length, Option, Some, None, ◌⊎◌, inl, inr, refl, sym, ap, ◌∙◌, arith}
 use Rattle.std.specs.Prelude.{count_by, is_some, Result, Ok, Err, OnErr}
 use Rattle.std.proofs.lemmas.Bool.{false≢true, and_parts, cases_eq, cases_lt}
@@ -201,7 +201,7 @@ module _ {V : Type 0} where
   HaveOwnSlots-same i s t same held =
       record { in_use = λ n k h. ap is_some (same k) ∙ held.in_use n k h; by_one = held.by_one }
 
-  -- putting a value into a vacant slot and taking it out again gives a slab with the same values as before
+  -- putting a value into a vacant slot and taking it out again gives a slab, r, with the same values as before
   pub put_back : (s t r : slab.Slab V) (k : ℕ) (x : V) → slab.get s k ≡ None → slab.Updates s t k (Some x)
       → slab.Updates t r k None → slab.SameValues s r
   put_back s t r k x vacant u v j = elim (cases_eq j k) [

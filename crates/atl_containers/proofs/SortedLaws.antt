@@ -1,4 +1,4 @@
--- Laws of sorted lists of numbers: they stay sorted when a number is put in or taken out.
+-- Laws of sorted lists of numbers: they stay sorted when a number n is put in or taken out. xs is the list.
 use Rattle.std.proofs.Common.{◌≡◌, refl, ℕ, zero, suc, ◌≤◌, ◌<◌, Bool, true, false, cond, nat_le, List, [], ◌∷◌, length, get_or, sym, subst, arith}
 use Rattle.std.specs.List.{AllByRecursion}
 use Rattle.std.specs.List.Sorted.{IsPartitionedBy}

@@ -1,4 +1,5 @@
--- For proofs alone: how an `Arena` holds a map: its values are in slots of a slab, to which an index leads by number.
+-- For proofs alone: how an `Arena` holds a map. Its values are in the numbered slots of s, a slab of the kit, to which
+-- an index i leads from their numbers.
 use Rattle.std.specs.Prelude.{◌≡◌, ℕ, true, is_some, List, [], ◌∷◌, Option, Some, None}
 use Rattle.std.specs.Ordering.{nat_cmp}
 use Rattle.std.specs.FinMap.{FinMap, get, entries, len, from_entries}

@@ -53,7 +53,7 @@ fn put_before<T: Copy + Drop>(items: &mut Vec<T>, free: usize, position: usize, 
     items[first + position] = thing;
 }
 
-/// `position` is an index of the list. Returns how many elements are unused after it.
+/// `position` is at most the list's length. Returns how many elements are unused after it.
 fn insert_at<T: Copy + Drop>(
     items: &mut Vec<T>,
     free: usize,
@@ -127,7 +127,7 @@ impl<T: Copy + Drop> GapVec<T> {
         })
     }
 
-    /// Inserts an element at an index. Without memory nothing changes.
+    /// Inserts an element at an index, at most the length. Without memory nothing changes.
     pub fn insert(&mut self, position: usize, thing: T) -> Result<(), AllocError>
         requires { position ≤ length self.old }
         ensures ok { OnOk result (self.new ≡ insert self.old position thing) }
@@ -137,7 +137,7 @@ impl<T: Copy + Drop> GapVec<T> {
         Ok(())
     }
 
-    /// Removes the element at an index. It takes no memory.
+    /// Removes the element at an index, which is below the length. It takes no memory.
     pub fn remove(&mut self, position: usize)
         requires { position < length self.old }
         ensures { self.new ≡ remove self.old position }

@@ -132,7 +132,7 @@ fn guess_position(entries: &[IndexEntry], number: u32) -> Option<usize>
     }
 }
 
-/// Whether a number is above those of all entries; true without entries.
+/// True without entries.
 fn is_above(entries: &[IndexEntry], number: u32) -> bool
     requires { IsStrictlySortedBy nat_cmp (index_numbers entries.now) }
     ensures { result ≡ true → BelongsAt (index_numbers entries.now) number (length entries.now) }
@@ -143,7 +143,6 @@ fn is_above(entries: &[IndexEntry], number: u32) -> bool
     }
 }
 
-/// Ok is the index of the number's entry, Err the index where such an entry belongs.
 fn position_of(entries: &[IndexEntry], number: u32) -> Result<usize, usize>
     requires { IsStrictlySortedBy nat_cmp (index_numbers entries.now) }
     ensures found { IfOk result (λ position. IsAt (index_numbers entries.now) number position) }

@@ -94,7 +94,7 @@ module _ (items : FinMap nat_cmp ℕ) (i amount : ℕ) where
 -- ---- a unit's amounts stay within limits, before a call (`old`) and after it (`new`), whether there was memory or not
 
 -- Each amount stays from 1 to holding_limit: after one of at most holding_limit is set, and also where memory ran out
--- and nothing was set.
+-- and nothing was set. r is the call's result.
 pub AreAmounts-set : {E : Type 0} (r : Result (Unit {0}) E) (old new : FinMap nat_cmp ℕ) (item amount : ℕ)
     → amount ≤ holding_limit → OnOk r (new ≡ with_amount_of old item amount) → OnErr r (new ≡ old) → AreAmounts old
     → AreAmounts new

@@ -1,4 +1,5 @@
--- Laws of a map by number after a value is removed or put in: the other values, what holds of each, counts and sums.
+-- Laws of a map by number after a value is removed or put in: the other values, what holds of each, counts and sums. n
+-- is any number, v a value, P a condition on a number and its value, and f gives what is summed of a value.
 use Rattle.std.proofs.Common.{◌≡◌, ◌≢◌, ℕ, ◌≤◌, ◌-◌, ◌+◌, Bool, true, false, cond, Some, None, refl, sym, ap, ◌∙◌, arith}
 use Rattle.std.specs.declared.cmp.Ordering.TheVariants.{Less, Equal, Greater}
 use Rattle.std.specs.Ordering.{nat_cmp, is_eq}

@@ -33,7 +33,7 @@ abbrev pub is_listed : Option ℕ → ℕ → Bool
 is_listed None amount = amount == 0
 is_listed (Some listed) amount = not (amount == 0) && listed == amount
 
--- `has_amount items item amount`: whether the amount under the number `item` is `amount`; it is 0 where none is listed
+-- `has_amount items item amount`: whether `items` have the amount `amount` under the number `item` (`is_listed`)
 abbrev pub has_amount : FinMap nat_cmp ℕ → ℕ → ℕ → Bool
 has_amount items item amount = is_listed (get items item) amount
 

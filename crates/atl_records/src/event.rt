@@ -30,7 +30,7 @@ impl EventVerb {
 /// "Events".
 #[derive(Drop, Clone, Copy, Debug, PartialEq, Eq)]
 pub enum EventFault {
-    /// The unit isn't there, or is another faction's.
+    /// The unit isn't there, or the unit or the receiver of TRANSFER is another faction's.
     NotYours = 1,
     /// The other unit or the structure isn't in the region, or that unit isn't in the structure.
     NotHere = 2,
@@ -56,7 +56,7 @@ pub enum EventFault {
     NotGuarding = 12,
     /// The unit's level is too low, or no skill makes the item.
     NoSkill = 13,
-    /// The unit holds none of the material, or too little of it.
+    /// The unit holds none of the material, or too few raw items for one piece.
     NoMaterial = 14,
     /// The structure is complete.
     Complete = 15,
@@ -68,7 +68,7 @@ pub enum EventFault {
     TooHeavy = 18,
     /// The structure is no ship, or one that isn't complete.
     NotComplete = 19,
-    /// The sailors are too few.
+    /// The men of all units inside, times their level of sailing, are fewer than the ship's crew.
     NoCrew = 20,
     /// No unit of the list learns in the region.
     NotLearning = 21,

@@ -143,6 +143,7 @@ impl Holding {
         amount_under(&self.items, item)
     }
 
+    /// Whether the unit holds exactly `amount` pieces of an item.
     pub fn has_amount(&self, item: u32, amount: u32) -> bool
         ensures { result ≡ has_amount self.now.items item amount }
     {
@@ -250,8 +251,8 @@ impl Holding {
         self.guard = guard;
     }
 
-    /// Replaces the unit's days of study in all skills by new ones, which are over all men and not
-    /// 0. It takes no memory.
+    /// Replaces the unit's days of study in all skills by new ones, which are over all men. It
+    /// takes no memory.
     pub fn set_all_days(&mut self, days: Numbered<u32>)
         ensures { self.new ≡ record self.old { days = days } }
     {

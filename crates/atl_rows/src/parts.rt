@@ -1,6 +1,6 @@
 //! The rows of a campaign's tables, whoever wrote them: 64-bit numbers, texts and bytes. They may
-//! break any range or rule; what is said of a number holds for rows that keep the rules.
-//! See docs/FORMATS.md, "Rules of the tables".
+//! break any range or rule; what is said of a number or a row holds of rows that keep the rules.
+//! Limits without a crate's name are atl_records'. See docs/FORMATS.md, "Rules of the tables".
 
 use atl_world::{Sequence, Text, let_go};
 
@@ -81,7 +81,7 @@ impl Drop for StoredFaction {
     }
 }
 
-/// A row of the table `region`: a region's number, peasants and money; stocks are rows of `market`.
+/// A row of the table `region`: number, peasants and money. Stocks are rows of the table `market`.
 #[derive(Debug, Drop)]
 pub struct StoredRegion {
     /// The number that the world gives the region.
@@ -93,7 +93,7 @@ pub struct StoredRegion {
 }
 
 /// A row of the table `unit`: a unit's number, faction, name, region, structure, men, money and
-/// guard flag. Items and days of study are rows of `has`.
+/// guard flag. Its items and days of study are rows of the table `has`.
 #[derive(Debug)]
 pub struct StoredUnit {
     /// The unit's number, from 1 to LAST_UNIT.
@@ -185,7 +185,8 @@ pub struct StoredHas {
 /// A row of the table `books`: what is booked of a thing under an entry.
 #[derive(Debug, Drop)]
 pub struct StoredBooks {
-    /// The entry's number, from 1 to ENTRY_COUNT. See docs/RULES.md, "Books".
+    /// The entry's number, from 1 to ENTRY_COUNT, or to FIRST_ENTRY_COUNT in the first format.
+    /// See docs/RULES.md, "Books".
     pub entry: i64,
     /// The thing's number: 0 of money, 1 of people, FIRST_ITEM and more of the items.
     pub thing: i64,

@@ -185,7 +185,7 @@ splitting_keeps_others pot ahead parts after =
       )
     ]
 
--- `left` is the remainder of `pot * before / total`, which the code carries from want to want
+-- `left` is the remainder of `pot * before` divided by `total`, which the code carries from want to want
 pub record IsRemainder (pot total before left : ℕ) : Type 0 where
   pub small : left < total
   pub whole : total * share_upto pot total before + left ≡ pot * before
@@ -201,7 +201,7 @@ next_share pot total before left want p h =
     let split : share_upto pot total (before + want) ≡ due / total + low = ap (λ n. n / total) all ∙ add-mul-div_left due low p in
     omega arith
 
--- the remainder of that division is the running remainder after the want
+-- the remainder of the division in `next_share` is the running remainder after the want
 pub next_left : (pot total before left want : ℕ) → 0 < total → IsRemainder pot total before left →
     IsRemainder pot total (before + want) ((pot * want + left) % total)
 next_left pot total before left want p h =

@@ -1,7 +1,7 @@
 -- Laws of the accounts of upkeep: what the code computes with them for each unit in turn is what the definition says.
 -- An account has the money that a faction's units in a region have left and are short of, and how much of it was given
--- and covered so far. In the laws m is the maintenance of each man, and s and g are the numbers of a region and a
--- faction.
+-- and covered so far. In the laws m is the maintenance of each man (or, by its type, a map of accounts), and s and g
+-- are the numbers of a region and a faction.
 use Rattle.std.proofs.Common.{◌≡◌, ◌==◌, ◌++◌, ℕ, zero, suc, ◌+◌, ◌-◌, ◌*◌, ◌≤◌, ◌<◌, min, Bool, true, false, cond, List, [], ◌∷◌, length, get_or, take, filter, sum_by, unwrap_or, refl, sym, ap, ◌∙◌, mul_comm, add-zero, arith, Some}
 use Rattle.std.specs.Prelude.{All, nat_lt}
 use Rattle.std.specs.Ordering.{nat_cmp}
@@ -185,8 +185,8 @@ module _ (m : ℕ) (before : List UpkeepInput) (p : UpkeepInput) (accounts : Fac
           ap (λ n. n + left_of m p) (counted (all_short all) _ false some) ∙ sym (more_own (left_of m) before p)
           ∙ sym (counted (all_short all) _ false some)
 
--- Let each account be short of at most what `n` units can be short of, and let unit p be counted, whose account becomes
--- `a`. Then each is short of at most what `n + 1` units can be.
+-- Let each account be short of at most what `n` units can be short of, and unit p of at most what one can be. Once p is
+-- counted, and its account becomes `a`, each is short of at most what `n + 1` units can be.
 pub few_short : (m n : ℕ) (accounts : FactionAccounts) (p : UpkeepInput) (a : Account)
     → short_of m p ≤ most_per_head * men_limit
     → ((s g : ℕ) → (account_at accounts s g).short ≤ most_per_head * men_limit * n)
@@ -198,8 +198,8 @@ few_short m n accounts p a short each is =
     each_if_short (λ s g b. b.short ≤ most_per_head * men_limit * (n + 1)) accounts p a
     (λ none. omega (arith, old)) (λ some. rw is (omega (arith, old, short))) (λ s g apart. omega (arith, each s g))
 
--- Let each account have at most as much money left as `n` units can have, and let unit p be counted, whose account
--- becomes `a`. Then each has at most as much left as `n + 1` units can have.
+-- Let each account have at most as much money left as `n` units can have, and unit p at most as much as one can have.
+-- Once p is counted, and its account becomes `a`, each has at most as much left as `n + 1` units can have.
 pub few_left : (m n : ℕ) (accounts : FactionAccounts) (p : UpkeepInput) (a : Account) → left_of m p ≤ holding_limit
     → ((s g : ℕ) → (account_at accounts s g).left ≤ holding_limit * n)
     → a ≡ record (account_at accounts p.region p.faction) { left = (account_at accounts p.region p.faction).left + left_of m p }
@@ -231,7 +231,7 @@ is_lower n p = nat_lt p.unit n
 no_lower : (a b : ℕ) → b < a + 1 → nat_lt a b ≡ false
 no_lower a b l = grind (arith, nat_tests, l)
 
--- in a list sorted by their numbers, the units below the one at index `i` are the first `i`
+-- in a list sorted by their numbers, the units below the one at index `i` are the first `i`; d is any unit
 pub lower_first : (all : List UpkeepInput) (i : ℕ) (d : UpkeepInput) → AreInOrder all → i < length all
     → filter (is_lower (get_or all i d).unit) all ≡ take i all
 lower_first [] i d order l = absurd (omega (arith, l))

@@ -73,9 +73,9 @@ pub record IsOpen (a : Account) : Type 0 where
 abbrev pub counted_left : (short left : ℕ) → ℕ
 counted_left short left = if short == 0 then 0 else left
 
--- The account of a faction in a region, with nothing given or covered yet, where what the units `all` are short of is
--- counted, and what those `counted` have left. The code counts first all that is short, with `counted` empty, and then
--- unit by unit what is left.
+-- The account of a faction in a region at this maintenance for each man, with nothing given or covered yet. What the
+-- units `all` are short of is counted, and what those `counted` have left, if any is short (`counted_left`). The code
+-- counts first all that is short, with `counted` empty, and then unit by unit what is left.
 abbrev pub opened : ℕ → (all counted : List UpkeepInput) → (region faction : ℕ) → Account
 opened maintenance all counted region faction =
     let short = short_among maintenance region faction all in

@@ -62,7 +62,8 @@ abbrev pub given_to : ℕ → (peers : List UpkeepInput) → UpkeepInput → ℕ
 given_to maintenance peers input =
     amount_in_turn (given_among maintenance peers) (sum_by (short_of maintenance) (peers_before peers input)) (short_of maintenance input)
 
--- how many men starve if the money `short` is missing: `short` divided by `maintenance`, rounded up
+-- how many men starve if the money `short` is missing: `short` divided by `maintenance`, rounded up; none where
+-- `maintenance` is 0
 abbrev pub starved_of : (maintenance short : ℕ) → ℕ
 starved_of maintenance short = (short + (maintenance - 1)) / maintenance
 

@@ -102,7 +102,7 @@ pub record IsKindDraft (d : KindDraft) : Type 0 where
   pub building : AreBuildingNeeds d.building
   pub purpose : IsPurpose d.purpose
 
--- a region's number, name, peasants and money are in their ranges
+-- a region's number, peasants and money are in their ranges, and its name keeps the rule of names
 pub record AreRegionBasics (p : RegionBasics) : Type 0 where
   pub number_least : 1 ≤ p.number
   pub number_most : p.number ≤ last_region

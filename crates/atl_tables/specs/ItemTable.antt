@@ -1,5 +1,5 @@
 -- A table `[[item]]` of the world file: its keys in order, with their ranges, and the item that they give.
--- See docs/FORMATS.md, "The world file".
+-- See docs/FORMATS.md, "The world file". A key with a fault gives a default value (`one_key`).
 -- `all` has all tables of the file as read, and d is the i-th table `[[item]]`.
 use Rattle.std.specs.Prelude.{ℕ, ◌==◌, if◌then◌else◌, List, [], ◌∷◌, codes, Option, Some, None, option_and_then}
 use Rattle.toml.specs.Data.{Members}
@@ -13,7 +13,8 @@ use Rattle.atl_tables.specs.declared.item_table.Recipe.{Recipe}
 use Rattle.atl_tables.specs.declared.world_draft.WorldDraft.{WorldDraft}
 use Rattle.atl_world.specs.declared.world.Item.{Item}
 
--- reads the keys of a table `[[item]]` for what making an item takes: skill, level, raw item and its count
+-- reads the keys of a table `[[item]]` for what making an item takes: skill, level, raw item and its count. Each may be
+-- missing; level and count are 1 then.
 unfoldable pub making_at : TableReader Recipe
 making_at = do
   skill ← optional_text_key (codes "skill")
@@ -39,12 +40,12 @@ item_keys = conditions_of item_at
 abbrev pub item_from : List ℕ → Members → ItemDraft
 item_from = value_of item_at
 
--- `other_than i number` is the number of an item (Some), but None if it is i, since the i-th item isn't made of itself
+-- `other_than i number` is `number`, but None if it is Some i, since the i-th item isn't made of itself
 abbrev pub other_than : ℕ → Option ℕ → Option ℕ
 other_than i None = None
 other_than i (Some n) = if n == i then None else Some n
 
--- the conditions on the names in the i-th item: `skill` names a skill, and `raw` names another item
+-- the conditions on the names in the i-th item: `skill`, if it is there, names a skill, and `raw` another item
 unfoldable pub item_known : WorldDraft → ℕ → ItemDraft → Conditions
 item_known all i d =
     optional_name_is_known (path (element_path (codes "item") i) (codes "skill")) (skill_number all) d.making.skill
@@ -52,7 +53,7 @@ item_known all i d =
     (λ name. other_than i (item_number all name)) d.making.raw
     ∷ []
 
--- the item that a table `[[item]]` describes, with its skill and its raw item by number
+-- the item that a table `[[item]]` describes, with its skill and its raw item by number, None for an unknown name
 unfoldable pub item_of : WorldDraft → ItemDraft → Item
 item_of all d = record {
   name = d.name;

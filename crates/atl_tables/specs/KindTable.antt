@@ -1,5 +1,5 @@
 -- A table `[[kind]]` of the world file: its keys in order, with their ranges, and the kind that they give.
--- See docs/FORMATS.md, "The world file".
+-- See docs/FORMATS.md, "The world file". A key with a fault gives a default value (`one_key`).
 -- `all` has all tables of the file as read, and d is the i-th table `[[kind]]`.
 use Rattle.std.specs.Prelude.{ℕ, List, [], ◌∷◌, codes, unwrap_or, option_and_then}
 use Rattle.toml.specs.Data.{Members}
@@ -23,7 +23,8 @@ building_needs_at = do
   level ← number_key 1 last_level (codes "level")
   value_only (record { material = material; size = size; skill = skill; level = level })
 
--- reads the keys of a table `[[kind]]` for what a structure is good for: capacity, crew and the skill that it helps
+-- reads the keys of a table `[[kind]]` for what a structure is good for: capacity, crew and the skill that it helps.
+-- Each may be missing; capacity and crew are 0 then.
 unfoldable pub purpose_at : TableReader Purpose
 purpose_at = do
   capacity ← number_or_key 0 0 most_amount (codes "capacity")
@@ -48,7 +49,8 @@ kind_keys = conditions_of kind_at
 abbrev pub kind_from : List ℕ → Members → KindDraft
 kind_from = value_of kind_at
 
--- the conditions on the names in the i-th kind: `material` names an item, and `skill` and `helps` name skills
+-- the conditions on the names in the i-th kind: `material` names an item, `skill` a skill, and `helps`, if it is there,
+-- a skill
 unfoldable pub kind_known : WorldDraft → ℕ → KindDraft → Conditions
 kind_known all i d =
     name_is_known (path (element_path (codes "kind") i) (codes "material")) (item_number all d.building.material)
@@ -56,7 +58,8 @@ kind_known all i d =
     ∷ optional_name_is_known (path (element_path (codes "kind") i) (codes "helps")) (skill_number all) d.purpose.helps
     ∷ []
 
--- the kind of structure that a table `[[kind]]` describes, with its material and skills by number
+-- the kind of structure that a table `[[kind]]` describes, with its material and skills by number. For an unknown name
+-- `material` and `skill` are 0, and `helps` is None.
 unfoldable pub kind_of : WorldDraft → KindDraft → Kind
 kind_of all d = record {
   name = d.name;

@@ -1,5 +1,5 @@
 -- A table `[[region.market]]` of the world file: its keys in order, with their ranges, and the market they give.
--- See docs/FORMATS.md, "The world file".
+-- See docs/FORMATS.md, "The world file". A key with a fault gives a default value (`value_or`).
 -- t has the members of the table at the path `at`. `all` has all tables of the file as read, d is a market, and `ds`
 -- are the markets of a region.
 use Rattle.std.specs.Prelude.{ℕ, List, [], ◌∷◌, codes, map, unwrap_or}
@@ -60,8 +60,8 @@ market_from at t = record {
 abbrev pub market_path : List ℕ → List ℕ
 market_path at = path at (codes "market")
 
--- the conditions on the array of the markets of the region at a path, which may be missing, and on the keys of each
--- market
+-- the conditions on the array of the markets of the region at a path, which may be missing and has at most most_markets
+-- elements, and on the keys of each market
 unfoldable pub markets_keys : List ℕ → Members → Conditions
 markets_keys at t =
     list_conditions market_keys (market_path at) (optional_array_at most_markets (market_path at) (codes "market") t)
@@ -70,7 +70,7 @@ markets_keys at t =
 unfoldable pub markets_from : List ℕ → Members → List MarketDraft
 markets_from at t = list_of market_from (market_path at) (optional_array_at most_markets (market_path at) (codes "market") t)
 
--- the conditions that no two markets of the region at a path are of the same item
+-- the conditions that no two markets of the region at a path name the same item, ignoring ASCII case
 abbrev pub duplicate_items : List ℕ → List MarketDraft → Conditions
 duplicate_items at ds = no_duplicates (λ d. d.item) (market_path at) (codes "item") ds
 
@@ -78,7 +78,7 @@ duplicate_items at ds = no_duplicates (λ d. d.item) (market_path at) (codes "it
 unfoldable pub market_known : WorldDraft → MarketDraft → Conditions
 market_known all d = name_is_known (path d.table_path (codes "item")) (item_number all d.item) ∷ []
 
--- the market that a table `[[region.market]]` describes, with its item by number
+-- the market that a table `[[region.market]]` describes, with its item by number, 0 for an unknown name
 unfoldable pub market_of : WorldDraft → MarketDraft → Market
 market_of all d = record {
   item = unwrap_or (item_number all d.item) 0;
@@ -88,6 +88,6 @@ market_of all d = record {
   restock = d.restock;
 }
 
--- the markets of a region, each under the number of its item
+-- the markets of a region, each under the number of its item; of two with the same item the first counts
 abbrev pub markets_of : WorldDraft → List MarketDraft → FinMap nat_cmp Market
 markets_of all ds = by_number (λ m. m.item) (map (market_of all) ds)

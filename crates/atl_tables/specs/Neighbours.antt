@@ -26,7 +26,8 @@ neighbour_fault p regions opposite number (Some m) =
     if equals_number number (option_and_then (neighbour_to opposite) (get regions m)) then None
     else Some (BadNeighbour p)
 
--- the conditions that each of the four neighbours of the i-th region of the file has this region on its opposite side
+-- the conditions that the neighbour of the i-th region in the north, south, east and west, in this order, if there is
+-- one, has this region on its opposite side
 unfoldable pub neighbours_at : FinMap nat_cmp RegionPlan → ℕ → RegionDraft → Conditions
 neighbours_at regions i d =
     neighbour_fault (path (element_path (codes "region") i) (codes "north")) regions South d.basics.number d.sides.north

@@ -1,5 +1,6 @@
 -- The table `output` of a terrain: each key is the name of an item, with the amount that a region gives in a month.
--- See docs/FORMATS.md, "The world file".
+-- See docs/FORMATS.md, "The world file". A key with a fault gives a default value (`value_or`).
+-- `all` has all tables of the file as read, or all entries of the output, and o is the i-th entry.
 use Rattle.std.specs.Prelude.{ℕ, List, [], ◌∷◌, map, codes, take, if◌then◌else◌, Some, None, Result}
 use Rattle.std.specs.List.{find, list_any}
 use Rattle.std.specs.Option.{option_map_or}
@@ -44,7 +45,7 @@ amounts_from at es = map (λ e. record { item = e.0; amount = value_or 0 (amount
 abbrev pub output_path : List ℕ → List ℕ
 output_path at = path at (codes "output")
 
--- the table `output` in the table of the terrain at a path, empty if it is missing
+-- the table `output` in the table of the terrain at a path, empty if it is missing or no table
 abbrev pub output_table : List ℕ → Members → Members
 output_table at t = value_or no_members (optional_table_at (codes "output") at t)
 
@@ -66,6 +67,7 @@ duplicate_key_at at all i o =
 unfoldable pub known_key_at : WorldDraft → List ℕ → ℕ → Output → Conditions
 known_key_at all at i o = name_is_known (path at o.item) (item_number all o.item) ∷ []
 
--- how much of the item with a given name an output gives in a month, 0 if no key names the item
+-- how much of the item with a given name an output gives in a month: the amount of the first key that names the item,
+-- ignoring ASCII case, 0 if none does
 unfoldable pub amount_of : List Output → List ℕ → ℕ
 amount_of outputs item = option_map_or (λ o. o.amount) (find (λ o. same_name o.item item) outputs) 0

@@ -1,5 +1,5 @@
 -- A table `[[region]]` of the world file: its keys in order, with their ranges, and the region that they give.
--- See docs/FORMATS.md, "The world file".
+-- See docs/FORMATS.md, "The world file". A key with a fault gives a default value (`value_or`).
 -- t has the members of the table at the path `at`. `all` has all tables of the file as read, and d is the i-th region.
 use Rattle.std.specs.Prelude.{ℕ, List, [], ◌∷◌, codes, Option, None, unwrap_or}
 use Rattle.toml.specs.Data.{Members}
@@ -49,19 +49,19 @@ basics_from at t = record {
   money = value_or 0 (money_at at t);
 }
 
--- reads the key `north` of a table `[[region]]`: the number of the region to the north, None if the key is missing
+-- reads the key `north` of a table `[[region]]`, from 1 to last_region: the region to the north, None if it is missing
 abbrev pub north_at : KeyReader (Option ℕ)
 north_at = optional_number_at 1 last_region (codes "north")
 
--- reads the key `south` of a table `[[region]]`: the number of the region to the south, None if the key is missing
+-- reads the key `south` of a table `[[region]]`, from 1 to last_region: the region to the south, None if it is missing
 abbrev pub south_at : KeyReader (Option ℕ)
 south_at = optional_number_at 1 last_region (codes "south")
 
--- reads the key `east` of a table `[[region]]`: the number of the region to the east, None if the key is missing
+-- reads the key `east` of a table `[[region]]`, from 1 to last_region: the region to the east, None if it is missing
 abbrev pub east_at : KeyReader (Option ℕ)
 east_at = optional_number_at 1 last_region (codes "east")
 
--- reads the key `west` of a table `[[region]]`: the number of the region to the west, None if the key is missing
+-- reads the key `west` of a table `[[region]]`, from 1 to last_region: the region to the west, None if it is missing
 abbrev pub west_at : KeyReader (Option ℕ)
 west_at = optional_number_at 1 last_region (codes "west")
 
@@ -105,7 +105,7 @@ region_keys at t = first_fault (old_region_keys at t) ∷ markets_keys at t
 unfoldable pub region_from : List ℕ → Members → RegionDraft
 region_from at t = record { basics = basics_from at t; sides = sides_from at t; markets = markets_from at t }
 
--- the conditions that no two markets of the i-th region are of the same item
+-- the conditions that no two markets of the i-th region name the same item, ignoring ASCII case
 unfoldable pub duplicate_market_items : ℕ → RegionDraft → Conditions
 duplicate_market_items i d = duplicate_items (element_path (codes "region") i) d.markets
 
@@ -115,7 +115,8 @@ region_known all i d =
     name_is_known (path (element_path (codes "region") i) (codes "terrain")) (terrain_number all d.basics.terrain)
     ∷ conditions_on_each (λ k m. market_known all m) 0 d.markets
 
--- the region that a table `[[region]]` describes, with its terrain and its markets' items by number
+-- the region that a table `[[region]]` describes, with its terrain and its markets' items by number, 0 for an unknown
+-- name
 unfoldable pub region_of : WorldDraft → RegionDraft → RegionPlan
 region_of all d = record {
   number = d.basics.number;

@@ -11,7 +11,7 @@ use Rattle.atl_tables.specs.Keys.{path, element_path}
 abbrev pub some_region_has_number : ℕ → List RegionDraft → Bool
 some_region_has_number n ds = list_any (λ d. n == d.basics.number) ds
 
--- the condition that no region before the i-th has the number of the i-th; else the fault TwoNames
+-- the condition that no region before the i-th has the number of the i-th, d; else the fault TwoNames at its `number`
 unfoldable pub duplicate_number_at : List RegionDraft → ℕ → RegionDraft → Conditions
 duplicate_number_at all i d =
     (if some_region_has_number d.basics.number (take i all)

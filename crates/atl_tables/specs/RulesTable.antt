@@ -1,5 +1,5 @@
 -- The table `[rules]` of the world file: its keys in order, with their ranges, and the rules that they give.
--- See docs/FORMATS.md, "The world file".
+-- See docs/FORMATS.md, "The world file". A key with a fault gives a default value (`one_key`).
 -- `doc` has the members of the whole document, and `all` has all its tables as read.
 use Rattle.std.specs.Prelude.{[], ◌∷◌, codes, option_and_then}
 use Rattle.toml.specs.Data.{Members, no_members}
@@ -40,7 +40,7 @@ men_rules_at = do
   man_carry ← number_key 0 most_weight (codes "man_carry")
   value_only (record { start_money = start_money; man_weight = man_weight; man_carry = man_carry })
 
--- reads the keys of the table `[rules]` that name the skills of observation, stealth and sailing
+-- reads the keys of the table `[rules]` that name the skills of observation, stealth and sailing; each may be missing
 unfoldable pub skill_names_at : TableReader SkillNames
 skill_names_at = do
   observation ← optional_text_key (codes "observation")
@@ -57,7 +57,7 @@ rules_at = do
   skills ← as_one_condition skill_names_at
   value_only (record { prices = prices; peasants = peasants; men = men; skills = skills })
 
--- the table `[rules]` of the document, empty if it is missing
+-- the table `[rules]` of the document, empty if it is missing or no table
 abbrev pub rules_table : Members → Members
 rules_table doc = value_or no_members (table_at (codes "rules") doc)
 
@@ -77,7 +77,7 @@ rules_known all =
     ∷ optional_name_is_known (path (codes "rules") (codes "sailing")) (skill_number all) all.rules.skills.sailing
     ∷ []
 
--- the rules that the table `[rules]` describes, with skills by number
+-- the rules that the table `[rules]` describes, with skills by number, None for a missing or an unknown name
 unfoldable pub rules_of : WorldDraft → Rules
 rules_of all = let r = all.rules in record {
   maintenance = r.prices.maintenance;

@@ -1,5 +1,5 @@
 -- A table `[[terrain]]` of the world file: its keys in order, with their ranges, and the terrain that they give.
--- See docs/FORMATS.md, "The world file".
+-- See docs/FORMATS.md, "The world file". A key with a fault gives a default value (`one_key`).
 -- `all` has all tables of the file as read, and d is the i-th table `[[terrain]]`.
 use Rattle.std.specs.Prelude.{ℕ, List, codes, map}
 use Rattle.toml.specs.Data.{Members}
@@ -33,8 +33,8 @@ terrain_at = do
   output ← as_one_condition output_at
   value_only (record { name = name; land = land; economy = economy; output = output })
 
--- the conditions on the keys of the table `[[terrain]]` at a path: each has its type and range, and none is missing but
--- `output`
+-- the conditions on the keys of the table `[[terrain]]` at a path, and on those of its `output`: each has its type and
+-- range, and none is missing; `output` may be
 abbrev pub terrain_keys : List ℕ → Members → Conditions
 terrain_keys = conditions_of terrain_at
 
@@ -50,7 +50,7 @@ duplicate_output_keys i d = conditions_on_each (duplicate_key_at (output_path (e
 unfoldable pub terrain_known : WorldDraft → ℕ → TerrainDraft → Conditions
 terrain_known all i d = conditions_on_each (known_key_at all (output_path (element_path (codes "terrain") i))) 0 d.output
 
--- the terrain that a table `[[terrain]]` describes; its output has an amount for each item of the world, by number
+-- the terrain that a table `[[terrain]]` describes; its output has the amount (`amount_of`) of each item, by number
 unfoldable pub terrain_of : WorldDraft → TerrainDraft → Terrain
 terrain_of all d = record {
   name = d.name;

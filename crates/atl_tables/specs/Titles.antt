@@ -11,8 +11,8 @@ use Rattle.atl_world.specs.Names.{same_name}
 
 -- `title` gives the name of an element
 module _ {A : Type 0} (title : A → List ℕ) where
-  -- The condition that no element before x, the i-th of the array at a path (the first text), has the name of x. Its
-  -- fault is TwoNames at the path of the key of x's name (the second text).
+  -- The condition that no element before x, the i-th of the array at a path (the first text), has the name of x,
+  -- ignoring ASCII case. Its fault is TwoNames at the path of the key of x's name (the second text).
   unfoldable pub no_duplicate_before : List ℕ → List ℕ → List A → ℕ → A → Conditions
   no_duplicate_before array key all i x =
       (if list_any (λ y. same_name (title y) (title x)) (take i all)
@@ -29,15 +29,15 @@ module _ {A : Type 0} (title : A → List ℕ) where
   unfoldable pub number_of : List A → List ℕ → Option ℕ
   number_of all name = position_from (λ x. same_name (title x) name) 0 all
 
--- the number of the terrain with a given name, None if there is no such terrain
+-- the number of the first terrain with a given name, ignoring ASCII case, None if there is no such terrain
 abbrev pub terrain_number : WorldDraft → List ℕ → Option ℕ
 terrain_number all name = number_of (λ d. d.name) all.terrains name
 
--- the number of the item with a given name, None if there is no such item
+-- the number of the first item with a given name, ignoring ASCII case, None if there is no such item
 abbrev pub item_number : WorldDraft → List ℕ → Option ℕ
 item_number all name = number_of (λ d. d.name) all.items name
 
--- the number of the skill with a given name, None if there is no such skill
+-- the number of the first skill with a given name, ignoring ASCII case, None if there is no such skill
 abbrev pub skill_number : WorldDraft → List ℕ → Option ℕ
 skill_number all name = number_of (λ s. s.name) all.skills name
 

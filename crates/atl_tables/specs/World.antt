@@ -55,11 +55,11 @@ tables_of format doc = record {
   regions = regions_in format doc;
 }
 
--- the regions of the tables, each under its number
+-- the regions of the tables, each under its number; of two with the same number the first counts
 unfoldable pub regions_of : WorldDraft → FinMap nat_cmp RegionPlan
 regions_of all = by_number (λ p. p.number) (map (region_of all) all.regions)
 
--- the world that the tables describe, with the numbers of things in place of their names
+-- the world that the tables describe, with the numbers of things in place of their names, 0 or None for unknown names
 unfoldable pub world_of_tables : WorldDraft → WorldValue
 world_of_tables all = record {
   rules = rules_of all;
@@ -72,8 +72,8 @@ world_of_tables all = record {
 
 -- ---- the conditions, in the order in which their faults count
 
--- the conditions on the arrays of items, skills and kinds of a document, each of which may be missing, and on the keys
--- of their tables
+-- the conditions on the arrays of items, skills and kinds of a document, each of which may be missing or has at most as
+-- many elements as a world may have, and on the keys of their tables
 unfoldable pub optional_conditions : Members → Conditions
 optional_conditions doc =
     list_conditions item_keys (codes "item") (optional_array_at most_items (codes "item") (codes "item") doc)
@@ -85,7 +85,7 @@ unfoldable pub regions_conditions : Format → Members → Conditions
 regions_conditions First doc = list_conditions old_region_keys (codes "region") (array_at most_regions (codes "region") doc)
 regions_conditions Second doc = list_conditions region_keys (codes "region") (array_at most_regions (codes "region") doc)
 
--- the conditions on the arrays of a document in a format, on its table `[rules]`, and on all keys in these
+-- the conditions on the table `[rules]` of a document in a format, then on its arrays, and on all keys in these
 unfoldable pub keys_conditions : Format → Members → Conditions
 keys_conditions format doc =
     rules_conditions doc
@@ -93,7 +93,8 @@ keys_conditions format doc =
     ++ (optional_conditions doc
     ++ regions_conditions format doc))
 
--- the conditions that no two terrains, no two items, no two skills and no two kinds have the same name
+-- the conditions that no two terrains, no two items, no two skills and no two kinds have the same name, ignoring ASCII
+-- case
 unfoldable pub titles_differ : WorldDraft → Conditions
 titles_differ all =
     no_duplicates (λ d. d.name) (codes "terrain") (codes "name") all.terrains
@@ -101,7 +102,8 @@ titles_differ all =
     ++ (no_duplicates (λ s. s.name) (codes "skill") (codes "name") all.skills
     ++ no_duplicates (λ d. d.name) (codes "kind") (codes "name") all.kinds))
 
--- the conditions that names, region numbers, output keys of a terrain and market items of a region are unique
+-- the conditions that names (`titles_differ`), region numbers, output keys of a terrain and market items of a region
+-- are unique, ignoring ASCII case
 unfoldable pub names_differ : WorldDraft → Conditions
 names_differ all =
     titles_differ all
@@ -109,7 +111,8 @@ names_differ all =
     ++ (conditions_on_each duplicate_output_keys 0 all.terrains
     ++ conditions_on_each duplicate_market_items 0 all.regions))
 
--- the conditions that each name by which a table refers to a terrain, an item or a skill is the name of one
+-- the conditions that each name by which a table refers to a terrain, an item or a skill is the name of one; `raw` is
+-- that of another item
 unfoldable pub names_are_known : WorldDraft → Conditions
 names_are_known all =
     rules_known all
@@ -118,7 +121,7 @@ names_are_known all =
     ++ (conditions_on_each (kind_known all) 0 all.kinds
     ++ conditions_on_each (region_known all) 0 all.regions)))
 
--- the conditions that each neighbour of a region has this region on its opposite side
+-- the conditions that each neighbour of a region is a region, and has this one on its opposite side
 unfoldable pub neighbours_are_mutual : WorldDraft → Conditions
 neighbours_are_mutual all = conditions_on_each (neighbours_at (regions_of all)) 0 all.regions
 

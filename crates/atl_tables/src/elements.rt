@@ -1,5 +1,6 @@
 //! Reads arrays of tables of the world file, element by element. A call that may return a fault may
-//! also return `Memory`. See docs/FORMATS.md, "The world file".
+//! also return `Memory`. Where a call takes no `array`, `key` is the array's path, as `item`.
+//! See docs/FORMATS.md, "The world file".
 ghost use Rattle.std.specs.Prelude.{◌≡◌, ◌≤◌, ◌∷◌, ℕ, List, IfOk, Result, length};
 ghost use Rattle.std.specs.List.{All};
 ghost use Rattle.toml.specs.Data.{Members, as_array};
@@ -69,8 +70,8 @@ fn elements<E: FromTable>(alloc: Global, key: &str, values: &Array) -> Result<Ve
     Ok(read)
 }
 
-/// The `least` to `most` elements of the array that a value is, as read, else the fault WrongType or
-/// OutOfRange at the path `array`, or the first fault of an element.
+/// The `least` to `most` elements of the array that a value is, as read, else the fault WrongType
+/// or OutOfRange at the path `array`, or the first fault of an element.
 #[tactic(auto, unfolding(crate::specs::Arrays::list_conditions, crate::specs::Arrays::list_of))]
 pub(crate) fn array_elements<E: FromTable>(
     alloc: Global,

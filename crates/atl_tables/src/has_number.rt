@@ -14,8 +14,6 @@ pub(crate) trait HasNumber: Drop {
         ensures { result ≡ own_number_of self.now };
 }
 
-/// Makes a map of a vector's values, each under its own number; of those with the same number the
-/// map has the first.
 pub(crate) fn by_number<T: HasNumber>(
     alloc: Global,
     values: Vec<T>,

@@ -1,5 +1,6 @@
 //! Reads the value under a key of a table, or gives a fault with the path of the key. `Memory` is
-//! possible everywhere. See docs/FORMATS.md, "The world file".
+//! possible everywhere. `at` is the path of the table; of an array, `key` is its path.
+//! See docs/FORMATS.md, "The world file".
 ghost use Rattle.std.specs.Prelude.{◌≡◌, ◌≤◌, ℤ, List, option_map, IfOk, IfSome, true, length, string_bytes};
 ghost use Rattle.toml.specs.Data.{get_member, as_integer, as_str, as_array};
 ghost use Rattle.toml.specs.View.{view, table_view, array_view};
@@ -13,14 +14,12 @@ use std::alloc::{AllocError, Global};
 use toml::value::Array;
 use toml::{Table, Value};
 
-/// The path of a key of the table at the path `at`, as `rules.growth`.
 pub(crate) fn path(alloc: Global, at: &str, key: &str) -> Result<Text, AllocError>
     ensures { IfOk result (λ text. text ≡ path at.now key.now) }
 {
     Ok(Text::from_string(format!(in alloc; "{at}.{key}")?))
 }
 
-/// The path of the i-th element of the array at the path `key`, as `region[0]`.
 pub(crate) fn element_path(alloc: Global, key: &str, i: usize) -> Result<Text, AllocError>
     ensures { IfOk result (λ text. text ≡ element_path key.now i) }
 {
@@ -62,8 +61,6 @@ fn number_within(least: u32, most: u32, number: i64) -> Option<u32>
     }
 }
 
-/// A value as a number from `least` to `most`, else the fault WrongType or OutOfRange at the path
-/// of its key.
 pub(crate) fn integer_in_range(
     alloc: Global,
     least: u32,
@@ -86,8 +83,6 @@ pub(crate) fn integer_in_range(
     }
 }
 
-/// The number under a key of the table at the path `at`, from `least` to `most`, else the fault
-/// Missing, WrongType or OutOfRange.
 #[tactic(auto, unfolding(crate::specs::Keys::number_at))]
 pub(crate) fn number(
     alloc: Global,
@@ -108,8 +103,6 @@ pub(crate) fn number(
     }
 }
 
-/// The number under a key of the table at the path `at`, from `least` to `most`, or `default` if
-/// the key is missing, else the fault WrongType or OutOfRange.
 #[tactic(auto, unfolding(crate::specs::Keys::number_or_at))]
 pub(crate) fn number_or(
     alloc: Global,
@@ -133,8 +126,6 @@ pub(crate) fn number_or(
     }
 }
 
-/// The number under a key of the table at the path `at`, from `least` to `most`, `None` if the key
-/// is missing, else the fault WrongType or OutOfRange.
 #[tactic(auto, unfolding(crate::specs::Keys::optional_number_at))]
 pub(crate) fn optional_number(
     alloc: Global,
@@ -156,8 +147,6 @@ pub(crate) fn optional_number(
     }
 }
 
-/// The name under a key of the table at the path `at`, else the fault Missing, WrongType, or
-/// OutOfRange if it breaks the rule of names.
 #[tactic(auto, unfolding(crate::specs::Keys::name_at))]
 pub(crate) fn name(alloc: Global, key: &str, at: &str, table: &Table) -> Result<Text, WorldFault>
     ensures value { Reads (λ t. t) result (name_at key.now at.now (table_view table.now)) }
@@ -187,7 +176,6 @@ fn text_value(alloc: Global, key: &str, at: &str, value: &Value) -> Result<Text,
     }
 }
 
-/// The text under a key of the table at the path `at`, else the fault Missing or WrongType.
 #[tactic(auto, unfolding(crate::specs::Keys::text_at))]
 pub(crate) fn text(alloc: Global, key: &str, at: &str, table: &Table) -> Result<Text, WorldFault>
     ensures { Reads (λ t. t) result (text_at key.now at.now (table_view table.now)) }
@@ -198,8 +186,6 @@ pub(crate) fn text(alloc: Global, key: &str, at: &str, table: &Table) -> Result<
     }
 }
 
-/// The text under a key of the table at the path `at`, `None` if the key is missing, else the fault
-/// WrongType.
 #[tactic(auto, unfolding(crate::specs::Keys::optional_text_at))]
 pub(crate) fn optional_text(
     alloc: Global,
@@ -218,7 +204,6 @@ pub(crate) fn optional_text(
     }
 }
 
-/// The truth value under a key of the table at the path `at`, else the fault Missing or WrongType.
 #[tactic(auto, unfolding(crate::specs::Keys::flag_at))]
 pub(crate) fn flag(alloc: Global, key: &str, at: &str, table: &Table) -> Result<bool, WorldFault>
     ensures { Reads (λ b. b) result (flag_at key.now at.now (table_view table.now)) }
@@ -232,7 +217,6 @@ pub(crate) fn flag(alloc: Global, key: &str, at: &str, table: &Table) -> Result<
     }
 }
 
-/// The table under a key of the document, else the fault Missing or WrongType.
 #[tactic(auto, unfolding(crate::specs::Keys::table_at))]
 pub(crate) fn table<'a>(
     alloc: Global,
@@ -257,8 +241,6 @@ fn count(array: &Array) -> usize
     array.len()
 }
 
-/// A value as an array of `least` to `most` elements, else the fault WrongType or OutOfRange at the
-/// path `key`.
 pub(crate) fn array_of_size<'a>(
     alloc: Global,
     least: usize,

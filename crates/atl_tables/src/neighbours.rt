@@ -84,7 +84,8 @@ fn neighbours_of(
 }
 
 /// Checks that each neighbour of each region has the region on its opposite side, else gives the
-/// fault BadNeighbour at the first side whose neighbour hasn't, in the order of the file.
+/// fault BadNeighbour at the first side whose neighbour hasn't. The regions are in the order of the
+/// file, the sides of each in the order north, south, east, west.
 pub(crate) fn mutual_neighbours(
     alloc: Global,
     regions: &Numbered<RegionPlan>,

@@ -72,8 +72,8 @@ pub(crate) fn outputs(
     }
 }
 
-/// Checks that no two keys of an output are equal, ignoring ASCII case, else gives the fault
-/// TwoNames at the second.
+/// Checks that no two keys of the output at a path are equal, ignoring ASCII case, else gives the
+/// fault TwoNames at the second.
 pub(crate) fn no_duplicate_keys(
     alloc: Global,
     at: &str,
@@ -92,8 +92,8 @@ pub(crate) fn no_duplicate_keys(
     Ok(())
 }
 
-/// Checks that each key of an output names an item, else gives the fault UnknownName at the first
-/// that doesn't.
+/// Checks that each key of the output at a path names an item, else gives the fault UnknownName at
+/// the first that doesn't.
 pub(crate) fn keys_name_items(
     alloc: Global,
     all: &WorldDraft,
@@ -112,7 +112,6 @@ pub(crate) fn keys_name_items(
     Ok(())
 }
 
-/// The amount of the first entry that names the item, 0 if none does.
 #[tactic(auto, unfolding(crate::specs::OutputTable::amount_of))]
 fn amount_of(outputs: &[Output], item: &Text) -> u32
     requires { All IsOutput outputs.now }

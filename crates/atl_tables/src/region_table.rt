@@ -153,7 +153,6 @@ impl FromTable for RegionDraft {
     }
 }
 
-/// The regions of a file of the first format, each with an empty list of markets.
 pub(crate) fn without_markets(
     alloc: Global,
     regions: Sequence<OldRegion>,

@@ -18,7 +18,6 @@ use atl_world::{Text, Titled};
 use std::alloc::{AllocError, Global};
 use std::collections::BTreeSet;
 
-/// Whether two names are equal, ignoring ASCII case.
 pub(crate) fn same_name(name: &Text, other: &Text) -> bool
     ensures { result ≡ same_name name.now other.now }
 {
@@ -105,8 +104,6 @@ pub(crate) fn no_duplicates_inside<T: HasUniqueNames>(
     Ok(())
 }
 
-/// The number (the index) of the first element whose title equals `name`, ignoring ASCII case;
-/// `None` if there is none.
 #[tactic(auto, unfolding(crate::specs::Titles::number_of))]
 pub(crate) fn number_of<T: Titled>(items: &[T], name: &Text) -> Option<u16>
     requires { length items.now ≤ most_numbered }

@@ -139,7 +139,7 @@ module _ {V : Type 0} where
 
   -- ---- the numbers whose values pass a test
 
-  -- p is the test that a value passes
+  -- p is the test that a value passes, and d what a look-up in a list gives beyond its end
   module _ (p : V → Bool) where
     -- the numbers of the entries of a list whose values pass the test p, in the order of the list
     abbrev chosen : List (ℕ × V) → List ℕ

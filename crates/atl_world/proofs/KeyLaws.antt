@@ -1,5 +1,5 @@
 -- Laws of lists of keys: whether keys are distinct or sorted, found key by key. f gives the key of an element, e tests
--- whether two keys are equal, R compares two keys, and d is any key.
+-- whether two keys are equal, R is a total order of keys, and d is any key.
 use Rattle.std.proofs.Common.{◌≡◌, ℕ, ◌+◌, ◌-◌, ◌<◌, ◌≤◌, ◌⊎◌, inl, inr, List, [], ◌∷◌, Bool, false, drop, length, get_or, sym, ap, ◌∙◌, add-one, arith}
 use Rattle.std.specs.Prelude.{Result, Ok, Err, IfOk, map}
 use Rattle.std.specs.Bool.{Decides}

@@ -1,5 +1,5 @@
--- Maps by number whose values are mapped, and maps that are built entry by entry in order. m and n are maps, (k, w) is
--- an entry, a number with its value, and `es` and `fs` are lists of entries.
+-- Maps by number whose values are mapped, and maps that are built entry by entry in order. m is a map, n a map or, by
+-- its type, a number, (k, w) an entry, a number with its value, and `es` and `fs` are lists of entries.
 use Rattle.std.proofs.Common.{◌≡◌, ℕ, ◌+◌, true, false, cond, ◌&&◌, T, Some, option_map, List, [], ◌∷◌, ◌++◌, map, sum_by, refl, sym, ap, subst, ◌∙◌}
 use Rattle.std.specs.declared.cmp.Ordering.{Ordering}
 use Rattle.std.specs.declared.cmp.Ordering.TheVariants.{Less, Equal, Greater}
@@ -12,7 +12,7 @@ use Rattle.std.proofs.lemmas.List.Sums.{sum_by-cons}
 use Rattle.atl_world.specs.Sums.{map_values, sum_over}
 use Rattle.atl_world.proofs.GeneralLaws.{is_true}
 
--- f maps the values of a map or of a list of entries; the numbers stay
+-- f maps the values of a map or of a list of entries; the numbers stay. g gives what is summed of a mapped value.
 module _ {V W : Type 0} (f : V → W) where
   abbrev entries_with_mapped_values : List (ℕ × V) → List (ℕ × W)
   entries_with_mapped_values es = map (λ e. (e.0, f e.1)) es

@@ -110,7 +110,7 @@ unfolding IsStrictlySortedBy
 sorted-merged [] ys s t = t
 sorted-merged (x ∷ xs) ys s t = sorted-step x xs s (λ zs. sorted-merged xs zs s.1) ys t
 
--- if two lists have exactly the numbers of two sets, the merged list has those of the union
+-- if two ascending lists have exactly the numbers of two sets, the merged list is ascending, with those of the union
 pub Lists-merged : (s t : numbers.FinSet nat_cmp) (xs ys : List ℕ) → IsAscendingListOf s xs → IsAscendingListOf t ys
     → IsAscendingListOf (numbers.union s t) (merged xs ys)
 Lists-merged s t xs ys p q = record {
@@ -223,8 +223,8 @@ other_put xs ys now own left less index n o p within short is under =
     ∙ sym (append_assoc (merged (take own xs) (take less ys)) (n ∷ []) (drop (own + left) now))
     ∙ ap (λ zs. zs ++ drop (own + left) now) (sym first)
 
--- a merge in place is complete once no number of the second list is left: the list in place, `now`, is the merged list,
--- `all`
+-- A merge in place is complete once no number of the second list is left: the list in place, `now`, is `all`, the list
+-- that `own_put` keeps. For this the first `own` numbers of `now` must be those of xs.
 pub all_put : (xs ys now all : List ℕ) (own left : ℕ) → left ≡ 0 → take own now ≡ take own xs
     → merged (take own xs) (take left ys) ++ drop (own + left) now ≡ all → now ≡ all
 all_put xs ys now all own left none kept h =

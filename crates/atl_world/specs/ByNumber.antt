@@ -9,7 +9,7 @@ use Rattle.atl_world.specs.declared.direction.Direction.{Direction}
 use Rattle.atl_world.specs.declared.world.Market.{Market}
 use Rattle.atl_world.specs.declared.world.Terrain.{Terrain}
 
--- the terrain of a region, by the region's number; None if the world has no such region
+-- the terrain of a region, by the region's number; None if the world has no such region, or not its terrain
 abbrev pub terrain_of : WorldValue → (region : ℕ) → Option Terrain
 terrain_of w region = option_and_then (λ p. slice_get w.terrains p.terrain) (get w.regions region)
 
@@ -21,7 +21,7 @@ is_land_at w region = option_map_or (is_land w.terrains) (get w.regions region) 
 abbrev pub neighbour : WorldValue → (region : ℕ) → Direction → Option ℕ
 neighbour w region direction = option_and_then (neighbour_to direction) (get w.regions region)
 
--- the market of an item in a region, both by number; None if the region has no such market
+-- the market of an item in a region, both by number; None if there is no such region or market
 abbrev pub market_of : WorldValue → (region item : ℕ) → Option Market
 market_of w region item = option_and_then (λ p. get p.markets item) (get w.regions region)
 

@@ -6,7 +6,7 @@ use Rattle.std.specs.Borrow.{LendsIf, MutBor, Fml}
 use denote.RattleType.{RattleType}
 use Rattle.atl_world.specs.contracts.numbered.Numbered.{the_row}
 
--- The map m lends its value under a number as the reference r. Once the loan ends, m has the last value written to r
--- under the number. Where r is None, m ends as it was.
+-- The map m, whose values are of the type V, lends its value under a number as the reference r. Once the loan ends, m
+-- has the last value written to r under the number. Where r is None, m ends as it was.
 abbrev pub WritesBackAt : (V : RattleType) → MutBor (map.FinMap nat_cmp V.Denot) → ℕ → Option (MutBor V.Denot) → Fml
 WritesBackAt V m number r = LendsIf (the_row V) V m r (λ w. map.insert m.now number w) m.now

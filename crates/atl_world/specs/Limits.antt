@@ -39,7 +39,7 @@ number_count = 2 ^ 32
 abbrev pub last_region : ℕ
 last_region = 99999
 
--- the largest amount of money, of one item or of peasants
+-- the largest amount of money, of one item or of peasants, number of work places, and capacity of a ship
 abbrev pub most_amount : ℕ
 most_amount = 999999999
 

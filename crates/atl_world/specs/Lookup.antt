@@ -1,4 +1,5 @@
--- The item, skill or kind that a word names. See docs/RULES.md, "Names in orders".
+-- The item, skill or kind that a word names. See docs/RULES.md, "Names in orders". The flag `quoted` says whether the
+-- word is in quotes.
 use Rattle.std.specs.Prelude.{ℕ, Bool, List, map, position, Option, ◌==◌, if◌then◌else◌}
 use Rattle.std.specs.Str.{str_eq_ignore_ascii_case}
 use Rattle.atl_world.specs.Letters.{space, underscore}
@@ -14,22 +15,19 @@ letter_of quoted b = if quoted then b else if b == underscore then space else b
 abbrev pub name_of : List ℕ → Bool → List ℕ
 name_of word quoted = map (letter_of quoted) word
 
--- The index of the first item, skill or kind of a list whose title is the name that a word means, ignoring ASCII case,
--- None if there is none. The flag `quoted` says whether the word is in quotes.
+-- the index of the first item, skill or kind of a list whose title is the name that a word means (`name_of`), ignoring
+-- ASCII case; None if there is none
 abbrev pub index_named : {A : Type 0} → (A → List ℕ) → List A → List ℕ → Bool → Option ℕ
 index_named title things word quoted = position (λ thing. str_eq_ignore_ascii_case (title thing) (name_of word quoted)) things
 
--- the number of the item that a word, with or without quotes (the flag `quoted`), names, ignoring ASCII case; None if
--- there is no such item
+-- the number of the item that a word names (`index_named`), None if there is no such item
 abbrev pub item_named : WorldValue → List ℕ → Bool → Option ℕ
 item_named w word quoted = index_named (λ item. item.name) w.items word quoted
 
--- the number of the skill that a word, with or without quotes (the flag `quoted`), names, ignoring ASCII case; None if
--- there is no such skill
+-- the number of the skill that a word names (`index_named`), None if there is no such skill
 abbrev pub skill_named : WorldValue → List ℕ → Bool → Option ℕ
 skill_named w word quoted = index_named (λ skill. skill.name) w.skills word quoted
 
--- the number of the kind of structure that a word, with or without quotes (the flag `quoted`), names, ignoring ASCII
--- case; None if there is no such kind
+-- the number of the kind of structure that a word names (`index_named`), None if there is no such kind
 abbrev pub kind_named : WorldValue → List ℕ → Bool → Option ℕ
 kind_named w word quoted = index_named (λ kind. kind.name) w.kinds word quoted

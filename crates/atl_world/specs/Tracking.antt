@@ -38,12 +38,13 @@ module _ {V : Type 0} where
   abbrev pub without_values : MarkedMapValue V → MarkedMapValue V
   without_values c = record { values = map.empty; marks = set.union c.marks (set.from_list (map.keys c.values)) }
 
-  -- the map with a new value under n taken out again; n stays marked only if the flag says that it was marked before
+  -- the map with a new value under n taken out again: if the flag says that n was marked before the value was put in,
+  -- this is `without_value`, else the map without the value under n and without the mark of n
   abbrev pub without_new_value : MarkedMapValue V → ℕ → Bool → MarkedMapValue V
   without_new_value c n true = without_value c n
   without_new_value c n false = record { values = map.remove c.values n; marks = set.remove c.marks n }
 
--- The map c with marks lends its value under n as the reference r. Once the loan ends, c has the last value written to
--- r under n, and n is marked. Where r is None, c ends as it was.
+-- The map c with marks, whose values are of the type V, lends its value under n as the reference r. Once the loan ends,
+-- c has the last value written to r under n, and n is marked. Where r is None, c ends as it was.
 abbrev pub WritesBackMarked : (V : RattleType) → MutBor (MarkedMapValue V.Denot) → ℕ → Option (MutBor V.Denot) → Fml
 WritesBackMarked V c n r = LendsIf (the_row V) V c r (with_value c.now n) c.now

@@ -150,8 +150,8 @@ pub record IsMarket (items number : ℕ) (m : Market) : Type 0 where
   pub limit : m.limit ≤ most_amount
   pub restock : m.restock ≤ most_amount
 
--- the region p has the number `number`, a name that keeps the rule of names, numbers and markets in their ranges, and
--- one of `terrains` terrains
+-- The region p has the number `number`, a name that keeps the rule of names, numbers in their ranges, and one of
+-- `terrains` terrains. Each market is under the number of its item, one of `items` items (`IsMarket`).
 pub record IsRegionPlan (terrains items number : ℕ) (p : RegionPlan) : Type 0 where
   pub number_is : p.number ≡ number
   pub number_least : 1 ≤ number
@@ -173,8 +173,9 @@ pub record HasMutualNeighbours (regions : FinMap nat_cmp RegionPlan) (number : �
   pub east : LeadsBack regions (λ q. q.west) number e
   pub west : LeadsBack regions (λ q. q.east) number w
 
--- what is true of every world: parts in their ranges, mutual neighbours, no name twice among things of one kind, not
--- too many of each kind, and some region of land
+-- What is true of every world: parts in their ranges, mutual neighbours, and some region of land. No two terrains, no
+-- two items, no two skills and no two kinds have one name (`NamesDiffer`). Of these and of regions there are at most as
+-- many as the limits say.
 pub record IsWorld (w : WorldValue) : Type 0 where
   pub rules : AreRules (length w.skills) w.rules
   pub terrains : (i : ℕ) (t : Terrain) → slice_get w.terrains i ≡ Some t → IsTerrain (length w.items) t

@@ -16,7 +16,8 @@ pub const MOST_MARKETS: usize = 200;
 /// The highest number of a region; the lowest is 1.
 pub const LAST_REGION: u32 = 99_999;
 
-/// The largest amount of money, of one item or of peasants.
+/// The largest amount of money, of one item or of peasants, number of work places, and capacity of
+/// a ship.
 pub const MOST_AMOUNT: u32 = 999_999_999;
 
 /// The most bytes of a name or of a pass text.

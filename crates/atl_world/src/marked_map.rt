@@ -111,7 +111,7 @@ impl<V: Drop> MarkedMap<V> {
         Ok(())
     }
 
-    /// Takes out the value under a number, if there is one, and marks the number. It takes no
+    /// Takes out the value under a number and marks the number, if there is a value. It takes no
     /// memory.
     pub fn remove(&mut self, number: u32)
         ensures { self.new ≡ without_value self.old number }
@@ -120,8 +120,9 @@ impl<V: Drop> MarkedMap<V> {
         self.values.remove(number);
     }
 
-    /// Undoes an insert: takes out the value, if it is there, and clears the number's mark unless
-    /// `was_marked` says that the number was marked before the insert. It takes no memory.
+    /// Undoes an insert: takes out the value, if it is there, and clears the number's mark. If
+    /// `was_marked`, which says that the number was marked before the insert, it does what `remove`
+    /// does. It takes no memory.
     pub fn take_out(&mut self, number: u32, was_marked: bool)
         ensures { self.new ≡ without_new_value self.old number was_marked }
     {

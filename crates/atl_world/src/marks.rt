@@ -103,8 +103,8 @@ impl Marks {
         }
     }
 
-    /// Marks a number if the map `values` has a value under it; there is room for a mark on each
-    /// value. It takes no memory.
+    /// Marks a number if the map `values` has a value under it; there is room for the old marks and
+    /// a mark on each value (`HasRoomForMarks`). It takes no memory.
     pub fn mark_present<V: Drop>(&mut self, values: &Numbered<V>, number: u32)
         requires { HasRoomForMarks values.now self.old }
         ensures { self.new ≡ record self.old
@@ -116,8 +116,8 @@ impl Marks {
         }
     }
 
-    /// Marks each number under which the map `values` has a value; there is room for all of them.
-    /// It takes no memory.
+    /// Marks each number under which the map `values` has a value; there is room for the old marks
+    /// and these (`HasRoomForMarks`). It takes no memory.
     pub fn mark_all<V: Drop>(&mut self, values: &Numbered<V>)
         requires { HasRoomForMarks values.now self.old }
         ensures { self.new ≡ record self.old {

@@ -147,7 +147,6 @@ impl SortedNumbers {
     }
 }
 
-/// Ok is the index of the number, Err the index where it belongs.
 fn index_of(numbers: &[u32], number: u32) -> Result<usize, usize>
     requires { IsStrictlySortedBy nat_cmp numbers.now }
     ensures found { IfOk result (λ index. IsAt numbers.now number index) }
@@ -197,7 +196,6 @@ fn append(numbers: &mut Vec<u32>, others: &[u32])
     }
 }
 
-/// Whether the last of the first `count` numbers is above `other`; false if `count` is 0.
 fn is_last_above(numbers: &[u32], count: usize, other: u32) -> bool
     requires { count ≤ length numbers.now }
     ensures { IsTrue result ↔ ((0 < count) × (other < slice_index numbers.now (count - 1))) }

@@ -206,8 +206,8 @@ impl Drop for World {
     }
 }
 
-/// Contracts see a world as its rules, terrains, items, skills, kinds and regions. They are in
-/// range, names differ, neighbours are mutual, and some region is land (`IsWorld`).
+/// Contracts see a world as its rules, terrains, items, skills, kinds and regions. Of these
+/// `IsWorld` holds.
 impl Model for World {
     ghost use Rattle.std.specs.Prelude.{◌≡◌};
     ghost use Rattle.atl_world.specs.Worlds.{WorldValue, world_code, world_of_parts, IsWorld, land_of};
