@@ -22,7 +22,7 @@ abbrev pub lines_of_rest : Option (List ℕ) → List (List ℕ)
 lines_of_rest None = []
 lines_of_rest (Some text) = lines text
 
--- a bound on how many lines are left to read; 0 if no text is left
+-- the length of the text that is left plus 1, a bound on the lines left to read; 0 if no line feed was found
 abbrev pub rest_size : Option (List ℕ) → ℕ
 rest_size None = 0
 rest_size (Some text) = length text + 1
@@ -45,7 +45,7 @@ with_units front units = units >>= λ us. Ok (front ++ us)
 abbrev pub alias_set : Aliases → ℕ → Bool
 alias_set aliases k = slice_index_or aliases.given.items k false
 
--- the code's result of a line of `text`, as an effect
+-- what the code returned for a line, as an effect: the name in an order is its bytes, in place of its span of `text`
 abbrev pub effect_of : List ℕ → LineResult → Effect
 effect_of text outcomes.Nothing = nothing
 effect_of text (outcomes.Faulty fault) = faulty fault
