@@ -46,7 +46,7 @@ fault_of (n, nothing) = []
 fault_of (n, faulty fault) = record { line = n; fault = fault } ∷ []
 fault_of (n, says unit order_value) = []
 
--- the faction's number, from 1 to 9,999, that is the second word of a header; None if that word is no such number
+-- the faction's number, from 1 to 9,999, that is the second word of a header; None if it has no such word
 abbrev pub faction_of : List WordText → Option ℕ
 faction_of [] = None
 faction_of (w ∷ []) = None

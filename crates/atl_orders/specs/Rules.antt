@@ -36,13 +36,13 @@ state_after_block (Skipping parent) = Some (state_naming_unit parent)
 abbrev pub FirstWordIs : WordText → Keyword → Type 0
 FirstWordIs w k = keyword_of w ≡ Some k
 
--- the rules for a line with words, by the first word w: the line has the step s
+-- the rules for a line with words, by the first word w and the words ws after it: the line has the step s
 pub data WordsSay (world : WorldValue) (state : ReaderState) (given : ℕ → Bool)
     (w : WordText) (ws : List WordText) (s : LineStep) : Type 0 where
   -- UNIT with a number: further orders are for the unit of this number, and an open block ends
   unit_named : FirstWordIs w keywords.Unit → (n : ℕ) (rest : List WordText) → number_at ws ≡ Ok (n, rest)
       → s ≡ step nothing (At n) given → WordsSay world state given w ws s
-  -- UNIT with a faulty number: the line has this fault, further orders are for no unit, and an open block ends
+  -- UNIT with a faulty number or none: the line has this fault, further orders are for no unit, and an open block ends
   unit_faulty : FirstWordIs w keywords.Unit → (fault : LineFault) → number_at ws ≡ Err fault
       → s ≡ step (faulty fault) Nowhere given → WordsSay world state given w ws s
   -- END in a block: the block is closed
@@ -57,8 +57,8 @@ pub data WordsSay (world : WorldValue) (state : ReaderState) (given : ℕ → Bo
   -- FORM where no unit is named: the line has the fault NoUnit, and a block opens that is skipped
   form_nowhere : FirstWordIs w keywords.Form → state ≡ Nowhere
       → s ≡ step (faulty NoUnit) (Skipping None) given → WordsSay world state given w ws s
-  -- FORM for a named unit outside of blocks, with a faulty alias: the line has this fault, and a block opens that is
-  -- skipped
+  -- FORM for a named unit outside of blocks, with a faulty alias or none: the line has this fault, and a block opens
+  -- that is skipped
   form_faulty : FirstWordIs w keywords.Form → (n : ℕ) → state ≡ At n → (fault : LineFault) → alias_at ws ≡ Err fault
       → s ≡ step (faulty fault) (Skipping (Some n)) given → WordsSay world state given w ws s
   -- FORM for a named unit outside of blocks, with an alias that an earlier FORM gave: the line has the fault BadAlias,
