@@ -341,7 +341,8 @@ matched_text_is view None text h = h
 matched_text_is view (Some x) text h = h
 
 -- For a UTF-8 path, the route made from the key that the router finds and the text of the parameter `number` is that of
--- `route_of`. `e` is what the router finds, `r` is this parameter, if there is one, and `view` gives its text.
+-- `route_of`. `given` is the path, `e` what the router finds, `r` this parameter, if there is one, and `view` gives its
+-- text.
 pub found_route_is : {A : Type 0} (view : A → List ℕ) (r : Option A) (path given : List ℕ) (e : RouteOf RouteKey) (route : Option Route)
     → given ≡ path → IsUtf8 path → first route_rows path ≡ Some e
     → GetsParameter view r (walk e.pattern e.text given e.names 0 0) → route ≡ route_in e.value (option_map view r)
