@@ -35,8 +35,8 @@ ServesInTurn g dice zero old new = new ≡ old
 ServesInTurn {S} g dice (suc count) old new =
     (between : ServiceValue S) × ServesInTurn g dice count old between × ServesConnection g dice between (Ok tt) new
 
--- With Ok exactly `count` requests are served one after another, and with Net fewer. With Memory it runs out for the
--- last of at most `count`.
+-- With Ok exactly `count` requests are served one after another, and with Err Net fewer. With Err Memory memory runs
+-- out for the last of at most `count`.
 abbrev pub ServesEach : {S : Type 0} → Ghosts S → Dice → (count : ℕ) → (old : ServiceValue S)
     → Result (Unit {0}) ListenFault → (new : ServiceValue S) → Type 0
 ServesEach g dice count old (Ok done) new = ServesInTurn g dice count old new

@@ -154,9 +154,9 @@ fn order_line(
     }
 }
 
-/// What a line of a mailing gives, and the reader's next state. `line` has the whole line, and is
-/// a part of its text (`IsCursor`). A FORM without fault adds its alias to `aliases`; after
-/// AllocError nothing is known of them.
+/// What a line of a mailing gives, and the reader's next state. `line.rest` is the whole line, a
+/// part of `line.text` that ends at `line.end` (`IsCursor`). A FORM without fault adds its alias to
+/// `aliases`; after AllocError nothing is known of them.
 #[tactic(auto, using(crate::proofs::WordLaws::ends_at_further, crate::proofs::WordLaws::ends_shorter), unfolding(crate::specs::Reading::line_step))]
 pub fn read_line(
     alloc: Global,

@@ -66,7 +66,7 @@ HasCause g own old new Closed = ⊥
 pub record IsFault {S : Type 0} (g : Ghosts S) (text : List ℕ) (faults : ℕ) (w : WorldValue) (c : CampaignValue)
     (command : Command) (fault : Fault) (new : Held S) : Type 0 where
   pub old : Held S
-  -- the connection before the command is one after the list began: it counts all failures of the disk until then
+  -- before the command the disk had failed at least as often as before the list
   pub since : faults ≤ (state g old).faults
   -- if the disk is clean, the tables before the command held the campaign `c` and the text
   pub held : HasCleanDisk (state g new) → Keeps (state g old) text c
