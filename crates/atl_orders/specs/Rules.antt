@@ -1,6 +1,6 @@
 -- The rules for reading a mailing, as relations: of one line, of all lines after the header, and of a text.
 -- See docs/RULES.md, "Reading a mailing". `state` is the reader's state before the line, or before the first of the
--- lines, and `given` says which aliases earlier FORM lines gave.
+-- lines, and `given` says which aliases earlier FORM lines gave. `#ATLANTIS` and `#END` count in any case (`begins`).
 use Rattle.std.specs.Prelude.{◌≡◌, ℕ, ◌+◌, ◌<◌, ◌≤◌, ◌++◌, Bool, true, false, List, [], ◌∷◌, length, codes, Option, Some, None, Result, Ok, Err}
 use Rattle.std.specs.List.{All, list_all, flat_map}
 use Rattle.atl_world.specs.Worlds.{WorldValue}
@@ -32,7 +32,7 @@ state_after_block (At n) = None
 state_after_block (Forming parent alias) = Some (At parent)
 state_after_block (Skipping parent) = Some (state_naming_unit parent)
 
--- a word, which is the first of a line, is this keyword
+-- a word, which is the first of a line, is this keyword (`keyword_of`)
 abbrev pub FirstWordIs : WordText → Keyword → Type 0
 FirstWordIs w k = keyword_of w ≡ Some k
 

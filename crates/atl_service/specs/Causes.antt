@@ -1,7 +1,7 @@
--- Why a command or founding ended in the fault Memory or Store: the error that a call of its write gave. `old` and
--- `new` are the connection before and after it, and `own` has the SQL statements of its write. `g` is the kind of
--- store, in memory or in files. A disk is clean if each read has returned what was written (docs/PROVED.md,
--- "Premises").
+-- Why a command or founding ended in the fault Memory or Store: the error that a call of its write gave, or a lack of
+-- memory before it. `old` and `new` are the connection before and after it, and `own` has the SQL statements of its
+-- write. `g` is the kind of store, in memory or in files. A disk is clean if each read has returned what was written
+-- (docs/PROVED.md, "Premises").
 use Rattle.std.specs.Prelude.{◌≡◌, ◌⊎◌, ◌≤◌, ℕ, List, Bool, true, false, Ok}
 use Rattle.sqlite_trees.specs.declared.store.Store.{Ghosts}
 use Rattle.sqlite.specs.declared.error.Error.{Error}
