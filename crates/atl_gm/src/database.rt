@@ -225,7 +225,6 @@ fn work_from<S: Start, W: Work>(
     work_in(rt.alloc(), files, options, opening, work)
 }
 
-/// How many pages are kept in memory, once it is clear that the file may be opened so.
 fn confirmed_pages<W: Work>(
     rt: &HostRuntime,
     path: &str,
@@ -249,8 +248,8 @@ fn confirmed_pages<W: Work>(
 
 /// Opens the campaign of the file at the path, does the work on it, and shuts the file. Afterwards
 /// the file alone holds the campaign, whatever came of the work. If shutting it fails, the work may
-/// have been done, and a log is next to the file. Only `found` works on a file that is missing or
-/// too short for a database.
+/// have been done, and a log is next to the file. Only `found` opens a file that is missing or too
+/// short for a database.
 pub fn work_on<W: Work>(
     rt: &HostRuntime,
     path: &str,

@@ -16,7 +16,7 @@ pub enum Failure {
     NoSubcommand,
     /// An option has no value, though the parser of the command line requires one.
     NoValue,
-    /// A file, or standard input, can't be read as text.
+    /// A file, or standard input, can't be read, or isn't UTF-8 though it has to be a text.
     File,
     /// The world text has this fault.
     World(WorldFault),
@@ -24,7 +24,7 @@ pub enum Failure {
     Refused(Refusal),
     /// The database to found a campaign in already has one.
     NotEmpty,
-    /// The database has no campaign.
+    /// The file is missing or empty, or its database has no campaign.
     NotACampaign,
     /// The campaign is in the first format, so the file must be upgraded.
     OldFormat,
@@ -34,7 +34,7 @@ pub enum Failure {
     Damaged(u8),
     /// The new world differs from the old one in more than its markets.
     Differs,
-    /// The database failed, for another cause than memory.
+    /// The database can't be opened, or failed, for another cause than memory.
     Store,
     /// Memory ran out.
     Memory,

@@ -13,8 +13,8 @@ pub fn text_at(rt: &HostRuntime, path: &str) -> Result<String, Failure> {
     fs::read_to_string(rt, path).map_err(read_failure)
 }
 
-/// The first `most` bytes of the file at the path, or all bytes of a shorter file. Nothing after
-/// them is read.
+/// The first `most` bytes of the file at the path, or all bytes of a shorter file; File if it can't
+/// be read. Nothing after them is read.
 pub fn first_bytes_at(rt: &HostRuntime, path: &str, most: u64) -> Result<Vec<u8>, Failure> {
     let file = fs::open(rt, path).map_err(read_failure)?;
     let mut bytes = Vec::new(rt.alloc());

@@ -42,8 +42,8 @@ pub fn print_answer_of<W: Work<Done = Answer>>(
     print_answer(rt, &answer)
 }
 
-/// Prints the answer to a command that was carried out; returns a refusal or a fault as a failure,
-/// and prints nothing of it.
+/// Prints the answer to a command that was carried out; returns a refusal or a fault as a failure
+/// (Closed as Memory), and prints nothing of it.
 pub fn print_answer<R: Print>(rt: &R, answer: &Answer) -> Result<(), Failure> {
     match answer {
         Answer::Joined { faction, unit } => check_printed(println!(rt;

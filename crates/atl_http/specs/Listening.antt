@@ -15,13 +15,14 @@ use Rattle.atl_http.specs.Serving.{IoBytes, Serves}
 abbrev pub unknown_bytes : IoBytes
 unknown_bytes = record { left = None; held = None }
 
--- One request is served with this result, whatever bytes are read and written for it.
+-- One request is served with this result, as `Serves` says of some bytes seen. Nothing ties these to the socket.
 abbrev pub IsServed : {S : Type 0} → Ghosts S → Dice → (old : ServiceValue S)
     → Result ℕ HttpFault → (new : ServiceValue S) → Type 0
 IsServed g dice old outcome new = Serves g dice unknown_bytes unknown_bytes old outcome new
 
--- One connection's request is served: with Err Memory the service ran out of memory, with Ok it did not. Err Net never
--- comes.
+-- One connection's request is served (`IsServed`). With Ok it ended in a status, or in a fault but Memory: the service
+-- has run the command of some request, or is as before. With Err Memory memory ran out for it, and a command has been
+-- run or not. Err Net never comes.
 abbrev pub ServesConnection : {S : Type 0} → Ghosts S → Dice → (old : ServiceValue S)
     → Result (Unit {0}) ListenFault → (new : ServiceValue S) → Type 0
 ServesConnection g dice old (Ok done) new = (outcome : Result ℕ HttpFault) × (outcome ≢ Err http.Memory) × IsServed g dice old outcome new
@@ -34,8 +35,8 @@ ServesInTurn g dice zero old new = new ≡ old
 ServesInTurn {S} g dice (suc count) old new =
     (between : ServiceValue S) × ServesInTurn g dice count old between × ServesConnection g dice between (Ok tt) new
 
--- With Ok exactly `count` requests are served one after another, and fewer if no connection can be taken (Net). If
--- memory runs out for one, it is the last of at most `count`.
+-- With Ok exactly `count` requests are served one after another, and with Err Net fewer. With Err Memory memory runs
+-- out for the last of at most `count`.
 abbrev pub ServesEach : {S : Type 0} → Ghosts S → Dice → (count : ℕ) → (old : ServiceValue S)
     → Result (Unit {0}) ListenFault → (new : ServiceValue S) → Type 0
 ServesEach g dice count old (Ok done) new = ServesInTurn g dice count old new

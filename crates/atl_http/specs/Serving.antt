@@ -33,7 +33,7 @@ next_faction None = 0
 next_faction (Some c) = c.next_faction
 
 -- The command that a request asks for, with words of the dice. A join has the word for the faction that joins next,
--- whose number is `next`; a close has one word for each of the `regions` regions.
+-- whose number is `next`; a close has the words of its month, one for each of the `regions` regions.
 abbrev pub command_of : Dice → (next regions : ℕ) → Request → Command
 command_of dice next regions (Join name pass) = command.Join name pass (word_of (generator dice.seed (joining_streams + next)))
 command_of dice next regions (Orders faction pass text) = command.Mail faction pass text
@@ -72,9 +72,10 @@ pub record IoBytes : Type 0 where
   -- the bytes that the writer holds; None if they aren't known
   pub held : Option (List ℕ)
 
--- What serving one request does, by its result. With Ok the whole reply to the bytes seen was written; with WriteFault
--- only the first part of it, perhaps nothing. With Cut and ReadFault nothing was written, and the service is unchanged.
--- With Memory nothing was written, and the command has been run or not.
+-- What serving one request does, by its result. With Ok the whole reply to the bytes seen (`RepliesTo`) was written,
+-- and the result is its status; with WriteFault only the first part of it, perhaps nothing. With Cut and ReadFault
+-- nothing was written, and the service is unchanged. With Memory nothing was written, and the command has been run or
+-- not.
 abbrev pub Serves : {S : Type 0} → Ghosts S → Dice → (before after : IoBytes) → (old : ServiceValue S)
     → Result ℕ HttpFault → (new : ServiceValue S) → Type 0
 Serves g dice before after old (Ok status) new =

@@ -24,7 +24,8 @@ pub enum ListenFault {
     Memory,
 }
 
-/// A connection whose peer ends it or is too slow counts as served.
+/// A connection whose peer ends it or is too slow counts as served. The contract says how the
+/// service is left, and nothing of the bytes that the peer sends and gets.
 fn serve_stream<C: Clock, S: Alter>(
     alloc: Global,
     clock: &C,

@@ -58,7 +58,7 @@ fn reply_to<S: Alter>(
 }
 
 /// Reads one request, runs its command and writes the reply, as `serve_one` does, and counts the
-/// reads and the interrupted writes.
+/// reads and the interrupted writes. `reads` and `writes` must be `none()`.
 pub fn serve_counted<R: Read, W: Write, S: Alter>(
     alloc: Global,
     reader: &mut R,

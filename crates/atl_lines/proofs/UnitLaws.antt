@@ -40,7 +40,8 @@ then_units_of_choice : (t : Bool) (a b : Result (List UnitRef) LineFault) (c d :
 then_units_of_choice true a b c d p q = p
 then_units_of_choice false a b c d p q = q
 
--- the units that one or more words name are the unit that the words begin with, and then those of the words after it
+-- the units that one or more words name are the unit that the words begin with, and then those of the words after it;
+-- the first fault of these is the fault of all
 pub units_step : (w : WordText) (ws : List WordText) → units_of (w ∷ ws) ≡ unit_at (w ∷ ws) >>= then_units
 unfolding units_of unit_at count_at
 units_step w [] =

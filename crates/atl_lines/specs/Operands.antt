@@ -1,4 +1,5 @@
--- How the words after a keyword are read. See docs/RULES.md, "Orders", and docs/RULES.md, "Names in orders".
+-- How the words after a keyword are read. NEW and the directions are read in any case (`is_word`).
+-- See docs/RULES.md, "Orders", and docs/RULES.md, "Names in orders".
 use Rattle.std.specs.Prelude.{ℕ, List, [], ◌∷◌, codes, Option, Some, None, Result, Ok, Err, ◌==◌, if◌then◌else◌}
 use Rattle.atl_words.specs.Limits.{last_alias, most_number}
 use Rattle.atl_world.specs.Worlds.{WorldValue}
@@ -45,26 +46,26 @@ unit_at ws = do
       then (alias_at w.1 >>= λ n. Ok (Alias n.0, n.1))
       else (number_at ws >>= λ n. Ok (Number n.0, n.1))
 
--- the next word as an item of the world, by number; else MissingWord or UnknownThing
+-- the number of the item that the next word names (`item_named`); else MissingWord or UnknownThing
 abbrev pub item_at : WorldValue → List WordText → Result ℕ LineFault
 item_at world ws = do
   w ← word_at ws
   or_fault UnknownThing (item_named world w.0.bytes w.0.quoted)
 
--- an amount from 1 to 999,999,999, and then an item of the world; else MissingWord, BadNumber or UnknownThing
+-- an amount from 1 to 999,999,999, then an item's number (`item_at`); else MissingWord, BadNumber or UnknownThing
 abbrev pub amount_of_item_at : WorldValue → List WordText → Result (ℕ × ℕ) LineFault
 amount_of_item_at world ws = do
   amount ← number_at ws
   item ← item_at world amount.1
   Ok (amount.0, item)
 
--- the next word as a skill of the world, by number; else MissingWord or UnknownThing
+-- the number of the skill that the next word names (`skill_named`); else MissingWord or UnknownThing
 abbrev pub skill_at : WorldValue → List WordText → Result ℕ LineFault
 skill_at world ws = do
   w ← word_at ws
   or_fault UnknownThing (skill_named world w.0.bytes w.0.quoted)
 
--- the next word as a kind of structure of the world, by number; else MissingWord or UnknownThing
+-- the number of the kind of structure that the next word names (`kind_named`); else MissingWord or UnknownThing
 abbrev pub kind_at : WorldValue → List WordText → Result ℕ LineFault
 kind_at world ws = do
   w ← word_at ws

@@ -1,4 +1,5 @@
--- What each order says: its verb, and what the words after it name. See docs/RULES.md, "Orders".
+-- What each order says: its verb, and what the words after it name. Words after these are ignored. See docs/RULES.md,
+-- "Orders".
 use Rattle.std.specs.Prelude.{ℕ, List, [], ◌∷◌, codes, Option, Some, None, Result, Ok, Err, ◌==◌, if◌then◌else◌}
 use Rattle.std.specs.List.{slice_range}
 use Rattle.atl_world.specs.Names.{name_ok}
@@ -55,7 +56,7 @@ read_unit_and_goods world ws = do
   goods ← amount_of_item_at world to.1
   Ok (operands.UnitAndGoods to.0 goods.0 goods.1)
 
--- what gets a new name by the word after NAME: unit, faction, building or ship; None for another word
+-- what gets a new name by the word after NAME, in any case: unit, faction, building or ship; None for another word
 abbrev pub kind_of_name : WordText → Option NameKind
 kind_of_name w =
     if is_word (codes "UNIT") w then Some kinds.Unit
@@ -68,7 +69,7 @@ kind_of_name w =
 abbrev pub name_operands : NameKind → List ℕ → Result OperandsValue LineFault
 name_operands what bytes = if name_ok bytes then Ok (operands.Name what bytes) else Err BadName
 
--- the operands of NAME: what gets a new name, and the name, read from the words after it; or their first fault
+-- the operands of NAME: what gets a new name, and the name (`name_of`), read from its words; or their first fault
 abbrev pub read_name : List WordText → Result OperandsValue LineFault
 read_name ws = do
   w ← word_at ws

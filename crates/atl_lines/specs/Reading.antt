@@ -26,7 +26,7 @@ use Rattle.atl_lines.specs.Orders.{OrderValue, order_of, read_order}
 abbrev pub is_plain : ℕ → Bool
 is_plain b = b == tab || (nat_le space b && nat_le b tilde)
 
--- the keyword that a word is, in any case: UNIT, END, FORM, or one of an order; None if it is no keyword
+-- the keyword that a word is, in any case: UNIT, END, FORM, or that of a verb (`verb_of`); None if it is no keyword
 abbrev pub keyword_of : WordText → Option Keyword
 keyword_of w =
     if is_word (codes "UNIT") w then Some keywords.Unit
@@ -63,12 +63,13 @@ abbrev pub state_naming_unit : Option ℕ → ReaderState
 state_naming_unit None = Nowhere
 state_naming_unit (Some n) = At n
 
--- the step of a UNIT line: further orders are for its unit; on a fault they are for no unit
+-- the step of a UNIT line: an open block ends, and further orders are for its unit; on a fault they are for no unit
 abbrev pub unit_step : (ℕ → Bool) → Result (ℕ × List WordText) LineFault → LineStep
 unit_step given (Ok n) = step nothing (At n.0) given
 unit_step given (Err fault) = step (faulty fault) Nowhere given
 
--- the step of an END line: the open block ends; the fault is EndAlone if no block is open
+-- the step of an END line: the open block ends, and the unit that was named before it, if one was, is named again; the
+-- fault is EndAlone if no block is open
 abbrev pub end_step : ReaderState → (ℕ → Bool) → LineStep
 end_step Nowhere given = step (faulty EndAlone) Nowhere given
 end_step (At n) given = step (faulty EndAlone) (At n) given
@@ -79,8 +80,8 @@ end_step (Skipping parent) given = step nothing (state_naming_unit parent) given
 abbrev pub form_value : ℕ → OrderValue
 form_value alias = order_of verbs.Form (operands.Alias alias)
 
--- The step of a FORM line for the unit `parent`, outside of blocks: a new alias is given, and its block opens. On a
--- fault, as BadAlias for an alias given before, the block is skipped.
+-- The step of a FORM line for the unit `parent`, outside of blocks: the order FORM for this unit; a new alias is given,
+-- and its block opens. On a fault, as BadAlias for an alias given before, a skipped block opens.
 abbrev pub block_step : ℕ → (ℕ → Bool) → Result (ℕ × List WordText) LineFault → LineStep
 block_step parent given (Ok n) =
     if given n.0
@@ -88,8 +89,8 @@ block_step parent given (Ok n) =
     else step (says (Number parent) (form_value n.0)) (Forming parent n.0) (with_alias given n.0)
 block_step parent given (Err fault) = step (faulty fault) (Skipping (Some parent)) given
 
--- The step of a FORM line: a block opens, which is skipped with the fault NoUnit if no unit is named. Inside a block
--- the fault is NestedForm, and the open block stays.
+-- The step of a FORM line: `block_step` for the named unit. If no unit is named, the fault is NoUnit, and a skipped
+-- block opens. Inside a block the fault is NestedForm, and the open block stays.
 abbrev pub form_step : ReaderState → (ℕ → Bool) → List WordText → LineStep
 form_step Nowhere given ws = step (faulty NoUnit) (Skipping None) given
 form_step (At n) given ws = block_step n given (alias_at ws)
@@ -120,7 +121,7 @@ abbrev pub words_step : WorldValue → ReaderState → (ℕ → Bool) → List W
 words_step world state given [] = step nothing state given
 words_step world state given (w ∷ ws) = keyword_step world state given (keyword_of w) ws
 
--- the step of one line: its effect, the reader's state and the aliases after it; BadByte if a byte may not be in a line
+-- the step of one line: `words_step` of its words; if a byte may not be in a line, BadByte, and state and aliases stay
 unfoldable pub line_step : WorldValue → ReaderState → (ℕ → Bool) → List ℕ → LineStep
 line_step world state given line =
     if list_all is_plain line then words_step world state given (words line)

@@ -29,7 +29,7 @@ with_units front units = units >>= λ us. Ok (front ++ us)
 abbrev pub alias_set : Aliases → ℕ → Bool
 alias_set aliases k = slice_index_or aliases.given.items k false
 
--- the code's result of a line of `text`, as an effect
+-- what the code returned for a line, as an effect: the name in an order is its bytes, in place of its span of `text`
 abbrev pub effect_of : List ℕ → LineResult → Effect
 effect_of text outcomes.Nothing = nothing
 effect_of text (outcomes.Faulty fault) = faulty fault

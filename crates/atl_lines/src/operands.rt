@@ -23,8 +23,6 @@ pub fn word_at(line: &[u8]) -> Result<(Word<'_>, &[u8]), LineFault>
     next_word(line).ok_or(LineFault::MissingWord)
 }
 
-/// The next word as a number from 1 to `most`, and the rest of the line; else MissingWord or
-/// `fault`.
 #[tactic(auto, unfolding(crate::specs::Operands::count_at))]
 fn count_at(line: &[u8], most: u32, fault: LineFault) -> Result<(u32, &[u8]), LineFault>
     requires { most ≤ most_number }

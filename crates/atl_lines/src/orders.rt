@@ -134,8 +134,8 @@ fn read_operands(
     }
 }
 
-/// The order that a verb and the words after it give, or the first fault of these words. After
-/// AllocError nothing is known of them.
+/// The order that a verb and the words after it give, or the first fault of these words. `cursor`
+/// is at these words (`IsCursor`). After AllocError nothing is known of them.
 #[tactic(auto, unfolding(crate::specs::Orders::read_order))]
 pub fn order_at(
     alloc: Global,

@@ -155,8 +155,9 @@ fn order_line(
     }
 }
 
-/// What a line of a mailing gives, and the reader's next state. A FORM without fault adds its alias
-/// to `aliases`.
+/// What a line of a mailing gives, and the reader's next state. `line.rest` is the whole line, a
+/// part of `line.text` that ends at `line.end` (`IsCursor`). A FORM without fault adds its alias to
+/// `aliases`; after AllocError nothing is known of them.
 #[tactic(auto, using(atl_words::proofs::WordLaws::ends_at_further, atl_words::proofs::WordLaws::ends_shorter), unfolding(crate::specs::Reading::line_step))]
 pub fn read_line(
     alloc: Global,

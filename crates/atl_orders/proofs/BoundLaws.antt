@@ -38,13 +38,13 @@ IsStateInBounds (Forming parent alias) = IsNumber parent × IsAlias alias
 IsStateInBounds (Skipping None) = Unit {0}
 IsStateInBounds (Skipping (Some n)) = IsNumber n
 
--- the order that a line gives, if any, and the unit that it is for have numbers, names and things in bounds
+-- the order that a line gives, if any, says what it is and is in bounds (`IsOrderOf`), as is the unit that it is for
 abbrev IsEffect : WorldValue → Effect → Type 0
 IsEffect world nothing = Unit {0}
 IsEffect world (faulty fault) = Unit {0}
 IsEffect world (says unit order_value) = IsUnitRef unit × IsOrderOf world order_value
 
--- what a line gives (`IsEffect`), and the reader's state after it, have numbers, names and things in bounds
+-- what a line gives (`IsEffect`), and the reader's state after it (`IsStateInBounds`), are in bounds
 abbrev IsStep : WorldValue → LineStep → Type 0
 IsStep world s = IsEffect world s.effect × IsStateInBounds s.state
 
@@ -178,6 +178,6 @@ reading_sound world text =
     cond_both (nat_lt most_bytes (length text)) _ _ (Holds (IsReading world)) (λ _. tt)
     (λ _. after_header_sound world (header_from 1 (lines text)) (header_sound (lines text) 1))
 
--- whatever mailing a text gives is in bounds: its faction, its orders and its line numbers
+-- whatever mailing a text gives is in bounds: its faction, its orders and its line numbers (`IsReading`)
 pub readings_keep_bounds : ReadingsKeepBounds
 readings_keep_bounds world text r e = subst (Holds (IsReading world)) e (reading_sound world text)

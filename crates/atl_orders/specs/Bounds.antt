@@ -1,5 +1,5 @@
--- What holds of all orders that are read: operands of the verb's shape, numbers in range, names by their rule, things
--- of the world.
+-- What holds of all mailings that are read: a faction in range, ascending line numbers, and orders with operands of the
+-- verb's shape, numbers in range, names by their rule, and things of the world.
 use Rattle.std.specs.Prelude.{◌≡◌, ◌≤◌, ◌<◌, ℕ, true, List, [], ◌∷◌, length, Some, None, Ok}
 use Rattle.std.specs.List.{All}
 use Rattle.atl_words.specs.Limits.{most_number, last_alias, last_faction}
@@ -31,7 +31,8 @@ abbrev pub IsUnitRef : UnitRef → Type 0
 IsUnitRef (Number n) = IsNumber n
 IsUnitRef (Alias alias) = IsAlias alias
 
--- the operands of an order are in bounds: numbers in range, names by the rule, and things that a world has
+-- the operands of an order are in bounds: numbers and aliases in range, in a list one unit or more, names by the rule,
+-- and things that a world has
 abbrev pub AreOperandsOf : WorldValue → OperandsValue → Type 0
 AreOperandsOf world operands.Nothing = Unit {0}
 AreOperandsOf world (operands.Alias alias) = IsAlias alias
@@ -70,7 +71,7 @@ shape_of (operands.Item item) = shapes.Item
 pub record IsOrderOf (world : WorldValue) (order_value : OrderValue) : Type 0 where
   -- the operands have the shape of the words after the verb
   pub shape : shape_of order_value.operands ≡ (row_of order_value.verb).shape
-  -- the operands have numbers in range, names by the rule, and things that the world has (`AreOperandsOf`)
+  -- the operands are in bounds (`AreOperandsOf`)
   pub operands : AreOperandsOf world order_value.operands
 
 -- an order of a mailing says what it is, and is in bounds, as is the reference to the unit that it is for
@@ -84,7 +85,8 @@ abbrev pub LinesRise : ℕ → List EntryValue → Type 0
 LinesRise n [] = Unit {0}
 LinesRise n (e ∷ es) = (n < e.line) × LinesRise e.line es
 
--- a mailing as read is in bounds: its faction in range, its orders in bounds, and their line numbers strictly ascending
+-- a mailing as read is in bounds: its faction is from 1 to 9,999, its orders are as `IsEntry` says, and their line
+-- numbers are above 0 and strictly ascending
 pub record IsReading (world : WorldValue) (r : Reading) : Type 0 where
   pub faction : IsWithin last_faction r.faction
   pub entries : All (IsEntry world) r.entries

@@ -1,4 +1,5 @@
--- The reading of a mailing: its faction, orders and faulty lines. See docs/RULES.md, "Reading a mailing".
+-- The reading of a mailing: its faction, orders and faulty lines. `#END` counts in any case (`begins`).
+-- See docs/RULES.md, "Reading a mailing".
 use Rattle.std.specs.Prelude.{◌≡◌, ℕ, ◌+◌, Bool, List, [], ◌∷◌, length, map, codes, Result, Ok, Err, nat_lt, if◌then◌else◌}
 use Rattle.std.specs.List.{flat_map}
 use Rattle.atl_words.specs.Limits.{most_bytes}

@@ -1,6 +1,6 @@
 -- The rules for reading a mailing, as relations: of one line, of all lines after the header, and of a text.
 -- See docs/RULES.md, "Reading a mailing". `state` is the reader's state before the line, or before the first of the
--- lines, and `given` says which aliases earlier FORM lines gave.
+-- lines, and `given` says which aliases earlier FORM lines gave. `#ATLANTIS` and `#END` count in any case (`begins`).
 use Rattle.std.specs.Prelude.{◌≡◌, ℕ, ◌+◌, ◌<◌, ◌≤◌, ◌++◌, Bool, true, false, List, [], ◌∷◌, length, codes, Option, Some, None, Result, Ok, Err}
 use Rattle.std.specs.List.{All, list_all, flat_map}
 use Rattle.atl_world.specs.Worlds.{WorldValue}
@@ -33,17 +33,17 @@ state_after_block (At n) = None
 state_after_block (Forming parent alias) = Some (At parent)
 state_after_block (Skipping parent) = Some (state_naming_unit parent)
 
--- a word, which is the first of a line, is this keyword
+-- a word, which is the first of a line, is this keyword (`keyword_of`)
 abbrev pub FirstWordIs : WordText → Keyword → Type 0
 FirstWordIs w k = keyword_of w ≡ Some k
 
--- the rules for a line with words, by the first word w: the line has the step s
+-- the rules for a line with words, by the first word w and the words ws after it: the line has the step s
 pub data WordsSay (world : WorldValue) (state : ReaderState) (given : ℕ → Bool)
     (w : WordText) (ws : List WordText) (s : LineStep) : Type 0 where
   -- UNIT with a number: further orders are for the unit of this number, and an open block ends
   unit_named : FirstWordIs w keywords.Unit → (n : ℕ) (rest : List WordText) → number_at ws ≡ Ok (n, rest)
       → s ≡ step nothing (At n) given → WordsSay world state given w ws s
-  -- UNIT with a faulty number: the line has this fault, further orders are for no unit, and an open block ends
+  -- UNIT with a faulty number or none: the line has this fault, further orders are for no unit, and an open block ends
   unit_faulty : FirstWordIs w keywords.Unit → (fault : LineFault) → number_at ws ≡ Err fault
       → s ≡ step (faulty fault) Nowhere given → WordsSay world state given w ws s
   -- END in a block: the block is closed
@@ -58,8 +58,8 @@ pub data WordsSay (world : WorldValue) (state : ReaderState) (given : ℕ → Bo
   -- FORM where no unit is named: the line has the fault NoUnit, and a block opens that is skipped
   form_nowhere : FirstWordIs w keywords.Form → state ≡ Nowhere
       → s ≡ step (faulty NoUnit) (Skipping None) given → WordsSay world state given w ws s
-  -- FORM for a named unit outside of blocks, with a faulty alias: the line has this fault, and a block opens that is
-  -- skipped
+  -- FORM for a named unit outside of blocks, with a faulty alias or none: the line has this fault, and a block opens
+  -- that is skipped
   form_faulty : FirstWordIs w keywords.Form → (n : ℕ) → state ≡ At n → (fault : LineFault) → alias_at ws ≡ Err fault
       → s ≡ step (faulty fault) (Skipping (Some n)) given → WordsSay world state given w ws s
   -- FORM for a named unit outside of blocks, with an alias that an earlier FORM gave: the line has the fault BadAlias,

@@ -7,7 +7,7 @@ use Rattle.atl_words.specs.Header.{HeaderValue}
 use Rattle.atl_lines.specs.Reading.{Effect}
 use Rattle.atl_words.specs.WordViews.{lines_of_rest}
 
--- a header of the code, as its faction and the lines after it
+-- a header of the code, as its faction and the lines after it, with the number of the first of them
 abbrev pub header_value : Header → HeaderValue
 header_value h = record { faction = h.faction; next = h.next; rest = lines_of_rest (option_copied h.rest) }
 

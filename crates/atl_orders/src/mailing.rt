@@ -35,7 +35,7 @@ pub struct Entry {
 /// See docs/RULES.md, "Reading a mailing".
 #[derive(Debug)]
 pub struct Mailing {
-    /// The number of the faction that sent the mailing, from 1 to `LAST_FACTION`.
+    /// The number of the faction that the header names, from 1 to `LAST_FACTION`.
     pub faction: u32,
     /// The bytes that were read, at most `MOST_BYTES`, which the names in orders are parts of.
     pub text: Sequence<u8>,
@@ -111,8 +111,6 @@ fn part(text: &[u8], start: usize, end: usize) -> &[u8]
     &rest[..end.saturating_sub(start).min(rest.len())]
 }
 
-/// The faction that the second word of a header names, a number from 1 to `LAST_FACTION`, else
-/// `None`.
 fn faction_of(line: &[u8]) -> Option<u32>
     ensures { result ≡ faction_of (words line.now) }
 {
@@ -167,7 +165,6 @@ pub fn is_mailing_of(faction: u32, text: &[u8]) -> bool
     text.len() <= MOST_BYTES && find_header(text).is_ok_and(|header| header.faction == faction)
 }
 
-/// Reads the lines after the header, up to the first that begins with `#END`.
 #[tactic(auto, using(atl_words::proofs::LineLaws::line_ends_at, atl_words::proofs::WordLaws::ends_further, atl_words::proofs::LineLaws::starts_shorter, atl_words::proofs::WordLaws::ends_shorter), unfolding(crate::specs::Mailing::effects))]
 fn read_body(
     alloc: Global,

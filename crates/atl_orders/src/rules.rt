@@ -1,4 +1,4 @@
-//! Two laws: mailings are read by the rules, and every order that is read says what it is.
+//! Two laws: mailings are read by the rules, and every mailing that is read is in bounds.
 //! See docs/RULES.md, "Reading a mailing".
 ghost use Rattle.atl_orders.specs.Rules.{LineRules, BodyRules, TextRules};
 ghost use Rattle.atl_orders.specs.Bounds.{ReadingsKeepBounds};
@@ -11,9 +11,10 @@ pub fn rules_are_the_reading()
     ensures texts { TextRules }
 {}
 
-/// A law: every order that is read has operands of the shape that the order table gives its verb,
-/// numbers in their ranges, names that keep the rule of names, and things of the world. The call
-/// does nothing. See docs/RULES.md, "Orders".
+/// A law: every mailing that is read has a faction in range and strictly ascending line numbers,
+/// and each order has operands of the shape that the order table gives its verb, numbers in their
+/// ranges, names that keep the rule of names, and things of the world. The call does nothing.
+/// See docs/RULES.md, "Orders".
 pub fn readings_keep_bounds()
     ensures { ReadingsKeepBounds }
 {}

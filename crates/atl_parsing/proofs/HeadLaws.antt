@@ -99,8 +99,8 @@ front_refused input h =
 
 -- ---- a head that isn't whole
 
--- an input below 8,192 bytes is unfinished (`IsUnfinished`), if its front, which then is all of it, has no whole head
--- and may become one
+-- an input below 8,192 bytes is unfinished (`IsUnfinished`), if its front, which then is all of it, has no whole head,
+-- and may become one or ends inside the target
 pub short_front : (input : List ℕ) → length input < most_head → HasNoRequest (take most_head input)
     → MayBecomeRequest (take most_head input) → IsUnfinished input
 short_front input h none goes_on =
@@ -146,7 +146,7 @@ pub judges_refused : (input front : List ℕ) → front ≡ take most_head input
     → Judges input (Refused BadRequest)
 judges_refused input front e h = refused (front_refused input (subst IsRefused e h)) refl
 
--- the verdict on an input below 8,192 bytes is More, if it has no whole head and may become one
+-- the verdict More on an input below 8,192 bytes is right, if it is unfinished as in `short_front`
 judges_more : (input front : List ℕ) → front ≡ take most_head input → length input < most_head
     → HasNoRequest front × MayBecomeRequest front → Judges input More
 judges_more input front e h (none, goes_on) =
@@ -157,7 +157,8 @@ short_by_one : (input : List ℕ) → Judges input More → (more : List ℕ) �
 short_by_one input h [] few = subst (λ l. Judges l More) (sym (append-nil input)) h
 short_by_one input h (x ∷ more) few = absurd (omega (arith, few))
 
--- an input below 8,192 bytes lacks at least one byte (`ComesTo`), if it has no whole head and may become one
+-- an input below 8,192 bytes lacks at least one byte (`ComesTo`), if it has no whole head, and may become one or ends
+-- inside the target
 pub missing_one : (input front : List ℕ) → front ≡ take most_head input → length input < most_head
     → HasNoRequest front × MayBecomeRequest front → ComesTo input (Missing 1)
 missing_one input front e h unfinished_front =

@@ -45,7 +45,7 @@ is_text [] h = tt
 is_text (b ∷ front) h = text_step b front (ltb b param_token) refl (λ k. is_text front k) h
 
 -- walking a pattern along a path that is at least as long as the pattern's prefix passes the prefix, and reaches the
--- parameter after it
+-- parameter after it; the pattern begins at byte `t` of the path, which has `len` bytes
 walk_front : (front : List ℕ) (len t : ℕ) → IsText front → t + length front ≤ len
     → wild_from (front ++ param_token ∷ []) len t t ≡ (t + length front, t + length front)
 walk_front [] len t h l = rw (add-zero t) refl
@@ -65,7 +65,7 @@ part_rest path n h =
     rw (one, two, ← count) (take-length (drop n path))
 
 -- Walking a pattern along a path takes the path without its first `n` bytes as the parameter `number`. Premises: the
--- prefix of the pattern has `n` bytes, and the pattern ends with the parameter.
+-- pattern has `n` bytes before the parameter and none after it, and `text` has the name from `start` to `end`.
 takes : (pattern text path rest : List ℕ) (start end n : ℕ) → wild_from pattern (length path) 0 0 ≡ (n, n)
     → (ltb n (length pattern) && (get_or pattern n 0 == param_token) && ltb (n + 1) (length pattern)) ≡ false
     → part_of text start end ≡ number_text → drop n path ≡ rest → n ≤ length path
@@ -341,7 +341,8 @@ matched_text_is view None text h = h
 matched_text_is view (Some x) text h = h
 
 -- For a UTF-8 path, the route made from the key that the router finds and the text of the parameter `number` is that of
--- `route_of`. `e` is what the router finds, `r` is this parameter, if there is one, and `view` gives its text.
+-- `route_of`. `given` is the path, `e` what the router finds, `r` this parameter, if there is one, and `view` gives its
+-- text.
 pub found_route_is : {A : Type 0} (view : A → List ℕ) (r : Option A) (path given : List ℕ) (e : RouteOf RouteKey) (route : Option Route)
     → given ≡ path → IsUtf8 path → first route_rows path ≡ Some e
     → GetsParameter view r (walk e.pattern e.text given e.names 0 0) → route ≡ route_in e.value (option_map view r)

@@ -29,7 +29,8 @@ pub record HasHead (input : List ℕ) (head : RequestHead) (rest : List ℕ) : T
   -- the head has at most 32 fields
   pub fields : length head.fields ≤ most_fields
 
--- Whatever bytes follow, the input has no good head: it never becomes one, or it has too many fields.
+-- Whatever bytes follow, the input has no good head: it never begins with a head; or each head that it then may begin
+-- with has more than 32 fields, and bytes at its front, with an empty line after them, already are such a head.
 abbrev pub IsRefused : List ℕ → Type 0
 IsRefused input = NeverHasRequest input ⊎ (RequestExceeds most_fields input × RequestOverflows most_fields input)
 
@@ -37,13 +38,14 @@ IsRefused input = NeverHasRequest input ⊎ (RequestExceeds most_fields input ×
 abbrev pub IsTooLong : List ℕ → Type 0
 IsTooLong input = (most_head ≤ length input) × HasNoRequest (take most_head input)
 
--- The head isn't whole, and may become whole with further bytes; fewer than 8,192 bytes have arrived.
+-- The head isn't whole, and may become whole with further bytes, or the input ends inside the target; fewer than 8,192
+-- bytes have arrived.
 pub record IsUnfinished (input : List ℕ) : Type 0 where
   -- fewer than 8,192 bytes have arrived
   pub short : length input < most_head
   -- the input doesn't begin with a whole head
   pub none : HasNoRequest input
-  -- further bytes can make the input a whole head, or the target is still arriving (`MayBecomeRequest`)
+  -- further bytes can make the input a whole head, or it ends inside the target (`MayBecomeRequest`)
   pub open_end : MayBecomeRequest input
 
 -- The verdict is right for the bytes received so far: the head is whole, too long, refused or unfinished.
@@ -55,7 +57,7 @@ pub data Judges (input : List ℕ) (verdict : Verdict) : Type 0 where
   too_long : IsTooLong input → verdict ≡ Refused BadRequest → Judges input verdict
   -- whatever bytes follow, the input has no good head: BadRequest
   refused : IsRefused input → verdict ≡ Refused BadRequest → Judges input verdict
-  -- the head may become whole with further bytes: More
+  -- the head may become whole with further bytes, or the input ends inside the target: More
   unfinished : IsUnfinished input → verdict ≡ More → Judges input verdict
 
 -- The verdict needs no more bytes: the request is whole, or refused.
@@ -69,7 +71,7 @@ abbrev pub as_verdict : FinalVerdict → Verdict
 as_verdict (outcome.Refused problem) = Refused problem
 as_verdict (outcome.Asks asked) = Asks asked
 
--- With fewer than `count` more bytes after `seen` the verdict stays More.
+-- With fewer than `count` more bytes after `seen` the verdict More is right (`Judges`).
 abbrev pub IsShortBy : (seen : List ℕ) → (count : ℕ) → Type 0
 IsShortBy seen count = (more : List ℕ) → length more < count → Judges (seen ++ more) More
 

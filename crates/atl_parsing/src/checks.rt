@@ -137,7 +137,8 @@ pub(crate) struct ParsedHead<'a> {
 }
 
 /// Checks a head: its route, body length and pass text, or the problem of the first check that it
-/// fails. Memory without memory for the routes.
+/// fails. `minor` is the digit after `HTTP/1.`, and the spans of `fields` lie within `bytes`.
+/// Memory without memory for the routes.
 #[tactic(auto, unfolding(crate::specs::Checks::head_checks))]
 pub fn head_checks<'a>(
     alloc: Global,

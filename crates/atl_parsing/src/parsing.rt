@@ -63,9 +63,9 @@ fn front_of(seen: &[u8]) -> &[u8]
 #[derive(Drop, Clone, Copy)]
 pub(crate) enum HeadParse {
     Whole(RequestSpans),
-    /// The head isn't whole, and may become so.
+    /// The head isn't whole, and may become so, or the bytes end inside the target.
     Partial,
-    /// No good head begins with these bytes, or it has too many fields.
+    /// Whatever bytes follow, there is no head, or it has too many fields.
     Refused,
 }
 
@@ -88,7 +88,7 @@ fn first_fields(fields: &[HeaderSpan], count: usize) -> &[HeaderSpan]
     &fields[..count]
 }
 
-/// The received bytes after the first `len`.
+/// The received bytes after the first `len`; there must be at least `len` of them.
 pub fn rest_after(seen: &[u8], len: usize) -> &[u8]
     requires { len ≤ length seen.now }
     ensures { result.now ≡ drop len seen.now }

@@ -71,7 +71,6 @@ fn first_question(bytes: &[u8]) -> Option<usize>
     bytes.iter().position(|byte| *byte == b'?')
 }
 
-/// The index of the first question mark, or the length of the target without one.
 #[tactic(auto, using(atl_words::proofs::WordLaws::found_or_len, atl_words::proofs::WordLaws::found_within))]
 fn end_of_path(target: &[u8]) -> usize
     ensures value { result ≡ position_or_len is_question target.now }

@@ -117,16 +117,17 @@ WriteFaultOf writes ReadFault = ⊥
 WriteFaultOf writes WriteFault = (writes.last ≡ written.Failed) ⊎ (writes.interrupted ≡ most_interrupted)
 WriteFaultOf writes Memory = ⊥
 
--- How the writes of a reply ended, by the result of writing it: with Ok fewer than `most_interrupted` were interrupted,
--- and a fault is WriteFault, which the writes explain (`WriteFaultOf`).
+-- How the writes of a reply ended, by the result of writing it. With Ok fewer than `most_interrupted` were interrupted.
+-- A fault is WriteFault, which the writes explain (`WriteFaultOf`), and at most so many were interrupted.
 abbrev pub EndsWriting : WriteCalls → Result (Unit {0}) HttpFault → Type 0
 EndsWriting writes (Ok done) = writes.interrupted < most_interrupted
 EndsWriting writes (Err fault) = (writes.interrupted ≤ most_interrupted) × WriteFaultOf writes fault
 
 -- ---- the whole
 
--- How reads and writes ended, by the result of serving a request: the reads explain a missing request, the writes an
--- unfinished reply. Memory runs out only before the first write, and not after a read that failed or found the end.
+-- How reads and writes ended, by the result of serving a request. The reads explain Cut and ReadFault, and then nothing
+-- was written; the writes explain WriteFault. Memory runs out only before the first write, and not after a read that
+-- failed or found the end.
 abbrev pub EndsBy : ReadCalls → WriteCalls → Result ℕ HttpFault → Type 0
 EndsBy reads writes (Ok status) = EndsReading reads (Ok status) × EndsWriting writes (Ok tt)
 EndsBy reads writes (Err Cut) = EndsReading {X = ℕ} reads (Err Cut) × (writes ≡ no_writes)

@@ -19,8 +19,9 @@ fault_number Memory = None
 
 -- ---- reading
 
--- What one read adds to the collected bytes, `old` before it and `new` after it: `count` bytes of the reader, or none
--- with ReadFault, or with Cut at the end of the input. Memory leaves open what was read.
+-- What one read adds to the collected bytes, `old` before it and `new` after it: `count` bytes of the reader, at most
+-- 8,192; or none with ReadFault, or with Cut at the end of the input. WriteFault never comes, and Memory leaves open
+-- what was read.
 abbrev pub ReadsMore : (before after : Option (List ℕ)) → (old new : List ℕ) → Result ℕ HttpFault → Type 0
 ReadsMore before after old new (Ok count) =
     (piece : List ℕ) × (length piece ≡ count) × (count ≤ most_at_once) × Consumes before after piece × (new ≡ old ++ piece)
@@ -30,7 +31,8 @@ ReadsMore before after old new (Err WriteFault) = ⊥
 ReadsMore before after old new (Err Memory) = ⊤
 
 -- The bytes `seen` were read, and no more than needed. The result is the final verdict on them. With Cut, at the end of
--- the input, and with ReadFault the verdict on them is More. Memory leaves open what was read.
+-- the input, and with ReadFault the verdict on them is More. WriteFault never comes, and Memory leaves open what was
+-- read.
 abbrev pub Receives : (before after : Option (List ℕ)) → (seen : List ℕ) → Result FinalVerdict HttpFault → Type 0
 Receives before after seen (Ok outcome) = Consumes before after seen × ReadsNoFurther seen × Judges seen (as_verdict outcome)
 Receives before after seen (Err Cut) = Consumes before after seen × Judges seen More × IsAtEnd after

@@ -21,6 +21,6 @@ most_of_all = 60 * second
 abbrev pub WaitsWithin : (left wait : Duration) → Type 0
 WaitsWithin left wait = (0 < as_nanos left) × (as_nanos wait ≡ min (as_nanos left) most_of_call)
 
--- The time left is shorter by what passed from `begun` to `ended`; it is 0 if more has passed.
+-- The time left is shorter by what passed from `begun` to `ended`, nothing if `ended` is earlier; 0 if more has passed.
 abbrev pub IsSpent : (old : Duration) → (begun ended : Instant) → (new : Duration) → Type 0
 IsSpent old begun ended new = as_nanos new ≡ as_nanos old - (instant_nanos ended - instant_nanos begun)

@@ -28,7 +28,6 @@ fn write_pair(out: &mut String, faulty: &FaultyLine) -> Result<(), AllocError>
     write!(out, "[{line},{number}]")
 }
 
-/// Each pair has a comma in front.
 fn write_more_pairs(out: &mut String, faults: &[FaultyLine]) -> Result<(), AllocError>
     ensures { OnOk result (string_bytes out.new ≡ string_bytes out.old ++ more_pairs faults.now) }
 {

@@ -97,8 +97,8 @@ impl ReadCalls {
         self.count
     }
 
-    /// Reads once into the front of the buffer `room`, counts the read, and returns its
-    /// outcome.
+    /// Reads once into the front of the buffer `room`, which isn't empty, counts the read, and
+    /// returns its outcome. Fewer than `MOST_READS` reads must have been counted before.
     pub fn read<R: Read>(&mut self, reader: &mut R, room: &mut [u8]) -> ReadOutcome
         requires room { 0 < length room.old }
         requires few { self.old.count < most_reads }
@@ -133,7 +133,7 @@ impl WriteCalls {
     }
 
     /// Writes bytes of `rest` once, counts the write if it was interrupted, and returns the
-    /// outcome.
+    /// outcome. Fewer than `MOST_INTERRUPTED` writes must have been counted before.
     pub fn write<W: Write>(&mut self, writer: &mut W, rest: &[u8]) -> WriteOutcome
         requires { self.old.interrupted < most_interrupted }
         ensures { WritesOnce (W.contents writer.old) (W.contents writer.new) rest.now self.old

@@ -101,7 +101,7 @@ fn read_more<R: Read>(
 }
 
 /// Writes all bytes. WriteFault if a write fails or takes no byte, or 1,000,000 writes are
-/// interrupted: then only the first bytes were written, perhaps none.
+/// interrupted: then only the first bytes were written, perhaps none. `writes` must be `none()`.
 pub fn send<W: Write>(
     writer: &mut W,
     writes: &mut WriteCalls,
@@ -169,9 +169,10 @@ fn receive_in<R: Read>(
     }
 }
 
-/// Reads until the request is whole or refused, and leaves in `seen` all that was read. Cut where
-/// the input ends before, ReadFault where a read fails or 1,000,000 reads haven't brought all of
-/// it, Memory without memory for the bytes or the request.
+/// Reads until the request is whole or refused, and leaves in `seen`, which must be empty, all
+/// that was read. `reads` must be `none()`. Cut where the input ends before the request is whole,
+/// ReadFault where a read fails or 1,000,000 reads haven't brought all of it, Memory without memory
+/// for the bytes or the request.
 pub fn receive<R: Read>(
     alloc: Global,
     reader: &mut R,

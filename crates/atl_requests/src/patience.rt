@@ -60,7 +60,6 @@ impl<'a, C: Clock> Patience<'a, C> {
         Instant::now(self.clock)
     }
 
-    /// Takes off the time from `begun` to `ended`, down to 0; nothing if `ended` is the earlier.
     fn spend(&mut self, begun: Instant, ended: Instant)
         ensures { IsSpent self.old.left begun ended self.new.left }
     {
@@ -79,8 +78,9 @@ fn wait_within(left: Duration) -> Duration
     }
 }
 
-/// A connection as a reader and a writer with time limits. Where the system refuses to set a
-/// time-out, the call has none, since the peer has done nothing wrong.
+/// A connection as a reader and a writer with time limits. A call ends in TimedOut if no time is
+/// left. Where the system refuses to set a time-out, the call has none, since the peer has done
+/// nothing wrong.
 pub struct Peer<'a, C: Clock> {
     stream: &'a TcpStream,
     patience: Patience<'a, C>,
@@ -108,8 +108,8 @@ impl<'a, C: Clock> Peer<'a, C> {
     }
 }
 
-/// Reads from the peer, for at most 10 seconds, and subtracts the time that this took from the time
-/// left for the connection.
+/// Reads from the peer, for at most 10 seconds and the time left, and subtracts the time that this
+/// took from the time left for the connection.
 impl<'a, C: Clock> Read for Peer<'a, C> {
     fn read(&mut self, buf: &mut [u8]) -> io::Result<usize>
         ensures bound { ReadsAtMost result buf.new }
@@ -128,8 +128,8 @@ impl<'a, C: Clock> Read for Peer<'a, C> {
     }
 }
 
-/// Writes to the peer, for at most 10 seconds, and subtracts the time that this took from the time
-/// left for the connection.
+/// Writes to the peer, for at most 10 seconds and the time left, and subtracts the time that this
+/// took from the time left for the connection.
 impl<'a, C: Clock> Write for Peer<'a, C> {
     fn write(&mut self, buf: &[u8]) -> io::Result<usize>
         ensures bound { WritesAtMost result buf.now }

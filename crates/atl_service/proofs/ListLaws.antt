@@ -147,8 +147,8 @@ module _ {S : Type 0} (g : Ghosts S) where
   later_on old mid new a b =
       record { clean = λ h. a.clean (b.clean h); counts = omega (arith, a.counts, b.counts); shield = λ s. b.shield (a.shield s) }
 
-  -- if a command runs as `run` promises (`Runs`) and a list after it as `run_all` does (`RunsAll`), so does the list
-  -- with the command in front
+  -- if, in a service whose tables hold its campaign, a command runs as `run` promises (`Runs`, `IsLater`), and a list
+  -- after it as `run_all` does (`RunsAll`), so does the list with the command in front
   pub run_first : (old mid new : ServiceValue S) (x : Command) (a : Answer) (cs : List Command) (rs : List Answer)
       → IfSome old.campaign (λ c. HoldsCampaign g old.conn (text_in g old.conn) c) → Runs g old x a mid
       → IsLater (state g old.conn) (state g mid.conn)
@@ -164,7 +164,8 @@ module _ {S : Type 0} (g : Ghosts S) where
   none_left now (Some c) is holds = ((is, holds), refl)
   none_left now None is holds = (tt, refl)
 
-  -- an empty list, answered with no answers, runs as promised (`RunsAll`) and changes nothing
+  -- an empty list, answered with no answers, runs as promised (`RunsAll`) and changes nothing, if the tables hold the
+  -- campaign
   pub run_none : (now : ServiceValue S) → IfSome now.campaign (λ c. HoldsCampaign g now.conn (text_in g now.conn) c)
       → RunsAll g now [] [] now
   run_none now holds =

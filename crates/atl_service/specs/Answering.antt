@@ -62,8 +62,8 @@ CommandLeavesAfterFault g w before old command new =
     → LeavesGood w (state g old).faults (state g new) text before (step w before command).0
 
 -- After any command, answered or failed, the connection is in no transaction. A disk that isn't clean stays so, no
--- failure of it is forgotten, and reads that are compared with digests stay so (`IsLater`). If the disk is clean and
--- the connection open, tables that aren't the campaign's hold what they held.
+-- failure of it is forgotten, and reads that are compared with digests stay so (`IsLater`). If the disk is clean,
+-- tables that aren't the campaign's are left alone (`LeavesOthersAlone`).
 pub record LeavesIdle {S : Type 0} (g : Ghosts S) (old new : Held S) : Type 0 where
   pub idle : new.in_transaction ≡ false
   -- a disk that isn't clean stays so, no failure of it is forgotten, and reads that are compared with digests stay so

@@ -1,7 +1,7 @@
--- Why a command or founding ended in the fault Memory or Store: the error that a call of its write gave. `old` and
--- `new` are the connection before and after it, and `own` has the SQL statements of its write. `g` is the kind of
--- store, in memory or in files. A disk is clean if each read has returned what was written (docs/PROVED.md,
--- "Premises").
+-- Why a command or founding ended in the fault Memory or Store: the error that a call of its write gave, or a lack of
+-- memory before it. `old` and `new` are the connection before and after it, and `own` has the SQL statements of its
+-- write. `g` is the kind of store, in memory or in files. A disk is clean if each read has returned what was written
+-- (docs/PROVED.md, "Premises").
 use Rattle.std.specs.Prelude.{◌≡◌, ◌⊎◌, ◌≤◌, ℕ, List, Bool, true, false, Ok}
 use Rattle.sqlite_trees.specs.declared.store.Store.{Ghosts}
 use Rattle.sqlite.specs.declared.error.Error.{Error}
@@ -66,7 +66,7 @@ HasCause g own old new Closed = ⊥
 pub record IsFault {S : Type 0} (g : Ghosts S) (text : List ℕ) (faults : ℕ) (w : WorldValue) (c : CampaignValue)
     (command : Command) (fault : Fault) (new : Held S) : Type 0 where
   pub old : Held S
-  -- the connection before the command is one after the list began: it counts all failures of the disk until then
+  -- before the command the disk had failed at least as often as before the list
   pub since : faults ≤ (state g old).faults
   -- if the disk is clean, the tables before the command held the campaign `c` and the text
   pub held : HasCleanDisk (state g new) → Keeps (state g old) text c

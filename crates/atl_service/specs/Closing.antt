@@ -19,7 +19,7 @@ abbrev pub read_of : Result Reading MailFault → List Reading
 read_of (Ok r) = r ∷ []
 read_of (Err fault) = []
 
--- the readings of all stored mailings, in the order of the factions' numbers
+-- the readings of all stored mailings that can be read, in the order of the factions' numbers
 abbrev pub readings : WorldValue → CampaignValue → List Reading
 readings w c = flat_map (λ e. read_of (reading w e.1)) (entries c.mail)
 
@@ -28,7 +28,7 @@ abbrev pub faults_of : Result Reading MailFault → List FaultyLine
 faults_of (Ok r) = r.faults
 faults_of (Err fault) = []
 
--- the faulty lines of a stored mailing; none if there is no mailing
+-- the faulty lines of a faction's stored mailing; none if there is no mailing, or it can't be read
 abbrev pub faults_in : WorldValue → Option (List ℕ) → List FaultyLine
 faults_in w None = []
 faults_in w (Some text) = faults_of (reading w text)

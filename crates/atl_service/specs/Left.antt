@@ -7,13 +7,12 @@ use Rattle.atl_campaign.specs.Campaign.{CampaignValue}
 use Rattle.atl_campaign.specs.Good.{IsGood}
 use Rattle.atl_store.specs.Keeps.{LeavesAfterFault, Stores}
 
--- After a fault the tables, while the connection is open, hold the campaign `before`, which is good. A crash leaves
--- this campaign or the campaign `after`, and leaves `after` only if that is good too. `s` is the connection's state
--- after the command, `text` the world text in the tables, and `faults` the number of the disk's failures before the
--- command.
+-- After a fault the tables, while the connection is open, hold the campaign `before`, which is good. The connection is
+-- shut only if the disk failed again. A crash leaves this campaign or the campaign `after`, and leaves `after` only if
+-- that is good too. `s` is the connection's state after the command, `text` the world text in the tables, and `faults`
+-- the number of the disk's failures before the command.
 pub record LeavesGood (w : WorldValue) (faults : ℕ) (s : State) (text : List ℕ) (before after : CampaignValue) : Type 0 where
-  -- while the connection is open it keeps the campaign `before`, and a crash leaves `before` or `after`
-  -- (`LeavesAfterFault`)
+  -- what a write leaves after a fault (`LeavesAfterFault`)
   pub tables : LeavesAfterFault faults s text before after
   -- the campaign `before` is good
   pub good : IsGood w before

@@ -38,8 +38,8 @@ pub record Accepts {S : Type 0} (g : Ghosts S) (c : CampaignValue) (old : Servic
 abbrev pub Refuses : {S : Type 0} → CampaignValue → ServiceValue S → Command → Answer → ServiceValue S → Type 0
 Refuses c old command answer new = (step old.world c command ≡ (c, answer)) × (new ≡ old)
 
--- A fault closed the service: if the disk is clean, the tables hold the campaign before the command. On a clean disk, a
--- crash leaves that campaign or the one after `step`, and the one that it leaves is good (`LeavesGood`).
+-- A fault closed the service. If the disk is clean, the tables hold the campaign before the command while the
+-- connection is open; a crash leaves that campaign or the one after `step`, and the one that it leaves is good.
 pub record Closes {S : Type 0} (g : Ghosts S) (c : CampaignValue) (old : ServiceValue S)
     (command : Command) (new : ServiceValue S) : Type 0 where
   -- the service is closed, so has no campaign; its world is as before
@@ -79,7 +79,7 @@ Runs g old command answer new = RunsAt g old command answer new old.campaign
 -- ---- lists of commands
 
 -- Each command of the list was run by itself, in the service that the one before it left (the first one in `old`), and
--- gave its answer (`Runs`). The last one left service `new`.
+-- gave its answer (`Runs`, `IsLater`). The last one left service `new`.
 abbrev pub RunOneByOne : {S : Type 0} → Ghosts S → ServiceValue S → List Command → List Answer → ServiceValue S → Type 0
 RunOneByOne g old [] [] new = new ≡ old
 RunOneByOne {S} g old (command ∷ cs) (answer ∷ rs) new =
@@ -99,9 +99,9 @@ AreClosed (c ∷ cs) [] = ⊥
 
 -- From campaign `c` on, the answers are those of `step` up to the first fault, and Closed after it. Without a fault the
 -- service ends with the last campaign, which on a clean disk the tables hold. After a fault the service is closed, and
--- the fault has its cause. On a clean disk the tables then stay at the campaign of the commands before the fault
--- (`LeavesGood`). `text` is the world text in the tables, and `faults` is how often the disk had failed before the
--- list.
+-- the fault, Memory or Store, has its cause (`IsFault`). On a clean disk the tables then stay at the campaign of the
+-- commands before the fault (`LeavesGood`). `text` is the world text in the tables, and `faults` is how often the disk
+-- had failed before the list.
 abbrev pub Follows : {S : Type 0} → Ghosts S → List ℕ → ℕ → WorldValue → CampaignValue → List Command → List Answer
     → ServiceValue S → Type 0
 Follows g text faults w c [] [] new = (new.campaign ≡ Some c) × HoldsCampaign g new.conn text c
@@ -125,8 +125,8 @@ Follows g text faults w c [] (a ∷ rs) new = ⊥
 Follows g text faults w c (command ∷ cs) [] new = ⊥
 
 -- What a list of commands may answer and leave: an open service answers as `step` up to the first fault, and Closed
--- after it (`Follows`). A closed service answers Closed each time, and nothing changes. The last parameter is the
--- campaign of `old`, which is None if the service is closed.
+-- after it (`Follows`), and keeps its world. A closed service answers Closed each time, and nothing changes. The last
+-- parameter is the campaign of `old`, which is None if the service is closed.
 abbrev pub FollowsAt : {S : Type 0} → Ghosts S → ServiceValue S → List Command → List Answer → ServiceValue S
     → Option CampaignValue → Type 0
 FollowsAt g old commands answers new (Some c) =

@@ -86,7 +86,6 @@ impl From<Refusal> for MailError {
     }
 }
 
-/// A fault of reading a mailing becomes the refusal of the same name, or Memory.
 impl From<MailFault> for MailError {
     ghost from_gives = { λ fault unkept. unkept ≡ mail_error fault };
 
@@ -184,9 +183,7 @@ fn report(
     Ok(Answer::Text(text))
 }
 
-/// Carries out any command, or refuses it, and returns the answer. After an Err the campaign in
-/// memory may be changed in part, or lost; if the disk is clean, the tables are as before while the
-/// connection is open.
+/// After an Err the campaign in memory may be changed in part, or lost.
 pub(crate) fn answer_to<S: Alter>(
     alloc: Global,
     world: &World,

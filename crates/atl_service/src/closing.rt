@@ -128,8 +128,7 @@ fn check_close(
     Ok(())
 }
 
-/// Carries out or refuses a command Close, and returns the answer: the month is played, and reports
-/// and tables are written. The commit is the last call that can fail.
+/// The commit is the last call that can fail.
 pub(crate) fn close<S: Alter>(
     alloc: Global,
     world: &World,

@@ -11,9 +11,8 @@ use atl_tables::read_world;
 use atl_world::{World, pass_ok};
 use std::alloc::Global;
 
-/// Makes the world of a text and the campaign founded in it, whose books have no more things than
-/// the store can write. Else returns the cause of the first check that fails (world text, then pass
-/// text), or Memory; none of these causes depends on the tables.
+/// The cause is that of the first check that fails (world text, then pass text), or Memory; none of
+/// these causes depends on the tables.
 pub(crate) fn world_and_campaign(
     alloc: Global,
     world_text: &str,

@@ -52,8 +52,6 @@ fn store_report_with(
     Ok(())
 }
 
-/// Stores the first report of a faction: what it sees, without faulty lines and events. The report
-/// is marked. If memory runs out, the campaign stays as it is.
 pub(crate) fn store_first_report(
     alloc: Global,
     world: &World,
@@ -113,8 +111,8 @@ fn report_to_each(
     Ok(())
 }
 
-/// Stores a report of the month for each faction that gets one. The structures and the
-/// units of each region and the events of each faction are listed once for all of them.
+/// The structures and the units of each region and the events of each faction are listed once for
+/// all reports.
 pub(crate) fn report_to_all(
     alloc: Global,
     world: &World,

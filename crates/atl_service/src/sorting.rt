@@ -25,7 +25,6 @@ fn add_event(
     }
 }
 
-/// Sorts all events by faction: under each faction's number are its own events, in their order.
 pub(crate) fn events_by_faction(
     alloc: Global,
     events: &[Event],
@@ -39,7 +38,6 @@ pub(crate) fn events_by_faction(
     Ok(sorted)
 }
 
-/// The list stored under a number, such as a faction's; empty if there is no list.
 pub(crate) fn list_of<T: Drop>(lists: &Numbered<Sequence<T>>, number: u32) -> &[T]
     ensures { result.now ≡ unwrap_or (map.get lists.now number) [] }
 {

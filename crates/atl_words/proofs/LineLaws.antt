@@ -11,7 +11,8 @@ use Rattle.std.proofs.lemmas.Bool.Decides.{nat_tests}
 use Rattle.atl_words.specs.Letters.{carriage_return}
 use Rattle.atl_words.specs.TextLines.{is_feed, with_front, pieces, without_return, lines}
 
--- a text b ∷ bs with a line feed is split at its first one, whether that is b or in bs, if bs is split at its own first
+-- A text b ∷ bs with a line feed is split at its first one, if bs, where it has one, is split at its own first. t is
+-- whether b is a line feed, and m is the index of the first one in bs, or their length.
 feed_step : (t : Bool) (b : ℕ) (bs : List ℕ) (m : ℕ) → cond (not t) (1 + m) 0 < suc (length bs)
     → (m < length bs → pieces bs ≡ take m bs ∷ pieces (drop (m + 1) bs))
     → cond t ([] ∷ pieces bs) (with_front b (pieces bs))

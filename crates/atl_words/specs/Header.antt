@@ -1,4 +1,5 @@
--- The header of a mailing: the faction that sent it. See docs/RULES.md, "Reading a mailing".
+-- The header of a mailing, which names its faction. `#ATLANTIS` counts in any case (`begins`).
+-- See docs/RULES.md, "Reading a mailing".
 use Rattle.std.specs.Prelude.{◌≡◌, ◌≤◌, ℕ, ◌+◌, List, [], ◌∷◌, length, codes, Option, Some, None, Result, Ok, Err, if◌then◌else◌}
 use Rattle.atl_words.specs.Limits.{last_faction, most_bytes}
 use Rattle.atl_words.specs.declared.mail_fault.MailFault.{MailFault}
@@ -6,7 +7,7 @@ use Rattle.atl_words.specs.declared.mail_fault.MailFault.TheVariants.{NoHeader, 
 use Rattle.atl_words.specs.Words.{WordText, words, begins, number_of, not_zero}
 use Rattle.atl_words.specs.TextLines.{lines}
 
--- the faction's number, from 1 to 9,999, that is the second word of a header; None if that word is no such number
+-- the faction's number, from 1 to 9,999, that is the second word of a header; None if it has no such word
 abbrev pub faction_of : List WordText → Option ℕ
 faction_of [] = None
 faction_of (w ∷ []) = None

@@ -6,7 +6,7 @@ use Rattle.atl_world.specs.Limits.{most_amount}
 abbrev pub most_bytes : ℕ
 most_bytes = 65536
 
--- the largest number in an order: of a unit or structure, of men, money or pieces of an item
+-- the largest number in an order: of a unit, structure or faction, of men, money or pieces of an item
 abbrev pub most_number : ℕ
 most_number = most_amount
 

@@ -13,7 +13,7 @@ abbrev pub lines_of_rest : Option (List ℕ) → List (List ℕ)
 lines_of_rest None = []
 lines_of_rest (Some text) = lines text
 
--- a bound on how many lines are left to read; 0 if no text is left
+-- the length of the text that is left plus 1, a bound on the lines left to read; 0 if no line feed was found
 abbrev pub rest_size : Option (List ℕ) → ℕ
 rest_size None = 0
 rest_size (Some text) = length text + 1

@@ -50,7 +50,7 @@ abbrev pub begins : List ℕ → List WordText → Bool
 begins name [] = false
 begins name (w ∷ ws) = is_word name w
 
--- `number_of most bytes`: the number that the digits `bytes` write, if it is at most `most`; else None
+-- `number_of most bytes`: the number that `bytes`, one or more digits, write, if it is at most `most`; else None
 abbrev pub number_of : ℕ → List ℕ → Option ℕ
 number_of most bytes =
     if nat_lt 0 (length bytes) && list_all is_ascii_digit bytes && nat_le (digits_value 10 bytes) most

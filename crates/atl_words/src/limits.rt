@@ -4,7 +4,7 @@ use atl_world::limits::MOST_AMOUNT;
 /// The most bytes that a mailing may have.
 pub const MOST_BYTES: usize = 65_536;
 
-/// The largest number in an order: of a unit or structure, of men, money or pieces of an item.
+/// The largest number in an order: of a unit, structure, faction, men, money or pieces of an item.
 pub const MOST_NUMBER: u32 = MOST_AMOUNT;
 
 /// The largest alias; the smallest is 1.

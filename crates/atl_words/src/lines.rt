@@ -28,7 +28,8 @@ fn without_return(line: &[u8]) -> &[u8]
     line
 }
 
-/// The first line of a text, and what follows its line feed, `None` if there is no line feed.
+/// The first line of a text, without a carriage return at its end, and what follows its line feed,
+/// `None` if there is no line feed.
 #[tactic(auto, using(crate::proofs::LineLaws::lines_feed, crate::proofs::LineLaws::lines_last, crate::proofs::LineLaws::front_further, crate::proofs::LineLaws::take_front, crate::proofs::WordLaws::ends_at, std::proofs::lemmas::List::take_rest))]
 pub fn next_line(text: &[u8]) -> (&[u8], Option<&[u8]>)
     ensures lines { lines text.now ≡ result.0.now ∷ lines_of_rest (option_copied result.1) }

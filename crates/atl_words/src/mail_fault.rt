@@ -12,7 +12,7 @@ use std::fmt;
 pub enum MailFault {
     /// The text has more than `MOST_BYTES` bytes.
     TooLong,
-    /// No line begins with the word `#ATLANTIS`.
+    /// No line's first word is `#ATLANTIS`, in any case.
     NoHeader,
     /// The header, the first line that begins with `#ATLANTIS`, has no number from 1 to
     /// `LAST_FACTION` as its second word.

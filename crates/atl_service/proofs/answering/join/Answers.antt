@@ -90,7 +90,7 @@ returns g c = record {
   unmarked = search rules;
 }
 
--- An error of one of its calls is then the cause of the fault of the join, on a clean disk (`HasCause`).
+-- where `write_join` fails, an error of one of its calls is the cause of the fault, on a clean disk (`HasCause`)
 pub returns-in_err-write_join : goal.returns-in_err-write_join
 returns-in_err-write_join g c = record {
   ok = search rules;

@@ -31,7 +31,7 @@ returns g c = record {
   unmarked = search rules;
 }
 
--- An error of one of its calls is then the cause of the fault of the mailing, on a clean disk (`HasCause`).
+-- where `write_mail` fails, an error of one of its calls is the cause of the fault, on a clean disk (`HasCause`)
 pub returns-in_err-write_mail : goal.returns-in_err-write_mail
 returns-in_err-write_mail g c = record {
   ok = search rules;

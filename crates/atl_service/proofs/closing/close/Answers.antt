@@ -22,7 +22,7 @@ write_changes-requires-clause-things g c =
     let done = closed_after_reports w c.args.campaign.now.value c.turn_month.new.campaign.value after c.as_slice.result.now c.in_ok-outcome.outcome c.in_ok-outcome.ensures.outcome c.in_ok-report_to_all.ensures.what c.in_ok-outcome.ensures.there c.in_ok-outcome.ensures.good in
     few_things w after c.in_default.ensures.ok.world done.1
 
--- An error of one of its calls is then the cause of the fault of the close, on a clean disk (`HasCause`).
+-- where `write_changes` fails, an error of one of its calls is the cause of the fault, on a clean disk (`HasCause`)
 pub returns-in_err-write_changes : goal.returns-in_err-write_changes
 returns-in_err-write_changes g c = record {
   ok = search rules;

@@ -6,7 +6,6 @@ use Rattle.atl_service.specs.Closing.{reported_to}
 use Rattle.atl_service.proofs.CloseLaws.{lists_stay}
 use Rattle.atl_service.proofs.reporting.report_to_each.Goals as goal
 
--- lost, all that changed is marked, and `lists` still has the structures and the units by region.
 pub loop-faction-preserved : goal.loop-faction-preserved
 loop-faction-preserved c =
     let (whole, marks, lists) = c.loop-faction.invariant in
