@@ -14,7 +14,7 @@ use Rattle.atl_world.proofs.EveryLaws.{every-empty, every-insert, there-insert}
 use Rattle.atl_campaign.proofs.RegionLaws.{get-insert_same}
 use Rattle.atl_phase.specs.Month.{MonthValue}
 use Rattle.atl_phase.specs.PhaseOrders.{Task}
-use Rattle.atl_action.specs.Learners.{IsLearning, Learning, UnitsLearnByOrders, learners, learns, skill_of, study_tasks, with_learner}
+use Rattle.atl_teaching.specs.Learners.{IsLearning, Learning, UnitsLearnByOrders, learners, learns, skill_of, study_tasks, with_learner}
 
 -- `c` is the campaign as the phase of TEACH and STUDY begins
 module _ (w : WorldValue) (c : CampaignValue) where

@@ -5,9 +5,6 @@ pub mod SailLaws
 pub mod TakenLaws
 pub mod UnmailedTravelLaws
 pub mod LearningLaws
-pub mod TeachLaws
-pub mod MentionLaws
-pub mod OnceLaws
 pub mod StudyLaws
 pub mod UnmailedLearnLaws
 pub mod StudyAloneLaws

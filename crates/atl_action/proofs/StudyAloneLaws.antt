@@ -30,10 +30,10 @@ use Rattle.atl_phase.specs.declared.phase_order.Arrangement.TheVariants.{ByUnit}
 use Rattle.atl_phase.proofs.OneOrderLaws.{one_order_counts}
 use Rattle.atl_phase.proofs.OrderEffectLaws.{ordered_cases}
 use Rattle.atl_phase.proofs.PhaseOrderLaws.{orders_have_verbs}
-use Rattle.atl_action.specs.Learners.{is_studying, learners, study_tasks}
+use Rattle.atl_teaching.specs.Learners.{is_studying, learners, study_tasks}
 use Rattle.atl_action.specs.Study.{after_study, days_after, is_helpful, study, study_effect, study_fault, study_step, with_study}
 use Rattle.atl_action.specs.StudyAlone.{UnitsStudyAsBegun}
-use Rattle.atl_action.specs.Teach.{TaughtMen, after_lessons}
+use Rattle.atl_teaching.specs.Teach.{TaughtMen, after_lessons}
 use Rattle.atl_action.proofs.StudyLaws.{of_each_skill, study_cases, study_stays}
 use Rattle.atl_action.proofs.UnmailedLearnLaws.{all_lessons_add_no_starved}
 

@@ -48,7 +48,7 @@ use Rattle.atl_phase.proofs.UnbookedLaws.{other_unit}
 use Rattle.atl_phase.specs.NoWorse.{IsUnchanged}
 use Rattle.atl_action.specs.Study.{after_study, days_after, is_helpful, study, study_effect, study_fault, study_moves, study_step, with_study}
 use Rattle.atl_action.specs.Bounds.{study_remaining}
-use Rattle.atl_action.specs.Teach.{TaughtMen}
+use Rattle.atl_teaching.specs.Teach.{TaughtMen}
 
 -- ---- a unit that pays, and reaches a number of days
 

@@ -15,10 +15,10 @@ use Rattle.atl_phase.specs.Month.{MonthValue}
 use Rattle.atl_phase.specs.PhaseOrders.{order_counts, orders_by_unit, tasks_of}
 use Rattle.atl_phase.specs.Reports.{is_from, report_for, report_of}
 use Rattle.atl_phase.proofs.EventLaws.{Fits, Gives, TakesThose, all_orders, fold_adds, fold_keeps, gives_by_orders, report_if, report_in_phase, reports_at}
-use Rattle.atl_action.specs.Learners.{Learning, is_studying, learners}
+use Rattle.atl_teaching.specs.Learners.{Learning, is_studying, learners}
 use Rattle.atl_action.specs.Sail.{is_sailing, sail, sail_spec, sail_step}
 use Rattle.atl_action.specs.Study.{learn_spec, study_effect, study_step}
-use Rattle.atl_action.specs.Teach.{TaughtMen, after_lessons, is_teaching, teach_order}
+use Rattle.atl_teaching.specs.Teach.{TaughtMen, after_lessons, is_teaching, teach_order}
 use Rattle.atl_action.specs.Walk.{by_direction, is_walking, walk, walk_spec, walk_step}
 
 -- ---- MOVE and SAIL
@@ -54,11 +54,6 @@ pub sail_gives : Gives (λ counts t. report_if (is_sailing t.order_value.verb &&
 sail_gives = gives_by_orders sail_step is_sailing all_orders sail_takes
 
 -- ---- TEACH and STUDY
-
--- operands with the shape of a verb that passes the test `is_teaching` have the shape of TEACH, the only such verb
-pub teach_shape : (v : Verb) (o : OperandsValue) → is_teaching v ≡ true → Fits v o → Fits verbs.Teach o
-teach_shape verbs.Teach o of_phase fits = fits
-teach_shape v o of_phase fits = cc
 
 -- operands with the shape of a verb that passes the test `is_studying` have the shape of STUDY, the only such verb
 pub study_shape : (v : Verb) (o : OperandsValue) → is_studying v ≡ true → Fits v o → Fits verbs.Study o

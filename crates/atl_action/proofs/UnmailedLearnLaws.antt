@@ -16,10 +16,10 @@ use Rattle.atl_phase.specs.Unmailed.{IsLessBy, starved_in}
 use Rattle.atl_phase.specs.declared.phase_order.Arrangement.TheVariants.{ByUnit}
 use Rattle.atl_phase.proofs.UnmailedLaws.{HasItsItems, HaveTheirMen, LeavesUnmailed, OthersHaveMen, LeavesOthersMen, carried_leaves, men_put, men_unless, others_men, own_faction, order_event_starves_none, unmailed_keep_items}
 use Rattle.atl_phase.specs.NoWorse.{IsUnchanged}
-use Rattle.atl_action.specs.Learners.{Learning, is_studying, learners}
+use Rattle.atl_teaching.specs.Learners.{Learning, is_studying, learners}
 use Rattle.atl_action.specs.Study.{after_study, days_after, is_helpful, learn_keeps, learn_meaning, study, study_fault, study_step, with_study}
 use Rattle.atl_action.proofs.StudyLaws.{of_each_skill}
-use Rattle.atl_action.specs.Teach.{TaughtMen, after_lessons, is_teaching, teach, teach_order}
+use Rattle.atl_teaching.specs.Teach.{TaughtMen, after_lessons, is_teaching, teach, teach_order}
 
 -- ---- TEACH adds its events and changes nothing else of the month
 

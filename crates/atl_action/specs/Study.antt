@@ -23,9 +23,9 @@ use Rattle.atl_phase.specs.Meaning.{BookBound, Frame, Meaning, most_moved, moves
 use Rattle.atl_phase.specs.Outcomes.{fault_or, first_fault}
 use Rattle.atl_phase.specs.OrderEffects.{IsOwnOrder, OrderEffect, OrderMeaning, meaning_by_orders, others_unaffected}
 use Rattle.atl_phase.specs.NoWorse.{IsUnchanged}
-use Rattle.atl_action.specs.Learners.{is_studying, learners}
-use Rattle.atl_action.specs.Limits.{helped_days, month_days, taught_days}
-use Rattle.atl_action.specs.Teach.{TaughtMen, after_lessons}
+use Rattle.atl_teaching.specs.Learners.{is_studying, learners}
+use Rattle.atl_teaching.specs.Limits.{helped_days, month_days, taught_days}
+use Rattle.atl_teaching.specs.Teach.{TaughtMen, after_lessons}
 use Rattle.atl_phase.specs.PhaseSpecs.{PhaseSpec, books_money}
 
 -- ---- days

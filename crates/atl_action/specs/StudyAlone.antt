@@ -13,9 +13,9 @@ use Rattle.atl_campaign.specs.Campaign.{CampaignValue}
 use Rattle.atl_phase.specs.Month.{MonthValue}
 use Rattle.atl_phase.specs.Fit.{AreFit}
 use Rattle.atl_phase.specs.PhaseOrders.{Task}
-use Rattle.atl_action.specs.Learners.{learners, study_tasks}
+use Rattle.atl_teaching.specs.Learners.{learners, study_tasks}
 use Rattle.atl_action.specs.Study.{learn_meaning, study}
-use Rattle.atl_action.specs.Teach.{after_lessons}
+use Rattle.atl_teaching.specs.Teach.{after_lessons}
 
 -- an order of STUDY of this skill counts for unit n, and this faction wrote it
 pub record IsOwnStudy (m : MonthValue) (n faction skill : ℕ) : Type 0 where

@@ -5,9 +5,9 @@ ghost use Rattle.atl_action.specs.StudyAlone.{UnitsStudyAsBegun};
 
 use crate::learners::learners;
 use crate::study::StudyPhase;
-use crate::teach::teach_all;
 use atl_campaign::Campaign;
 use atl_phase::{Month, Phase, PhaseResult, carry_out_orders};
+use atl_teaching::teach_all;
 use atl_world::World;
 use std::alloc::Global;
 

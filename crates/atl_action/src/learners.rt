@@ -5,7 +5,7 @@ ghost use Rattle.atl_orders.specs.Bounds.{shape_of};
 ghost use Rattle.atl_world.specs.Verbs.{row_of};
 ghost use Rattle.atl_phase.specs.Fit.{AreFit};
 ghost use Rattle.atl_phase.specs.PhaseOrders.{task_of};
-ghost use Rattle.atl_action.specs.Learners.{UnitsLearnByOrders, can_learn, is_studying, learners, skill_of, with_learner};
+ghost use Rattle.atl_teaching.specs.Learners.{UnitsLearnByOrders, can_learn, is_studying, learners, skill_of, with_learner};
 ghost use Rattle.atl_world.specs.ByNumber.{fee_of};
 
 use atl_campaign::{Campaign, Holding};

@@ -3,14 +3,12 @@
 
 mod learn;
 mod learners;
-mod limits;
 mod sail;
 mod study;
-mod teach;
 mod walk;
 
+pub use atl_teaching::nobody_is_taught_twice;
 pub use learn::{LearnPhase, units_study_as_begun};
 pub use learners::units_learn_by_orders;
 pub use sail::SailPhase;
-pub use teach::nobody_is_taught_twice;
 pub use walk::MovePhase;

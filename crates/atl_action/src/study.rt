@@ -13,18 +13,17 @@ ghost use Rattle.atl_phase.specs.Holdings.{ChangesHolding};
 ghost use Rattle.atl_phase.specs.Bounds.{HaveRoom};
 ghost use Rattle.atl_phase.specs.OrderEffects.{faction_effect};
 ghost use Rattle.atl_phase.specs.NoWorse.{IsUnchanged};
-ghost use Rattle.atl_action.specs.Learners.{is_studying};
+ghost use Rattle.atl_teaching.specs.Learners.{is_studying};
 ghost use Rattle.atl_action.specs.Study.{after_study, days_after, is_helpful, study, study_fault, study_moves, study_step, with_study};
 ghost use Rattle.atl_action.specs.Bounds.{study_remaining};
 
 use crate::learners::cost_of;
-use crate::limits::{HELPED_DAYS, MONTH_DAYS, TAUGHT_DAYS};
-use crate::teach::taught_at;
 use atl_campaign::{
     BooksEntry, Campaign, EventFault, Holding, MOST_DAYS, Outcome, Structure, Thing, Unit,
 };
 use atl_orders::{Operands, Verb};
 use atl_phase::{Month, OrderPhase, PhaseOrder, PhaseVerbs, book_taken, fault_outcome, own_unit};
+use atl_teaching::{HELPED_DAYS, MONTH_DAYS, TAUGHT_DAYS, taught_at};
 use atl_world::{Numbered, World};
 use std::alloc::{AllocError, Global};
 

@@ -28,9 +28,9 @@ use Rattle.atl_instant.specs.Place.{is_placing, place_spec}
 use Rattle.atl_instant.specs.Quit.{is_quitting}
 use Rattle.atl_instant.specs.Transfer.{is_transferring, transfer_spec}
 use Rattle.atl_instant.proofs.TakenLaws.{form_gives, form_keeps_readings, give_gives, guard_gives, name_gives, names, place_gives, quit_gives, sets_guard, transfer_gives}
-use Rattle.atl_action.specs.Learners.{is_studying}
+use Rattle.atl_teaching.specs.Learners.{is_studying}
 use Rattle.atl_action.specs.Sail.{is_sailing}
-use Rattle.atl_action.specs.Teach.{is_teaching}
+use Rattle.atl_teaching.specs.Teach.{is_teaching}
 use Rattle.atl_action.specs.Walk.{is_walking}
 use Rattle.atl_action.proofs.TakenLaws.{learn_gives, sail_gives, walk_gives}
 use Rattle.atl_market.specs.Build.{is_building}

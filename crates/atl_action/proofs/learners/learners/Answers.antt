@@ -3,7 +3,7 @@ use Rattle.std.specs.Prelude.{fold}
 use Rattle.std.specs.FinMap.{empty}
 use Rattle.atl_phase.specs.PhaseOrders.{task_of}
 use Rattle.atl_phase.proofs.FoldLaws.{fold_ended, fold_mapped}
-use Rattle.atl_action.specs.Learners.{is_studying, learners, with_learner}
+use Rattle.atl_teaching.specs.Learners.{is_studying, learners, with_learner}
 use Rattle.atl_world.specs.declared.verb.Verb.TheVariants as verbs
 use Rattle.atl_phase.specs.declared.phase_order.Arrangement.TheVariants.{ByUnit}
 use Rattle.atl_phase.proofs.EventLaws.{Fits}

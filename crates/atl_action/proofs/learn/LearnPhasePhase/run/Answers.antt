@@ -7,7 +7,7 @@ use Rattle.atl_phase.specs.PhaseOrders.{orders_of}
 use Rattle.atl_phase.specs.OrderEffects.{AreUnaffected, IsOwnOrder}
 use Rattle.atl_phase.specs.declared.phase_order.Arrangement.TheVariants.{ByUnit}
 use Rattle.atl_phase.specs.NoWorse.{IsUnchanged}
-use Rattle.atl_action.specs.Learners.{is_studying}
+use Rattle.atl_teaching.specs.Learners.{is_studying}
 use Rattle.atl_action.proofs.learn.LearnPhasePhase.run.Goals as goal
 
 pub teach_all-requires : goal.teach_all-requires

@@ -8,7 +8,7 @@ use Rattle.std.proofs.lemmas.List.Sums.{sum_by-cons}
 use Rattle.atl_world.proofs.GeneralLaws.{equal_itself, equality_is_symmetric, is_unequal}
 use Rattle.atl_world.proofs.EveryLaws.{other_number}
 use Rattle.atl_campaign.specs.Campaign.{CampaignValue}
-use Rattle.atl_action.specs.Teach.{TaughtMen, first_mentions, men_at, taught_in_lesson, untaught_men}
+use Rattle.atl_teaching.specs.Teach.{TaughtMen, first_mentions, men_at, taught_in_lesson, untaught_men}
 
 -- ---- lists of units
 

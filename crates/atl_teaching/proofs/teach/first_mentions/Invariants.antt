@@ -1,7 +1,7 @@
 use Rattle.std.proofs.Common.{◌≡◌, ◌++◌, drop, filter}
-use Rattle.atl_action.specs.Teach.{first_mentions}
-use Rattle.atl_action.proofs.MentionLaws.{is_new}
-use Rattle.atl_action.proofs.teach.first_mentions.Given as goal
+use Rattle.atl_teaching.specs.Teach.{first_mentions}
+use Rattle.atl_teaching.proofs.MentionLaws.{is_new}
+use Rattle.atl_teaching.proofs.teach.first_mentions.Given as goal
 
 -- the list so far, followed by those numbers left that weren't seen yet, each once, is `first_mentions` of all numbers
 abbrev pub invariant-loop-number : goal.invariant-loop-number

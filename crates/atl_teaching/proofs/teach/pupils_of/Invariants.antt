@@ -1,7 +1,7 @@
 use Rattle.std.proofs.Common.{◌≡◌, ◌++◌, drop, filter, map}
 use Rattle.atl_phase.specs.PhaseOrders.{unit_of}
-use Rattle.atl_action.specs.Teach.{is_pupil}
-use Rattle.atl_action.proofs.teach.pupils_of.Given as goal
+use Rattle.atl_teaching.specs.Teach.{is_pupil}
+use Rattle.atl_teaching.proofs.teach.pupils_of.Given as goal
 
 -- the list so far, followed by the pupils among the units left, is the list of all pupils
 abbrev pub invariant-loop-target : goal.invariant-loop-target

@@ -9,13 +9,13 @@ use Rattle.atl_phase.specs.Month.{MonthValue, with_events}
 use Rattle.atl_phase.specs.PhaseOrders.{orders_by_unit, task_of}
 use Rattle.atl_phase.specs.declared.phase_order.PhaseOrder.{PhaseOrder}
 use Rattle.atl_phase.proofs.FoldLaws.{fold_after_step, fold_ended, fold_mapped}
-use Rattle.atl_action.specs.Teach.{TaughtMen, after_lessons, is_teaching, teach_order}
+use Rattle.atl_teaching.specs.Teach.{TaughtMen, after_lessons, is_teaching, teach_order}
 use Rattle.atl_world.specs.declared.verb.Verb.TheVariants as verbs
 use Rattle.atl_phase.specs.declared.phase_order.Arrangement.TheVariants.{ByUnit}
 use Rattle.atl_phase.proofs.EventLaws.{Fits}
 use Rattle.atl_phase.proofs.OrderEffectLaws.{listed_order}
-use Rattle.atl_action.proofs.TakenLaws.{teach_shape}
-use Rattle.atl_action.proofs.teach.teach_all.Goals as goal
+use Rattle.atl_teaching.proofs.ShapeLaws.{teach_shape}
+use Rattle.atl_teaching.proofs.teach.teach_all.Goals as goal
 
 nobody_yet : amount_of empty ≡ (λ n. 0)
 nobody_yet = fun_ext (λ n. ap (λ (o : Option ℕ). unwrap_or o 0) (get-empty nat_cmp n))

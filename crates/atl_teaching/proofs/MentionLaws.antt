@@ -7,7 +7,7 @@ use Rattle.std.specs.Ordering.{nat_cmp}
 use Rattle.std.specs.Cmp.{nat_cmp_total, unsigned_ties}
 use Rattle.std.specs.FinMap.{FinMap, empty, get, get-empty, get-insert, insert}
 use Rattle.std.proofs.lemmas.Bool.Decides.{nat_tests}
-use Rattle.atl_action.specs.Teach.{first_mentions}
+use Rattle.atl_teaching.specs.Teach.{first_mentions}
 
 -- whether a number isn't among those seen so far
 abbrev pub is_new : FinMap nat_cmp ℕ → ℕ → Bool

@@ -11,9 +11,9 @@ use Rattle.atl_phase.specs.Month.{Aliases, MonthValue}
 use Rattle.atl_phase.specs.Inside.{region_of}
 use Rattle.atl_phase.specs.PhaseOrders.{Task, orders_of, unit_of}
 use Rattle.atl_phase.specs.declared.phase_order.Arrangement.TheVariants.{ByUnit}
-use Rattle.atl_action.specs.Learners.{Learning}
-use Rattle.atl_action.specs.Limits.{pupils_per_teacher}
-use Rattle.atl_action.specs.Teach.{AreTaughtOnce, NobodyIsTaughtTwice, TaughtMen, after_lessons, first_mentions, is_below, is_pupil, is_teaching, lesson, listed_units, men_at, taught_in_lesson, teach, teach_fault, teach_order, untaught_men}
+use Rattle.atl_teaching.specs.Learners.{Learning}
+use Rattle.atl_teaching.specs.Limits.{pupils_per_teacher}
+use Rattle.atl_teaching.specs.Teach.{AreTaughtOnce, NobodyIsTaughtTwice, TaughtMen, after_lessons, first_mentions, is_below, is_pupil, is_teaching, lesson, listed_units, men_at, taught_in_lesson, teach, teach_fault, teach_order, untaught_men}
 
 -- Below, `taught` has by unit how many of its men were taught so far, and `places` is how many more men a teacher can
 -- teach. `ns` are the numbers of the pupils, in the order in which they are taught.

@@ -1,8 +1,8 @@
 use Rattle.std.proofs.Common.{subst, sym, ◌∙◌}
 use Rattle.std.specs.Prelude.{nat_eq}
 use Rattle.std.specs.List.{IsDistinct}
-use Rattle.atl_action.proofs.TeachLaws.{mentions_distinct}
-use Rattle.atl_action.proofs.teach.give_lesson.Goals as goal
+use Rattle.atl_teaching.proofs.TeachLaws.{mentions_distinct}
+use Rattle.atl_teaching.proofs.teach.give_lesson.Goals as goal
 
 pub teach_men-requires : goal.teach_men-requires
 teach_men-requires c =

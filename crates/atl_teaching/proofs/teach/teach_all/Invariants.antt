@@ -3,8 +3,8 @@ use Rattle.std.specs.Prelude.{fold}
 use Rattle.atl_records.specs.Holdings.{amount_of}
 use Rattle.atl_phase.specs.Month.{with_events}
 use Rattle.atl_phase.specs.PhaseOrders.{task_of}
-use Rattle.atl_action.specs.Teach.{teach_order}
-use Rattle.atl_action.proofs.teach.teach_all.Given as goal
+use Rattle.atl_teaching.specs.Teach.{teach_order}
+use Rattle.atl_teaching.proofs.teach.teach_all.Given as goal
 
 -- carrying out the orders still to come makes the men taught and the month that carrying out all orders makes
 abbrev pub invariant-loop-order : goal.invariant-loop-order

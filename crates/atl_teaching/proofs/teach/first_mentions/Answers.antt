@@ -2,10 +2,10 @@ use Rattle.std.proofs.Common.{◌≡◌, ◌+◌, ◌++◌, ◌∷◌, [], drop,
 use Rattle.std.specs.Prelude.{is_some}
 use Rattle.std.specs.FinMap.{get, insert}
 use Rattle.std.proofs.lemmas.List.{drop_more}
-use Rattle.atl_action.specs.Teach.{first_mentions}
-use Rattle.atl_action.proofs.MentionLaws.{all_new, is_new, first_mention_is_kept, later_mention_is_dropped}
-use Rattle.atl_action.proofs.teach.first_mentions.Goals as goal
-use Rattle.atl_action.proofs.teach.first_mentions.Goals.{then-is_none+in_ok-insert+in_ok-push, else-is_none}
+use Rattle.atl_teaching.specs.Teach.{first_mentions}
+use Rattle.atl_teaching.proofs.MentionLaws.{all_new, is_new, first_mention_is_kept, later_mention_is_dropped}
+use Rattle.atl_teaching.proofs.teach.first_mentions.Goals as goal
+use Rattle.atl_teaching.proofs.teach.first_mentions.Goals.{then-is_none+in_ok-insert+in_ok-push, else-is_none}
 
 pub loop-number-init : goal.loop-number-init
 loop-number-init c =

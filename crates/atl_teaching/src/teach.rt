@@ -6,7 +6,7 @@ ghost use Rattle.atl_orders.specs.Bounds.{shape_of};
 ghost use Rattle.atl_world.specs.Verbs.{row_of};
 ghost use Rattle.atl_records.specs.Holdings.{amount_of};
 ghost use Rattle.atl_records.specs.Limits.{men_limit};
-ghost use Rattle.atl_action.specs.Teach.{NobodyIsTaughtTwice, after_lessons, first_mentions, is_below, is_pupil, is_teaching, lesson, level_at, listed_units, men_at, pupils_of, teach, teach_fault, untaught_men};
+ghost use Rattle.atl_teaching.specs.Teach.{NobodyIsTaughtTwice, after_lessons, first_mentions, is_below, is_pupil, is_teaching, lesson, level_at, listed_units, men_at, pupils_of, teach, teach_fault, untaught_men};
 ghost use Rattle.atl_phase.specs.Fit.{AreFit};
 ghost use Rattle.atl_phase.specs.PhaseOrders.{task_of};
 ghost use Rattle.atl_records.specs.declared.event.Outcome.TheVariants.{Done};
@@ -124,7 +124,7 @@ fn first_mentions(alloc: Global, numbers: &[u32]) -> Result<Vec<u32>, AllocError
 }
 
 /// How many men of a unit were taught so far in this month; 0 where the unit isn't in the map.
-pub(crate) fn taught_at(taught: &Numbered<u32>, unit: u32) -> u32
+pub fn taught_at(taught: &Numbered<u32>, unit: u32) -> u32
     ensures { result ≡ amount_of taught.now unit }
 {
     taught.get(unit).copied().unwrap_or(0)
@@ -236,7 +236,7 @@ fn teach(
 
 /// Carries out all orders of TEACH, which are such as can be read with some world, and adds their
 /// events to the month. Returns how many men of each unit were taught.
-pub(crate) fn teach_all(
+pub fn teach_all(
     alloc: Global,
     campaign: &Campaign,
     month: &mut Month,

@@ -2,8 +2,8 @@ use Rattle.std.proofs.Common.{◌≡◌, ◌≤◌, ◌+◌, ◌-◌, ℕ, drop,
 use Rattle.std.specs.Prelude.{nat_eq}
 use Rattle.std.specs.List.{IsDistinct}
 use Rattle.atl_records.specs.Holdings.{amount_of}
-use Rattle.atl_action.specs.Teach.{taught_in_lesson, untaught_men}
-use Rattle.atl_action.proofs.teach.teach_men.Given as goal
+use Rattle.atl_teaching.specs.Teach.{taught_in_lesson, untaught_men}
+use Rattle.atl_teaching.proofs.teach.teach_men.Given as goal
 
 -- The men taught so far and a lesson to the units left, for the places left, are together the whole lesson. The units
 -- left are distinct.

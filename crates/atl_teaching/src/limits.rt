@@ -5,11 +5,11 @@
 pub(crate) const PUPILS_PER_TEACHER: u32 = 10;
 
 /// The days that each man gains by a month of study.
-pub(crate) const MONTH_DAYS: u64 = 30;
+pub const MONTH_DAYS: u64 = 30;
 
 /// The days that each man who is taught gains in a month, on top of those of study.
-pub(crate) const TAUGHT_DAYS: u64 = 30;
+pub const TAUGHT_DAYS: u64 = 30;
 
 /// The days that each man gains in a month inside a structure that helps the skill, on top of those
 /// of study.
-pub(crate) const HELPED_DAYS: u64 = 10;
+pub const HELPED_DAYS: u64 = 10;

@@ -1,6 +1,6 @@
 use Rattle.std.proofs.Common.{◌≡◌, ◌++◌, drop, filter}
-use Rattle.atl_action.specs.Teach.{is_below}
-use Rattle.atl_action.proofs.teach.pupils_below.Given as goal
+use Rattle.atl_teaching.specs.Teach.{is_below}
+use Rattle.atl_teaching.proofs.teach.pupils_below.Given as goal
 
 -- the list so far, followed by the pupils left whose level is lower than the teacher's, is the list of all such pupils
 abbrev pub invariant-loop-unit : goal.invariant-loop-unit

@@ -19,8 +19,8 @@ use Rattle.atl_phase.specs.Inside.{region_of}
 use Rattle.atl_phase.specs.Outcomes.{first_fault}
 use Rattle.atl_phase.specs.PhaseOrders.{Task, orders_by_unit, unit_of}
 use Rattle.atl_phase.specs.OrderEffects.{is_own, with_event_of}
-use Rattle.atl_action.specs.Learners.{Learning}
-use Rattle.atl_action.specs.Limits.{pupils_per_teacher}
+use Rattle.atl_teaching.specs.Learners.{Learning}
+use Rattle.atl_teaching.specs.Limits.{pupils_per_teacher}
 
 -- whether a verb is TEACH
 abbrev pub is_teaching : Verb → Bool

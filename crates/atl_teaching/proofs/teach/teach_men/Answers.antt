@@ -9,9 +9,9 @@ use Rattle.atl_records.specs.declared.event.Outcome.TheVariants.{Done}
 use Rattle.atl_records.specs.Holdings.{amount_of}
 use Rattle.atl_world.proofs.EveryLaws.{get-insert_other}
 use Rattle.atl_campaign.proofs.RegionLaws.{get-insert_same}
-use Rattle.atl_action.specs.Teach.{lesson, taught_in_lesson, untaught_men}
-use Rattle.atl_action.proofs.TeachLaws.{men_so_far, rest_taught, same_sum}
-use Rattle.atl_action.proofs.teach.teach_men.Goals as goal
+use Rattle.atl_teaching.specs.Teach.{lesson, taught_in_lesson, untaught_men}
+use Rattle.atl_teaching.proofs.TeachLaws.{men_so_far, rest_taught, same_sum}
+use Rattle.atl_teaching.proofs.teach.teach_men.Goals as goal
 
 pub loop-unit-preserved : goal.loop-unit-preserved
 unfolding IsDistinct

@@ -1,0 +1,4 @@
+pub mod MentionLaws
+pub mod TeachLaws
+pub mod OnceLaws
+pub mod ShapeLaws

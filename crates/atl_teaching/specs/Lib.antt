@@ -1,0 +1,3 @@
+pub mod Teach
+pub mod Learners
+pub mod Limits
