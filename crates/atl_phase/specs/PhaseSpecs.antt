@@ -53,7 +53,7 @@ pub record PhaseSpec : Type 1 where
   -- what the phase keeps
   pub keeps : Frame
 
--- A phase moves the amounts of its own entries alone, and each by less than 10^14.
+-- By its bound a phase moves the amounts of its own entries alone (`may_move`), and each by less than 10^14.
 abbrev pub MovesItsOwn : PhaseSpec → Type 0
 MovesItsOwn phase = (e : BooksEntry) (t : Thing) → phase.book_bound e t ≤ (if may_move phase.moved e t then most_moved else 0)
 
