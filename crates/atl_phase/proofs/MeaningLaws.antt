@@ -45,7 +45,7 @@ amount_room_for_less j k a l room =
 abbrev pub IsBoundWithin : BookBound → BookBound → Type 0
 IsBoundWithin less more = (e : BooksEntry) (t : Thing) → less e t ≤ more e t
 
--- books with room for a bound have room for each lesser bound
+-- books with room for the bound k have room for each bound j that is nowhere above it
 pub room_less : (j k : BookBound) (c : CampaignValue) → IsBoundWithin j k → HaveRoom k c → HaveRoom j c
 room_less j k c l room e t = amount_room_for_less (j e t) (k e t) (amount_in c.books e t) (l e t) (room e t)
 
