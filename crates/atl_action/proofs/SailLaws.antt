@@ -292,7 +292,7 @@ module _ (w : WorldValue) (c : CampaignValue) (ship to : ℕ) (steady : IsSteady
 
   -- ---- what stays of each unit
 
-  -- after a ship sailed, each unit is still there, and at most went along with the structure that it is inside
+  -- after a ship sailed, each unit is still there, and has changed at most as `IsAtMostMoved` allows
   pub sailed_at_most_moved : (k : ℕ) (v : Unit) → get c.units k ≡ Some v
       → IsStillThere IsAtMostMoved (after_sailing c ship to) k v
   sailed_at_most_moved k v there =
@@ -403,7 +403,8 @@ sail_moves_at_most w c n u direction steady k v there =
     sail_cases (λ p. IsStillThere IsAtMostMoved p.0 k v) w c n u direction (λ outcome. record { unit = v; there = there; is_unaffected = carried_same v })
     (λ to x at floats whole near. sailed_at_most_moved w c u.structure to steady x at k v there)
 
--- SAIL keeps a steady campaign steady, books nothing, and at most moves each unit with its structure (`IsOrderly`)
+-- each order of SAIL that can be read with the world keeps a steady campaign steady, its month and its balance, and
+-- books nothing; each unit has changed at most as `IsAtMostMoved` allows (`IsOrderly`)
 pub sail_orderly : IsOrderly sail_step IsSteady nothing_remaining moves_nothing affects_nobody IsAtMostMoved
 sail_orderly = record {
   well = λ w a c t x steady fit own. in_each_direction (λ effect. StepsWell IsSteady nothing_remaining w c (effect c x).0) (sail w t.unit) t.order_value.operands (λ direction. sail_well w c t.unit x direction steady);
@@ -412,8 +413,8 @@ sail_orderly = record {
   bounded = λ w c steady e t. omega arith;
 }
 
--- Every unit at most went along from campaign c to d, if each unit that no order of SAIL affects did: by
--- `affects_nobody` these are all units.
+-- Every unit of c is in d, and has changed at most as `IsAtMostMoved` allows, if this is so of each unit that no order
+-- of SAIL affects: by `affects_nobody` these are all units.
 pub all_carried : (w : WorldValue) (m : MonthValue) (c d : CampaignValue)
     → others_unaffected affects_nobody IsAtMostMoved is_sailing w m c d → AreAtMostMoved c d
 all_carried w m c d keeps n u there = keeps n u there (λ k d l nobody. nobody)

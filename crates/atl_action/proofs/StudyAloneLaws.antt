@@ -171,7 +171,8 @@ module _ (w : WorldValue) (taught : TaughtMen) (n : ℕ) (u : Unit) where
 
 -- ---- the phase
 
--- after the phase a unit is what its own order of STUDY alone makes of it in the campaign as the phase began
+-- if the mailings can be read with the world, after the phase a unit is what its own order of STUDY alone makes of it
+-- in the campaign as the phase began
 pub units_study_as_begun : UnitsStudyAsBegun
 unfolding meaning_by_orders
 units_study_as_begun w c m fit n skill u there own =

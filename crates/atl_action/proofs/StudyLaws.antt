@@ -189,7 +189,8 @@ money_most : (w : WorldValue) (c : CampaignValue) → IsSteady w c → (e : Book
     → study_remaining c e t ≤ study_moves e t
 money_most w c steady e t = let most = all_held_within w c steady Money in grind arith
 
--- STUDY keeps a steady campaign steady and books the fee, and a unit without an own STUDY is unchanged (`IsOrderly`)
+-- each order of STUDY that can be read with the world keeps a steady campaign steady, its month and its balance, and
+-- books no more than the unit pays; a unit is unchanged unless its own faction wrote the order for it (`IsOrderly`)
 pub study_orderly : (taught : TaughtMen)
     → IsOrderly (study_step taught) IsSteady study_remaining study_moves IsOwnOrder IsUnchanged
 study_orderly taught = record {

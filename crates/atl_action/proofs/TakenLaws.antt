@@ -34,7 +34,7 @@ walk_takes w a t of_phase fit = by_verb t.order_value.verb t.order_value.operand
     by_verb verbs.Move o of_phase fits = cc
     by_verb v o of_phase fits = cc
 
--- the phase gives one event to each order of MOVE that counts, and none to any other order
+-- the phase gives one event to each order of MOVE that counts, and none to any other order (`Gives`)
 pub walk_gives : Gives (λ counts t. report_if (is_walking t.order_value.verb && counts && true) t) walk_spec.meaning
 walk_gives = gives_by_orders walk_step is_walking all_orders walk_takes
 
@@ -49,7 +49,7 @@ sail_takes w a t of_phase fit = by_verb t.order_value.verb t.order_value.operand
     by_verb verbs.Sail o of_phase fits = cc
     by_verb v o of_phase fits = cc
 
--- the phase gives one event to each order of SAIL that counts, and none to any other order
+-- the phase gives one event to each order of SAIL that counts, and none to any other order (`Gives`)
 pub sail_gives : Gives (λ counts t. report_if (is_sailing t.order_value.verb && counts && true) t) sail_spec.meaning
 sail_gives = gives_by_orders sail_step is_sailing all_orders sail_takes
 
@@ -93,7 +93,7 @@ module _ (c : CampaignValue) (learning : Learning) (m : MonthValue) where
       fold_adds (teach_order c learning) (λ p t. map-append report_of p.1.events _) (orders_by_unit is_teaching m)
       ((λ n. 0), m)
 
--- the phase gives one event to each order of TEACH and of STUDY that counts, and none to any other order
+-- the phase gives one event to each order of TEACH and of STUDY that counts, and none to any other order (`Gives`)
 pub learn_gives : Gives (λ counts t. report_if (is_teaching t.order_value.verb && counts) t ++ report_if (is_studying t.order_value.verb && counts && true) t) learn_spec.meaning
 learn_gives = record {
   events = λ w c m aliases readings ea er fit t there.

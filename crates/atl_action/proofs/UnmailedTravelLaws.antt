@@ -32,7 +32,7 @@ walk_leaves_men : LeavesOthersMen walk_step
 walk_leaves_men w a c t x own =
     in_each_direction (λ effect. OthersHaveMen t.faction c (effect c x).0) (walk w t.unit) t.order_value.operands (λ direction. others_men t.faction c (walk w t.unit direction c x).0 (walk_men w c t.unit x direction))
 
--- MOVE leaves units of factions without a mailing their items, and their men less the starved
+-- MOVE leaves units of factions without a mailing their items, and their men less the starved (`PhaseLeavesUnmailed`)
 pub walk_leaves : PhaseLeavesUnmailed walk_spec
 walk_leaves =
     carried_leaves walk_step is_walking walk_leaves_men (unmailed_keep_items is_walking own_faction items_of_no_worse)
@@ -60,7 +60,7 @@ sail_leaves_men w a c t x own =
 items_of_carried : (u v : Unit) → IsAtMostMoved u v → HasItsItems u v
 items_of_carried u v h = record { name = h.name; items = h.items }
 
--- SAIL leaves units of factions without a mailing their items, and their men less the starved
+-- SAIL leaves units of factions without a mailing their items, and their men less the starved (`PhaseLeavesUnmailed`)
 pub sail_leaves : PhaseLeavesUnmailed sail_spec
 sail_leaves =
     carried_leaves sail_step is_sailing sail_leaves_men

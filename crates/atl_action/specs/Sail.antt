@@ -60,7 +60,7 @@ capacity = number_of_kind (λ k. k.capacity)
 abbrev pub crew_of : WorldValue → HoldingValue → ℕ
 crew_of w h = h.men * level_in_any h w.rules.sailing
 
--- the sum, over all units inside a structure, of what `f` gives of each unit's holding
+-- the sum, over all units inside a structure, of what `f` gives of each unit's holding; 0 for structure 0 (none)
 abbrev pub sum_inside : (HoldingValue → ℕ) → CampaignValue → (structure : ℕ) → ℕ
 sum_inside f c s = sum_by (λ n. option_map_or (λ u. f u.holding) (get c.units n) 0) (numbers_inside s c.units)
 
@@ -101,8 +101,8 @@ sail_step w aliases t = by_direction (sail w t.unit) t.order_value.operands
 
 -- ---- the phase
 
--- Unit `after` is unit `before`, which at most went along with its structure: it keeps faction, structure and name,
--- has no less of anything, and doesn't begin to guard. Inside no structure it keeps its region and its guard flag.
+-- Unit `after` is unit `before`, with the same faction, structure and name, no less men, money, items or days, and no
+-- new guard flag. Inside a structure its region may be another, and its flag cleared; inside none both stay.
 pub record IsAtMostMoved (before after : Unit) : Type 0 where
   pub faction : after.faction ≡ before.faction
   pub structure : after.structure ≡ before.structure
@@ -118,7 +118,7 @@ pub record IsAtMostMoved (before after : Unit) : Type 0 where
   pub items : (i : ℕ) → amount_of before.holding.items i ≤ amount_of after.holding.items i
   pub days : (s : ℕ) → amount_of before.holding.days s ≤ amount_of after.holding.days s
 
--- each unit is still there, and at most went along with the structure that it is inside
+-- each unit is still there, and has changed at most as `IsAtMostMoved` allows
 abbrev pub AreAtMostMoved : CampaignValue → CampaignValue → Type 0
 AreAtMostMoved before after = Every (λ n u. IsStillThere IsAtMostMoved after n u) before.units
 
@@ -127,15 +127,16 @@ AreAtMostMoved before after = Every (λ n u. IsStillThere IsAtMostMoved after n 
 abbrev pub affects_nobody : Affects
 affects_nobody t n f = ⊥
 
--- Order t makes the ship sail that unit n, of whatever faction f, is inside, as things are when the phase begins. The
--- order is for a unit inside the same ship, of the faction that wrote it, and has no fault.
+-- Order t, if it is a SAIL, makes the ship sail that unit n, of whatever faction f, is inside, as things are when the
+-- phase begins. The order is for a unit inside the same ship, of the faction that wrote it, and has no fault.
 pub record SailsWith (w : WorldValue) (begun : CampaignValue) (t : Task) (n f : ℕ) : Type 0 where
   -- the order is for a unit inside the same structure as unit n
   pub together : structure_of_unit begun t.unit ≡ structure_of_unit begun n
   -- the order has no fault as the phase begins
   pub done : (order_result (by_direction (sail w t.unit) t.order_value.operands) begun t.faction t.unit).1 ≡ Some (Done 0)
 
--- what SAIL keeps: each unit at most goes with its structure, and one whose structure doesn't sail is unchanged
+-- What SAIL keeps: each unit is still there, and has changed at most as `IsAtMostMoved` allows. A unit is unchanged if
+-- no order of SAIL makes its ship sail, as things are when the phase begins (`SailsWith`).
 abbrev pub sail_keeps : Frame
 sail_keeps w m before after =
     AreAtMostMoved before after

@@ -47,7 +47,7 @@ days_after men old taught helped =
 
 -- ---- STUDY, for a unit of which some men were taught
 
--- why a unit can't study: NoMen or NoFee; None where it can
+-- why a unit can't study: NoMen where it has none, or NoFee where it has less money than `cost`; None where it can
 abbrev pub study_fault : HoldingValue → (cost : ℕ) → Option EventFault
 study_fault h cost = first_fault ((h.men == 0, NoMen) ∷ (nat_lt h.money cost, NoFee) ∷ [])
 
@@ -55,7 +55,7 @@ study_fault h cost = first_fault ((h.men == 0, NoMen) ∷ (nat_lt h.money cost, 
 abbrev pub with_study : HoldingValue → (skill cost days : ℕ) → HoldingValue
 with_study h s cost days = record h { money = h.money - cost; days = with_amount_of h.days s days }
 
--- the campaign after unit n paid `cost`, which is booked as study, and has `days` of the skill
+-- the campaign after unit n, given as it is before, paid `cost`, which is booked as study, and has `days` of the skill
 abbrev pub after_study : CampaignValue → (n : ℕ) → Unit → (skill cost days : ℕ) → CampaignValue
 after_study c n u s cost days =
     with_booking (with_holding_at c n (with_study u.holding s cost days) (Some u)) Study Money (neg_ℤ (pos cost))

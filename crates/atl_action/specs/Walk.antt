@@ -33,8 +33,8 @@ is_walking verb = false
 abbrev pub is_land_there : WorldValue → (to : Option ℕ) → Bool
 is_land_there w to = option_map_or (is_land_at w) to false
 
--- why a unit can't walk to the neighbouring region `to` (None: there is none): NoMen, AtSea, NoWay or TooHeavy; None
--- where it can
+-- why a unit can't walk to the neighbouring region `to` (None: there is none), the first that fits of NoMen, AtSea,
+-- NoWay and TooHeavy; None where it can
 abbrev pub walk_fault : WorldValue → Unit → (to : Option ℕ) → Option EventFault
 walk_fault w u to = first_fault (
     (u.holding.men == 0, NoMen)

@@ -41,7 +41,8 @@ impl Phase for LearnPhase {
 }
 
 /// The law that a unit that studies is, after the phase, what its own order of STUDY alone makes of
-/// it in the campaign as the phase began. Does nothing. See docs/RULES.md, "Learning".
+/// it in the campaign as the phase began, if the mailings can be read with the world. Does nothing.
+/// See docs/RULES.md, "Learning".
 pub fn units_study_as_begun()
     ensures { UnitsStudyAsBegun }
 {}

@@ -49,7 +49,6 @@ fn can_learn(world: &World, skill: u16, holding: &Holding) -> bool
     0 < men && cost_of(world, skill, men) <= u64::from(holding.money())
 }
 
-/// Adds the unit of an order of STUDY with its skill, if the unit learns by it.
 fn add_learner(
     world: &World,
     campaign: &Campaign,

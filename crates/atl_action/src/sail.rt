@@ -58,7 +58,6 @@ fn crew_of(world: &World, holding: &Holding) -> u64
     u64::from(holding.men()) * u64::from(level_in_any(holding, world.rules().sailing))
 }
 
-/// What all units inside a structure are worth as a crew, and what they weigh.
 fn crew_and_load(world: &World, campaign: &Campaign, structure: u32) -> (u128, u128)
     ensures crew { result.0 ≡ sum_inside (crew_of world.now) campaign.now.value structure }
     ensures load { result.1 ≡ sum_inside (load_of world.now) campaign.now.value structure }
@@ -115,7 +114,6 @@ fn sail_fault(
     }
 }
 
-/// Puts a ship and all units inside it into region `to`, and clears the units' guard flags.
 fn move_ship(alloc: Global, campaign: &mut Campaign, ship: u32, to: u32) -> Result<(), AllocError>
     ensures what { OnOk result (campaign.new.value ≡ after_sailing campaign.old.value ship to) }
     ensures marks { OnOk result (MarksChanges campaign.old campaign.new) }
@@ -162,8 +160,8 @@ impl PhaseVerbs for SailPhase {
     }
 }
 
-/// Sails a ship in a direction by SAIL. Each unit inside goes along, whoever gave the order, and no
-/// unit loses anything.
+/// Sails a ship in a direction by SAIL. Each unit inside goes along, whoever gave the order, and
+/// loses its guard flag alone.
 impl OrderPhase for SailPhase {
     ghost step = { λ _. sail_step };
 

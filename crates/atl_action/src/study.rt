@@ -93,7 +93,6 @@ fn pay_and_set_days(
     campaign.set_days(unit, u32::from(skill), days)
 }
 
-/// Takes the cost from the unit's money, books it, and sets the unit's days of the skill.
 fn put_study(
     world: &World,
     campaign: &mut Campaign,

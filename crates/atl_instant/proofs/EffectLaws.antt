@@ -76,7 +76,7 @@ module _ {holds : Condition} {fit : Type 0} (w : WorldValue) (c : CampaignValue)
   keeps_unless None d o keeps = keeps refl
 
 -- The effect that `step` gives each order for a unit of its writer's faction keeps the other units (`OrderKeeps`). If
--- the operands of the order fit the world, it also keeps `holds` and the books.
+-- the operands of the order fit the world, and `holds` is true before, it also keeps `holds`, month, books and balance.
 abbrev pub StepKeeps : Condition → OrderMeaning → Type 0
 StepKeeps holds step =
     (w : WorldValue) (a : Aliases) (c : CampaignValue) (t : Task) (x : Unit) → IsUnitOf c t x → IfSome (step w a t)

@@ -169,8 +169,8 @@ guard_keeps w a c t x own = by_operands t.order_value.operands
     by_operands (operands.Flag true) = guard_kept w c t.unit x own.there
     by_operands other = tt
 
--- GUARD 1 keeps a steady campaign steady and books nothing, and a unit is no worse off unless its own faction wrote
--- GUARD 1 for it
+-- each order of GUARD 1 that can be read with the world keeps a steady campaign steady, its month and its balance, and
+-- books nothing; a unit is no worse off unless its own faction wrote the order for it (`IsOrderly`)
 pub guard_orderly : IsOrderly guard_step IsSteady nothing_remaining moves_nothing guard_affects IsNoWorse
 guard_orderly =
     orderly_by guard_keeps (λ w a t n f own other. passed t.unit t.order_value.operands (λ sets. other (own, sets)))

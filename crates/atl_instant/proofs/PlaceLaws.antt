@@ -131,7 +131,7 @@ place_keeps w a c t x own = by_operands t.order_value.operands
         promoted (AreOperandsOf w (operands.Unit to)) w c t.unit x own.there (unit_of a t.faction to)
     by_operands other = tt
 
--- LEAVE, ENTER and PROMOTE keep an early campaign early and book nothing, and a unit is no worse off unless its own
--- faction wrote one of these orders for it (`IsOrderly`)
+-- each order of LEAVE, ENTER or PROMOTE that can be read with the world keeps an early campaign early, its month and
+-- its balance, and books nothing; a unit is no worse off unless its own faction wrote the order for it (`IsOrderly`)
 pub place_orderly : IsOrderly place_step IsEarly nothing_remaining moves_nothing IsOwnOrder IsNoWorse
 place_orderly = orderly_by place_keeps (λ w a t n f own other. absurd (other own))

@@ -514,8 +514,9 @@ remaining_within w c steady e t = by_test (entry_index e == entry_index (loss_en
         none (sum_over (λ (u : Unit). 0) c.units) (length (entries c.units))
         (sum_within (λ (u : Unit). 0) 0 (entries c.units) (each-from_every (λ n u. 0 ≤ 0) c.units (λ n u is. omega arith)))
 
--- QUIT keeps a steady campaign steady and in balance, books no more than the leaving units had, and leaves a unit whose
--- faction doesn't quit no worse off (`IsOrderly`)
+-- Each order of QUIT that can be read with the world keeps a steady campaign steady, its month and its balance, and
+-- books no more than the leaving units had. A unit is no worse off unless its own faction wrote the order, for any
+-- unit, with the faction's own number (`IsOrderly`).
 pub quit_orderly : IsOrderly quit_step IsSteady quit_remaining quit_moves quit_affects IsNoWorse
 quit_orderly = record {
   well = λ w a c t x steady fit own. well w c x steady t.order_value.operands;

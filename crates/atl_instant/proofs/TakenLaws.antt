@@ -1,7 +1,7 @@
--- Laws of the events of the phases that carry their orders out at once: each gives an event to each of its orders. The
--- phases of NAME and of GUARD 1 both get the orders of GUARD, and each passes over those of the other. `Gives` says
--- which reports a phase adds for order t, where `counts` says whether t counts in its mailing. A report is what an
--- event says of its order. Operands have the shape of a verb (`Fits`) if they are of the form that the verb takes.
+-- Laws of the events of the phases from FORM to TRANSFER, of GUARD 1 and of QUIT: each gives an event to each of its
+-- orders. The phases of NAME and of GUARD 1 both get the orders of GUARD, and each passes over those of the other.
+-- `Gives` says which reports a phase adds for order t, where `counts` says whether t counts in its mailing. A report is
+-- what an event says of its order. Operands have the shape of a verb (`Fits`) if they are of the form that it takes.
 use Rattle.std.proofs.Common.{◌≡◌, ◌&&◌, ◌++◌, Bool, true, false, not, map, filter, is_some, refl, ap, ◌∙◌}
 use Rattle.std.proofs.lemmas.List.{map-append}
 use Rattle.std.proofs.lemmas.List.Elements.{filter-append}
@@ -157,8 +157,8 @@ pub form_shape : (v : Verb) (o : OperandsValue) → is_forming v ≡ true → Fi
 form_shape verbs.Form o of_phase fits = fits
 form_shape v o of_phase fits = cc
 
--- the phase of FORM gives one event to each order of FORM that counts, and none to any other order, all read with the
--- aliases as the phase begins
+-- if the mailings can be read with the world, the phase of FORM gives one event to each order of FORM that counts, and
+-- none to any other order, all read with the aliases as the phase begins
 pub form_gives : (w : WorldValue) (c : CampaignValue) (m : MonthValue) (readings : FinMap nat_cmp Reading)
     → m.readings ≡ readings → AreFit w readings → (t : Task) (there : IsInMailing m.aliases readings t)
     → reports_at t.faction t.line (form_meaning w c m).1 ≡ reports_at t.faction t.line m ++ report_if (is_forming t.order_value.verb && order_counts (tasks_of m.aliases t.faction there.reading) t) t

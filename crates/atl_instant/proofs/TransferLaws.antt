@@ -236,7 +236,7 @@ transfer_keeps w a c t x own = by_operands t.order_value.operands
     by_operands (operands.UnitAndNumber to n) = transfer_kept w c t.unit (unit_of a t.faction to) n x own.there
     by_operands other = tt
 
--- TRANSFER keeps an early campaign early and books nothing, and a unit is no worse off unless its own faction wrote
--- TRANSFER for it (`IsOrderly`)
+-- each order of TRANSFER that can be read with the world keeps an early campaign early, its month and its balance, and
+-- books nothing; a unit is no worse off unless its own faction wrote the order for it (`IsOrderly`)
 pub transfer_orderly : IsOrderly transfer_step IsEarly nothing_remaining moves_nothing IsOwnOrder IsNoWorse
 transfer_orderly = orderly_by transfer_keeps (λ w a t n f own other. absurd (other own))

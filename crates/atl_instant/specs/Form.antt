@@ -28,7 +28,7 @@ abbrev pub is_forming : Verb → Bool
 is_forming verbs.Form = true
 is_forming verb = false
 
--- whether no further unit can be formed: there are 100,000 units, or the next unit's number is above 999,999,999
+-- whether no further unit can be formed: there are 100,000 units or more, or the next one's number is above 999,999,999
 abbrev pub is_unit_limit : CampaignValue → Bool
 is_unit_limit c = nat_le most_units (len c.units) || nat_lt last_unit c.next_unit
 
@@ -46,11 +46,13 @@ new_unit number faction region structure = record {
   holding = record { name = codes "Unit " ++ decimal number; men = 0; money = 0; guard = false; items = empty; days = empty };
 }
 
--- the campaign with a new unit of faction f, in the region of unit n and inside the same structure
+-- the campaign with a new unit of faction f, in the region of unit n and inside the same structure; it has the next
+-- unit number, which rises by one (`with_unit_begun`)
 abbrev pub with_formed_unit : CampaignValue → (f n : ℕ) → CampaignValue
 with_formed_unit c f n = with_unit_begun c (new_unit c.next_unit f (region_of c n) (structure_of_unit c n))
 
--- the campaign and the outcome after an order of FORM from faction f for unit n
+-- the campaign and the outcome after an order of FORM from faction f for unit n: Done with the number of the new unit,
+-- or the fault (`form_fault`), with which nothing changes
 abbrev pub form_by : CampaignValue → (f n : ℕ) → CampaignValue × Outcome
 form_by c f n = fault_or c (form_fault c f n) (with_formed_unit c f n, Done c.next_unit)
 

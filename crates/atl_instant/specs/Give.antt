@@ -42,8 +42,8 @@ with_held_of Money h n = record h { money = n }
 with_held_of (Item i) h n = record h { items = with_amount_of h.items i n }
 
 -- The first fault as unit u gives n of the gift to a receiver, None where there is none. It is NotHere where the
--- receiver isn't there (None) or is in another region, NotEnough where u has too little, or NoRoom. Where u gives to
--- itself (`itself`), there is always room.
+-- receiver isn't there (None) or is in another region, NotEnough where u has less, or NoRoom where the receiver would
+-- have more than 999,999,999. Where u gives to itself (`itself`), there is always room.
 abbrev pub give_fault : Gift → (n : ℕ) → (itself : Bool) → Unit → Option Unit → Option EventFault
 give_fault gift n itself u None = Some NotHere
 give_fault gift n itself u (Some v) =
@@ -62,13 +62,14 @@ after_gift c from to gift n (Some u) (Some v) =
     if to == from then c else with_holding_at (with_holding_at c from less (Some u)) to more (Some v)
 after_gift c from to gift n giver receiver = c
 
--- The campaign and the outcome as unit u gives n of the gift to the receiver, if a receiver is there. The unit has the
--- number `from`, the receiver `to`.
+-- The campaign and the outcome as unit u, of number `from`, gives n of the gift to the receiver, of number `to` (None:
+-- it isn't there). With a fault (`give_fault`) nothing changes.
 abbrev pub give_to : CampaignValue → (from to : ℕ) → Gift → (n : ℕ) → Unit → Option Unit → CampaignValue × Outcome
 give_to c from to gift n u receiver =
     fault_or c (give_fault gift n (to == from) u receiver) (after_gift c from to gift n (Some u) receiver, Done n)
 
--- the effect of an order by which unit `from` gives n of the gift, money or an item, to unit `to`
+-- the effect of an order by which unit `from` gives n of the gift, money or an item, to unit `to`; with a fault nothing
+-- changes
 unfoldable pub give : (from to : ℕ) → Gift → (n : ℕ) → OrderEffect
 give from to gift n c u = give_to c from to gift n u (get c.units to)
 

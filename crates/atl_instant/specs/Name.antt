@@ -38,14 +38,14 @@ abbrev pub structure_fault : WorldValue → ℕ → (ship : Bool) → Option Str
 structure_fault w n ship None = Some NotInside
 structure_fault w n ship (Some s) = first_fault ((not (is_structure_of_kind w ship s), NotInside) ∷ (not (s.owner == n), NotOwner) ∷ [])
 
--- the campaign and the outcome as unit n gives a name to the ship (where `ship` is true) or the building that it is
--- inside
+-- The campaign and the outcome as unit n gives a name to the ship (where `ship` is true) or the building, of number
+-- `inside`, that it is inside. With a fault (`structure_fault`) nothing changes.
 abbrev pub structure_name_result : WorldValue → CampaignValue → (n inside : ℕ) → (ship : Bool) → List ℕ → CampaignValue × Outcome
 structure_name_result w c n inside ship name =
     fault_or c (structure_fault w n ship (get c.structures inside)) (with_structure_name c inside name, Done 0)
 
--- The campaign and the outcome after an order of NAME by unit n. By the kind of name, the unit, its faction or the
--- structure `inside`, which the unit is inside (0: none), gets the name.
+-- The campaign and the outcome after an order of NAME by unit n. By the kind of name, the unit, its faction or, as
+-- `structure_name_result` says, the structure `inside`, which the unit is inside (0: none), gets the name.
 abbrev pub name_result : WorldValue → CampaignValue → (n faction inside : ℕ) → NameKind → List ℕ → CampaignValue × Outcome
 name_result w c n f s kinds.Unit name = (with_unit_name c n name, Done 0)
 name_result w c n f s kinds.Faction name = (with_faction_name c f name, Done 0)

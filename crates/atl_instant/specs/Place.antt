@@ -56,7 +56,7 @@ enter_fault c s u = first_fault ((not (is_structure_in u.region (get c.structure
 abbrev pub with_unit_inside : CampaignValue → (n region from s : ℕ) → CampaignValue
 with_unit_inside c n region from s = if from == s then c else with_place c n region s
 
--- the effect of ENTER: unit n is inside structure s, unless the order has a fault
+-- the effect of ENTER: unit n is inside structure s, as `with_unit_inside` says, unless the order has a fault
 unfoldable pub enter : (n s : ℕ) → OrderEffect
 enter n s c u = fault_or c (enter_fault c s u) (with_unit_inside c n u.region u.structure s, Done 0)
 

@@ -88,8 +88,8 @@ quit_meaning = meaning_by_orders quit_step is_quitting
 abbrev pub quit_affects : Affects
 quit_affects t number faction = (t.faction ≡ faction) × (t.order_value.operands ≡ operands.Number faction)
 
--- Order t makes faction f quit, and with it unit n, whichever unit of f that is. It is a QUIT with the number of f,
--- which wrote it for a unit that was its own in `begun`, the campaign as the phase began.
+-- Order t, if it is a QUIT, makes faction f quit, and with it unit n, whichever unit of f that is. Its number is that
+-- of f, which wrote it for a unit that was its own in `begun`, the campaign as the phase began.
 pub record QuitsByOwnUnit (begun : CampaignValue) (t : Task) (n f : ℕ) : Type 0 where
   pub own : is_own begun t ≡ true
   pub faction : t.faction ≡ f

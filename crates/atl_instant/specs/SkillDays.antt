@@ -9,7 +9,7 @@ use Rattle.atl_instant.specs.Transfer.{days_going}
 abbrev pub left_list : (n men : ℕ) → (days : FinMap nat_cmp ℕ) → List (ℕ × ℕ)
 left_list n men days = map (λ e. (e.0, e.1 - days_going n men e.1)) (entries days)
 
--- a list of each skill of a unit that sends n of its `men` men, with the days that the receiver has of it then; before,
--- the receiver had the days `more`
+-- A list of each skill of a unit that sends n of its `men` men, who have `days` together, with the days that the
+-- receiver has of it then. Before, the receiver had the days `more`.
 abbrev pub raised_list : (n men : ℕ) → (days more : FinMap nat_cmp ℕ) → List (ℕ × ℕ)
 raised_list n men days more = map (λ e. (e.0, amount_of more e.0 + days_going n men e.1)) (entries days)

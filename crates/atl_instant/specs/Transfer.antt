@@ -41,7 +41,7 @@ going_of n h s = days_going n h.men (amount_of h.days s)
 abbrev pub staying_of : (n : ℕ) → HoldingValue → (skill : ℕ) → ℕ
 staying_of n h s = amount_of h.days s - going_of n h s
 
--- the days of a skill that a unit with holding h has after n men of another unit came
+-- the days of a skill that a unit with holding h has after n men of a unit with holding `other` came
 abbrev pub raised_of : (n : ℕ) → (other h : HoldingValue) → (skill : ℕ) → ℕ
 raised_of n other h s = amount_of h.days s + going_of n other s
 
@@ -49,7 +49,7 @@ raised_of n other h s = amount_of h.days s + going_of n other s
 abbrev pub after_sending : (n : ℕ) → HoldingValue → HoldingValue
 after_sending n h = record h { men = h.men - n; days = amounts_for (staying_of n h) (keys h.days) }
 
--- what a unit with holding h holds after n men of another unit came, with their part of the days
+-- what a unit with holding h holds after n men of a unit with holding `other` came, with their part of the days
 abbrev pub after_receiving : (n : ℕ) → (other h : HoldingValue) → HoldingValue
 after_receiving n other h =
     record h { men = h.men + n; days = amounts_for (raised_of n other h) (keys h.days ++ keys other.days) }
@@ -66,8 +66,8 @@ abbrev pub DaysGoWithMen : Type 0
 DaysGoWithMen = (n : ℕ) (other h : HoldingValue) (skill : ℕ) → HaveDaysOf n other h skill
 
 -- The first fault as unit u sends n men to a receiver, None where there is none. It is NotHere where the receiver isn't
--- there (None) or is in another region, NotYours where it is another faction's, NotEnough where u has too few men, or
--- NoRoom. Where u sends them to itself (`itself`), there is always room.
+-- there (None) or is in another region, NotYours where it is another faction's, NotEnough where u has fewer men, or
+-- NoRoom where it would have more than 999,999. Where u sends them to itself (`itself`), there is always room.
 abbrev pub transfer_fault : (n : ℕ) → (itself : Bool) → Unit → Option Unit → Option EventFault
 transfer_fault n itself u None = Some NotHere
 transfer_fault n itself u (Some v) =
@@ -87,13 +87,13 @@ after_transfer c from to n (Some u) (Some v) =
     (after_receiving n u.holding v.holding) (Some v)
 after_transfer c from to n sender receiver = c
 
--- The campaign and the outcome as unit u sends n men to the receiver, if a receiver is there.
--- The unit has the number `from`, the receiver `to`.
+-- The campaign and the outcome as unit u, of number `from`, sends n men to the receiver, of number `to` (None: it isn't
+-- there). With a fault (`transfer_fault`) nothing changes.
 abbrev pub transfer_to : CampaignValue → (from to n : ℕ) → Unit → Option Unit → CampaignValue × Outcome
 transfer_to c from to n u receiver =
     fault_or c (transfer_fault n (to == from) u receiver) (after_transfer c from to n (Some u) receiver, Done n)
 
--- the effect of an order by which unit `from` sends n men to unit `to`
+-- the effect of an order by which unit `from` sends n men to unit `to`, unless it has a fault
 unfoldable pub transfer : (from to n : ℕ) → OrderEffect
 transfer from to n c u = transfer_to c from to n u (get c.units to)
 

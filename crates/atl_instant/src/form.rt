@@ -62,7 +62,6 @@ fn new_unit(
     })
 }
 
-/// Adds a new unit in the region and the structure of unit `parent`, and returns its number.
 fn add_formed_unit(
     alloc: Global,
     campaign: &mut Campaign,

@@ -25,8 +25,6 @@ use std::alloc::{AllocError, Global};
 #[derive(Drop, Clone, Copy)]
 pub struct GuardPhase;
 
-/// The fault of GUARD 1 for a unit, where `holders` has the guards of the campaign; None if there
-/// is no fault.
 fn guard_fault(holders: &RegionGuards, unit: &Unit) -> Option<EventFault>
     ensures { (c : CampaignValue) → AreRegionGuards c holders.now
         → result ≡ guard_fault c unit.now }
@@ -40,7 +38,6 @@ fn guard_fault(holders: &RegionGuards, unit: &Unit) -> Option<EventFault>
     None
 }
 
-/// Carries out GUARD 1, and keeps `holders` as the map of the campaign's guards.
 #[tactic(auto, unfolding(crate::specs::Guard::guard))]
 fn guard(
     campaign: &mut Campaign,

@@ -59,7 +59,6 @@ fn book_items(world: &World, campaign: &mut Campaign, items: &[(u16, u32)])
     }
 }
 
-/// Books the men as left, and the money and the items as lost.
 fn book_off(world: &World, campaign: &mut Campaign, men: u32, money: u32, items: &[(u16, u32)])
     requires things { campaign.old.value.books.things ≡ thing_count world.now }
     requires known { EachEntry (λ i amount. i < length world.now.items) items.now }

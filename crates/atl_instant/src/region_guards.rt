@@ -62,7 +62,6 @@ impl RegionGuards {
         self.factions.insert(region, faction)
     }
 
-    /// Whether a faction other than the given one guards a region.
     pub(crate) fn has_other_guard(&self, region: u32, faction: u32) -> bool
         ensures { result ≡ has_other_guard faction (map.get self.now region) }
     {

@@ -36,7 +36,6 @@ fn days_going(going: u32, men: u32, days: u32) -> u32
     (u64::from(days) * u64::from(going) / u64::from(men)) as u32
 }
 
-/// Each skill of a unit, with the days that stay with it after `going` of its men went.
 fn days_left(alloc: Global, going: u32, holding: &Holding) -> Result<Vec<(u32, u32)>, AllocError>
     requires fewer { going ≤ holding.now.men }
     requires days { Every (λ s days. (1 ≤ days) × (days ≤ most_days * holding.now.men))

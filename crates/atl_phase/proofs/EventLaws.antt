@@ -1,7 +1,7 @@
--- Laws of the events of phases: a phase gives an event to each of its orders, and to no order two. What a phase adds
--- for an order is said by the reports of its events that are of the order's faction and on its line. A report is what
--- an event says of its order: faction, unit, line and verb. `there` says that order t is in the mailing of its faction,
--- and `is_of` which verbs a phase has.
+-- Laws of the events of phases: a phase gives one event to each of its orders that it doesn't pass over. What a phase
+-- adds for an order is said by the reports of its events that are of the order's faction and on its line. A report is
+-- what an event says of its order: faction, unit, line and verb. `there` says that order t is in the mailing of its
+-- faction, and `is_of` which verbs a phase has.
 use Rattle.std.proofs.Common.{◌≡◌, ◌&&◌, ℕ, Bool, true, false, cond, List, [], ◌∷◌, ◌++◌, map, filter, is_some, Option, Some, None, refl, sym, ap, ap₂, subst, ◌∙◌, append_assoc}
 use Rattle.std.proofs.lemmas.List.{append-nil, map-append}
 use Rattle.std.proofs.lemmas.List.Elements.{filter-append, recursion_from_All}
@@ -39,7 +39,7 @@ reports_at faction line m = filter (is_from faction line) (map report_of m.event
 -- What a phase adds to the events of an order's faction and line: the reports `added`, given whether the order counts
 -- in its mailing, and the order. The phase keeps the mailings and the aliases.
 pub record Gives (added : Bool → Task → List Report) (meaning : Meaning) : Type 0 where
-  -- the phase adds the reports to those of the order's faction and line
+  -- if the mailings can be read with the world, the phase adds the reports to those of the order's faction and line
   pub events : (w : WorldValue) (c : CampaignValue) (m : MonthValue) (aliases : Aliases) (readings : FinMap nat_cmp Reading)
       → m.aliases ≡ aliases → m.readings ≡ readings → AreFit w readings
       → (t : Task) (there : IsInMailing aliases readings t)
@@ -195,8 +195,8 @@ module _ (step : OrderMeaning) (is_of : Verb → Bool) (takes : Task → Bool) (
       both [] verbs says = tt
       both (t ∷ ts) verbs says = (takes_those w m.aliases t verbs.0 says.0, both ts verbs.1 says.1)
 
-  -- a phase that carries its orders out one by one gives one event to each order that counts and that it doesn't pass
-  -- over, and none to any other order
+  -- a phase that carries its orders out one by one gives one event to each order that has a verb of the phase, counts
+  -- and isn't passed over, and none to any other order (`Gives`)
   pub gives_by_orders : Gives (λ counts t. report_if (is_of t.order_value.verb && counts && takes t) t) (meaning_by_orders step is_of)
   unfolding meaning_by_orders
   gives_by_orders = record {

@@ -1,8 +1,8 @@
 -- Laws of phases and steps in turn: what holds after them, how far they move the books, and what room that needs.
 -- Campaigns are of the same month (`IsSameMonth`) if month, reports and numbers of factions are equal. A phase leaves
 -- well (`LeavesWell`) if the campaign after it satisfies `leaves`, is of the same month, has its books in balance if
--- they were before, and its amounts within their bounds. In the laws j and k bound how far amounts move; a, b and c are
--- an amount or a campaign before, between and after two moves.
+-- they were before, and no amount moved further than its bound. In the laws j and k bound how far amounts move; a, b
+-- and c are an amount or a campaign before, between and after two moves.
 use Rattle.std.proofs.Common.{◌≡◌, ℕ, ◌+◌, ◌*◌, ◌≤◌, List, [], ◌∷◌, length, refl, sym, ap, subst, ◌∙◌, arith}
 use Rattle.std.specs.Prelude.{ℤ, fold}
 use Rattle.std.specs.Ordering.{nat_cmp}
@@ -45,7 +45,7 @@ amount_room_for_less j k a l room =
 abbrev pub IsBoundWithin : BookBound → BookBound → Type 0
 IsBoundWithin less more = (e : BooksEntry) (t : Thing) → less e t ≤ more e t
 
--- books with room for a bound have room for each lesser bound
+-- books with room for the bound k have room for each bound j that is nowhere above it
 pub room_less : (j k : BookBound) (c : CampaignValue) → IsBoundWithin j k → HaveRoom k c → HaveRoom j c
 room_less j k c l room e t = amount_room_for_less (j e t) (k e t) (amount_in c.books e t) (l e t) (room e t)
 

@@ -126,7 +126,8 @@ module _ (w : WorldValue) (is_of : Verb → Bool) (a : Arrangement) (aliases : A
       let same : f.0 ≡ e.0 = two.0 ∙ ap (key_of a) (sym (are_one e.1 f.1 one.1 two.1 share)) ∙ sym one.0 in
       false≢true (sym apart ∙ ap (eq_by_cmp (slice_cmp nat_cmp) e.0) same ∙ (eq_by_cmp_equiv nat_list_cmp_total).refl e.0))
 
--- no two orders that a phase carries out are of one faction, for one unit and of one slot (`OneOrderCounts`)
+-- if the mailings can be read with the world, no two orders that a phase carries out are of one faction, for one unit
+-- and of one slot (`OneOrderCounts`)
 pub one_order_counts : OneOrderCounts
 one_order_counts w is_of a aliases readings fit =
     let keyed = under_keys (key_of a) (tasks_of_phase is_of aliases (entries readings)) in

@@ -190,6 +190,7 @@ module _ (step : OrderMeaning) {holds : Condition} {remaining : RemainingBound} 
 
 -- ---- the orders of a phase
 
+-- `w` is the world with which the mailings can be read
 module _ (w : WorldValue) where
   fit_at : (es : List EntryValue) (k : ℕ) (e : EntryValue) → AllByRecursion (IsEntry w) es → slice_get es k ≡ Some e
       → IsEntry w e

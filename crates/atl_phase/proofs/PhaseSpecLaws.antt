@@ -48,8 +48,8 @@ moved_within (phase ∷ next ∷ rest) each e t =
 abbrev pub PhaseLeavesUnmailed : PhaseSpec → Type 0
 PhaseLeavesUnmailed phase = LeavesUnmailed phase.meaning phase.keeps
 
--- All phases leave units of factions without a mailing their items, and their men less the starved; after the last
--- phase, a unit all of whose men starved is removed. It holds of no empty list.
+-- All phases but the last leave units of factions without a mailing as `LeavesUnmailed` says, and the last one as
+-- `ClosesUnmailed` says. It holds of no empty list.
 abbrev pub CloseTogether : List PhaseSpec → Type 0
 CloseTogether [] = ⊥
 CloseTogether (phase ∷ []) = ClosesUnmailed phase.meaning phase.keeps
@@ -63,7 +63,7 @@ closed_together [] none = absurd none
 closed_together (phase ∷ []) closes = closes
 closed_together (phase ∷ next ∷ rest) each = then_closes each.0 (closed_together (next ∷ rest) each.1)
 
--- phases in turn leave units of factions without a mailing their items, and their men less the starved, if each does
+-- phases in turn leave units of factions without a mailing as `LeavesUnmailed` says, if each does
 pub leave_together : (phases : List PhaseSpec) → EachPhase PhaseLeavesUnmailed phases
     → LeavesUnmailed (meaning_of phases) (keeps_of phases)
 leave_together [] each = record {

@@ -87,7 +87,7 @@ module _ (aliases : Aliases) (faction line : ℕ) where
       ap (λ b. cond b (first ∷ rest) rest) past ∙ one_left (index + 1) x.line i es e rise.1 is on
       ∙ ap (λ j. task_for aliases faction j e ∷ []) next
 
--- an order in a mailing isn't on line 0
+-- an order in a mailing isn't on line 0, if the mailings can be read with the world
 pub line_of_order : (w : WorldValue) (aliases : Aliases) (readings : FinMap nat_cmp Reading) → AreFit w readings
     → (t : Task) → IsInMailing aliases readings t → 0 < t.line
 line_of_order w aliases readings fit t there =

@@ -339,7 +339,7 @@ module _ (step : OrderMeaning) where
 
     -- A phase that carries out its orders one by one leaves units of factions without a mailing their items, and their
     -- men less the starved (`LeavesUnmailed`). For this each order must leave units of other factions their men
-    -- (`LeavesOthersMen`), and units of factions without a mailing must keep their items.
+    -- (`LeavesOthersMen`), and units of factions without a mailing must keep their names and items (`HasItsItems`).
     pub carried_leaves : {keeps : Frame} → LeavesOthersMen step
         → ((w : WorldValue) (c d : CampaignValue) (m : MonthValue) → keeps w m c d → UnmailedAre HasItsItems m c d)
         → LeavesUnmailed (meaning_by_orders step is_of) keeps
@@ -351,8 +351,8 @@ module _ (step : OrderMeaning) where
 pub own_faction : (t : Task) (n f : ℕ) → IsOwnOrder t n f → t.faction ≡ f
 own_faction t n f h = h.faction
 
--- A phase that leaves alone the units which no order affects leaves units of factions without a mailing their items.
--- For this only orders of a unit's own faction may affect the unit, and an unaffected unit must keep its items.
+-- A phase that leaves alone the units which no order affects leaves units of factions without a mailing their names and
+-- items (`HasItsItems`). For this only orders of its own faction may affect a unit, and an unaffected unit keeps these.
 pub unmailed_keep_items : {affects : Affects} {unaffected : Unaffected} (is_of : Verb → Bool)
     → ((t : Task) (n f : ℕ) → affects t n f → t.faction ≡ f) → ((u v : Unit) → unaffected u v → HasItsItems u v)
     → (w : WorldValue) (c d : CampaignValue) (m : MonthValue) → others_unaffected affects unaffected is_of w m c d

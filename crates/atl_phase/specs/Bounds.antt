@@ -49,8 +49,8 @@ pub record UsesBound (remaining left : ℕ) (before after : ℤ) : Type 0 where
 
 -- ---- the step of one order
 
--- After a step `holds` is true of the campaign, which is of the same month, and whose books balance if they did before.
--- No amount of the books moves further than its remaining bound falls.
+-- After a step `holds` is true of the campaign, month, reports and set of factions are the same (`IsSameMonth`), and
+-- the books balance if they did before. No amount of the books moves further than its remaining bound falls.
 pub record StepsWell (holds : Condition) (remaining : RemainingBound) (w : WorldValue) (before after : CampaignValue) : Type 0 where
   pub holds_still : holds w after
   pub same_month : IsSameMonth before after
@@ -74,9 +74,10 @@ pub record IsUnitOf (c : CampaignValue) (t : Task) (u : Unit) : Type 0 where
   pub there : get c.units t.unit ≡ Some u
   pub faction : u.faction ≡ t.faction
 
--- The conditions on a phase that carries its orders out one by one. Each order keeps `holds`, month and balance, and
--- moves no amount further than its remaining bound falls (`StepsWell`). `unaffected` relates each unit that an order
--- doesn't affect to the unit as it is after the order. No remaining bound is above the bound of the phase.
+-- The conditions on a phase that carries its orders out one by one. An order that can be read with the world, for a
+-- unit of its writer's faction, keeps `holds`, month and balance, and moves no amount further than its remaining bound
+-- falls (`StepsWell`). Each unit that an order doesn't affect is there after it, and has changed at most as
+-- `unaffected` allows. No remaining bound is above the bound of the phase.
 pub record IsOrderly (step : OrderMeaning) (holds : Condition) (remaining : RemainingBound) (book_bound : BookBound)
     (affects : Affects) (unaffected : Unaffected) : Type 0 where
   -- Each order that can be read with the world, for a unit of its writer's faction, keeps `holds` true, the month and

@@ -1,4 +1,4 @@
--- What a phase of the month is: its effect, by how much it may change the books, and what it leaves unchanged.
+-- What a phase of the month is: its effect, by how much it may change the books, and what it keeps.
 use Rattle.std.specs.Prelude.{◌≡◌, ℕ, ℤ, pos, ◌+ℤ◌, ◌≤ℤ◌, ◌+◌, ◌==◌, if◌then◌else◌}
 use Rattle.std.specs.FinMap.{len}
 use Rattle.atl_world.specs.Worlds.{WorldValue}
@@ -35,7 +35,7 @@ abbrev pub both_need : Condition → Condition → Condition → Condition
 both_need needs between follows w c = needs w c × Follows between follows
 
 -- What a phase keeps: a statement about the world, the month that the phase got, and the campaign before and after it.
--- It says what the phase leaves to the units whose own faction wrote no order of it.
+-- Mostly it says what is left to units for which their own faction wrote no order of the phase.
 abbrev pub Frame : Type 1
 Frame = WorldValue → MonthValue → CampaignValue → CampaignValue → Type 0
 
@@ -81,9 +81,8 @@ pub record IsSameMonth (before after : CampaignValue) : Type 0 where
   -- no faction is added
   pub factions : (n : ℕ) → HasValue after.factions n → HasValue before.factions n
 
--- After a phase `leaves` is true of the campaign, which is of the same month,
--- and whose books balance if they did before.
--- No amount of the books moves further than its bound.
+-- After a phase `leaves` is true of the campaign, month, reports and set of factions are the same (`IsSameMonth`), and
+-- the books balance if they did before. No amount of the books moves further than its bound (`book_bound`).
 pub record LeavesWell (leaves : Condition) (book_bound : BookBound) (w : WorldValue) (before after : CampaignValue) : Type 0 where
   -- the condition `leaves` is true of the campaign after the phase
   pub leaves_it : leaves w after

@@ -92,7 +92,7 @@ with_events m events = record m { events = m.events ++ events }
 abbrev pub HaveOwnFactions : List Mailing → Type 0
 HaveOwnFactions mailings = IsDistinct (eq_by_cmp nat_cmp) (map (λ m. m.faction) mailings)
 
--- the map of the readings of a list, each under its faction
+-- the map of the readings of a list, each under its faction; of two of one faction it has the first
 abbrev pub by_faction : List Reading → FinMap nat_cmp Reading
 by_faction readings = from_entries (map (λ r. (r.faction, r)) readings)
 

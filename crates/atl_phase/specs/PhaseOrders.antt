@@ -119,7 +119,7 @@ abbrev pub key_of : Arrangement → Task → List ℕ
 key_of ByUnit t = t.unit ∷ t.line ∷ t.faction ∷ t.index ∷ []
 key_of ByFaction t = t.faction ∷ t.line ∷ t.unit ∷ t.index ∷ []
 
--- a map of some orders, each under its key
+-- a map of some orders, each under its key; of two with one key it has the first
 abbrev pub under_keys : (key : Task → List ℕ) → List Task → FinMap (slice_cmp nat_cmp) Task
 under_keys key ts = from_entries (map (λ t. (key t, t)) ts)
 
@@ -147,7 +147,7 @@ pub record IsInMailing (aliases : Aliases) (readings : FinMap nat_cmp Reading) (
   pub on_line : entry.line ≡ t.line
   pub says : entry.order_value ≡ t.order_value
 
--- A law: each order of a phase is an entry of the mailing of its faction.
+-- A law: each order of a phase is an entry of the mailing of its faction (`IsInMailing`).
 abbrev pub OrdersAreInMailings : Type 0
 OrdersAreInMailings =
     (is_of : Verb → Bool) (arrangement : Arrangement) (aliases : Aliases) (readings : FinMap nat_cmp Reading) →

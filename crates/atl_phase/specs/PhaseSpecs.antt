@@ -1,5 +1,5 @@
--- The specification of a phase: its effect, by how much it may change the books, and what it leaves unchanged. `step`
--- says what a phase does for an order, and `is_of` which verbs it has. See docs/RULES.md, "Closing a month".
+-- The specification of a phase: its effect, by how much it may change the books, and what it keeps. `step` says what a
+-- phase does for an order, and `is_of` which verbs it has. See docs/RULES.md, "Closing a month".
 use Rattle.std.specs.Prelude.{⊤, ℕ, ◌+◌, ◌≤◌, ◌==◌, ◌||◌, Bool, false, List, [], ◌∷◌, if◌then◌else◌}
 use Rattle.atl_world.specs.declared.verb.Verb.{Verb}
 use Rattle.atl_records.specs.declared.books.BooksEntry.{BooksEntry}
@@ -50,10 +50,10 @@ pub record PhaseSpec : Type 1 where
   pub book_bound : BookBound
   -- the entries of the books under which the phase may move amounts
   pub moved : MovedEntries
-  -- what the phase leaves unchanged
+  -- what the phase keeps
   pub keeps : Frame
 
--- A phase moves the amounts of its own entries alone, and each by less than 10^14.
+-- By its bound a phase moves the amounts of its own entries alone (`may_move`), and each by less than 10^14.
 abbrev pub MovesItsOwn : PhaseSpec → Type 0
 MovesItsOwn phase = (e : BooksEntry) (t : Thing) → phase.book_bound e t ≤ (if may_move phase.moved e t then most_moved else 0)
 
@@ -62,14 +62,14 @@ MovesItsOwn phase = (e : BooksEntry) (t : Thing) → phase.book_bound e t ≤ (i
 abbrev pub spec_without_books : Meaning → Frame → PhaseSpec
 spec_without_books meaning keeps = record { meaning = meaning; book_bound = moves_nothing; moved = no_moved_entries; keeps = keeps }
 
--- the specification of a phase that moves no amount of the books and carries its orders out one by one.
--- It leaves the units that none of its orders affects as `unaffected` says.
+-- The specification of a phase that moves no amount of the books and carries its orders out one by one. A unit that
+-- none of its orders affects (`affects`) is still there after it, and has changed at most as `unaffected` allows.
 abbrev pub goes_by_orders : OrderMeaning → (Verb → Bool) → Affects → Unaffected → PhaseSpec
 goes_by_orders step is_of affects unaffected =
     spec_without_books (meaning_by_orders step is_of) (others_unaffected affects unaffected is_of)
 
--- the specification of a phase that has a given effect, moves the money of one entry of the books and no other amount,
--- and keeps what the given frame says
+-- The specification of a phase that has a given effect and keeps what the given frame says. It moves the money of one
+-- entry of the books, by at most `most_moved`, and no other amount.
 abbrev pub books_money : BooksEntry → Meaning → Frame → PhaseSpec
 books_money entry meaning keeps = record {
   meaning = meaning;
@@ -79,7 +79,7 @@ books_money entry meaning keeps = record {
 }
 
 -- the specification of a phase that has a given effect and keeps what the given frame says. It moves the money of one
--- entry of the books and the people of another, and no other amount.
+-- entry of the books and the people of another, each by at most `most_moved`, and no other amount.
 abbrev pub books_money_and_people : (money people : BooksEntry) → Meaning → Frame → PhaseSpec
 books_money_and_people money people meaning keeps = record {
   meaning = meaning;
@@ -102,14 +102,14 @@ book_bound_of [] = λ e t. 0
 book_bound_of (phase ∷ []) = phase.book_bound
 book_bound_of (phase ∷ next ∷ rest) = both_move phase.book_bound (book_bound_of (next ∷ rest))
 
--- what phases in turn leave unchanged together: each keeps what its own specification says, from the campaign and the
--- month that the phases before it made
+-- what phases in turn keep together: each keeps what its own specification says, from the campaign and the month that
+-- the phases before it made
 abbrev pub keeps_of : List PhaseSpec → Frame
 keeps_of [] = λ w m before after. ⊤
 keeps_of (phase ∷ []) = phase.keeps
 keeps_of (phase ∷ next ∷ rest) = both_keep phase.meaning phase.keeps (keeps_of (next ∷ rest))
 
--- how many phases of a list may move the amount of a given entry and thing, each by less than 10^14 (`MovesItsOwn`)
+-- how many phases of a list may move the amount of a given entry and thing (`may_move`)
 abbrev pub moving_phase_count_of : List PhaseSpec → BooksEntry → Thing → ℕ
 moving_phase_count_of [] e t = 0
 moving_phase_count_of (phase ∷ rest) e t = (if may_move phase.moved e t then 1 else 0) + moving_phase_count_of rest e t

@@ -7,9 +7,9 @@ use atl_campaign::Campaign;
 use std::alloc::AllocError;
 
 /// Sets the number of men of a unit, at most MEN_LIMIT, and its days of the listed skills. The days
-/// are over all men, each skill by its number. It marks the unit's row and the listed skills, and
-/// none of its items. Where the unit isn't there nothing changes. AllocError without memory; the
-/// campaign may then be changed in part.
+/// are over all men, each skill by its number. It marks all that it changes, and no items. Where
+/// the unit isn't there nothing changes. AllocError without memory; the campaign may then be
+/// changed in part.
 pub fn set_people(
     campaign: &mut Campaign,
     unit: u32,

@@ -22,7 +22,6 @@ fn number_of(slot: Slot) -> u32
     }
 }
 
-/// Whether the second slot is there, and is the same as the first.
 pub(crate) fn is_same_slot(slot: Slot, other: Option<Slot>) -> bool
     ensures { result ≡ is_same_slot slot other }
 {
@@ -88,7 +87,6 @@ pub(crate) fn last_lines(
     Ok(lines)
 }
 
-/// Whether an order counts: it has no slot, or its line is the one noted for its slot and unit.
 pub(crate) fn order_counts(lines: &LastLines, unit: u32, line: u32, slot: Option<Slot>) -> bool
     ensures { result ≡ counts_by_lines lines.now unit line slot }
 {

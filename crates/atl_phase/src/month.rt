@@ -222,7 +222,6 @@ pub fn add_events(month: &mut Month, events: &[Event]) -> Result<(), AllocError>
     Ok(())
 }
 
-/// The number of the unit that a faction's FORM made under an alias; None where there is none.
 pub(crate) fn unit_under(aliases: &Numbered<Numbered<u32>>, faction: u32, alias: u32) -> Option<u32>
     ensures { result ≡ alias_unit aliases.now faction alias }
 {

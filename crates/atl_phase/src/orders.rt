@@ -23,7 +23,7 @@ pub trait PhaseVerbs {
 }
 
 /// The verbs that take the whole month. With these, `Month::orders` gives at most one order for
-/// each unit from each mailing: the one that counts.
+/// each unit from each mailing, if the mailings can be read with a world: the one that counts.
 pub struct MonthLongVerbs;
 
 impl PhaseVerbs for MonthLongVerbs {
@@ -37,7 +37,6 @@ impl PhaseVerbs for MonthLongVerbs {
 /// All verbs, for the orders of every phase.
 pub(crate) struct EveryVerb;
 
-/// Has each verb.
 impl PhaseVerbs for EveryVerb {
     ghost is_of = { every_verb };
 
@@ -46,7 +45,6 @@ impl PhaseVerbs for EveryVerb {
     }
 }
 
-/// The order that an index names.
 fn order_at<'m>(mailings: &'m [Mailing], placed: &OrderIndex) -> PhaseOrder<'m>
     requires { IsThere mailings.now placed.now }
     ensures { task_of result ≡ task_at mailings.now placed.now }
@@ -63,8 +61,6 @@ fn order_at<'m>(mailings: &'m [Mailing], placed: &OrderIndex) -> PhaseOrder<'m>
     }
 }
 
-/// The orders that some indices name and that have a verb of the phase, in the order of the
-/// indices.
 pub(crate) fn phase_orders_at<'m, P: PhaseVerbs>(
     alloc: Global,
     phase: &P,
@@ -92,7 +88,8 @@ pub fn orders_are_in_mailings()
 {}
 
 /// The law that no two orders that a phase carries out are of one faction, for one unit and of
-/// verbs in one slot. Does nothing. See docs/RULES.md, "Orders of a month".
+/// verbs in one slot, if the mailings can be read with a world. Does nothing. See docs/RULES.md,
+/// "Orders of a month".
 pub fn one_order_counts()
     ensures { OneOrderCounts }
 {}

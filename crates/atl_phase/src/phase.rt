@@ -30,7 +30,7 @@ pub trait Phase {
     // one phase, and by the sum of their bounds for several. By default it moves none.
     ghost book_bound: { BookBound } = { moves_nothing };
 
-    // What the phase keeps: what is left to the units whose own faction wrote no order of it.
+    // What the phase keeps, mostly of units for which their own faction wrote no order of it.
     ghost keeps: { Frame };
 
     /// Runs the phase, and returns the campaign and the month as it leaves them. The campaign is as

@@ -446,7 +446,7 @@ module _ (pot_of : ℕ → ℕ) (wants : FinMap nat_cmp ℕ) (c : CampaignValue)
 
 -- ---- the laws of `pot_shares`
 
--- the units of a region that have a want get the shares of its pot by their wants, in unit order
+-- in a region of the campaign, the units that have a want get the shares of its pot by their wants, by rising number
 pub shares_each_pot : SharesEachPot
 shares_each_pot pot_of wants c r region =
     let takers = takers_in wants c.units r in
@@ -499,13 +499,13 @@ mapped_with_default g ns ss h = mapped ns ∙ ap (map (λ o. unwrap_or o 0)) h �
     back [] = refl
     back (s ∷ ss) = ap (λ l. s ∷ l) (back ss)
 
--- the units of a region together get its whole pot, or all that they want where that is less
+-- the units of a region of the campaign together get its whole pot, or all that they want where that is less
 pub gives_each_pot : GivesEachPot
 gives_each_pot pot_of wants c r region =
     ap sum (mapped_with_default (share_of pot_of wants c) (takers_in wants c.units r) (shares (pot_of r) (wants_in wants c.units r)) (shares_each_pot pot_of wants c r region))
     ∙ all_is_given (pot_of r) (wants_in wants c.units r)
 
--- the shares in a region follow from its pot, its units with a want and their wants alone
+-- the shares in a region of two campaigns follow from its pot, its units with a want and their wants alone
 pub other_regions_do_not_count : OtherRegionsDoNotCount
 other_regions_do_not_count pot_of other_pots wants other_wants c other r here there pots takers wanted =
     shares_each_pot pot_of wants c r here

@@ -1,5 +1,6 @@
 -- What each unit gets of the pot of its region, and the laws of it. In the laws `pot_of` gives the pot of a region, by
--- its number. `wants` has how much each unit wants of it, by unit. See docs/RULES.md, "Pots".
+-- its number. `wants` has how much each unit wants of it, by unit. Unit order is by rising number. See docs/RULES.md,
+-- "Pots".
 use Rattle.std.specs.Prelude.{◌≡◌, ◌≤◌, ◌==◌, ℕ, Bool, false, List, map, sum, min, unwrap_or, Option, Some, option_map}
 use Rattle.std.specs.List.{flat_map, zip}
 use Rattle.std.specs.Option.{option_map_or}
@@ -53,7 +54,8 @@ shares_of pot wants = zip (keys wants) (shares pot (amounts_of wants))
 abbrev pub shares_in : (ℕ → ℕ) → FinMap nat_cmp ℕ → FinMap nat_cmp Unit → ℕ → List (ℕ × ℕ)
 shares_in pot_of wants units region = shares_of (pot_of region) (wants_at wants units region)
 
--- what each unit gets of the pot of its region, by unit; `pot_of` has the pot of each region
+-- What each unit gets of the pot of its region, by unit. A unit without a want, or in no region of the campaign, isn't
+-- in the map. `pot_of` has the pot of each region.
 unfoldable pub pot_shares : (ℕ → ℕ) → FinMap nat_cmp ℕ → CampaignValue → FinMap nat_cmp ℕ
 pot_shares pot_of wants c = from_entries (flat_map (shares_in pot_of wants c.units) (keys c.regions))
 
@@ -89,7 +91,8 @@ EachTakerGets =
     → HasValue c.regions u.region
     → (share : ℕ) × (share_of pot_of wants c number ≡ Some share) × (share ≤ want)
 
--- the law that the units of a region that have a want get the shares of its pot by their wants, in unit order
+-- the law that, in a region of the campaign, the units that have a want get the shares of its pot by their wants, in
+-- unit order
 abbrev pub SharesEachPot : Type 0
 SharesEachPot =
     (pot_of : ℕ → ℕ) (wants : FinMap nat_cmp ℕ) (c : CampaignValue) (region : ℕ)
@@ -97,7 +100,8 @@ SharesEachPot =
     → map (share_of pot_of wants c) (takers_in wants c.units region)
     ≡ map Some (shares (pot_of region) (wants_in wants c.units region))
 
--- the law that the units of a region together get its whole pot, or all that they want where that is less
+-- the law that the units of a region of the campaign together get its whole pot, or all that they want where that is
+-- less
 abbrev pub GivesEachPot : Type 0
 GivesEachPot =
     (pot_of : ℕ → ℕ) (wants : FinMap nat_cmp ℕ) (c : CampaignValue) (region : ℕ)
@@ -105,8 +109,9 @@ GivesEachPot =
     → sum (map (amount_given pot_of wants c) (takers_in wants c.units region))
     ≡ min (pot_of region) (sum (wants_in wants c.units region))
 
--- The law that the shares in a region follow from its pot, its units with a want and their wants alone. Where these are
--- equal in two campaigns (`c`, `other`), the shares there are equal, whatever differs in other regions.
+-- The law that the shares in a region follow from its pot, its units with a want and their wants alone. Where two
+-- campaigns (`c`, `other`) have the region, with equal ones of these, the shares there are equal, whatever differs in
+-- other regions.
 abbrev pub OtherRegionsDoNotCount : Type 0
 OtherRegionsDoNotCount =
     (pot_of other_pots : ℕ → ℕ) (wants other_wants : FinMap nat_cmp ℕ) (c other : CampaignValue) (region : ℕ)

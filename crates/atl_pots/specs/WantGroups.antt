@@ -18,7 +18,7 @@ abbrev pub with_want : (asked_by : ℕ → Option ℕ) → WantGroups → ℕ ×
 with_want asked_by groups e =
     option_map_or (λ pot. insert groups pot (insert (group_of groups pot) e.0 e.1)) (asked_by e.0) groups
 
--- all wants, grouped by the pots that the units ask for
+-- the wants of all units that ask for a pot, grouped by these pots
 abbrev pub grouped : (asked_by : ℕ → Option ℕ) → FinMap nat_cmp ℕ → WantGroups
 grouped asked_by wants = fold (with_want asked_by) empty (entries wants)
 

@@ -46,8 +46,10 @@ impl<'a, P: ItemPots> Pots for PotsOfItem<'a, P> {
 }
 
 /// How much each unit gets of the item that it asks for, out of what its region has of the item, by
-/// unit. All units get their shares at once. The function goes over the wants alone, and not over
-/// regions and units without one. AllocError without memory.
+/// unit. All units get their shares at once. Each want is at most 999,999,999, and `pots` is
+/// `ready`. A unit that asks for no item, has no want, or is in no region of the campaign gets
+/// nothing and is not listed. The function goes over the wants alone, and not over regions and
+/// units without one. AllocError without memory.
 #[tactic(auto, using(crate::proofs::ItemPotLaws::all_items_put, crate::proofs::WantGroupLaws::groups_are_wants))]
 pub fn item_shares<P: AskedPots + ItemPots>(
     alloc: Global,

@@ -1,5 +1,5 @@
-//! Shares the pots of all regions at once, each among the units in its region. See docs/RULES.md,
-//! "Pots".
+//! Shares the pots of all regions at once, each among the units in its region. Unit order is by
+//! rising number. See docs/RULES.md, "Pots".
 ghost use Rattle.std.specs.Prelude.{◌≡◌, ◌≤◌, All, IfOk, OnOk, length};
 ghost use Rattle.std.specs.List.{zip};
 ghost use Rattle.std.specs.FinMap.{entries, keys};
@@ -76,7 +76,6 @@ fn note_want<A: AskedPots>(
     }
 }
 
-/// The wants, grouped by the pots that the units ask for.
 pub(crate) fn group_wants<A: AskedPots>(
     alloc: Global,
     asked: &A,
@@ -91,7 +90,6 @@ pub(crate) fn group_wants<A: AskedPots>(
     Ok(groups)
 }
 
-/// The wants, in unit order.
 fn amounts_of(alloc: Global, wants: &Numbered<u32>) -> Result<Vec<u64>, AllocError>
     ensures { IfOk result (λ amounts. amounts.items ≡ amounts_of wants.now) }
 {
@@ -158,8 +156,6 @@ fn share_region<P: Pots>(
     share_pot(alloc, pots.pot(region), wants, given)
 }
 
-/// Shares the pots of all regions among the units that have a want in `wants`, each in its region,
-/// and puts the shares into the map `given`, by unit.
 #[tactic(auto, using(crate::proofs::WantGroupLaws::groups_are_wants))]
 pub(crate) fn share_regions<P: Pots>(
     alloc: Global,
@@ -182,10 +178,10 @@ pub(crate) fn share_regions<P: Pots>(
 }
 
 /// What units get of the pots of their regions, by unit, all at once. The units of a region that
-/// have a want share its pot, in unit order, by their wants; each want is at most 999,999,999. A
-/// unit that has no want, or is in no region of the campaign, gets nothing and is not listed. The
-/// function goes over the wants alone, and not over regions and units without one. AllocError
-/// without memory. See docs/RULES.md, "Shares".
+/// have a want share its pot, in unit order, by their wants. Each want is at most 999,999,999, and
+/// `pots` is `ready`. A unit that has no want, or is in no region of the campaign, gets nothing and
+/// is not listed. The function goes over the wants alone, and not over regions and units without
+/// one. AllocError without memory. See docs/RULES.md, "Shares".
 #[tactic(auto, using(crate::proofs::WantGroupLaws::all_put))]
 pub fn pot_shares<P: Pots>(
     alloc: Global,
@@ -210,9 +206,9 @@ pub fn takers_alone_get()
     ensures each { EachTakerGets }
 {}
 
-/// The laws of one region's pot. The units there that have a want get its shares in unit order.
-/// These add up to the lesser of the pot and of all their wants. No other region counts. Does
-/// nothing. See docs/RULES.md, "Shares".
+/// The laws of the pot of one region of the campaign. The units there that have a want get its
+/// shares in unit order. These add up to the lesser of the pot and of all their wants. No other
+/// region counts. Does nothing. See docs/RULES.md, "Shares".
 pub fn each_pot_is_shared()
     ensures shares { SharesEachPot }
     ensures sum { GivesEachPot }

@@ -68,8 +68,8 @@ pub record IsLearning (w : WorldValue) (c : CampaignValue) (m : MonthValue) (n s
   -- the unit is of the faction that gives the order, and has men and the fee for all of them
   pub can : learns w skill order.faction (get c.units n) ≡ true
 
--- The units in `learners` are exactly those that learn by an order of STUDY (`IsLearning`), each with the skill that it
--- learns.
+-- The units in `learners` are exactly those that learn by an order of STUDY (`IsLearning`), each with a skill that it
+-- learns so.
 pub record LearnByOrders (w : WorldValue) (c : CampaignValue) (m : MonthValue) : Type 0 where
   -- a unit that is in `learners` with a skill learns this skill by an order
   pub only : (n skill : ℕ) → get (learners w c m) n ≡ Some skill → IsLearning w c m n skill

@@ -53,7 +53,7 @@ pupils_of c aliases learning t =
     filter (is_pupil c learning (region_of c t.unit))
     (map (unit_of aliases t.faction) (listed_units t.order_value.operands))
 
--- whether unit n's level in the skill that it learns is lower than the teacher's
+-- whether unit n's level in the skill that it learns is lower than the teacher's; false where it isn't learning
 abbrev pub is_below : CampaignValue → Learning → (teacher n : ℕ) → Bool
 is_below c learning teacher n = option_map_or (λ s. nat_lt (level_at c n s) (level_at c teacher s)) (get learning n) false
 
@@ -73,7 +73,8 @@ abbrev pub untaught_men : CampaignValue → TaughtMen → (n : ℕ) → ℕ
 untaught_men c taught n = men_at c n - taught n
 
 -- How many men of unit n are taught in a lesson for `places` men.
--- The listed units take turns: each gets the places that the units before it leave, up to its untaught men.
+-- The listed units take turns: each gets the places that the units before it leave, up to its untaught men. It is 0
+-- where n isn't listed.
 abbrev pub taught_in_lesson : CampaignValue → TaughtMen → (places : ℕ) → List ℕ → (n : ℕ) → ℕ
 taught_in_lesson c taught places [] n = 0
 taught_in_lesson c taught places (k ∷ ns) n =
@@ -88,8 +89,8 @@ lesson c taught places ns =
 
 -- ---- TEACH
 
--- Why the unit of an order can't teach: NotYours, NoMen, NotLearning or CannotTeach; None where it can. Of its `pupils`
--- those in `below` have a lower level than the unit.
+-- Why the unit of an order can't teach, the first that fits of NotYours, NoMen, NotLearning and CannotTeach; None where
+-- it can. Of its `pupils` those in `below` have a lower level than the unit.
 abbrev pub teach_fault : CampaignValue → Task → (pupils below : List ℕ) → Option EventFault
 teach_fault c t pupils below = first_fault (
     (not (is_own c t), NotYours)
@@ -120,10 +121,11 @@ after_lessons c learning m = fold (teach_order c learning) ((λ n. 0), m) (order
 
 -- ---- a law: of no unit more men are taught in a month than it has
 
--- the condition that no man was taught twice: of no unit more men were taught than it has
+-- of no unit more men were taught than it has in the campaign, and of a number without a unit none
 abbrev pub AreTaughtOnce : CampaignValue → TaughtMen → Type 0
 AreTaughtOnce c taught = (n : ℕ) → taught n ≤ men_at c n
 
--- A law: after all orders of TEACH, of no unit more men were taught than it has.
+-- A law: whichever units are learning, all orders of TEACH of a month together teach no more men of a unit than it has
+-- (`AreTaughtOnce`).
 abbrev pub NobodyIsTaughtTwice : Type 0
 NobodyIsTaughtTwice = (c : CampaignValue) (learning : Learning) (m : MonthValue) → AreTaughtOnce c (after_lessons c learning m).0
