@@ -1,7 +1,7 @@
 -- What TAX, RECRUIT, WORK, SELL and BUY leave to the units of a faction that sent no mailing. Such a unit is there
 -- after the phase, with its faction and name, no less of any item, and all its men, since nobody starves in these
--- phases (`LeavesUnmailed`). `m` is the month as the phase gets it, and `c` and `d` are the campaigns before and after
--- it.
+-- phases (`LeavesUnmailed`). `p` is the phase, `m` the month as it gets it, and `c` and `d` are the campaigns before
+-- and after it.
 use Rattle.std.proofs.Common.{◌≡◌, ◌≢◌, ◌==◌, ◌&&◌, ◌||◌, ◌+◌, ◌-◌, ℕ, Bool, true, false, List, [], ◌∷◌, ◌++◌, map, None, refl, ap, ◌∙◌}
 use Rattle.std.specs.Prelude.{if◌then◌else◌, pos}
 use Rattle.std.specs.List.{AllByRecursion, list_any}
@@ -64,7 +64,7 @@ module _ (p : PotMeaning) (w : WorldValue) (c : CampaignValue) where
       sum_by-append (λ (e : Event). if e.unit == n then men_starved_by e.verb e.outcome else 0) events (map (event_of p w c (given_by p w c os)) os)
       ∙ ap (λ x. starved_in events n + x) (none_starve (given_by p w c os) os n) ∙ add-zero (starved_in events n)
 
--- a phase with pots (`p`); `orders` gives the orders of the phase in a campaign and its month
+-- `orders` gives the orders of the phase in a campaign and its month
 module _ (p : PotMeaning) (orders : CampaignValue → MonthValue → List Task) where
   -- the meaning of a phase with pots that finds its orders by `orders`
   abbrev pub shared : Meaning

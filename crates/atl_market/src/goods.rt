@@ -23,7 +23,6 @@ fn held_of(campaign: &Campaign, number: u32, item: u16) -> u32
     }
 }
 
-/// Takes `amount` of an item from unit `number`, which holds as much, and books it as used.
 pub(crate) fn use_item(
     world: &World,
     campaign: &mut Campaign,
@@ -42,7 +41,6 @@ pub(crate) fn use_item(
     Ok(())
 }
 
-/// Gives `amount` of an item to unit `number`, which has room for it, and books it as made.
 pub(crate) fn make_item(
     world: &World,
     campaign: &mut Campaign,
