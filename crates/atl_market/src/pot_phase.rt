@@ -207,7 +207,7 @@ fn event_of<P: PotPhase>(
     order.event(outcome)
 }
 
-/// In the order of `orders`; `given` has each unit's share, 0 where it has none.
+/// One event for each order, in the order of `orders`. A unit that isn't in `given` got 0.
 fn events_of<P: PotPhase>(
     alloc: Global,
     phase: &P,
