@@ -337,7 +337,7 @@ module _ (asked : FinMap nat_cmp ℕ) (w : WorldValue) where
             (still c (after_production asked w c e) e.0 es (produced_others asked w c e) rise.0 all),
       )
 
--- PRODUCE begins in the steady campaign `c`
+-- PRODUCE begins in the steady campaign `c` of a world (`IsWorld`)
 module _ (w : WorldValue) (c : CampaignValue) (world : IsWorld w) (steady : IsSteady w c) (os : List Task) where
   abbrev shares : List (ℕ × ℕ)
   shares = entries (given_by produce_pots w c os)

@@ -110,7 +110,7 @@ module _ (w : WorldValue) (c : CampaignValue) (n : ℕ) (u : Unit) (q : Region) 
   abbrev left : CampaignValue
   left = region_changed (λ r. restocked r i d.stock) paid u.region
 
-  -- where unit and region are there, booking the result `d` of a trade makes the campaign `after`
+  -- where unit and region are there, booking the result `d` of a trade makes the campaign `after_deal`
   pub deal_is : with_trade_booked c n u i entry d ≡ after
   deal_is = ap (λ o. with_booking (with_stock (with_holding_at c n more o) u.region i d.stock) entry Money d.booked) is
 
@@ -451,7 +451,7 @@ module _ (trade : Trade) (items : FinMap nat_cmp ℕ) (w : WorldValue) (world : 
             (later_room step_moves w d next e es well room),
       )
 
--- SELL or BUY begins in the early campaign `c`, whose books have room for all that the phase may book (`room`)
+-- SELL or BUY begins in the early campaign `c` of a world; its books have room for all that the phase may book (`room`)
 module _ (trade : Trade) (w : WorldValue) (world : IsWorld w) (c : CampaignValue) (early : IsEarly w c) (os : List Task) (room : HaveRoom (trade_moves trade most_moved) c) where
   abbrev named : FinMap nat_cmp ℕ
   named = items_by (trade_pots trade) w c os

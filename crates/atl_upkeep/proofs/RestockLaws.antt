@@ -155,7 +155,7 @@ module _ (w : WorldValue) (c : CampaignValue) (n i : ℕ) (m : Market) (r : Regi
 
 -- ---- all markets of a region
 
--- `m` is the market of region `n` for item `i`, in the world
+-- `m` is the world's market of region `n` for item `i`, and keeps the rules of markets (`IsMarket`)
 abbrev pub IsMarketOf : WorldValue → (n i : ℕ) → Market → Type 0
 IsMarketOf w n i m = (market_of w n i ≡ Some m) × IsMarket (length w.items) i m
 

@@ -66,7 +66,7 @@ season_moves most = both_move (grows_by most) (stocks_by most)
 abbrev pub season_keeps : Frame
 season_keeps w m before after = after.units ≡ before.units
 
--- the specification of the season as a phase of the month, which books Income, Births and Stocked
+-- the specification of the season as a phase of the month, which books Income, Births and Stocked and changes no unit
 abbrev pub season_spec : PhaseSpec
 season_spec = record {
   meaning = season_meaning;
