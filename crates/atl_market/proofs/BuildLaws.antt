@@ -405,7 +405,7 @@ build_orderly = record {
     stays w c n x is j apart (operands.Kind None) = go_on_stays w c n x is j apart
     stays w c n x is j apart other = tt
 
--- a change that leaves a campaign well as BUILD needs it (`CanBuild`) leaves it well as a steady one (`LeavesWell`)
+-- a change that leaves a campaign as BUILD needs it (`CanBuild`) leaves it steady, with the same bound (`LeavesWell`)
 pub leaves_steady : (w : WorldValue) (c d : CampaignValue) → LeavesWell CanBuild build_moves w c d
     → LeavesWell IsSteady build_moves w c d
 leaves_steady w c d h =

@@ -146,7 +146,7 @@ trade_meaning trade = pots_by_orders (trade_pots trade) (is_trade trade)
 abbrev pub trade_moves : Trade → ℕ → BookBound
 trade_moves trade most = moves_only most (trade_entry trade) Money
 
--- what SELL or BUY leaves alone: units for which their own faction wrote no order of the phase are no worse off
+-- what SELL or BUY leaves alone: units for which their own faction wrote no order of the phase are there, no worse off
 abbrev pub trade_keeps : Trade → Frame
 trade_keeps trade = no_worse_without_order (is_trade trade)
 
