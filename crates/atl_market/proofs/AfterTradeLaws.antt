@@ -278,7 +278,7 @@ module _ (trade : Trade) (w : WorldValue) (c : CampaignValue) (os : List Task) w
       let (u, t, there, own, low, fine, says) = given_is_named (trade_pots trade) w c (trades_give trade w c) os n share is in
       (u, there, λ at. without_share n share u (count_in t.order_value.operands) (item_in t.order_value.operands) low says at)
 
--- all units sell or buy at once: each trade changes only its own unit and its region's stock of the item
+-- in a world all units sell or buy at once: each trade changes only its own unit and its region's stock of the item
 pub trades_at_once : TradesAtOnce
 unfolding after_sharing
 trades_at_once trade w c os world =

@@ -30,8 +30,8 @@ HasRegion true d u = HasValue d.regions u.region
 HasRegion false d u = ⊤
 
 -- One payment (`step`) of a pair (unit, share) changes its unit by `gets` and its unit's region by `gives`, and no
--- other unit or region. If `needs` is true, this supposes that the region is there. Giving 0 is no change, and giving
--- two amounts in turn is giving their sum.
+-- other unit or region. This supposes that the unit is there and, if `needs` is true, also the region. Giving 0 is no
+-- change, and giving two amounts in turn is giving their sum.
 pub record Pays (needs : Bool) (step : CampaignValue → ℕ × ℕ → CampaignValue) (gets : ℕ → UnitChange) (gives : RegionChange) : Type 0 where
   pub mine : (d : CampaignValue) (e : ℕ × ℕ) (u : Unit) → get d.units e.0 ≡ Some u → HasRegion needs d u
       → get (step d e).units e.0 ≡ Some (gets e.0 u e.1)

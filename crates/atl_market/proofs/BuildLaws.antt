@@ -405,14 +405,14 @@ build_orderly = record {
     stays w c n x is j apart (operands.Kind None) = go_on_stays w c n x is j apart
     stays w c n x is j apart other = tt
 
--- a change that leaves a campaign as BUILD needs it (`CanBuild`) leaves it steady
+-- a change that leaves a campaign as BUILD needs it (`CanBuild`) leaves it steady, with the same bound (`LeavesWell`)
 pub leaves_steady : (w : WorldValue) (c d : CampaignValue) → LeavesWell CanBuild build_moves w c d
     → LeavesWell IsSteady build_moves w c d
 leaves_steady w c d h =
     record { leaves_it = h.leaves_it.steady; same_month = h.same_month; balances = h.balances; near = h.near }
 
--- a unit can use what it holds of an item (`CanUse`), if the books have room for what all units hold
--- (`build_remaining`)
+-- a unit can use what it holds of an item of the world (`CanUse`), if the campaign is as BUILD needs it (`CanBuild`)
+-- and the books have room for what all units hold (`build_remaining`)
 pub can_use : (w : WorldValue) (c : CampaignValue) (n item amount : ℕ) (u : Unit) → get c.units n ≡ Some u
     → amount ≤ amount_of u.holding.items item → item < length w.items → CanBuild w c → HaveRoom (build_remaining c) c
     → CanUse w c n item amount
@@ -464,7 +464,7 @@ go_on_done w c d f n u s k size says is there kind_is none first asked_is size_i
     let chain : faction_effect (go_on w n) c f n ≡ whole = ap (effect_on (go_on w n) c) is ∙ ap (go_on_at c n u) (structure_and_kind_found w c u.structure s k there kind_is) ∙ ap (λ o. fault_or c o whole) none in
     rw (first, asked_is, size_is) (sym chain)
 
--- what is done of a structure after an order of `BUILD` without a fault is at most the greatest size of a kind
+-- what is done of a structure after an order of `BUILD` without a fault is at most `most_size`, if its kind's size is
 pub done_small : (u : Unit) (s : Structure) (k : Kind) → inside_fault u s k ≡ None → k.size ≤ most_size
     → s.done + size_added k u.holding s.done ≤ most_size
 done_small u s k none small =

@@ -33,8 +33,8 @@ module _ (w : WorldValue) (c : CampaignValue) (n : ℕ) (u : Unit) (s : ℕ) (is
       let moved : Unit = record u { structure = s } in
       equal_addends_cancel (build_remaining placed e t) (build_remaining c e t) (f u) (f moved) (sum_over-insert_known f c.units n u moved is) refl
 
-  -- moving a unit into another structure of its region (on water a ship), or on land out of its structure, keeps what
-  -- BUILD needs (`CanBuild`)
+  -- moving a unit into another structure of its region (on water a ship), or on land out of its structure, is a change
+  -- that BUILD may make (`StepsWell`)
   pub place_well : (s ≢ 0 → (x : Structure) × (get c.structures s ≡ Some x) × (x.region ≡ u.region))
       → (is_land_at w u.region ≡ false → (x : Structure) × (get c.structures s ≡ Some x) × (is_ship w x ≡ true))
       → StepsWell CanBuild build_remaining w c (with_place c n u.region s)

@@ -225,8 +225,8 @@ module _ (units : FinMap nat_cmp Unit) (left : Region → ℕ) where
         first_draws region_pots d e es enough u.region q around
         (ap (is_in_region u.region) there ∙ same_number u.region)
 
--- The pot of region `r` is enough for all who draw from it (`draws`): their shares are together at most the pot.
--- `pot_of` gives the pot of a region by its number. `wants` has by unit how much the unit wants, and `given` its share.
+-- `r` is the number of a region, `draws` tells which units draw from its pot, and `c` is the campaign. `pot_of` gives
+-- the pot of a region by its number. `wants` has by unit how much the unit wants, and `given` its share.
 module _ (pot_of : ℕ → ℕ) (wants : FinMap nat_cmp ℕ) (c : CampaignValue) (r : ℕ) (draws : Drawers) (given : FinMap nat_cmp ℕ) where
   abbrev amount : ℕ → ℕ
   amount n = amount_given pot_of wants c n
@@ -251,7 +251,8 @@ module _ (pot_of : ℕ → ℕ) (wants : FinMap nat_cmp ℕ) (c : CampaignValue)
   least : (drawing pot all : ℕ) → drawing ≤ min pot all → drawing ≤ pot
   least drawing pot all h = omega (arith, h)
 
-  -- the pot of region `r` is enough for all shares that are drawn from it
+  -- if the units draw from the pot what it gives them (`DrawShares`), and the region is in the campaign, the pot is
+  -- at least the sum of the shares drawn
   pub shares_are_enough : DrawShares → HasValue c.regions r → drawn draws (entries given) ≤ pot_of r
   shares_are_enough shared there =
       let drawing = drawn draws (entries given) in

@@ -77,8 +77,8 @@ module _ (w : WorldValue) (c : CampaignValue) (n : ℕ) (u : Unit) (q : Region) 
           ∙ sym (none_booked (total c (Item i)) i)
 
   -- An exchange keeps an early campaign early and its books balanced, if it breaks no rule of unit or region, sets no
-  -- guard flag and books at most `limit` money. Unit and region must together have what they had, plus the money booked
-  -- (`KeepsTogether`).
+  -- guard flag and books at most `limit` money (`LeavesWell`). Unit and region must together have what they had, plus
+  -- the money booked (`KeepsTogether`).
   pub exchange_well : (limit : ℕ) → MayHave w more → (more.guard ≡ true → u.holding.guard ≡ true)
       → (IsSteady w supplied → IsSteady w left) → KeepsTogether u q f more z → IsWithin limit z → IsEarly w c
       → LeavesWell IsEarly (moves_only limit entry Money) w c exchanged

@@ -1,5 +1,6 @@
--- Laws of using and of making an item: what changes of a campaign, that it stays steady, and that its books stay
--- balanced. `n` is the number of unit `u`, `i` that of the item, and `limit` bounds how much of it is booked.
+-- Laws of using and of making an item: what changes of a campaign, that it stays steady and of the same month, and that
+-- its books stay balanced (`LeavesWell`). `n` is the number of unit `u`, `i` that of the item. `limit`, or without it
+-- 999,999,999, bounds how much of the item is booked.
 use Rattle.std.proofs.Common.{◌≡◌, ◌≢◌, ◌==◌, ℕ, ◌+◌, ◌-◌, ◌≤◌, ◌<◌, Bool, true, false, cond, Some, length, refl, sym, ap, subst, ◌∙◌, arith}
 use Rattle.std.specs.Prelude.{ℤ, pos, neg_ℤ, ◌+ℤ◌}
 use Rattle.std.specs.Ordering.{nat_cmp, eq_by_cmp}
@@ -108,7 +109,8 @@ module _ (w : WorldValue) (c : CampaignValue) (n : ℕ) (u : Unit) (i amount : �
           by_test j (eq_by_cmp nat_cmp j i) refl (total after (Item j)) (total with_set (Item j)) (total c (Item j)) a
           (b ∙ ap (λ k. total c (Item j) + k) (amount_after_setting u.holding.items i amount j))
 
-      -- setting a unit's amount of an item, and booking the difference, keeps a campaign steady and its books balanced
+      -- setting a unit's amount of an item of the world to at most 999,999,999, and booking the difference of at most
+      -- `limit`, keeps a campaign steady and its books balanced (`LeavesWell`)
       pub set_well : (limit : ℕ) → i < length w.items → amount ≤ holding_limit → IsWithin limit z → IsSteady w c
           → LeavesWell IsSteady (moves_only limit e (Item i)) w c after
       set_well limit known most small steady =
@@ -154,7 +156,7 @@ module _ (w : WorldValue) (c : CampaignValue) (n i k : ℕ) where
   held_within : (u : Unit) → get c.units n ≡ Some u → IsSteady w c → amount_of u.holding.items i ≤ holding_limit
   held_within u is steady = amount_within u.holding i (steady.numbers.units n u is).1
 
-  -- using at most `limit` of an item that a unit holds keeps the campaign steady and its books balanced, within `limit`
+  -- using at most `limit` of an item of the world that a unit holds keeps a steady campaign steady (`LeavesWell`)
   pub used_up_to : (limit : ℕ) → k ≤ limit → (u : Unit) → get c.units n ≡ Some u → i < length w.items
       → k ≤ amount_of u.holding.items i → IsSteady w c
       → LeavesWell IsSteady (moves_only limit entries.Used (Item i)) w c (with_used c n i k)
@@ -164,14 +166,14 @@ module _ (w : WorldValue) (c : CampaignValue) (n i k : ℕ) where
       subst (λ d. LeavesWell IsSteady (moves_only limit entries.Used (Item i)) w c d) (sym (used_is u there))
       (set_well w c n u i (a - k) there entries.Used (neg_ℤ (pos k)) (taken_off a k enough) limit known (omega (arith, within)) (within-neg k limit most) steady)
 
-  -- a use that can be made (`CanUse`) keeps a campaign steady and its books balanced, and books only the item as used
+  -- a use that can be made (`CanUse`) keeps a campaign steady, and books only the item, as used (`LeavesWell`)
   pub used_well : CanUse w c n i k
       → LeavesWell IsSteady (moves_only holding_limit entries.Used (Item i)) w c (with_used c n i k)
   used_well can =
       let within = held_within can.unit can.there can.steady in
       used_up_to holding_limit (omega (arith, within, can.enough)) can.unit can.there can.known can.enough can.steady
 
-  -- making that can be done (`CanMake`) keeps a campaign steady and its books balanced, and books only the item as made
+  -- making that can be done (`CanMake`) keeps a campaign steady, and books only the item, as made (`LeavesWell`)
   pub made_well : CanMake w c n i k
       → LeavesWell IsSteady (moves_only holding_limit entries.Made (Item i)) w c (with_made c n i k)
   made_well can =

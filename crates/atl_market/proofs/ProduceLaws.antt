@@ -1,6 +1,6 @@
 -- Laws of PRODUCE: it keeps a campaign steady and its books balanced, and units without an order are no worse off; all
 -- shares can be made. `n` is the number of unit `u`, `i` that of item `x`, and `made` how many pieces the unit makes.
--- Shares (`es`) are pairs of a unit's number and how many pieces it makes.
+-- Shares (`es`) are pairs of a unit's number and how many pieces it makes. `os` are the orders of the phase.
 use Rattle.std.proofs.Common.{◌≡◌, ◌≢◌, ◌==◌, ℕ, ◌+◌, ◌-◌, ◌*◌, ◌/◌, ◌≤◌, ◌<◌, Bool, true, false, List, [], ◌∷◌, length, Option, Some, None, is_some, option_map, refl, sym, subst, ◌∙◌, arith}
 use Rattle.std.specs.Prelude.{ℤ, IfSome, fold, min, if◌then◌else◌}
 use Rattle.std.specs.List.{AllByRecursion, slice_get}
@@ -207,7 +207,7 @@ module _ (asked : FinMap nat_cmp ℕ) (w : WorldValue) (c : CampaignValue) (e : 
             well_within (both_move one two) (produce_moves holding_limit) w c (with_made d e.0 i e.1) (both_less r i)
             (both_leave_well one two w c d (with_made d e.0 i e.1) (used_well w c e.0 r (e.1 * x.raw_count) (can_use r is)) (made_well w d e.0 i e.1 (can_after r is)))
 
-  -- the production of a unit keeps the campaign steady and its books balanced, if the unit can make its share
+  -- production that can be done (`CanProduce`) keeps the campaign steady and its books balanced (`LeavesWell`)
   pub produced_well : CanProduce asked w c e
       → LeavesWell IsSteady (produce_moves holding_limit) w c (after_production asked w c e)
   unfolding after_production
@@ -246,7 +246,7 @@ names_item h None fine = absurd (by_men (h.men == 0) fine)
     by_men true never = none_some NoMen (sym never)
     by_men false never = none_some NoSkill (sym never)
 
--- PRODUCE begins in campaign `c`; `os` are the orders of the phase
+-- PRODUCE begins in campaign `c`
 module _ (w : WorldValue) (c : CampaignValue) (os : List Task) where
   abbrev items : FinMap nat_cmp ℕ
   items = items_by produce_pots w c os
@@ -323,7 +323,8 @@ module _ (asked : FinMap nat_cmp ℕ) (w : WorldValue) where
   still c d n (f ∷ es) same above ((u, there, fits), all) =
       ((u, same f.0 (λ e. absurd (omega (arith, e, above.0))) ∙ there, fits), still c d n es same above.1 all)
 
-  -- shares can be made in turn, if each unit has room and raw items for its own and the books have room for all
+  -- in a steady campaign shares can be made in turn, by rising unit numbers, if each unit has room and raw items for
+  -- its own and the books have room for all
   pub produce_in_turn : (c : CampaignValue) (es : List (ℕ × ℕ)) → Rise es → IsSteady w c
       → HaveRoom (moved_times (length es) step_moves) c → AllByRecursion (HasRoomFor asked w c) es
       → CanInTurn (CanProduce asked w) (after_production asked w) c es
@@ -336,7 +337,7 @@ module _ (asked : FinMap nat_cmp ℕ) (w : WorldValue) where
             (still c (after_production asked w c e) e.0 es (produced_others asked w c e) rise.0 all),
       )
 
--- PRODUCE begins in the steady campaign `c`; `os` are the orders of the phase
+-- PRODUCE begins in the steady campaign `c` of a world (`IsWorld`)
 module _ (w : WorldValue) (c : CampaignValue) (world : IsWorld w) (steady : IsSteady w c) (os : List Task) where
   abbrev shares : List (ℕ × ℕ)
   shares = entries (given_by produce_pots w c os)
@@ -363,8 +364,8 @@ module _ (w : WorldValue) (c : CampaignValue) (world : IsWorld w) (steady : IsSt
       produce_in_turn named w c shares (entries_rise (given_by produce_pots w c os)) steady (room_less (moved_times (length shares) (produce_moves holding_limit)) (produce_moves most_moved) c little room)
       (all_pairs (HasRoomFor named w c) shares (each-from_every (λ n made. HasRoomFor named w c (n, made)) (given_by produce_pots w c os) each_fits))
 
-  -- PRODUCE keeps a steady campaign steady and its books balanced, within the phase's bound, if the books have room for
-  -- it
+  -- PRODUCE keeps a steady campaign steady and its books balanced, within the phase's bound (`LeavesWell`), if the
+  -- books have room for it
   pub produce_leaves_well : HaveRoom (produce_moves most_moved) c
       → LeavesWell IsSteady (produce_moves most_moved) w c (after_sharing produce_pots w c os)
   unfolding after_sharing

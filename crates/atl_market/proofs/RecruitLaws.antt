@@ -129,7 +129,7 @@ module _ (w : WorldValue) (c : CampaignValue) (e : ℕ × ℕ) where
       → after_recruiting w c e ≡ with_recruits_booked c e.0 can.at.unit can.at.region e.1 price
   made_is can = recruited_is can.at.unit can.at.region can.at.there can.at.around
 
-  -- recruits that can join (`CanRecruit`) keep the campaign early and its books balanced, within the bound of one unit
+  -- recruits that can join (`CanRecruit`) keep the campaign early, within the bound of one unit (`LeavesWell`)
   pub recruited_well : CanRecruit w c e → LeavesWell IsEarly (recruit_moves holding_limit) w c (after_recruiting w c e)
   recruited_well can =
       subst (λ d. LeavesWell IsEarly (recruit_moves holding_limit) w c d) (sym (made_is can))
@@ -245,7 +245,7 @@ module _ (w : WorldValue) (c : CampaignValue) where
       enough = all_enough;
     }) (room_less (moved_times (length shares) step_moves) (recruit_moves most_moved) c little room)
 
-    -- RECRUIT keeps an early campaign early and its books balanced, within the phase's bound on the books
+    -- RECRUIT keeps an early campaign early and its books balanced, within the phase's bound (`LeavesWell`)
     pub all_recruits_leave_well : LeavesWell IsEarly (recruit_moves most_moved) w c (after_sharing recruit_pots w c os)
     unfolding after_sharing
     all_recruits_leave_well =

@@ -1,6 +1,8 @@
 -- Laws of the events of BUILD and of the phases with pots: each gives an event to each of its orders. Each law
 -- (`Gives`) says what the phase adds to the events of the faction and line of an order `t` of a mailing. It adds one
--- event, that of `t`, if `t` is an order of the phase and counts in its mailing (`counts`), and else none.
+-- event, that of `t`, if `t` is an order of the phase and counts in its mailing (`counts`), and else none. This
+-- supposes that the mailings can be read with the world (`AreFit`). It says nothing of outcomes. The phase keeps the
+-- mailings and the aliases.
 use Rattle.std.proofs.Common.{◌≡◌, ◌==◌, ◌&&◌, ◌++◌, ◌<◌, ℕ, zero, suc, Bool, true, false, cond, List, [], ◌∷◌, length, map, filter, is_some, Some, None, refl, sym, ap, ap₂, subst, ◌∙◌, arith}
 use Rattle.std.specs.Cmp.Lexicographic.{slice_cmp}
 use Rattle.std.specs.FinMap.{entries, from_entries, values}
@@ -55,7 +57,7 @@ build_takes w a t of_phase fit = by_verb t.order_value.verb t.order_value.operan
     by_verb verbs.Build o of_phase fits within = cc
     by_verb v o of_phase fits within = cc
 
--- the phase gives one event to each order of BUILD that counts, and none to any other order (`Gives`)
+-- the phase gives one event to each order of BUILD that counts, and none to any other order of a mailing (`Gives`)
 pub build_gives : Gives (λ counts t. report_if (is_building t.order_value.verb && counts && true) t) build_spec.meaning
 build_gives = gives_by_orders build_step is_building all_orders build_takes
 
@@ -83,23 +85,23 @@ is_selling = is_trade Sell
 abbrev pub is_buying : Verb → Bool
 is_buying = is_trade Buy
 
--- the phase gives one event to each order of SELL that counts, and none to any other order (`Gives`)
+-- the phase gives one event to each order of SELL that counts, and none to any other order of a mailing (`Gives`)
 pub sell_gives : Gives (λ counts t. report_if (is_selling t.order_value.verb && counts) t) sell_spec.meaning
 sell_gives = pots_give _ is_selling
 
--- the phase gives one event to each order of BUY that counts, and none to any other order (`Gives`)
+-- the phase gives one event to each order of BUY that counts, and none to any other order of a mailing (`Gives`)
 pub buy_gives : Gives (λ counts t. report_if (is_buying t.order_value.verb && counts) t) buy_spec.meaning
 buy_gives = pots_give _ is_buying
 
--- the phase gives one event to each order of TAX that counts, and none to any other order (`Gives`)
+-- the phase gives one event to each order of TAX that counts, and none to any other order of a mailing (`Gives`)
 pub tax_gives : Gives (λ counts t. report_if (is_tax t.order_value.verb && counts) t) tax_spec.meaning
 tax_gives = pots_give _ is_tax
 
--- the phase gives one event to each order of RECRUIT that counts, and none to any other order (`Gives`)
+-- the phase gives one event to each order of RECRUIT that counts, and none to any other order of a mailing (`Gives`)
 pub recruit_gives : Gives (λ counts t. report_if (is_recruit t.order_value.verb && counts) t) recruit_spec.meaning
 recruit_gives = pots_give _ is_recruit
 
--- the phase gives one event to each order of PRODUCE that counts, and none to any other order (`Gives`)
+-- the phase gives one event to each order of PRODUCE that counts, and none to any other order of a mailing (`Gives`)
 pub produce_gives : Gives (λ counts t. report_if (is_produce t.order_value.verb && counts) t) produce_spec.meaning
 produce_gives = pots_give _ is_produce
 

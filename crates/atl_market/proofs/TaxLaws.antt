@@ -1,5 +1,6 @@
 -- Laws of TAX: it keeps a campaign early, its books balanced and all units no worse off; all shares can be paid in
--- turn. `n` is the number of unit `u`, `q` its region, and `share` how much of the region's money the unit takes.
+-- turn. `n` is the number of unit `u`, `q` its region, and `share` how much of the region's money the unit takes. `os`
+-- are the orders of the phase.
 use Rattle.std.proofs.Common.{◌≡◌, ◌≢◌, ℕ, ◌+◌, ◌-◌, ◌≤◌, Some, List, [], ◌∷◌, length, refl, sym, ap, subst, ◌∙◌, arith}
 use Rattle.std.proofs.Math.Nat.{sub-add_cancel}
 use Rattle.std.specs.Prelude.{fold, pos, min}
@@ -78,7 +79,8 @@ module _ (w : WorldValue) (c : CampaignValue) (n : ℕ) (u : Unit) (q : Region) 
         same : (x y z j k : ℕ) → x + j ≡ y + j → y + k ≡ z + k → x ≡ z
         same x y z j k a b = omega (arith, a, b)
 
-    -- a unit that takes its share keeps an early campaign early and its books balanced, if it has room for the money
+    -- a unit that takes its share keeps an early campaign early, and books nothing (`LeavesWell`), if it has room for
+    -- the money, and the region has it (`enough`)
     pub tax_leaves_well : u.holding.money + share ≤ holding_limit → IsEarly w c
         → LeavesWell IsEarly moves_nothing w c after
     tax_leaves_well fits early =
@@ -110,7 +112,7 @@ module _ (w : WorldValue) (c : CampaignValue) (e : ℕ × ℕ) where
   taxed_is u q is around =
       unit_there c e.0 _ u is ∙ region_there c u.region _ q around ∙ tax_is w c e.0 u q e.1 is around
 
-  -- a share of tax that can be taken (`CanTax`) keeps the campaign early and its books balanced, and books nothing
+  -- a share of tax that can be taken (`CanTax`) keeps the campaign early, and books nothing (`LeavesWell`)
   pub taxed_well : CanTax w c e → LeavesWell IsEarly moves_nothing w c (after_tax c e)
   taxed_well can =
       subst (λ d. LeavesWell IsEarly moves_nothing w c d) (sym (taxed_is can.at.unit can.at.region can.at.there can.at.around))
@@ -177,7 +179,7 @@ module _ (w : WorldValue) (c : CampaignValue) where
         all_can (after_tax d e) es (ready_after pots w c d e es (after_tax d e) ready early (taxed_others w d e can) (taxed_drains w d e can c.units (sym ready.same.0 ∙ can.at.there))),
       )
 
-  -- TAX begins in the early campaign `c`; `os` are the orders of the phase
+  -- TAX begins in the early campaign `c`
   module _ (early : IsEarly w c) (os : List Task) where
     abbrev shares : List (ℕ × ℕ)
     shares = entries (given_by tax_pots w c os)
@@ -206,7 +208,7 @@ module _ (w : WorldValue) (c : CampaignValue) where
       enough = all_enough;
     })
 
-    -- TAX keeps an early campaign early and its books balanced, and books nothing
+    -- TAX keeps an early campaign early and its books balanced, and books nothing (`LeavesWell`)
     pub all_taxes_leave_well : LeavesWell IsEarly moves_nothing w c (after_sharing tax_pots w c os)
     unfolding after_sharing
     all_taxes_leave_well =

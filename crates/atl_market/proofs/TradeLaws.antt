@@ -1,6 +1,7 @@
 -- Laws of SELL and BUY: the campaign's rules and the balance of its books are kept, and all shares can be traded in
 -- turn. `trade` is SELL or BUY, `n` the number of unit `u`, `q` its region, `i` the number of an item, and `m` a
--- market. `share` is how many pieces the unit trades, and `stock` what the market has in stock before that.
+-- market. `share` is how many pieces the unit trades, and `stock` what the market has in stock before that. `os` are
+-- the orders of the phase.
 use Rattle.std.proofs.Common.{◌≡◌, ◌≢◌, ◌==◌, ◌&&◌, ℕ, ◌+◌, ◌-◌, ◌*◌, ◌/◌, ◌≤◌, ◌<◌, Bool, true, false, cond, Option, Some, None, List, [], ◌∷◌, length, refl, sym, ap, subst, ◌∙◌, arith}
 use Rattle.std.specs.Prelude.{IsSome, fold, pos, ◌+ℤ◌, min, option_and_then, unwrap_or}
 use Rattle.std.specs.Option.{option_map_or}
@@ -109,7 +110,7 @@ module _ (w : WorldValue) (c : CampaignValue) (n : ℕ) (u : Unit) (q : Region) 
   abbrev left : CampaignValue
   left = region_changed (λ r. restocked r i d.stock) paid u.region
 
-  -- where unit and region are there, booking the result `d` of a trade makes the campaign `after`
+  -- where unit and region are there, booking the result `d` of a trade makes the campaign `after_deal`
   pub deal_is : with_trade_booked c n u i entry d ≡ after
   deal_is = ap (λ o. with_booking (with_stock (with_holding_at c n more o) u.region i d.stock) entry Money d.booked) is
 
@@ -144,7 +145,7 @@ module _ (w : WorldValue) (c : CampaignValue) (n : ℕ) (u : Unit) (q : Region) 
             ∙ ap (λ k. cond (eq_by_cmp nat_cmp j i) d.amount (amount_of u.holding.items j) + k) (amount_after_setting q.stocks i d.stock j)
             ∙ by_test j (eq_by_cmp nat_cmp j i) refl
 
-    -- a trade whose result is within all limits keeps the campaign early and its books balanced, and books only money
+    -- a trade whose result is within all limits keeps the campaign early, and books only money (`LeavesWell`)
     pub deal_well : LeavesWell IsEarly (moves_only holding_limit entry Money) w c after
     deal_well =
         exchange_well w c n u q (λ r. restocked r i d.stock) more entry d.booked is around holding_limit may (λ g. g)
@@ -152,13 +153,13 @@ module _ (w : WorldValue) (c : CampaignValue) (n : ℕ) (u : Unit) (q : Region) 
 
 -- ---- the market that a unit trades with
 
--- a market of unit `u`'s region that trades the item which an order names
+-- a market of unit `u`'s region that trades the item which an order names, and keeps the rules of markets (`IsMarket`)
 pub record IsMarketFor (w : WorldValue) (u : Unit) (item : Option ℕ) (m : Market) : Type 0 where
   pub named_item : item ≡ Some m.item
   pub there : market_of w u.region m.item ≡ Some m
   pub bounds : IsMarket (length w.items) m.item m
 
--- the market that is found for an item that an order names is the region's, and keeps the rules of markets
+-- in a world (`IsWorld`) the market found for an item that an order names is such a market (`IsMarketFor`)
 pub market_is : (w : WorldValue) → IsWorld w → (u : Unit) (item : Option ℕ) (m : Market) → market_for w u item ≡ Some m
     → IsMarketFor w u item m
 market_is w world u None m is = none_some m is
@@ -319,7 +320,7 @@ module _ (trade : Trade) (items : FinMap nat_cmp ℕ) (w : WorldValue) (c : Camp
             ∙ add-zero (market_pot trade (limit_of w k.1 k.0) (amount_of (with_amount_of can.at.region.stocks m.item deal.stock) k.1))
             ∙ ap (market_pot trade (limit_of w k.1 k.0)) (amount_after_setting can.at.region.stocks m.item deal.stock k.1 ∙ ap (λ b. cond b deal.stock (amount_of can.at.region.stocks k.1)) is)
 
-  -- a trade that can be made (`CanTrade`) keeps a campaign early and its books balanced, within the bound of one trade
+  -- a trade that can be made (`CanTrade`) keeps a campaign early, within the bound of one trade (`LeavesWell`)
   pub traded_well : CanTrade trade items w c e
       → LeavesWell IsEarly (trade_moves trade holding_limit) w c (after_trade trade items w c e)
   traded_well can = by_market (market_for w can.at.unit (get items e.0)) refl
@@ -450,8 +451,7 @@ module _ (trade : Trade) (items : FinMap nat_cmp ℕ) (w : WorldValue) (world : 
             (later_room step_moves w d next e es well room),
       )
 
--- SELL or BUY (`trade`) begins in the early campaign `c` with the orders `os`; the books have room for all that the
--- phase may book (`room`)
+-- SELL or BUY begins in the early campaign `c` of a world; its books have room for all that the phase may book (`room`)
 module _ (trade : Trade) (w : WorldValue) (world : IsWorld w) (c : CampaignValue) (early : IsEarly w c) (os : List Task) (room : HaveRoom (trade_moves trade most_moved) c) where
   abbrev named : FinMap nat_cmp ℕ
   named = items_by (trade_pots trade) w c os
@@ -521,8 +521,7 @@ module _ (trade : Trade) (w : WorldValue) (world : IsWorld w) (c : CampaignValue
     enough = all_enough;
   }) (room_less (moved_times (length shares) moves) (trade_moves trade most_moved) c little room)
 
-  -- SELL or BUY keeps an early campaign early and its books balanced, within the phase's bound, if the books have room
-  -- for it
+  -- SELL or BUY keeps an early campaign early and its books balanced, within the phase's bound (`LeavesWell`)
   pub all_trades_leave_well : LeavesWell IsEarly (trade_moves trade most_moved) w c (after_sharing (trade_pots trade) w c os)
   unfolding after_sharing
   all_trades_leave_well =
@@ -555,7 +554,7 @@ can_book_result trade items w c n share can u m stock entry d there at stock_at 
       room = subst (λ f. HasRoom holding_limit (amount_in c.books f Money)) (sym entry_at) (only_room (trade_entry trade) Money (amount_in c.books (trade_entry trade) Money) (can.room (trade_entry trade) Money));
     }
 
--- in an early campaign no stock is above 999,999,999
+-- in an early campaign of a world (`IsWorld`) no stock is above 999,999,999
 pub stock_most : (w : WorldValue) (c : CampaignValue) (r i : ℕ) → IsWorld w → IsEarly w c → stock_of c r i ≤ most_amount
 stock_most w c r i world early = by_region (get c.regions r) refl
   where

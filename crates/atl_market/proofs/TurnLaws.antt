@@ -15,8 +15,8 @@ use Rattle.atl_phase.specs.Bounds.{HaveRoom, moved_times}
 use Rattle.atl_phase.proofs.MeaningLaws.{IsBoundWithin, both_leave_well, room_for_second, room_less, well_unchanged, well_within}
 use Rattle.atl_market.specs.Bounds.{CanInTurn}
 
--- Steps that each move one amount by at most 999,999,999 move it by less than 10^14 together, if they are at most
--- 100,000 (as many as there may be units).
+-- Steps that each move one amount (entry `a`, thing `b`) by at most 999,999,999 move it by less than 10^14 together, if
+-- they are at most 100,000 (as many as there may be units).
 pub few_holdings : (k : ℕ) → k ≤ most_units → (a : BooksEntry) (b : Thing) (e : BooksEntry) (t : Thing)
     → moved_times k (moves_only holding_limit a b) e t ≤ moves_only most_moved a b e t
 few_holdings k few a b e t = by_test (amount_number e t == amount_number a b)
@@ -49,7 +49,7 @@ later_room book_bound w c d x xs well room =
 -- and the balance of the books, and books at most `book_bound` (`each`).
 module _ {A : Type 0} {leaves : Condition} (book_bound : BookBound) (w : WorldValue) (can : CampaignValue → A → Type 0) (step : CampaignValue → A → CampaignValue) (each : (c : CampaignValue) (x : A) → can c x → LeavesWell leaves book_bound w c (step c x)) where
   -- steps that can be taken in turn (`CanInTurn`) keep a campaign's rules and its books balanced, within the sum of
-  -- their bounds, if each step does
+  -- their bounds (`LeavesWell`), if each step does
   pub turns_leave_well : (c : CampaignValue) (xs : List A) → leaves w c → CanInTurn can step c xs
       → LeavesWell leaves (moved_times (length xs) book_bound) w c (fold step c xs)
   turns_leave_well c [] h turns = well_unchanged (moved_times 0 book_bound) w c h

@@ -83,7 +83,7 @@ built_men w c f n x other = tt
 build_leaves_men : LeavesOthersMen build_step
 build_leaves_men w a c t x own = built_men w c t.faction t.unit x t.order_value.operands
 
--- BUILD leaves units of factions without a mailing their men and items
+-- BUILD leaves units of factions without a mailing their men and items (`PhaseLeavesUnmailed`)
 pub build_leaves : PhaseLeavesUnmailed build_spec
 build_leaves =
     carried_leaves build_step is_building build_leaves_men
@@ -107,7 +107,7 @@ produced_men asked w c e =
     (by_option (HaveTheirMen c) (λ r. with_used c e.0 r (e.1 * x.raw_count)) x.raw c (men_stay c) (λ r raw. used_men c e.0 r (e.1 * x.raw_count)))
     (made_men used e.0 i e.1))
 
--- PRODUCE leaves units of factions without a mailing their men and items
+-- PRODUCE leaves units of factions without a mailing their men and items (`PhaseLeavesUnmailed`)
 pub produce_leaves : PhaseLeavesUnmailed produce.produce_spec
 produce_leaves =
     shared_leave produce.produce_pots (orders_with_verbs produce.is_produce)

@@ -1,7 +1,7 @@
 -- What TAX, RECRUIT, WORK, SELL and BUY leave to the units of a faction that sent no mailing. Such a unit is there
 -- after the phase, with its faction and name, no less of any item, and all its men, since nobody starves in these
--- phases (`LeavesUnmailed`). `m` is the month as the phase gets it, and `c` and `d` are the campaigns before and after
--- it.
+-- phases (`LeavesUnmailed`). `p` is the phase, `m` the month as it gets it, and `c` and `d` are the campaigns before
+-- and after it.
 use Rattle.std.proofs.Common.{◌≡◌, ◌≢◌, ◌==◌, ◌&&◌, ◌||◌, ◌+◌, ◌-◌, ℕ, Bool, true, false, List, [], ◌∷◌, ◌++◌, map, None, refl, ap, ◌∙◌}
 use Rattle.std.specs.Prelude.{if◌then◌else◌, pos}
 use Rattle.std.specs.List.{AllByRecursion, list_any}
@@ -64,7 +64,7 @@ module _ (p : PotMeaning) (w : WorldValue) (c : CampaignValue) where
       sum_by-append (λ (e : Event). if e.unit == n then men_starved_by e.verb e.outcome else 0) events (map (event_of p w c (given_by p w c os)) os)
       ∙ ap (λ x. starved_in events n + x) (none_starve (given_by p w c os) os n) ∙ add-zero (starved_in events n)
 
--- a phase with pots (`p`); `orders` gives the orders of the phase in a campaign and its month
+-- `orders` gives the orders of the phase in a campaign and its month
 module _ (p : PotMeaning) (orders : CampaignValue → MonthValue → List Task) where
   -- the meaning of a phase with pots that finds its orders by `orders`
   abbrev pub shared : Meaning
@@ -100,7 +100,7 @@ tax_men w c e =
     men_changed (λ v. record v { holding = record v.holding { money = u.holding.money + e.1 } }) (λ v. record { faction = refl; men = refl })
     c (with_region_money (with_money c e.0 (u.holding.money + e.1)) u.region (q.money - e.1)) e.0 refl))
 
--- TAX leaves units of factions without a mailing their men and items
+-- TAX leaves units of factions without a mailing their men and items (`PhaseLeavesUnmailed`)
 pub tax_leaves : PhaseLeavesUnmailed tax_spec
 tax_leaves =
     shared_leave tax_pots (orders_with_verbs is_tax)
@@ -116,7 +116,7 @@ work_men w c e =
     men_changed (λ v. record v { holding = record v.holding { money = u.holding.money + wages } }) (λ v. record { faction = refl; men = refl })
     c (with_booking (with_money c e.0 (u.holding.money + wages)) Wages Money (pos wages)) e.0 refl)
 
--- WORK leaves units of factions without a mailing their men and items
+-- WORK leaves units of factions without a mailing their men and items (`PhaseLeavesUnmailed`)
 pub work_leaves : PhaseLeavesUnmailed work_spec
 work_leaves = shared_leave work_pots work_orders (paid_men work_pots work_orders (λ w items. work_men w)) none_worse
 
@@ -147,7 +147,7 @@ module _ (is_of : Verb → Bool) (m : MonthValue) where
       → UnmailedAre HasItsItems m c d
   others_items c d h n u there none = let (v, after, better) = h n u there (unordered n u none) in record { unit = v; there = after; is_unaffected = items_of_no_worse u v better }
 
--- RECRUIT leaves units of factions without a mailing their men and items
+-- RECRUIT leaves units of factions without a mailing their men and items (`PhaseLeavesUnmailed`)
 pub recruit_leaves : PhaseLeavesUnmailed recruit_spec
 recruit_leaves =
     shared_leave recruit_pots (orders_with_verbs is_recruit)
@@ -173,10 +173,10 @@ module _ (trade : Trade) where
       })
       (λ w c d m. others_items (is_trade trade) m c d)
 
--- SELL leaves units of factions without a mailing their men and items
+-- SELL leaves units of factions without a mailing their men and items (`PhaseLeavesUnmailed`)
 pub sell_leaves : PhaseLeavesUnmailed sell_spec
 sell_leaves = trade_leaves Sell
 
--- BUY leaves units of factions without a mailing their men and items
+-- BUY leaves units of factions without a mailing their men and items (`PhaseLeavesUnmailed`)
 pub buy_leaves : PhaseLeavesUnmailed buy_spec
 buy_leaves = trade_leaves Buy

@@ -1,6 +1,6 @@
 -- Laws of WORK: it keeps a campaign steady, its books balanced and all units no worse off; all wages can be paid in
 -- turn. `n` is the number of unit `u`, and `money` its wages. Shares (`es`) are pairs of a unit's number and how many
--- work places it gets.
+-- work places it gets. `os` are the orders of the phase.
 use Rattle.std.proofs.Common.{◌≡◌, ◌≢◌, ◌==◌, ℕ, ◌+◌, ◌-◌, ◌*◌, ◌/◌, ◌%◌, ◌≤◌, ◌<◌, false, cond, Option, Some, None, List, [], ◌∷◌, length, refl, sym, ap, subst, ◌∙◌, arith}
 use Rattle.std.specs.Prelude.{pos, ◌+ℤ◌, fold}
 use Rattle.std.specs.List.{AllByRecursion}
@@ -84,7 +84,7 @@ module _ (w : WorldValue) (c : CampaignValue) (n : ℕ) (u : Unit) (money : ℕ)
           zero_more : (x : ℕ) → pos x +ℤ pos 0 ≡ pos x
           zero_more x = omega (arith, ints)
 
-  -- wages that the unit has room for keep the campaign steady and its books balanced, and book only wages
+  -- wages that the unit has room for keep a steady campaign steady, and book only wages (`LeavesWell`)
   pub wages_leave_well : u.holding.money + money ≤ holding_limit → IsSteady w c
       → LeavesWell IsSteady (work_moves holding_limit) w c wages_paid
   wages_leave_well fits steady = record {
@@ -113,7 +113,7 @@ module _ (w : WorldValue) (c : CampaignValue) (e : ℕ × ℕ) where
   unfolding after_work
   worked_is u is = unit_there c e.0 _ u is ∙ wages_are w c e.0 u (wages_for w u.region e.1) is
 
-  -- wages that can be paid (`CanWork`) keep the campaign steady and its books balanced, within the bound of one unit
+  -- wages that can be paid (`CanWork`) keep the campaign steady, within the bound of one unit (`LeavesWell`)
   pub worked_well : CanWork w c e → LeavesWell IsSteady (work_moves holding_limit) w c (after_work w c e)
   worked_well can =
       subst (λ d. LeavesWell IsSteady (work_moves holding_limit) w c d) (sym (worked_is can.unit can.there))
@@ -159,7 +159,8 @@ module _ (w : WorldValue) where
   still c d n (f ∷ es) same above ((u, there, fits), all) =
       ((u, same f.0 (λ e. absurd (omega (arith, e, above.0))) ∙ there, fits), still c d n es same above.1 all)
 
-  -- shares can be paid in turn, if each unit has room for its wages and the books have room for all of them
+  -- in a steady campaign shares can be paid in turn, by rising unit numbers, if each unit has room for its wages and
+  -- the books have room for all of them
   pub work_in_turn : (c : CampaignValue) (es : List (ℕ × ℕ)) → Rise es → IsSteady w c
       → HaveRoom (moved_times (length es) step_moves) c → AllByRecursion (HasRoomFor w c) es
       → CanInTurn (CanWork w) (after_work w) c es
@@ -179,7 +180,7 @@ module _ (w : WorldValue) where
       let cost : t.wage * places ≤ t.wage * (room / t.wage) = mul-le-mul_left t.wage few in
       omega (arith, split, cost, fits, mul_comm places t.wage)
 
-  -- WORK begins in the steady campaign `c`; `os` are the orders of the phase
+  -- WORK begins in the steady campaign `c`
   module _ (c : CampaignValue) (steady : IsSteady w c) (os : List Task) where
     abbrev shares : List (ℕ × ℕ)
     shares = entries (given_by work_pots w c os)
@@ -203,7 +204,7 @@ module _ (w : WorldValue) where
         (room_less (moved_times (length shares) step_moves) (work_moves most_moved) c little room)
         (all_pairs (HasRoomFor w c) shares (each-from_every (λ n places. HasRoomFor w c (n, places)) (given_by work_pots w c os) each_fits))
 
-    -- WORK keeps a steady campaign steady and its books balanced, within the phase's bound, if the books have room
+    -- WORK keeps a steady campaign steady, within the phase's bound on the books (`LeavesWell`), if they have room
     pub work_leaves_well : HaveRoom (work_moves most_moved) c
         → LeavesWell IsSteady (work_moves most_moved) w c (after_sharing work_pots w c os)
     unfolding after_sharing

@@ -45,11 +45,11 @@ size_added k h done = min (min (h.men * level_in h k.skill) (amount_of h.items k
 
 -- ---- BUILD kind
 
--- whether no further structure may be begun: there are 10,000 of them
+-- whether no further structure may be begun: there are 10,000 of them or more
 abbrev pub is_structure_limit : CampaignValue → Bool
 is_structure_limit c = nat_le most_structures (len c.structures)
 
--- the first fault of `BUILD kind`, if there is one: NoMen, AtSea, NoSkill, NoMaterial, StructureLimit
+-- the first fault of `BUILD kind` after NotYours, if there is one: NoMen, AtSea, NoSkill, NoMaterial, StructureLimit
 abbrev pub begin_fault : WorldValue → CampaignValue → Unit → Kind → Option EventFault
 begin_fault w c u k = first_fault (
     (u.holding.men == 0, NoMen)
@@ -97,7 +97,7 @@ begin w n kind k c u =
 abbrev pub outside_fault : Unit → Option EventFault
 outside_fault u = first_fault ((u.holding.men == 0, NoMen) ∷ (true, NotInside) ∷ [])
 
--- the first fault of `BUILD` by a unit inside a structure, if there is one: NoMen, Complete, NoSkill, NoMaterial
+-- the first fault of `BUILD` inside a structure after NotYours, if any: NoMen, Complete, NoSkill, NoMaterial
 abbrev pub inside_fault : Unit → Structure → Kind → Option EventFault
 inside_fault u s k = first_fault (
     (u.holding.men == 0, NoMen)
@@ -114,7 +114,7 @@ after_building_on c n material size structure done = with_done (with_used c n ma
 abbrev pub with_kind : WorldValue → Structure → Option (Structure × Kind)
 with_kind w s = option_map (λ k. (s, k)) (slice_get w.kinds s.kind)
 
--- the structure under a number with its kind, if there is one
+-- the structure under a number with its kind, if both are there
 abbrev pub structure_and_kind_at : WorldValue → CampaignValue → (structure : ℕ) → Option (Structure × Kind)
 structure_and_kind_at w c structure = option_and_then (with_kind w) (get c.structures structure)
 

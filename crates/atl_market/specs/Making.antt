@@ -27,7 +27,8 @@ pub record CanUse (w : WorldValue) (c : CampaignValue) (n i amount : ℕ) : Type
   -- the books have room for a use of `amount` of the item
   pub room : HasRoom amount (amount_in c.books Used (things.Item i))
 
--- unit `n` can make `amount` of item `i`: it is there and has room for it, and so have the books
+-- unit `n` can make `amount` of item `i`: it is there and has room for it, and so have the books; the world has the
+-- item, and the campaign is steady
 pub record CanMake (w : WorldValue) (c : CampaignValue) (n i amount : ℕ) : Type 0 where
   pub unit : Unit
   pub there : get c.units n ≡ Some unit
@@ -46,7 +47,7 @@ pub record CanMakeOf (w : WorldValue) (c : CampaignValue) (n made i : ℕ) (x : 
   -- after the raw item is used, the unit can make the `made` pieces
   pub make : CanMake w (with_raw_used c n (made * x.raw_count) x.raw) n i made
 
--- a unit has room for `made` pieces of the item `x`, which has the number `i`, and holds the raw items for them
+-- a unit has room for `made` pieces of the item `x`, which has the number `i` in the world, and the raw items for them
 pub record HasRoomAndRaw (w : WorldValue) (u : Unit) (made i : ℕ) (x : Item) : Type 0 where
   pub known : i < length w.items
   pub fits : amount_of u.holding.items i + made ≤ holding_limit
@@ -56,8 +57,8 @@ pub record HasRoomAndRaw (w : WorldValue) (u : Unit) (made i : ℕ) (x : Item) :
   pub raw : (r : ℕ) → x.raw ≡ Some r → made * x.raw_count ≤ amount_of u.holding.items r
 
 -- The unit of a pair (unit, share) can make its share of the item that its order names, which `asked` has by unit. The
--- unit is there, and has room and raw items for the share. The books have room for 999,999,999 of each item made, and
--- as much used.
+-- unit is there, and has room and raw items for the share. The campaign is steady, and the books have room for
+-- 999,999,999 of each item made, and as much used.
 pub record CanProduce (asked : FinMap nat_cmp ℕ) (w : WorldValue) (c : CampaignValue) (e : ℕ × ℕ) : Type 0 where
   pub unit : Unit
   pub there : get c.units e.0 ≡ Some unit

@@ -18,7 +18,8 @@ pub record IsSomewhere (c : CampaignValue) (n : ℕ) : Type 0 where
   pub region : Region
   pub around : get c.regions unit.region ≡ Some region
 
--- the unit of a pair (unit, share) can take its share of tax: it has room for the money, and its region has it
+-- The unit of a pair (unit, share) can take its share of tax: it has room for the money, and its region has it. The
+-- campaign is early.
 pub record CanTax (w : WorldValue) (c : CampaignValue) (e : ℕ × ℕ) : Type 0 where
   pub at : IsSomewhere c e.0
   -- the unit has at most 999,999,999 money with its share added
@@ -28,7 +29,7 @@ pub record CanTax (w : WorldValue) (c : CampaignValue) (e : ℕ × ℕ) : Type 0
   pub early : IsEarly w c
 
 -- The unit of a pair (unit, share) can get its share of recruits. It has the money and room for the men, its region has
--- the peasants, and the books have room.
+-- the peasants, and the books have room. The campaign is early.
 pub record CanRecruit (w : WorldValue) (c : CampaignValue) (e : ℕ × ℕ) : Type 0 where
   pub at : IsSomewhere c e.0
   -- the unit has at most 999,999 men with its recruits added
@@ -41,7 +42,8 @@ pub record CanRecruit (w : WorldValue) (c : CampaignValue) (e : ℕ × ℕ) : Ty
   -- the books have room for 999,999,999 money paid for recruits
   pub room : HaveRoom (recruit_moves holding_limit) c
 
--- the unit of a pair (unit, share) can be paid for its work places: it is there, and it and the books have room
+-- The unit of a pair (unit, share) can be paid for its work places: it is there, and it and the books have room. The
+-- campaign is steady.
 pub record CanWork (w : WorldValue) (c : CampaignValue) (e : ℕ × ℕ) : Type 0 where
   pub unit : Unit
   pub there : get c.units e.0 ≡ Some unit

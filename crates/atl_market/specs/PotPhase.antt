@@ -1,5 +1,6 @@
 -- A phase in which the units of each region share a pot: who takes part, what each gets, and what is reported. All of
--- it is read from the campaign as the phase began. See docs/RULES.md, "Pots".
+-- it is read from the campaign as the phase began. What PRODUCE makes out of raw items counts as a share too, though
+-- it comes out of no pot. See docs/RULES.md, "Pots".
 use Rattle.std.specs.Prelude.{ℕ, Bool, true, false, List, map, reverse, Option, Some, None, option_map, unwrap_or, Result, Ok, Err, if◌then◌else◌}
 use Rattle.std.specs.List.{filter_map, fold}
 use Rattle.std.specs.Result.{is_ok, result_ok}
@@ -50,7 +51,7 @@ pub record PotMeaning : Type 0 where
   pub fault : WorldValue → Unit → Task → Option EventFault
   -- how much a unit wants by an order: of the pot of its region, or of its item's pot there
   pub want : WorldValue → Unit → Task → ℕ
-  -- how much each unit gets, by unit, worked out from the item that its order names and its want, both also by unit
+  -- how much each unit gets, by unit: from the item that its order names and its want, both also by unit
   pub grants : (items : FinMap nat_cmp ℕ) → WorldValue → CampaignValue → (wants : FinMap nat_cmp ℕ) → FinMap nat_cmp ℕ
   -- the number in the event of a unit's order, by the unit's share of the pot
   pub event_number : WorldValue → Unit → ℕ → ℕ
@@ -72,8 +73,8 @@ unless_fault (Some fault) u = Err fault
 module _ (p : PotMeaning) (w : WorldValue) (c : CampaignValue) where
   -- ---- who takes part
 
-  -- the unit of the order's faction that carries the order out, or the fault that the phase finds; NotYours without a
-  -- unit
+  -- the given unit of the order's faction, which carries the order out, or the fault that the phase finds; NotYours
+  -- without a unit
   abbrev pub carrier_of : Task → Option Unit → Result Unit EventFault
   carrier_of t None = Err NotYours
   carrier_of t (Some u) = unless_fault (p.fault w u t) u

@@ -62,12 +62,12 @@ most_makeable w h asked = option_map_or (λ e. most_makeable_of h e.0 e.1) (numb
 abbrev pub takes_raw : WorldValue → Option ℕ → Bool
 takes_raw w asked = option_map_or (λ x. is_some x.raw) (item_of w asked) true
 
--- The item that unit `n` makes out of what its region gives: the one that its order names, if no raw item goes into it.
+-- The item that unit `n` makes out of what its region gives: the one that its order names, unless it `takes_raw`.
 -- Here and below, `asked` has by unit the number of the item that its order names, and `wants` how many it wants.
 abbrev pub output_item : WorldValue → FinMap nat_cmp ℕ → ℕ → Option ℕ
 output_item w asked n = if takes_raw w (get asked n) then None else get asked n
 
--- how much of an item a region's terrain gives, which is the region's pot of the item; 0 where there is no terrain
+-- how much of an item a region's terrain gives, which is the region's pot of the item; 0 without terrain or item
 abbrev pub output_at : WorldValue → (item region : ℕ) → ℕ
 output_at w i region = option_map_or (λ t. unwrap_or (slice_get t.output i) 0) (terrain_of w region) 0
 
@@ -78,8 +78,8 @@ output_share w asked c wants n = item_share (output_item w asked) (output_at w) 
 
 -- ---- who makes how much
 
--- how much a unit makes, by its number and its want: out of raw items all that it wants, else its share of what its
--- region gives of the item, or 0 without a share
+-- how much a unit makes, by its number and its want: all that it wants of an item that `takes_raw`, else its share of
+-- what its region gives of the item, or 0 without a share
 abbrev pub amount_made : WorldValue → FinMap nat_cmp ℕ → CampaignValue → FinMap nat_cmp ℕ → ℕ × ℕ → ℕ
 amount_made w asked c wants (n, want) =
     if takes_raw w (get asked n) then want else unwrap_or (output_share w asked c wants n) 0
@@ -90,16 +90,16 @@ made_amounts asked w c wants = from_entries (map (λ e. (e.0, amount_made w aske
 
 -- ---- what changes
 
--- a campaign after unit `n` used `amount` of a raw item; unchanged where none is given
+-- a campaign after unit `n` used `amount` of a raw item; unchanged where none is given or the unit isn't there
 abbrev pub with_raw_used : CampaignValue → ℕ → (amount : ℕ) → (raw : Option ℕ) → CampaignValue
 with_raw_used c n amount raw = option_map_or (λ r. with_used c n r amount) raw c
 
--- a campaign after unit `n` used the raw items for `made` pieces of item `x`, which has the number `i`, and made them
+-- a campaign after unit `n`, if it is there, used the raw items for `made` pieces of `x`, item `i`, and made these
 abbrev pub with_item_made : CampaignValue → ℕ → (made item : ℕ) → Item → CampaignValue
 with_item_made c n made i x = with_made (with_raw_used c n (made * x.raw_count) x.raw) n i made
 
 -- a campaign after a unit, by its number, made `made` pieces of the item that its order names; unchanged where that is
--- no item of the world
+-- no item of the world, or the unit isn't there
 unfoldable pub after_production : FinMap nat_cmp ℕ → WorldValue → CampaignValue → ℕ × ℕ → CampaignValue
 after_production asked w c (n, made) =
     option_map_or (λ e. with_item_made c n made e.0 e.1) (numbered_item w (get asked n)) c
@@ -115,8 +115,8 @@ is_unskilled h x = if is_some x.skill then nat_lt (level_in_any h x.skill) x.lev
 abbrev pub is_raw_missing : HoldingValue → (count : ℕ) → (raw : Option ℕ) → Bool
 is_raw_missing h count raw = option_map_or (λ r. amount_of h.items r / count == 0) raw false
 
--- The first fault of PRODUCE, if there is one: NoMen, NoSkill, NoMaterial; without an item of the world NoMen,
--- else NoSkill.
+-- The first fault of PRODUCE after NotYours, if there is one: NoMen, NoSkill, NoMaterial; without an item of the world
+-- NoMen, else NoSkill.
 abbrev pub produce_fault : HoldingValue → Option Item → Option EventFault
 produce_fault h None = first_fault ((h.men == 0, NoMen) ∷ (true, NoSkill) ∷ [])
 produce_fault h (Some x) =

@@ -27,7 +27,7 @@ abbrev pub is_recruit : Verb → Bool
 is_recruit verbs.Recruit = true
 is_recruit verb = false
 
--- the fault of RECRUIT, if there is one: NotEnough where the unit's money is less than the price of one recruit
+-- the fault of RECRUIT other than NotYours, if there is one: NotEnough where the unit can't pay the price of a recruit
 abbrev pub recruit_fault : WorldValue → Unit → Option EventFault
 recruit_fault w u = first_fault ((nat_lt u.holding.money w.rules.recruit_price, NotEnough) ∷ [])
 
@@ -44,7 +44,7 @@ abbrev pub with_paid_recruits : HoldingValue → (recruits cost : ℕ) → Holdi
 with_paid_recruits h recruits cost = record h { men = h.men + recruits; money = h.money - cost }
 
 -- A campaign after `recruits` peasants of its region joined a unit, by its number. The unit pays their price, which is
--- booked as taken out of the campaign (below 0).
+-- booked as taken out of the campaign (below 0). It is unchanged where unit or region isn't there.
 unfoldable pub after_recruiting : WorldValue → CampaignValue → ℕ × ℕ → CampaignValue
 after_recruiting w c (n, recruits) =
     let cost = recruits * w.rules.recruit_price in

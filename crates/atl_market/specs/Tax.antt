@@ -23,7 +23,7 @@ abbrev pub is_tax : Verb → Bool
 is_tax verbs.Tax = true
 is_tax verb = false
 
--- the first fault of TAX, if there is one: NoMen, NotGuarding
+-- the first fault of TAX after NotYours, if there is one: NoMen, NotGuarding
 abbrev pub tax_fault : Unit → Option EventFault
 tax_fault u = first_fault ((u.holding.men == 0, NoMen) ∷ (not u.holding.guard, NotGuarding) ∷ [])
 
@@ -56,6 +56,6 @@ tax_pots = record {
 abbrev pub tax_meaning : Meaning
 tax_meaning = pots_by_orders tax_pots is_tax
 
--- the specification of the phase TAX: money only goes from regions to units, so nothing is booked
+-- the specification of the phase TAX: money only goes from regions to units, so nothing is booked; no unit is worse off
 abbrev pub tax_spec : PhaseSpec
 tax_spec = spec_without_books tax_meaning all_no_worse

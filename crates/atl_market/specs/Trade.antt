@@ -52,7 +52,7 @@ abbrev pub has_too_little : Trade → HoldingValue → Market → Bool
 has_too_little Sell h m = amount_of h.items m.item == 0
 has_too_little Buy h m = nat_lt h.money m.price
 
--- the first fault of SELL or BUY, if there is one: NoMarket, NotEnough
+-- the first fault of SELL or BUY after NotYours, if there is one: NoMarket, NotEnough
 abbrev pub trade_fault : Trade → HoldingValue → Option Market → Option EventFault
 trade_fault trade h None = Some NoMarket
 trade_fault trade h (Some m) = first_fault ((has_too_little trade h m, NotEnough) ∷ [])
@@ -117,7 +117,7 @@ with_trade_booked c n u item entry d =
     with_booking (with_stock paid u.region item d.stock) entry Money d.booked
 
 -- A campaign after a unit, by its number, traded `share` pieces of its order's item, which `items` has by unit. It is
--- unchanged where the unit's region has no market for the item.
+-- unchanged where the unit isn't there, or its region has no market for the item.
 unfoldable pub after_trade : Trade → FinMap nat_cmp ℕ → WorldValue → CampaignValue → ℕ × ℕ → CampaignValue
 after_trade trade items w c (n, share) =
     at_unit c n (λ u.
@@ -146,7 +146,7 @@ trade_meaning trade = pots_by_orders (trade_pots trade) (is_trade trade)
 abbrev pub trade_moves : Trade → ℕ → BookBound
 trade_moves trade most = moves_only most (trade_entry trade) Money
 
--- what SELL or BUY leaves alone: units for which their own faction wrote no order of the phase are no worse off
+-- what SELL or BUY leaves alone: units for which their own faction wrote no order of the phase are there, no worse off
 abbrev pub trade_keeps : Trade → Frame
 trade_keeps trade = no_worse_without_order (is_trade trade)
 

@@ -40,7 +40,7 @@ pub record IsPriced (m : Market) : Type 0 where
   pub limit : m.limit ≤ most_amount
 
 -- The unit of a pair (unit, share) can trade its share of its order's item, which `items` has by unit. It can afford
--- the share, and the market's pot and the books allow it.
+-- the share, and the market's pot and the books allow it. The world keeps its rules, and the campaign is early.
 pub record CanTrade (trade : Trade) (items : FinMap nat_cmp ℕ) (w : WorldValue) (c : CampaignValue) (e : ℕ × ℕ) : Type 0 where
   pub at : IsSomewhere c e.0
   -- the unit can trade its share with the market of its order's item; without a market the share is 0
@@ -54,7 +54,7 @@ pub record CanTrade (trade : Trade) (items : FinMap nat_cmp ℕ) (w : WorldValue
   -- the books have room for 999,999,999 money of the trade, sold or bought
   pub room : HaveRoom (trade_moves trade holding_limit) c
 
--- The result `d` of a trade can be booked under `entry` (Sold or Bought): it is within the limits of unit `n`, which is
+-- The result `d` of a trade can be booked under `entry`, such as Sold: it is within the limits of unit `n`, which is
 -- there, and the books have room for its money.
 pub record CanBookTrade (c : CampaignValue) (n : ℕ) (entry : BooksEntry) (d : TradeResult) : Type 0 where
   pub unit : Unit

@@ -1,6 +1,6 @@
--- What SELL, BUY, RECRUIT and PRODUCE leave alone: units for which their own faction wrote no order of the phase. A
--- unit is no worse off (`IsNoWorse`) with the same faction, place, name and guard flag, and no less men, money, items
--- or days.
+-- What SELL, BUY, RECRUIT and PRODUCE leave alone: units for which their own faction wrote no order of the phase that
+-- counts. A unit is no worse off (`IsNoWorse`) with the same faction, place, name and guard flag, and no less men,
+-- money, items or days.
 use Rattle.std.specs.Prelude.{◌≡◌, ◌==◌, ◌&&◌, ℕ, Bool, false, List, Some}
 use Rattle.std.specs.List.{list_any}
 use Rattle.std.specs.FinMap.{get}
@@ -21,6 +21,7 @@ abbrev pub OthersAreNoWorse : List Task → CampaignValue → CampaignValue → 
 OthersAreNoWorse os before after =
     Every (λ n u. has_own_order os n u ≡ false → (v : Unit) × (get after.units n ≡ Some v) × IsNoWorse u v) before.units
 
--- what a phase with the verbs `is_of` leaves alone: units for which their own faction wrote no order are no worse off
+-- What a phase with the verbs `is_of` leaves alone: units for which their own faction wrote no order of the phase that
+-- counts are there and no worse off.
 abbrev pub no_worse_without_order : (Verb → Bool) → Frame
 no_worse_without_order is_of w m before after = OthersAreNoWorse (orders_by_unit is_of m) before after

@@ -52,7 +52,7 @@ abbrev pub written_work : List Task → List Task
 written_work ts = filter (λ t. is_work t.order_value.verb) ts
 
 -- The orders of the phase WORK, sorted as those of other phases: the month-long ones that are WORK, and one for each
--- unit with men without a month-long order.
+-- unit with men without a month-long order of its own faction.
 unfoldable pub work_orders : CampaignValue → MonthValue → List Task
 work_orders c m =
     let month_long = orders_by_unit is_month_long m in
@@ -77,14 +77,14 @@ work_want u terrain =
 abbrev pub wages_for : WorldValue → ℕ → ℕ → ℕ
 wages_for w region places = places * wage_at w region
 
--- a campaign after a unit, by its number, was paid for `places` work places, which is booked
+-- a campaign after a unit, by its number, if it is there, was paid for `places` work places, which is booked
 unfoldable pub after_work : WorldValue → CampaignValue → ℕ × ℕ → CampaignValue
 after_work w c (n, places) =
     at_unit c n (λ u.
     let wages = wages_for w u.region places in
     with_booking (with_money c n (u.holding.money + wages)) Wages Money (pos wages))
 
--- the fault of WORK, if there is one: NoMen, which only an order that was written can have
+-- the fault of WORK other than NotYours, if there is one: NoMen, which only an order that was written can have
 abbrev pub work_fault : Unit → Option EventFault
 work_fault u = first_fault ((u.holding.men == 0, NoMen) ∷ [])
 
@@ -106,6 +106,6 @@ work_meaning = pots_meaning work_pots work_orders
 abbrev pub work_moves : ℕ → BookBound
 work_moves most = moves_only most Wages Money
 
--- the specification of the phase WORK, which books Wages of money and takes nothing from any unit
+-- the specification of the phase WORK, which books Wages of money; no unit is worse off
 abbrev pub work_spec : PhaseSpec
 work_spec = books_money Wages work_meaning all_no_worse

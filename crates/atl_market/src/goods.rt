@@ -1,4 +1,4 @@
-//! Takes used items from a unit and gives it made items; both are booked.
+//! Takes used items from a unit and gives it made items; both are booked. `number` is the unit's.
 ghost use Rattle.std.specs.Prelude.{◌≡◌, OnOk, Some};
 ghost use Rattle.std.specs.FinMap as map;
 ghost use Rattle.atl_campaign.specs.Covers.{MarksChanges};
@@ -23,7 +23,6 @@ fn held_of(campaign: &Campaign, number: u32, item: u16) -> u32
     }
 }
 
-/// Takes `amount` of an item from unit `number`, which holds as much, and books it as used.
 pub(crate) fn use_item(
     world: &World,
     campaign: &mut Campaign,
@@ -42,7 +41,6 @@ pub(crate) fn use_item(
     Ok(())
 }
 
-/// Gives `amount` of an item to unit `number`, which has room for it, and books it as made.
 pub(crate) fn make_item(
     world: &World,
     campaign: &mut Campaign,

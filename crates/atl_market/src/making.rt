@@ -78,7 +78,7 @@ fn most_makeable_of(holding: &Holding, number: u16, item: &Item) -> u32
     up_to_raw(holding, item.raw_count, item.raw, skilled.min(room))
 }
 
-/// The most that a unit can make of the item that its order names, at most 999,999,999.
+/// The most that a unit can make of the item of the world that its order names (`asked`).
 pub(crate) fn most_makeable(world: &World, holding: &Holding, asked: Option<u16>) -> u32
     requires { is_some (item_of world.now asked) ≡ true }
     ensures value { result ≡ most_makeable world.now holding.now asked }
@@ -111,8 +111,7 @@ fn use_raw(
     }
 }
 
-/// Makes `made` pieces of the item `found`, which has the number `item`: takes the raw items from
-/// unit `number`, and gives it the pieces. Both are booked.
+/// Unit `number` makes `made` pieces of the item `found`, which has the number `item`.
 pub(crate) fn make(
     world: &World,
     campaign: &mut Campaign,

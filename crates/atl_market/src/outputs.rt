@@ -1,5 +1,5 @@
-//! How much each unit makes in PRODUCE: its share of what the terrain of its region gives, or what
-//! its raw items allow. See docs/RULES.md, "Producing".
+//! How much each unit makes in PRODUCE: its share of what the terrain of its region gives, or, out
+//! of raw items, all that it wants. See docs/RULES.md, "Producing".
 ghost use Rattle.std.specs.Prelude.{⊤, ◌≡◌, map, IfOk};
 ghost use Rattle.atl_pots.specs.ItemPots.{item_shares};
 ghost use Rattle.atl_pots.specs.Pots.{AreWants};

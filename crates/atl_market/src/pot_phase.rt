@@ -1,5 +1,6 @@
 //! Phases in which the units of each region share a pot: their trait, and the one body that shares
-//! out and reports. See docs/RULES.md, "Pots".
+//! out and reports. `wants`, `items` and `given` have, by unit, what the unit wants, the item that
+//! its order names, and what it gets. See docs/RULES.md, "Pots".
 ghost use Rattle.std.specs.Prelude.{⊤, ℕ, ◌≡◌, ◌≤◌, IfOk, None, OnOk, fold, map, true};
 ghost use Rattle.std.specs.List.{All};
 ghost use Rattle.std.specs.FinMap.{FinMap, entries};
@@ -43,7 +44,8 @@ pub(crate) trait PotPhase {
         ensures { result ≡ PotMeaning.fault (meaning self.now) world.now unit.now
             (task_of order.entry) };
 
-    /// How much a unit wants by an order in which `fault` finds no fault, at most 999,999,999.
+    /// How much a unit wants by an order in which `fault` finds no fault, and whose operands are as
+    /// `asks` says; at most 999,999,999.
     fn want(&self, world: &World, unit: &Unit, order: PhaseOrder<'_>) -> u32
         requires asks { asks (task_of order).order_value.operands }
         requires faultless { PotMeaning.fault (meaning self.now) world.now unit.now
@@ -53,7 +55,8 @@ pub(crate) trait PotPhase {
         ensures bound { result ≤ most_amount };
 
     /// How much each unit gets, by unit, worked out from `items`, the item that each unit's order
-    /// names, and `wants`, how much each unit wants, both by unit. AllocError without memory.
+    /// names, and `wants`, how much each unit wants (at most 999,999,999), both by unit. AllocError
+    /// without memory.
     fn grants(
         &self,
         alloc: Global,
@@ -90,7 +93,6 @@ pub(crate) trait PotPhase {
         ensures marks { OnOk result (MarksChanges campaign.old campaign.new) };
 }
 
-/// The item that an order of PRODUCE, SELL or BUY names; None for one of TAX, RECRUIT or WORK.
 pub(crate) fn named_item(order: PhaseOrder<'_>) -> Option<u16>
     ensures { result ≡ item_in (task_of order.entry).order_value.operands }
 {
@@ -101,7 +103,6 @@ pub(crate) fn named_item(order: PhaseOrder<'_>) -> Option<u16>
     }
 }
 
-/// How many an order of RECRUIT, SELL or BUY asks for.
 pub(crate) fn named_count(order: PhaseOrder<'_>) -> u32
     requires { asks_count (task_of order).order_value.operands ≡ true }
     ensures { result ≡ count_in (task_of order.entry).order_value.operands }
@@ -132,8 +133,7 @@ fn unit_for<'c, P: PotPhase>(
     }
 }
 
-/// Puts what the unit of an order wants, and the item that the order names, if it names one, into
-/// the maps; nothing where the order has a fault.
+/// Puts nothing into the maps where the order has a fault.
 #[tactic(auto, using(crate::proofs::WantLaws::one_want))]
 fn note_order<P: PotPhase>(
     phase: &P,
@@ -207,6 +207,7 @@ fn event_of<P: PotPhase>(
     order.event(outcome)
 }
 
+/// One event for each order, in the order of `orders`. A unit that isn't in `given` got 0.
 fn events_of<P: PotPhase>(
     alloc: Global,
     phase: &P,
@@ -226,6 +227,7 @@ fn events_of<P: PotPhase>(
     Ok(events)
 }
 
+/// Pays the units by rising numbers. AllocError may leave the campaign changed in part.
 fn pay_all<P: PotPhase>(
     phase: &P,
     world: &World,

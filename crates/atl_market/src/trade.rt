@@ -317,10 +317,10 @@ impl<const SELLS: bool> Phase for TradePhase<SELLS> {
     }
 }
 
-/// The law that all units sell at once, and all buy at once. By SELL a unit gives its share of the
-/// item that it had as the phase began and gets the money for it, and a region's stock of an item
-/// grows by all that its units sold of it; by BUY the reverse. Does nothing. See docs/RULES.md,
-/// "Selling" and "Buying".
+/// The law that in a world (`IsWorld`) all units sell at once, and all buy at once. By SELL a unit
+/// gives its share of the item that it had as the phase began and gets the money for it, and a
+/// region's stock of an item grows by all that its units sold of it; by BUY the reverse. Nothing
+/// else of units and regions changes. Does nothing. See docs/RULES.md, "Selling" and "Buying".
 pub fn units_trade_all_at_once()
     ensures { TradesAtOnce }
 {}

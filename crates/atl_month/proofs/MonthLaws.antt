@@ -49,8 +49,8 @@ module _ (w : WorldValue) (d : CampaignValue) where
   unfolding total
   finished_balances old t = old t
 
--- `d` is campaign `c` after the phases, which move each amount of the books by at most `book_bound`, itself at most
--- 2*10^14 (`moves_in_month`). The month that `c` closed last is below the last month that there may be.
+-- `d` is campaign `c` after the phases, which leave it swept (`IsSwept`) and move each amount of the books by at most
+-- `book_bound`, itself at most 2*10^14 (`moves_in_month`). A month is left to close (`early`).
 module _ (w : WorldValue) (c d : CampaignValue) (book_bound : BookBound) (little : IsBoundWithin book_bound moves_in_month) (early : c.month < last_month) (well : LeavesWell IsSwept book_bound w c d) where
   abbrev same : IsSameMonth c d
   same = well.same_month
@@ -128,7 +128,7 @@ unfolding month_of
 month_is w c d m n readings words events meaning begins events_are =
     phases_result month_meaning w c d m n (new_month readings words) events meaning begins events_are
 
--- the mailings of a month, given in another order, make the same campaign and the same events
+-- the mailings of a month, at most one of each faction, make the same campaign and events in another order
 pub mail_order_does_not_count : MailOrderDoesNotCount
 mail_order_does_not_count w c words mailings others own same =
     ap (λ readings. month_of w c readings words) (mailings_have_no_order mailings others own same)

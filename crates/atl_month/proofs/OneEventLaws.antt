@@ -230,7 +230,7 @@ module _ (w : WorldValue) (c : CampaignValue) (readings : FinMap nat_cmp Reading
   report_of_verb t verbs.Form there counts = own_report t there counts
   report_of_verb t v there counts = own_report t there counts
 
--- each order that counts has exactly one event in the month
+-- each order that counts has exactly one event in the month, if the mailings can be read with the world
 pub each_order_has_one_event : EachOrderHasOneEvent
 each_order_has_one_event w c readings words fit t counted =
     let v = t.order_value.verb in

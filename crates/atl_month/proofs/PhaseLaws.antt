@@ -106,8 +106,8 @@ sweep_alone e (Item i) = grind (arith, nat_tests)
 
 -- ---- each phase
 
--- a phase moves its own entries of the books alone, and leaves units of factions without a mailing their items, and
--- their men less the starved
+-- a phase moves its own entries of the books alone, each by less than 10^14 (`MovesItsOwn`), and leaves units of
+-- factions without a mailing their items, and their men less the starved (`PhaseLeavesUnmailed`)
 pub record KeepsPhaseLaws (phase : PhaseSpec) : Type 0 where
   pub moves : MovesItsOwn phase
   pub leaves : PhaseLeavesUnmailed phase

@@ -27,9 +27,11 @@ use std::alloc::{AllocError, Global};
 /// word of the dice for each region. The month isn't counted yet, and the mail isn't removed; once
 /// both are done, the campaign is good again. A unit whose faction sent no mailing is there
 /// afterwards with its name, no less of any item, and all its men but those in its Starved event.
-/// Such a unit is gone only where all its men starved. The factions and the reports stay. No amount
-/// of the books moves further than the phases may move it; founding and joining stay. AllocError
-/// without memory; the campaign is then given up. See docs/RULES.md, "Closing a month".
+/// Such a unit is removed if all its men starved, and only then. The factions and the reports stay.
+/// No amount of the books moves further than the phases may move it; founding and joining stay.
+/// Each phase leaves alone what its specification says (`month_keeps`). No mark is lost, and all
+/// that changed is marked. AllocError without memory; the campaign is then given up. See
+/// docs/RULES.md, "Closing a month".
 pub fn close_month(
     alloc: Global,
     world: &World,
@@ -65,14 +67,15 @@ pub fn close_month(
     Ok((campaign, month.into_events()))
 }
 
-/// The law that the mailings of a month, given in another order, make the same campaign and the
-/// same events. Does nothing.
+/// The law that the mailings of a month, at most one of each faction, make the same campaign and
+/// the same events if they are given in another order. Does nothing.
 pub fn months_have_no_order()
     ensures { MailOrderDoesNotCount }
 {}
 
 /// The law that each order that counts has exactly one event in the month, of its faction, for its
-/// unit, on its line and of its verb. Does nothing. See docs/RULES.md, "Orders of a month".
+/// unit, on its line and of its verb, if the mailings can be read with the world. Does nothing. See
+/// docs/RULES.md, "Orders of a month".
 pub fn each_order_has_one_event()
     ensures { EachOrderHasOneEvent }
 {}

@@ -71,7 +71,7 @@ abbrev pub item_parts : WorldValue → CampaignValue → ℕ → List ℕ
 item_parts w c zero = []
 item_parts w c (suc n) = item_parts w c n ▸ thing_part w c (Item n)
 
--- the text of the books: the lines of money, of people, and of each item of the world
+-- the text of the books: the lines of money, of people, and of each item, in the order of the world
 unfoldable pub books_of : WorldValue → CampaignValue → List ℕ
 books_of w c = thing_part w c Money ▸ thing_part w c People ▸ item_parts w c (length w.items)
 

@@ -36,7 +36,7 @@ with_keyed key lists n None = lists
 with_keyed key lists n (Some u) = with_listed lists (key u) n
 
 -- `with_all_keyed units key lists ns`: the lists by key with the number of each listed unit added to the list of its
--- key
+-- key; a number without a unit is left out
 abbrev pub with_all_keyed : FinMap nat_cmp Unit → (Unit → ℕ) → FinMap nat_cmp (List ℕ) → List ℕ → FinMap nat_cmp (List ℕ)
 with_all_keyed units key lists [] = lists
 with_all_keyed units key lists (n ∷ ns) = with_all_keyed units key (with_keyed key lists n (get units n)) ns

@@ -60,7 +60,7 @@ guard_text false = []
 abbrev pub inside_text : ℕ → List ℕ
 inside_text structure = if structure == 0 then [] else codes ", in " ▸ decimal structure
 
--- an amount of an item and the item's name in the world; empty for an item that the world does not have
+-- after a comma an amount of an item and the item's name in the world; empty for an item that the world does not have
 unfoldable pub item_text : WorldValue → ItemView → List ℕ
 item_text w e = option_map_or (λ item. codes ", " ▸ decimal e.amount ▸ codes " " ▸ item.name) (slice_get w.items e.item) []
 
@@ -68,7 +68,7 @@ item_text w e = option_map_or (λ item. codes ", " ▸ decimal e.amount ▸ code
 abbrev pub item_texts : WorldValue → List ItemView → List ℕ
 item_texts w = each_text (item_text w)
 
--- the name of a skill in the world, with the unit's level and days; empty for a skill that the world does not have
+-- after a comma the name of a skill in the world, with the unit's level and days; empty for one that it does not have
 unfoldable pub skill_text : WorldValue → SkillView → List ℕ
 skill_text w e =
     option_map_or (λ skill. codes ", " ▸ skill.name ▸ codes " " ▸ decimal e.level ▸ codes " (" ▸ decimal e.days ▸ codes ")")
@@ -123,7 +123,7 @@ region_text r plan terrain =
     ▸ codes " peasants, "
     ▸ decimal r.money ▸ codes " money.\n"
 
--- the name of a region's terrain
+-- the name of a region's terrain; empty where the world does not have it
 abbrev pub terrain_name : WorldValue → RegionPlan → List ℕ
 terrain_name w plan = option_map_or (λ t. t.name) (slice_get w.terrains plan.terrain) []
 
@@ -163,7 +163,7 @@ market_text e m item =
     ▸ codes ", " ▸ decimal e.wanted
     ▸ codes " wanted at " ▸ decimal m.pays ▸ codes ".\n"
 
--- the line of an item's market in a region; empty where the world has no such market
+-- the line of an item's market in a region; empty where the world has no such market or item
 unfoldable pub market_line : WorldValue → ℕ → MarketView → List ℕ
 market_line w region e =
     option_map_or

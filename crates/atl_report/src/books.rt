@@ -140,11 +140,11 @@ fn write_items(out: &mut String, world: &World, campaign: &Campaign) -> Result<(
     Ok(())
 }
 
-/// The text of the books of a campaign whose things are those of the given world, with at most
-/// 1,000,000 units and regions together. For money, people and each item in the order of the world,
-/// it has a line for each entry whose amount isn't 0. One more line says how much all units and
-/// regions hold, with the stocks of markets. AllocError without memory. See docs/FORMATS.md,
-/// "Books".
+/// The text of the books of a campaign. They must have as many things as the world, and the
+/// campaign at most 1,000,000 units and regions together. For money, people and each item in the
+/// order of the world, it has a line for each entry whose amount isn't 0. One more line says how
+/// much all units and regions hold, with the stocks of markets. AllocError without memory. See
+/// docs/FORMATS.md, "Books".
 #[tactic(auto, unfolding(crate::specs::Books::books_of))]
 pub fn books_text(alloc: Global, world: &World, campaign: &Campaign) -> Result<String, AllocError>
     requires things { campaign.now.value.books.things ≡ thing_count world.now }

@@ -1,5 +1,5 @@
-//! Lists the units of a region: by the level that hides them, a faction's own, and those that a
-//! faction sees.
+//! Lists the units of a region: by hiding level (the observation level from which other factions
+//! see a unit), a faction's own, and those that a faction sees.
 ghost use Rattle.std.specs.Prelude.{◌≡◌, ℕ, IfOk, OnOk, filter, map};
 ghost use Rattle.std.specs.FinMap.{get, entries};
 ghost use Rattle.atl_world.specs.Every.{Every};
@@ -18,7 +18,6 @@ use std::alloc::{AllocError, Global};
 /// list.
 pub type Levels = Numbered<Sequence<u32>>;
 
-/// The units of a region by hiding level, from one pass over them.
 pub(crate) fn levels_in(
     alloc: Global,
     world: &World,
@@ -36,7 +35,6 @@ pub(crate) fn levels_in(
     Ok(levels)
 }
 
-/// The units of each region of the campaign by hiding level, from one pass over them.
 pub(crate) fn levels_of(
     alloc: Global,
     world: &World,
@@ -51,7 +49,6 @@ pub(crate) fn levels_of(
     Ok(levels)
 }
 
-/// The units of a faction by region, from one pass over them.
 pub(crate) fn own_by_region(
     alloc: Global,
     campaign: &Campaign,
@@ -79,8 +76,7 @@ fn add_numbers(seen: &mut Numbered<()>, numbers: &[u32]) -> Result<(), AllocErro
     Ok(())
 }
 
-/// The numbers of the units of a region that a faction sees: its own, and those whose hiding level
-/// is at most its best observation level there. The call goes over these and no others.
+/// Goes over the units that are seen and no others, so a view costs no more than it shows.
 pub(crate) fn numbers_seen(
     alloc: Global,
     own: &[u32],

@@ -149,8 +149,6 @@ fn write_goods(out: &mut String, world: &World, side: &Side) -> Result<(), Alloc
     }
 }
 
-/// The line of a unit: number, name, men, guard and structure, and an own unit's money, items and
-/// skills, or the faction of another's.
 impl InReport for UnitView {
     ghost text = { unit_line };
 
@@ -345,7 +343,6 @@ fn write_markets(
     Ok(())
 }
 
-/// The text of a region: its own line, exits, markets, structures and units.
 impl InReport for RegionView {
     ghost text = { region_part };
 
@@ -361,8 +358,8 @@ impl InReport for RegionView {
 }
 
 /// The text of a report on a view, with the faulty lines of the faction's mailing and those of the
-/// events that are its own. The world must be the one with which the view was made. AllocError
-/// without memory. See docs/FORMATS.md, "Reports".
+/// events that are its own. The names in it come from `world`; what that doesn't have is left out.
+/// AllocError without memory. See docs/FORMATS.md, "Reports".
 #[tactic(auto, unfolding(crate::specs::Report::report_of))]
 pub fn report_text(
     alloc: Global,

@@ -231,10 +231,10 @@ fn region_views(
     Ok(regions)
 }
 
-/// What a faction sees, as `view` gives it, from lists of each region's structures and units
-/// (`lists_of`). With these lists the views of many factions go over the campaign only once. The
-/// call goes over the faction's units and what it sees, and no further: units that are hidden from
-/// it cost nothing. AllocError without memory.
+/// What a faction sees, as `view` gives it, from lists of each region's structures and units that
+/// are right for the campaign (`lists_of`). With these lists the views of many factions go over the
+/// campaign only once. The call goes over the faction's units and what it sees, and no further:
+/// units that are hidden from it cost nothing. AllocError without memory.
 #[tactic(auto, unfolding(crate::specs::Sight::view_of))]
 pub fn view_over(
     alloc: Global,

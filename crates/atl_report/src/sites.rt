@@ -25,14 +25,12 @@ pub struct RegionLists {
     pub levels: Numbered<Levels>,
 }
 
-/// Drops the lists of structures and of units.
 impl Drop for RegionLists {
     fn drop(self) {
         let_go!(self: RegionLists { sites, levels });
     }
 }
 
-/// Adds a number at the end of a key's list.
 /// After an AllocError the lists must not be used further.
 pub(crate) fn add_listed(
     alloc: Global,
@@ -92,7 +90,8 @@ pub(crate) fn listed_under(lists: &Numbered<Sequence<u32>>, key: u32) -> &[u32]
 }
 
 /// The lists of the structures and the units of all regions, from one pass over the campaign. They
-/// stay right until a structure or a unit is made, changed or moved. AllocError without memory.
+/// stay right until a structure or a unit is made, changed, moved or removed. AllocError without
+/// memory.
 pub fn lists_of(
     alloc: Global,
     world: &World,

@@ -1,4 +1,5 @@
--- Which regions a faction sees, and which units there. See docs/RULES.md, "Sight".
+-- Which regions a faction sees, and which units there. Where the world names no skill of stealth or of observation, all
+-- levels in it are 0. See docs/RULES.md, "Sight".
 use Rattle.std.specs.Prelude.{◌==◌, ◌&&◌, ◌||◌, ℕ, Bool, false, nat_lt, nat_le, max, List, [], ◌∷◌, map, filter, if◌then◌else◌, Option}
 use Rattle.std.specs.List.{list_any}
 use Rattle.std.specs.Option.{option_map_or}

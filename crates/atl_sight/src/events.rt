@@ -101,7 +101,8 @@ fn write_results(
     Ok(())
 }
 
-/// Writes the part headed `Orders:`, with the mailing's faulty lines and the faction's own events.
+/// Writes the part headed `Orders:` at the end of `out`: the mailing's faulty lines, and those of
+/// the events that are the faction's own. AllocError without memory; `out` may then have a part.
 #[tactic(auto, unfolding(crate::specs::Events::orders_part))]
 pub fn write_orders(
     out: &mut String,

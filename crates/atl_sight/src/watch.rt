@@ -1,4 +1,5 @@
-//! Which regions a faction sees, and which units there. See docs/RULES.md, "Sight".
+//! Which regions a faction sees, and which units there. Where the world names no skill of stealth
+//! or of observation, all levels in it are 0. See docs/RULES.md, "Sight".
 ghost use Rattle.std.specs.Prelude.{◌≡◌, Some, nat_le};
 ghost use Rattle.std.specs.Option.{option_copied};
 ghost use Rattle.atl_campaign.specs.Good.{guards};
@@ -8,7 +9,7 @@ ghost use Rattle.atl_sight.specs.Watching.{is_watching, own_units_in, best_obser
 use atl_campaign::{Campaign, Unit, level_in_any};
 use atl_world::World;
 
-/// A faction in a region that it sees, with the best observation level of its units there.
+/// A faction in a region, with the best observation level of its units there.
 #[derive(Drop, Clone, Copy)]
 pub struct Watch {
     pub faction: u32,
@@ -43,8 +44,8 @@ fn best_observation(world: &World, campaign: &Campaign, numbers: &[u32]) -> u32
     best
 }
 
-/// A faction's watch in a region, with the best observation level of the faction's units there,
-/// whose numbers are `own`.
+/// A faction's watch in a region, with the best observation level of the faction's units there.
+/// `own` must have the numbers of these units, in ascending order.
 pub fn watch_over(
     world: &World,
     campaign: &Campaign,

@@ -65,9 +65,9 @@ kept-with u money items more all = record {
 
 -- ---- what passing on does
 
--- Campaign `d` is campaign `c` after something of unit `n` was passed on, which leaves unit `n` unchanged and takes
--- nothing from any unit. The total of each thing is above the books by `owing` more than before, and the books moved by
--- at most `book_bound`.
+-- Campaign `d` is campaign `c` after something of unit `n` was passed on. It is steady, and of the same month and
+-- units; unit `n` is unchanged, and nothing is taken from any unit (`IsKept`). The total of each thing is above the
+-- books by `owing` more than before, and the books moved by at most `book_bound`.
 pub record PassesOn (w : WorldValue) (n : ℕ) (owing : Thing → ℕ) (book_bound : BookBound) (c d : CampaignValue) : Type 0 where
   pub steady : IsSteady w d
   pub owes : (s : Thing) (x : ℕ) → Owes c s x → Owes d s (x + owing s)
@@ -259,8 +259,8 @@ module _ (w : WorldValue) (c : CampaignValue) (n k : ℕ) (apart : n ≢ k) (ste
       let taken = min amount (option_map_or (λ v. holding_limit - amount_of v.holding.items i) o 0) in
       with_lost (option_map_or (λ v. with_item c k i (amount_of v.holding.items i + taken)) o c) (Item i) (amount - taken)
 
-  -- an item that goes to unit `k`, up to its room, with the rest booked as lost, is passed on from unit `n`
-  -- (`PassesOn`)
+  -- an item of the world that goes to unit `k`, up to its room, with the rest booked as lost, is passed on from unit
+  -- `n` (`PassesOn`)
   pub pass_item : (i amount : ℕ) → i < length w.items → Passed (Item i) amount (after_passing_item k c (i, amount))
   unfolding after_passing_item
   pass_item i amount known = by_unit (get c.units k) refl

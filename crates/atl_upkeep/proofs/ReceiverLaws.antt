@@ -116,7 +116,7 @@ module _ (w : WorldValue) (c : CampaignValue) (n : ℕ) (steady : IsSteady w c) 
 -- ---- receivers put into the map, unit by unit
 
 -- `m` has the receivers noted so far. Unit `n`, which is `u`, is noted next, and `es` are the units after it, by
--- number.
+-- number. Units are numbered from 1 (`low`).
 module _ (m : ReceiverMap) (n : ℕ) (u : Unit) (es : List (ℕ × Unit)) (low : 1 ≤ n) where
   -- the receiver of a faction in a region among the units that come after unit `n`; 0 where there is none
   abbrev after : (region faction : ℕ) → ℕ

@@ -1,6 +1,6 @@
--- Laws of restocking a region's markets: it keeps a campaign steady, its books balanced and all units as they are. `n`
--- is the number of the region, `i` that of an item, and `m` the region's market for the item. `x` and `xs` are markets,
--- each with its item.
+-- Laws of restocking a region's markets: it keeps a campaign steady and of the same month, its books balanced
+-- (`LeavesWell`) and all units as they are. `n` is the number of the region, `i` that of an item, and `m` the region's
+-- market for the item. `x` and `xs` are markets, each with its item.
 use Rattle.std.proofs.Common.{◌≡◌, ◌≢◌, ◌==◌, ℕ, ◌+◌, ◌-◌, ◌≤◌, ◌<◌, Bool, true, cond, Option, Some, None, List, [], ◌∷◌, length, refl, sym, ap, subst, ◌∙◌, arith, inl, inr}
 use Rattle.std.specs.Prelude.{ℤ, pos, ◌+ℤ◌, is_some, option_and_then, unwrap_or, if◌then◌else◌}
 use Rattle.std.specs.Ordering.{nat_cmp, is_lt}
@@ -71,7 +71,7 @@ none_above k (x ∷ xs) e t at above =
     let less = less_by_comparison k x.0 both.0 in
     omega (arith, other_item x.0 e t (λ same. omega (arith, at, same, less)), none_above k xs e t at both.1)
 
--- the new goods of markets of different items together book at most 999,999,999 of each item (`stocks_by`)
+-- the new goods of markets, sorted by item with no item twice, together book at most 999,999,999 of each (`stocks_by`)
 pub stocks_little : (xs : List (ℕ × Market)) → is_sorted nat_cmp xs ≡ true → (e : BooksEntry) (t : Thing)
     → stocking_bound xs e t ≤ stocks_by most_amount e t
 stocks_little [] rising e t = omega arith
@@ -155,7 +155,7 @@ module _ (w : WorldValue) (c : CampaignValue) (n i : ℕ) (m : Market) (r : Regi
 
 -- ---- all markets of a region
 
--- `m` is the market of region `n` for item `i`, in the world
+-- `m` is the world's market of region `n` for item `i`, and keeps the rules of markets (`IsMarket`)
 abbrev pub IsMarketOf : WorldValue → (n i : ℕ) → Market → Type 0
 IsMarketOf w n i m = (market_of w n i ≡ Some m) × IsMarket (length w.items) i m
 
@@ -239,7 +239,8 @@ pub room_for_market : (x : ℕ × Market) (xs : List (ℕ × Market)) (c : Campa
 room_for_market x xs c room =
     room_less (moves_only most_amount Stocked (Item x.0)) (stocking_bound (x ∷ xs)) c (λ e t. omega arith) room
 
--- if books have room for the new goods of some markets, they have room for those of the others after the first one
+-- In a steady campaign, if books have room for the new goods of some markets of a region of the world, they have room
+-- for those of the others after the first one.
 pub room_for_later_markets : (w : WorldValue) (n : ℕ) → HasValue w.regions n
     → (x : ℕ × Market) (xs : List (ℕ × Market)) (c : CampaignValue) → IsMarketOf w n x.0 x.1 → IsSteady w c
     → HaveRoom (stocking_bound (x ∷ xs)) c → HaveRoom (stocking_bound xs) (after_market_restock n c x)

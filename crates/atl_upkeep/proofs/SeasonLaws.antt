@@ -1,6 +1,6 @@
--- Laws of the season: it keeps a campaign steady, its books balanced and all units as they are, and the books have room
--- for it. `n` is the number of a region, `r` the region before its season, `t` its terrain, and `word` its word of the
--- dice; `words` are those of all regions.
+-- Laws of the season in a world (`IsWorld`): it keeps a campaign steady and of the same month, its books balanced
+-- (`LeavesWell`) and all units as they are, and the books have room for it. `n` is the number of a region, `r` the
+-- region before its season, `t` its terrain, and `word` its word of the dice; `words` are those of all regions.
 use Rattle.std.proofs.Common.{◌≡◌, ℕ, ◌+◌, ◌-◌, ◌≤◌, Option, Some, None, List, [], ◌∷◌, length, map, refl, sym, ap, subst, ◌∙◌, arith}
 use Rattle.std.specs.Prelude.{pos, ◌+ℤ◌, fold, zip, option_and_then}
 use Rattle.std.specs.List.{slice_get}
@@ -262,8 +262,8 @@ pub season_goes_on : (w : WorldValue) (c d all : CampaignValue) (regions rest : 
     → fold (season_at w) d (zip (map (λ e. e.0) rest) tail) ≡ all
 season_goes_on w c d all regions rest words tail n word plan listed given is whole = rw is (rw (listed, given) at whole)
 
--- where the books of c have room for the seasons of `regions`, those of d, which is c after the season of the first
--- one, have room for those of the others (`rest`)
+-- where the books of the steady campaign c have room for the seasons of `regions`, those of d, which is c after the
+-- season of the first one, have room for those of the others (`rest`)
 pub room_for_later_seasons : (w : WorldValue) → IsWorld w
     → (c d : CampaignValue) (regions rest : List (ℕ × RegionPlan)) (n word : ℕ) (plan : RegionPlan)
     → regions ≡ (n, plan) ∷ rest → d ≡ season_at w c (n, word) → IsSteady w c

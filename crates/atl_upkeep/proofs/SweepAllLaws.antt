@@ -62,8 +62,8 @@ module _ (c : CampaignValue) (n : ℕ) where
 
 -- `n` is the number of the unit that is swept, and `c` is the campaign before that
 module _ (w : WorldValue) (c : CampaignValue) (n : ℕ) (steady : IsSteady w c) where
-  -- sweeping unit `n` keeps a steady campaign steady and its books balanced, and books as lost at most 999,999,999 of
-  -- money and of each item
+  -- sweeping unit `n` keeps a steady campaign steady and its books balanced (`LeavesWell`), and books as lost at most
+  -- 999,999,999 of money and of each item
   pub swept_at_leaves_well : LeavesWell IsSteady (loses_by most_amount) w c (after_sweeping_unit c n)
   swept_at_leaves_well =
       by_sweeping c n (LeavesWell IsSteady (loses_by most_amount) w c) (λ some. well_unchanged (loses_by most_amount) w c steady)
@@ -87,7 +87,8 @@ module _ (w : WorldValue) (c : CampaignValue) (n : ℕ) (steady : IsSteady w c) 
   WereThere d =
       Every (λ m v. (v.holding.men ≡ 0 → m ≢ n) × ((x : Unit) × (get c.units m ≡ Some x) × IsKept x v)) d.units
 
-  -- each unit that is left after sweeping unit `n` was there before, and nothing was taken from it
+  -- each unit that is left after sweeping unit `n` was there before, and nothing was taken from it; if it has no men,
+  -- it isn't unit `n`
   pub units_left_were_there : WereThere (after_sweeping_unit c n)
   units_left_were_there =
       by_sweeping c n WereThere (λ some m v there. (λ none own. some v (ap (get c.units) (sym own) ∙ there) none, (v, there, kept-refl v)))
@@ -113,7 +114,7 @@ module _ (w : WorldValue) where
       let (apart, (x, was, kept)) = units_left_were_there w c n steady m v there in
       listed_later m n ns (apart none) (listed m x was (sym kept.men ∙ none)))
 
-  -- after several units were swept, each unit that had men is there, and nothing is taken from it
+  -- in a steady campaign, after several units were swept, each unit that had men is there, and nothing is taken from it
   pub all_keep : (ns : List ℕ) (c : CampaignValue) → IsSteady w c
       → Every (λ m x. 1 ≤ x.holding.men → (v : Unit) × (get (fold after_sweeping_unit c ns).units m ≡ Some v) × IsKept x v) c.units
   all_keep [] c steady m x there some = (x, there, kept-refl x)
@@ -156,7 +157,7 @@ module _ (c : CampaignValue) (n : ℕ) where
   pub gone_at_units : (after_sweeping_faction c n).units ≡ c.units
   gone_at_units = by_gone (λ d. d.units ≡ c.units) (λ some. refl) (λ f is none. refl)
 
-  -- sweeping a faction keeps a steady campaign steady and its books balanced, and books nothing
+  -- sweeping a faction keeps a steady campaign steady and its books balanced, and books nothing (`LeavesWell`)
   pub gone_at_leaves_well : (w : WorldValue) → IsSteady w c
       → LeavesWell IsSteady moves_nothing w c (after_sweeping_faction c n)
   gone_at_leaves_well w steady = by_gone (LeavesWell IsSteady moves_nothing w c) (λ some. well_unchanged moves_nothing w c steady) (λ f is none. record {
@@ -246,7 +247,8 @@ module _ (w : WorldValue) (c : CampaignValue) (steady : IsSteady w c) where
       (λ m f there none stays. passing_listed (λ (x : Faction). not x.gone) units_swept.factions m f there (ap not stays))
 
   -- After the sweep of a steady campaign it is steady, each unit has men, and each faction without units is gone
-  -- (`IsSwept`). Books that balanced still do, and each amount moves by less than 10^14.
+  -- (`IsSwept`). The month stays, books that balanced still do, and Lost of money and of each item moves by less than
+  -- 10^14, and nothing else (`LeavesWell`).
   pub sweep_leaves_well : LeavesWell IsSwept (loses_by most_moved) w c (sweep c)
   sweep_leaves_well = record {
     leaves_it = record { steady = both_well.leaves_it; men = have_men; gone = are_gone };

@@ -1,6 +1,6 @@
--- Laws of sweeping one unit without men: it keeps a campaign steady and its books balanced, and takes nothing from
--- other units (`IsKept`). The books have room for what it books. `c` is the campaign before that. `n` is the number of
--- the unit that is swept, and `u` the unit; `e` is an entry of the books, and `s` or `t` a thing.
+-- Laws of sweeping one unit without men: it keeps a campaign steady and its books balanced (`LeavesWell`), and takes
+-- nothing from other units (`IsKept`). The books have room for what it books. `c` is the campaign before that. `n` is
+-- the number of the unit that is swept, and `u` the unit; `e` is an entry of the books, and `s` or `t` a thing.
 use Rattle.std.proofs.Common.{◌≡◌, ◌≢◌, ℕ, ◌+◌, ◌≤◌, ◌<◌, true, List, [], ◌∷◌, length, Option, Some, refl, sym, ap, subst, ◌∙◌, inl, arith, suc, ◌-◌}
 use Rattle.std.specs.Prelude.{ℤ, pos, ◌+ℤ◌, unwrap_or}
 use Rattle.std.proofs.lemmas.Int.{ints}
@@ -202,8 +202,8 @@ module _ (w : WorldValue) (c : CampaignValue) (steady : IsSteady w c) where
       → PassesOn w (suc to) (λ s. amount_as_thing s (Item i) amount) (moves_only amount Lost (Item i)) c (after_passing_item to c (i, amount))
   item_passes to i amount known = pass_item w c (suc to) to (successor_differs to) steady i amount known
 
-  -- if books have room for some items to be booked as lost, they have room for the others after the first one was
-  -- passed on
+  -- if books have room for some items to be booked as lost, they have room for the others after the first one, an item
+  -- of the world, was passed on
   pub rest_room : (to : ℕ) (x : ℕ × ℕ) (xs : List (ℕ × ℕ)) → x.0 < length w.items → HaveRoom (items_bound (x ∷ xs)) c
       → HaveRoom (items_bound xs) (after_passing_item to c x)
   rest_room to x xs known room =

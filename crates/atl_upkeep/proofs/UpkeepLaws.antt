@@ -1,7 +1,7 @@
--- Laws of upkeep: it keeps a campaign steady and its books balanced, and each unit can pay when its turn comes. What
--- upkeep takes from a unit follows from the units of its faction in its region alone. `s` is what upkeep takes from one
--- unit, `u` this unit, `h` what a unit holds, and `left` how many of its men are left. `all` are the units of the
--- campaign, as upkeep reads them, and `m` is the maintenance of each man.
+-- Laws of upkeep: it keeps a campaign steady and of the same month, and its books balanced (`LeavesWell`), and each
+-- unit can pay when its turn comes. What upkeep takes from a unit follows from the units of its faction in its region
+-- alone. `s` is what upkeep takes from one unit, `u` this unit, `h` what a unit holds, and `left` how many of its men
+-- are left. `all` are the units of the campaign, as upkeep reads them, and `m` is the maintenance of each man.
 use Rattle.std.proofs.Common.{◌≡◌, ◌≢◌, ◌==◌, ℕ, ◌+◌, ◌-◌, ◌*◌, ◌/◌, ◌≤◌, ◌<◌, Bool, true, false, Option, Some, None, List, [], ◌∷◌, length, map, refl, sym, ap, subst, ◌∙◌, arith}
 use Rattle.std.specs.Prelude.{IsTrue, ℤ, pos, neg_ℤ, ◌+ℤ◌, fold, is_some, unwrap_or, if◌then◌else◌}
 use Rattle.std.specs.List.{AllByRecursion, list_any}
@@ -395,7 +395,7 @@ days_set left h listed =
         by_option (Some d) is = cc
 
 -- A holding with its men, its money and its days of each skill set to what upkeep leaves is the holding after upkeep
--- (`after_upkeep`). For this some men of the unit starve, and no more than it has.
+-- (`after_upkeep`). For this some men of the unit starve, no more than it has, and no skill has 0 days.
 pub starving_sets_holding : (s : UpkeepResult) (h : HoldingValue) → 1 ≤ s.starved → s.starved ≤ h.men
     → Every (λ k d. 1 ≤ d) h.days
     → record h { men = h.men - s.starved; money = h.money - s.paid; days = with_days h.days (staying_list (h.men - s.starved) h.men h.days) } ≡ after_upkeep s h

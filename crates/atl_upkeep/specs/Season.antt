@@ -16,8 +16,8 @@ use Rattle.atl_phase.specs.PhaseSpecs.{PhaseSpec}
 use Rattle.atl_phase.specs.There.{at_region}
 use Rattle.atl_upkeep.specs.Restock.{after_restock, markets_of, stocks_by}
 
--- How many peasants are born: a percentage of them from 0 to `growth`, by the word of the dice, at most what is missing
--- to `limit`.
+-- How many peasants are born: `word % (growth + 1)` percent of them, rounded down, at most what is missing to `limit`.
+-- `word` is the word of the dice.
 abbrev pub births : (growth limit word peasants : ℕ) → ℕ
 births growth limit word peasants = min (peasants * (word % (growth + 1)) / per_hundred) (limit - peasants)
 
@@ -31,8 +31,8 @@ with_growth c n peasants money born earned =
     let grown = with_region_money (with_peasants c n (peasants + born)) n (money + earned) in
     with_booking (with_booking grown Births People (pos born)) Income Money (pos earned)
 
--- A campaign after the season of region `n`, which has terrain `t` and is `r` before: births, then income, also of
--- those just born, then new goods of its markets.
+-- A campaign after the season of region `n` with its `word` of the dice; it has terrain `t` and is `r` before. First
+-- come births, then income, also of those just born, then new goods of its markets.
 abbrev pub season_of : WorldValue → CampaignValue → (n word : ℕ) → Terrain → Region → CampaignValue
 season_of w c n word t r =
     let born = births w.rules.growth t.peasant_limit word r.peasants in
@@ -40,7 +40,7 @@ season_of w c n word t r =
     after_restock n (with_growth c n r.peasants r.money born earned) (entries (markets_of w n))
 
 -- A campaign after the season (births, income, new goods) of the region with this number, with its word of the dice;
--- unchanged where the region isn't there.
+-- unchanged where the region or its terrain isn't there.
 unfoldable pub season_at : WorldValue → CampaignValue → ℕ × ℕ → CampaignValue
 season_at w c (n, word) =
     option_map_or (λ t. at_region c n (season_of w c n word t)) (terrain_of w n) c
@@ -54,11 +54,11 @@ season w c words = fold (season_at w) c (zip (map (λ e. e.0) (entries w.regions
 abbrev pub season_meaning : WorldValue → CampaignValue → MonthValue → CampaignValue × MonthValue
 season_meaning w c m = (season w c m.words, m)
 
--- the bound on what births and income book: Income of money and Births of people, each by at most `most`
+-- the bound on what births and income book: Income of money and Births of people by at most `most` each, nothing else
 abbrev pub grows_by : ℕ → BookBound
 grows_by most = both_move (moves_only most Income Money) (moves_only most Births People)
 
--- the bound on what the season books: births, income, and Stocked of each item, each by at most `most`
+-- the bound on what the season books: births, income, and Stocked of each item, each by at most `most`, nothing else
 abbrev pub season_moves : ℕ → BookBound
 season_moves most = both_move (grows_by most) (stocks_by most)
 
@@ -66,7 +66,7 @@ season_moves most = both_move (grows_by most) (stocks_by most)
 abbrev pub season_keeps : Frame
 season_keeps w m before after = after.units ≡ before.units
 
--- the specification of the season as a phase of the month, which books Income, Births and Stocked
+-- the specification of the season as a phase of the month, which books Income, Births and Stocked and changes no unit
 abbrev pub season_spec : PhaseSpec
 season_spec = record {
   meaning = season_meaning;

@@ -66,7 +66,8 @@ after_passing_item to c (item, amount) =
 abbrev pub after_passing_all : CampaignValue → ℕ → Unit → CampaignValue
 after_passing_all c to u = fold (after_passing_item to) (after_passing_money c to u.holding.money) (entries u.holding.items)
 
--- A campaign after unit `n`, if it is there without men, passed its money and items to its receiver and was removed.
+-- A campaign after unit `n` passed its money and items to its receiver (`after_passing_all`), or lost them where there
+-- is none, and was removed (`without_unit`); unchanged where the unit isn't there or has men.
 unfoldable pub after_sweeping_unit : CampaignValue → ℕ → CampaignValue
 after_sweeping_unit c n = at_unit c n (λ u.
     if u.holding.men == 0 then without_unit (after_passing_all c (receiver c u.region u.faction) u) n

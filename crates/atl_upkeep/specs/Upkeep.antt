@@ -78,7 +78,7 @@ upkeep_meaning w c m =
 
 -- ---- what it moves, and what it keeps
 
--- the bound on what upkeep books: Upkeep of money and Starved of people, each by at most `most`
+-- the bound on what upkeep books: Upkeep of money and Starved of people, each by at most `most`, nothing else
 abbrev pub takes_up_to : ℕ → BookBound
 takes_up_to most = both_move (moves_only most Upkeep Money) (moves_only most Starved People)
 

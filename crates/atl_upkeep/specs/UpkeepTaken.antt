@@ -13,7 +13,8 @@ use Rattle.atl_shares.specs.declared.upkeep_sharing.UpkeepResult.{UpkeepResult}
 use Rattle.atl_shares.specs.UpkeepSharing.{CanSpare}
 use Rattle.atl_upkeep.specs.Upkeep.{after_upkeep, takes_up_to}
 
--- the unit is there and can spare what upkeep takes, the campaign is steady, and the books have room for it
+-- the unit is there and can spare what upkeep takes (`s`), the campaign is steady, and the books have room for
+-- 999,999,999 of money and of people
 pub record CanPayUpkeep (w : WorldValue) (c : CampaignValue) (s : UpkeepResult) : Type 0 where
   pub unit : Unit
   pub there : get c.units s.unit ≡ Some unit
