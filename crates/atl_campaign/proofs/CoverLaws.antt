@@ -369,7 +369,8 @@ row-marked f same c n =
       | _ ↦ λ k free. refl
     ]))
 
--- a number of region n, which `of` reads, is set to x by f; if it was another, the region's row is marked
+-- A number of region n, which `of` reads, is set to x by f; if it was another, the region's row is marked. f leaves the
+-- stocks as they are (`same`), and changes nothing where the number is x already (`again`).
 module _ (of : Region → ℕ) (f : Region → Region) (x : ℕ) (same : (r : Region) → (f r).stocks ≡ r.stocks) (again : (r : Region) → of r ≡ x → f r ≡ r) (c : MarkedCampaign) (n : ℕ) where
   -- setting a region's number to what it is already needs no mark (MarksChanges)
   number_stays : (v : Region) → get c.value.regions n ≡ Some v → of v ≡ x
@@ -408,7 +409,7 @@ pub marks-region-money : (c : MarkedCampaign) (n money : ℕ)
 marks-region-money c n money =
     marks-region (λ r. r.money) (λ r. record r { money = money }) money (λ r. refl) (λ r was. ap (λ m. record r { money = m }) (sym was)) c n
 
--- the stock of an item is set in a region; if it was another amount, it is marked, alone or with all of the region
+-- the stock of `item` in region n is set to `amount`; if it was another, it is marked, alone or with all of the region
 module _ (c : MarkedCampaign) (n item amount : ℕ) where
   abbrev stocked : Region → Region
   stocked r = record r { stocks = with_amount_of r.stocks item amount }

@@ -96,7 +96,7 @@ counts_below_limits : (f u n : ℕ) → ((nat_le last_faction f || nat_le most_u
     → (f < last_faction) × (u < most_units) × (n ≤ last_unit)
 counts_below_limits f u n h = (grind (arith, nat_tests), grind (arith, nat_tests), grind (arith, nat_tests))
 
--- a campaign that isn't full may have one faction and one unit more
+-- a campaign that isn't full has fewer factions and units than the most, and its next unit number is at most last_unit
 pub room_to_join : (c : CampaignValue) → is_full c ≡ false
     → (len c.factions < last_faction) × (len c.units < most_units) × (c.next_unit ≤ last_unit)
 room_to_join c h = counts_below_limits (len c.factions) (len c.units) c.next_unit h

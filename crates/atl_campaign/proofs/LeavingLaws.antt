@@ -267,7 +267,7 @@ module _ (w : WorldValue) (c : CampaignValue) (n : ℕ) (u : Unit) (is : get c.u
   abbrev gone_from : CampaignValue
   gone_from = record c { units = left }
 
-  -- without_unit removes unit n, and hands the structure that n owned to its next owner (`heir`)
+  -- without_unit removes unit n, and hands the structure that n was inside, if n owned it, to its next owner (`heir`)
   without-known : without_unit c n ≡ after_handover gone_from u.structure n (heir c u.structure n)
   unfolding without_unit
   without-known = ap (without_unit_at c n) is

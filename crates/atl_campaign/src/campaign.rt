@@ -1,4 +1,5 @@
-//! The campaign: the calls that read it, lend a unit's holding, or store mail and reports.
+//! The campaign: the calls that read it, lend a unit's holding, or store mail and reports. What is
+//! said of ranges, and of which numbers there are, holds of good campaigns.
 ghost use Rattle.std.specs.Prelude.{◌≡◌, ◌<◌, ◌≤◌, IfOk, OnOk, OnErr};
 ghost use Rattle.std.specs.Option.{option_copied};
 ghost use Rattle.std.specs.FinMap as map;
@@ -172,7 +173,7 @@ impl Campaign {
         self.factions.len()
     }
 
-    /// The region of this number; None where the world has none.
+    /// The region of this number; None where there is none.
     pub fn region(&self, number: u32) -> Option<&Region>
         ensures { option_copied result ≡ map.get self.now.value.regions number }
     {
@@ -271,8 +272,9 @@ impl Campaign {
         self.reports.iter()
     }
 
-    /// How many things the books have amounts of: money, people, and the items of the world. No
-    /// amount of another thing is marked.
+    /// How many things the books have amounts of, at most 65,538: in a good campaign money, people,
+    /// and the items of the world. No amount of another thing is listed or marked, and no listed
+    /// amount is 0.
     pub fn things(&self) -> usize
         ensures count { result ≡ self.now.value.books.things }
         ensures few { result ≤ possible_things }

@@ -14,7 +14,7 @@ use atl_world::Text;
 use std::alloc::AllocError;
 
 impl Campaign {
-    /// Sets the month last closed, from 0 to LAST_MONTH, and marks the campaign row.
+    /// Sets the month last closed, in a good campaign 0 to LAST_MONTH, and marks the campaign row.
     pub fn set_month(&mut self, month: u32)
         ensures what { self.new.value ≡ with_month self.old.value month }
         ensures marks { self.new.marks ≡ mark_campaign_row self.old }
