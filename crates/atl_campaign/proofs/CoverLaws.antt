@@ -1,7 +1,8 @@
 -- Laws of change marks: each change of a campaign marks all that it changes, and so do several changes in turn.
 -- `MarksChanges c d` says that from the marked campaign c to d no mark is lost, and all that changed is marked. In a
 -- law of one change, c is the campaign before it, the record the campaign after it, and n the number of what changes.
--- In laws of several changes, a, b and c are the campaign, or its marks, at moments in turn.
+-- In laws of several changes, a, b and c are the campaign, or its marks, at moments in turn. A unit's goods are its
+-- items and days of study.
 use Rattle.std.proofs.Common.{◌≡◌, ◌≢◌, ◌==◌, ◌||◌, ℕ, Bool, true, false, if◌then◌else◌, Option, Some, None, refl, sym, ap, ◌∙◌, subst, inl, inr, arith, true≢false}
 use Rattle.std.specs.Prelude.{ℤ, List, cond, is_some, option_map, unwrap_or}
 use Rattle.std.proofs.lemmas.Bool.Decides.{nat_tests}

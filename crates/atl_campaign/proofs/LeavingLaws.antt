@@ -355,7 +355,7 @@ marks-after_handover c s from to = by_test (is_owned_by (get c.value.structures 
     by_test true = marks-structure (owned_by to) c s
     by_test false = marks-refl c
 
--- taking unit n out, with it, its row and all its goods marked, marks all that changes
+-- taking unit n out, with it, its row and all its goods (items and days) marked, marks all that changes
 pub marks-taken : (c : MarkedCampaign) (n : ℕ) → MarksChanges c (taken_marked c n)
 marks-taken c n = by_unit (get c.value.units n) refl
   where

@@ -35,9 +35,9 @@ home_of w word = slice_index (land_of w) (word % length (land_of w))
 abbrev pub new_faction : ℕ → List ℕ → List ℕ → Faction
 new_faction number name pass = record { number = number; joined_as = name; name = name; pass = pass; gone = false }
 
--- the unit of a faction that joins c: one man with the start money, no goods, and the name `Unit` with the next unit
--- number. It is of the faction with the next number, in the land region that `word`, a word of the dice, picks
--- (`home_of`), and inside no structure. Its guard flag is clear.
+-- the unit of a faction that joins c: one man with the start money, no items or days of study, and the name `Unit` with
+-- the next unit number. It is of the faction with the next number, in the land region that `word`, a word of the dice,
+-- picks (`home_of`), and inside no structure. Its guard flag is clear.
 abbrev pub first_unit : WorldValue → ℕ → CampaignValue → Unit
 first_unit w word c = record {
   faction = c.next_faction;

@@ -1,6 +1,6 @@
 -- What is marked, as rows to be written, after each change of a campaign.
 -- c is the campaign before the change, with its marks, and n the number of what changes. A result that is a campaign is
--- the one after the change.
+-- the one after the change. A unit's goods are its items and days of study.
 use Rattle.std.specs.Prelude.{◌≡◌, ◌⊎◌, ◌==◌, ℕ, Bool, true, Option, Some, None, if◌then◌else◌}
 use Rattle.std.specs.FinMap.{get, remove, keys}
 use Rattle.std.specs.FinSet.{FinSet, insert, union, from_list}

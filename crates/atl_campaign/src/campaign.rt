@@ -1,5 +1,6 @@
 //! The campaign: the calls that read it, lend a unit's holding, or store mail and reports. What is
-//! said of ranges, and of which numbers there are, holds of good campaigns.
+//! said of ranges, and of which numbers there are, holds of good campaigns. A unit's goods are its
+//! items and days of study.
 ghost use Rattle.std.specs.Prelude.{◌≡◌, ◌<◌, ◌≤◌, IfOk, OnOk, OnErr};
 ghost use Rattle.std.specs.Option.{option_copied};
 ghost use Rattle.std.specs.FinMap as map;

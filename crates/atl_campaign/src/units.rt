@@ -1,5 +1,6 @@
-//! The units of a campaign by number, with dirty marks on their rows, goods, items and skills. A
-//! call that changes or removes a unit does nothing where no unit has the number given.
+//! The units of a campaign by number, with dirty marks on their rows, all goods (items and days of
+//! study), and single items and skills. A call that changes or removes a unit does nothing where no
+//! unit has the number given.
 ghost use Rattle.std.specs.Prelude.{◌≡◌, ◌≤◌, ◌⊎◌, IfOk, OnOk, OnErr, option_copied, None};
 ghost use Rattle.std.specs.FinMap as map;
 ghost use Rattle.std.specs.FinSet as set;

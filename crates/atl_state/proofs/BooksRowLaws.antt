@@ -1,4 +1,4 @@
--- Laws of rows of `books`, each of an account (an entry and a thing): books that are assembled from rows with
+-- Laws of rows of the table `books`, each of an account (an entry and a thing): books that are assembled from rows with
 -- distinct keys have these rows, in some order.
 -- `things` is how many things the books have.
 use Rattle.std.proofs.Common.{◌≡◌, ◌≢◌, ℕ, ◌≤◌, ◌<◌, ◌+◌, ◌-◌, ◌++◌, List, [], ◌∷◌, true, false, cond, map, Some, None, refl, sym, ap, subst, ◌∙◌, arith, inl, inr}

@@ -184,7 +184,7 @@ module _ (f : Format) (w : WorldValue) (p : Parts) where
   pub one-said : KeepsRulesBelow f w p 4 → length p.campaign ≡ 1
   one-said k = only_one f p.campaign (k OneRow (omega arith)).0
 
-  -- rows that keep rules 1 to 3 have `faction`, `region`, `unit` and `has` in their ranges
+  -- if rows keep rules 1 to 3, those of the tables `faction`, `region`, `unit` and `has` are in their ranges
   pub people-said : KeepsRulesBelow f w p 4 → first_tables_in_range p ≡ true
   people-said k =
       let head = campaign_row_in_range (campaign_row_of p) in

@@ -1,5 +1,5 @@
--- Laws of the rows of `market`: the regions assembled from rows are written as the same rows, in some order.
--- `markets` are the rows of `market`, m is one of them, `regions` are the rows of `region`, and n is a region's number.
+-- Laws of the rows of the table `market`: regions assembled from rows are written as the same rows, in some order.
+-- `markets` are these rows, m is one of them, `regions` are the rows of the table `region`, and n is a region's number.
 use Rattle.std.proofs.Common.{◌≡◌, ◌==◌, ℕ, List, Bool, true, false, not, map, filter, sym, ap, ◌∙◌}
 use Rattle.std.specs.Prelude.{pos}
 use Rattle.std.specs.List.{flat_map, AllByRecursion, IsDistinct}

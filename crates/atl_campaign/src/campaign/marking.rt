@@ -1,4 +1,5 @@
-//! Reads and clears the marks of a campaign: what is to be written.
+//! Reads and clears the marks of a campaign: what is to be written. A unit's goods are its items
+//! and days of study.
 ghost use Rattle.std.specs.Prelude.{◌≡◌, ◌<◌};
 ghost use Rattle.std.specs.FinMap as map;
 ghost use Rattle.std.specs.FinSet as set;

@@ -1,5 +1,5 @@
 //! Moves and removes units, and finds the next owners of the structures that they leave and enter.
-//! See docs/RULES.md, "Owners".
+//! See docs/RULES.md, "Owners". A unit's goods are its items and days of study.
 ghost use Rattle.std.specs.Prelude.{◌≡◌, OnOk, OnErr};
 ghost use Rattle.std.specs.FinMap as map;
 ghost use Rattle.atl_campaign.specs.Marking.{handed_marked, put_marked, place_marked, taken_marked, gone_marked};

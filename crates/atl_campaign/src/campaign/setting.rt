@@ -1,5 +1,6 @@
 //! Calls that set one value of a campaign. Where no faction, region, unit or structure has the
-//! number given, nothing changes. Only `set_stock`, `set_item` and `set_days` take memory.
+//! number given, nothing changes. Only `set_stock`, `set_item` and `set_days` take memory. A unit's
+//! goods are its items and days of study.
 ghost use Rattle.std.specs.Prelude.{◌≡◌, ◌≤◌, ◌<◌, ◌⊎◌, ◌+ℤ◌, IsOk, OnErr, OnOk};
 ghost use Rattle.std.specs.Int.{w64};
 ghost use Rattle.std.specs.Int.RustNames.{FitsSigned};
