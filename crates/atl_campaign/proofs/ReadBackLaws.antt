@@ -58,7 +58,7 @@ written_fits_u32 n h = ap pos (sym (written_is_read n h))
 
 -- ---- maps
 
--- two maps are equal if each value of one is under the same number in the other
+-- two maps are equal if each value of either is under the same number in the other
 pub equal_by_values : {V : Type 0} (m k : FinMap nat_cmp V) → Every (λ n v. get k n ≡ Some v) m
     → Every (λ n v. get m n ≡ Some v) k → m ≡ k
 equal_by_values {V} m k there back = same_map nat_cmp_total nat_cmp-IsAntisymmetric m k (λ n.

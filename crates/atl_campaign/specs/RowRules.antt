@@ -53,7 +53,8 @@ are_of_format Second rows = true
 abbrev pub is_within : ℕ → ℤ → Bool
 is_within bound z = nat_le (nat_abs z) bound
 
--- whether the campaign row's month is 0 to 9,999, and each next number from 1 to one above the highest one allowed
+-- whether the campaign row's month is 0 to 9,999, and its next numbers of a faction, a unit and a structure are from 1
+-- to 10,000, to 1,000,000,000 and to 10,001
 abbrev pub campaign_row_in_range : StoredCampaignRow → Bool
 campaign_row_in_range h =
     ((is_from 0 last_month h.month && is_from 1 (last_faction + 1) h.next_faction)

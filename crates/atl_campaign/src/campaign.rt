@@ -65,7 +65,7 @@ impl Drop for Campaign {
 }
 
 /// Clauses see a campaign as its value and its marks. The lists have just its units, by region,
-/// faction and structure, and there is room to mark each amount of the books.
+/// faction and structure. Only amounts of the books' things are marked, with room for each of them.
 impl Model for Campaign {
     ghost use Rattle.atl_campaign.specs.Campaign.{MarkedCampaign, marked_code};
     ghost use Rattle.atl_campaign.specs.KeptLists.{AreListsAndMarksKept};

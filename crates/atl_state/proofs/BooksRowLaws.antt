@@ -88,7 +88,7 @@ booked_row things r entry thing least most there some =
 pub account_there : (things : ℕ) (r : StoredBooks) (h : IsBooked things r) → thing_index h.account.1 < things
 account_there things r h = let is = sym (ap thing_index h.numbered) ∙ index_of_thing_at (as_u32 r.thing) in omega (arith, is, h.there)
 
--- a row that is read as an account puts its amount into the books under that account
+-- a row that is read as an account puts its amount into books of `things` things under that account
 pub with_booked_row : (things : ℕ) (books : BooksValue) (r : StoredBooks) → AreBooks things books
     → (h : IsBooked things r) → with_books_row books r ≡ with_amount books h.account.0 h.account.1 r.amount
 with_booked_row things books r are h =

@@ -1,6 +1,7 @@
 -- Laws of checking: rows that keep all rules are those of a good campaign; else one rule is the first that is broken.
 -- f is the format of the tables, w the world, p the rows, and `campaign_of w p` the campaign assembled from them.
--- `KeepsRulesBelow f w p n` says that the rows keep each rule whose number is below n.
+-- `KeepsRulesBelow f w p n` says that the rows keep each rule whose number is below n, and `IsWorld w` that the world
+-- keeps the rules of worlds; laws on all rules suppose it.
 use Rattle.std.proofs.Common.{◌≡◌, ◌==◌, ℕ, ◌≤◌, ◌<◌, ◌+◌, ◌&&◌, List, [], ◌∷◌, length, nat_le, nat_lt, Bool, true, false, cond, refl, sym, ap, subst, ◌∙◌, arith, inl, inr}
 use Rattle.std.specs.Prelude.{pos, unwrap_or, Some, None}
 use Rattle.std.specs.Bool.{Decides}

@@ -76,8 +76,8 @@ stocks_are_written_as_rows n markets all d =
 abbrev region_lines : ℕ × Region → List StoredMarket
 region_lines e = stock_rows e.0 (entries e.1.stocks)
 
--- if rows of `market` are exact (`IsExactMarket`), of listed regions, and differ in keys, the regions read with them
--- are written as these rows, in some order
+-- if regions have different numbers, and rows of `market` are exact (`IsExactMarket`), of these regions, and differ in
+-- keys, the regions read with them are written as these rows, in some order
 pub regions_are_written_as_rows : (markets : List StoredMarket) (regions : List StoredRegion)
     → HaveDistinctNumbers (λ r. as_u32 r.number) regions
     → AllByRecursion (λ m. HasNumber (λ r. as_u32 r.number) regions (as_u32 m.region)) markets

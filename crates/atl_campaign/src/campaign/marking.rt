@@ -134,7 +134,7 @@ impl Campaign {
         self.amounts_marked.contains(amount_number(entry, thing))
     }
 
-    /// Whether the campaign row is marked: the month or a next number changed.
+    /// Whether the campaign row is marked: the month or a next number was set since the last write.
     pub fn is_row_marked(&self) -> bool
         ensures { result ≡ self.now.marks.row }
     {
