@@ -1,6 +1,7 @@
 -- Laws of assembling units and regions by adding each row of goods to its unit, and each row of stock to its region.
--- In `units_with_rows` and `regions_with_rows`, `has` are rows of goods, `markets` rows of stocks, and `rows` those of
--- the units or regions. By these laws the result is what each unit or region is with all its rows at once.
+-- In `units_with_rows` and `regions_with_rows`, `has` are rows of the table `has` (goods: items and days of study),
+-- `markets` those of the table `market` (stocks), and `rows` those of the units or regions. By these laws the result is
+-- what each unit or region is with all its rows at once.
 use Rattle.std.proofs.Common.{◌≡◌, ◌≢◌, ◌==◌, ℕ, ◌&&◌, List, [], ◌∷◌, Bool, true, false, cond, filter, Option, Some, None, refl, sym, ap, subst, ◌∙◌, arith, inl, inr}
 use Rattle.std.specs.Prelude.{option_map}
 use Rattle.std.specs.Ordering.{nat_cmp}

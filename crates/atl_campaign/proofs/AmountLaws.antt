@@ -34,7 +34,7 @@ unlisted_amount_is_zero items count i known l =
     ap (λ o. unwrap_or o 0) (free_from items i (λ there. let few = known i there.0 there.1 in omega (arith, few)))
 
 -- The books of the campaign c have the things of the world w and list amounts of these alone (`are`). Its units list
--- only items of the world (`known`), and its regions only stocks of their markets (`stocks`).
+-- only items of the world (`known`), and its regions only stocks of their markets (`stocks`). w keeps its rules.
 module _ (w : WorldValue) (c : CampaignValue) (world : IsWorld w) (are : AreBooks (thing_count w) c.books) (known : Every (λ n u. Every (λ i amount. i < length w.items) u.holding.items) c.units)
     (stocks : Every (λ n r. AreOfMarkets w n r.stocks) c.regions) where
   none_kept : (i : ℕ) → length w.items ≤ i → EachEntry (λ _ r. region_amount (Item i) r ≡ 0) (entries c.regions)

@@ -1,6 +1,6 @@
 -- Laws of assembling a campaign from rows in range: their numbers are read as themselves, and items are within limits.
--- z is a number in a row, and `as_u32 z` what is read of it; n is a unit's number. The last two laws are on texts, and
--- on a test that all rows pass.
+-- z is a number in a row, and `as_u32 z` what is read of it; n is a unit's number. The table `has` has items (sort 0)
+-- and days of study (sort 1) of units. The last two laws are on texts, and on a test that all rows pass.
 use Rattle.std.proofs.Common.{◌≡◌, ◌==◌, ℕ, zero, suc, ◌≤◌, ◌<◌, ◌&&◌, List, [], ◌∷◌, Bool, true, false, cond, filter, length, get_or, Some, None, nat_le, refl, sym, ap, subst, ◌∙◌, arith, inl, inr}
 use Rattle.std.specs.Prelude.{ℤ, pos, negsuc, min, Result, Ok, Err, IfOk, IsUtf8}
 use Rattle.std.specs.List.{list_all}

@@ -1,7 +1,8 @@
 -- Laws of change marks: each change of a campaign marks all that it changes, and so do several changes in turn.
 -- `MarksChanges c d` says that from the marked campaign c to d no mark is lost, and all that changed is marked. In a
 -- law of one change, c is the campaign before it, the record the campaign after it, and n the number of what changes.
--- In laws of several changes, a, b and c are the campaign, or its marks, at moments in turn.
+-- In laws of several changes, a, b and c are the campaign, or its marks, at moments in turn. A unit's goods are its
+-- items and days of study.
 use Rattle.std.proofs.Common.{◌≡◌, ◌≢◌, ◌==◌, ◌||◌, ℕ, Bool, true, false, if◌then◌else◌, Option, Some, None, refl, sym, ap, ◌∙◌, subst, inl, inr, arith, true≢false}
 use Rattle.std.specs.Prelude.{ℤ, List, cond, is_some, option_map, unwrap_or}
 use Rattle.std.proofs.lemmas.Bool.Decides.{nat_tests}
@@ -369,7 +370,8 @@ row-marked f same c n =
       | _ ↦ λ k free. refl
     ]))
 
--- a number of region n, which `of` reads, is set to x by f; if it was another, the region's row is marked
+-- A number of region n, which `of` reads, is set to x by f; if it was another, the region's row is marked. f leaves the
+-- stocks as they are (`same`), and changes nothing where the number is x already (`again`).
 module _ (of : Region → ℕ) (f : Region → Region) (x : ℕ) (same : (r : Region) → (f r).stocks ≡ r.stocks) (again : (r : Region) → of r ≡ x → f r ≡ r) (c : MarkedCampaign) (n : ℕ) where
   -- setting a region's number to what it is already needs no mark (MarksChanges)
   number_stays : (v : Region) → get c.value.regions n ≡ Some v → of v ≡ x
@@ -408,7 +410,7 @@ pub marks-region-money : (c : MarkedCampaign) (n money : ℕ)
 marks-region-money c n money =
     marks-region (λ r. r.money) (λ r. record r { money = money }) money (λ r. refl) (λ r was. ap (λ m. record r { money = m }) (sym was)) c n
 
--- the stock of an item is set in a region; if it was another amount, it is marked, alone or with all of the region
+-- the stock of `item` in region n is set to `amount`; if it was another, it is marked, alone or with all of the region
 module _ (c : MarkedCampaign) (n item amount : ℕ) where
   abbrev stocked : Region → Region
   stocked r = record r { stocks = with_amount_of r.stocks item amount }

@@ -115,7 +115,7 @@ numbered_none : {V : Type 0} → IsNumbered (empty {X = V} {R = nat_cmp}) 1
 numbered_none {V} =
     record { first = get-empty nat_cmp 0; count = ap (λ n. n + 1) (sym (len-empty nat_cmp V)); free = λ n _. get-empty nat_cmp n }
 
--- `regions` are the world's regions as they are founded; `money` and `people` are what they all have together
+-- w keeps the rules of worlds. `regions` are its regions as founded; `money` and `people` are what they have together.
 module _ (w : WorldValue) (pass : List ℕ) (world : IsWorld w) where
   abbrev regions : FinMap nat_cmp Region
   regions = map_values founded_region w.regions

@@ -160,7 +160,7 @@ structure_ranges w r h =
     let size = size_of w (as_u16 r.kind) in
     in_range 1 size most_u32 r.done (omega arith) (and_parts (is_from 1 most_structures r.number) (is_from 1 size r.done) h).1
 
--- the number, the men, the money and the guard flag of a row of `unit` are in their ranges
+-- the number, the men, the money and the guard flag of a row of the table `unit` are in their ranges
 pub record UnitRanges (r : StoredUnit) : Type 0 where
   pub number : is_from 1 last_unit r.number ≡ true
   pub men : is_from 1 men_limit r.men ≡ true

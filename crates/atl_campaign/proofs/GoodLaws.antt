@@ -108,7 +108,7 @@ IsGood-with_report w c faction text there good = record {
   reported = λ n f is. there-insert c.reports faction n text (good.reported n f is);
 }
 
--- a good campaign stays good when a mailing of a faction that is there and not gone is stored
+-- a good campaign stays good when a mailing (IsMailingOf) of a faction that is there and not gone is stored for it
 pub IsGood-with_mail : (w : WorldValue) (c : CampaignValue) (faction : ℕ) (text : List ℕ) → IsMailingOf faction text
     → IsActive c faction → IsGood w c → IsGood w (with_mail c faction text)
 IsGood-with_mail w c faction text sent active good =

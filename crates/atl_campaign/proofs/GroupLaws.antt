@@ -153,7 +153,7 @@ module _ {R U : Type 0} (group : R → ℕ) (number : U → ℕ) where
 -- ---- rows of a group with keys
 
 -- `mine` tests whether a row is of the group, and `same` whether two keys are equal; `key` and `thing` give the key and
--- the thing of a row
+-- the thing of a row, and P is a condition on rows
 module _ {R K : Type 0} (key : R → K) (same : K → K → Bool) (itself : (k : K) → same k k ≡ true) (thing : R → ℕ) (mine : R → Bool) (P : R → Type 0) where
   -- a row of the group for which P holds
   abbrev pub IsOfGroupWithP : R → Type 0
@@ -165,7 +165,8 @@ module _ {R K : Type 0} (key : R → K) (same : K → K → Bool) (itself : (k :
       kept mine IsOfGroupWithP rows
       (each_follows P (λ r. mine r ≡ true → IsOfGroupWithP r) (λ r one passes. (one, passes)) rows all)
 
-  -- if rows of one thing have one key, no thing occurs twice among rows with different keys
+  -- No thing occurs twice among the rows of the group, if P holds of all rows, no two of them have the same key, and
+  -- rows of the group with one thing have one key.
   module _ (same_key : (r s : R) → IsOfGroupWithP r → IsOfGroupWithP s → thing r ≡ thing s → ◌≡◌ {A = K} (key s) (key r)) where
     other_thing : (r s : R) → IsOfGroupWithP r → IsOfGroupWithP s → same (key s) (key r) ≡ false → thing r ≢ thing s
     other_thing r s a b d e = false≢true (sym (ap (same (key s)) (same_key r s a b e) ∙ d) ∙ itself (key s))

@@ -1,5 +1,6 @@
 -- Laws of a unit that gets another holding and does not begin to guard: steadiness, totals and marks. A unit may have a
--- holding with a valid name, numbers within their limits, and only items and skills of the world.
+-- holding with a valid name, numbers within their limits, and only items and skills of the world. c is the campaign
+-- before the change, and n the unit's number.
 use Rattle.std.proofs.Common.{◌≡◌, ◌≢◌, ◌==◌, ℕ, ◌+◌, ◌*◌, ◌≤◌, ◌<◌, Bool, true, false, Option, Some, None, length, refl, sym, ap, subst, ◌∙◌, arith}
 use Rattle.std.specs.Prelude.{IsTrue, option_map, if◌then◌else◌}
 use Rattle.std.specs.Ordering.{nat_cmp}
@@ -201,6 +202,7 @@ marks-unit_row f same c n =
       | _ ↦ λ k free. refl
     ]))
 
+-- unit n's amount of `item` is set to `amount`
 module _ (c : MarkedCampaign) (n item amount : ℕ) where
   abbrev with_other : Unit → Unit
   with_other u = record u { holding = record u.holding { items = with_amount_of u.holding.items item amount } }

@@ -96,7 +96,7 @@ counts_below_limits : (f u n : ℕ) → ((nat_le last_faction f || nat_le most_u
     → (f < last_faction) × (u < most_units) × (n ≤ last_unit)
 counts_below_limits f u n h = (grind (arith, nat_tests), grind (arith, nat_tests), grind (arith, nat_tests))
 
--- a campaign that isn't full may have one faction and one unit more
+-- a campaign that isn't full has fewer factions and units than the most, and its next unit number is at most last_unit
 pub room_to_join : (c : CampaignValue) → is_full c ≡ false
     → (len c.factions < last_faction) × (len c.units < most_units) × (c.next_unit ≤ last_unit)
 room_to_join c h = counts_below_limits (len c.factions) (len c.units) c.next_unit h
@@ -315,8 +315,8 @@ module _ (w : WorldValue) (name pass : List ℕ) (word : ℕ) (c : CampaignValue
       guarded = joined-guarded old.guarded;
     }
 
-    -- a sound campaign that a faction joins stays sound, if the join is not refused, and name and pass text keep their
-    -- rules
+    -- a sound campaign that a faction joins stays sound, if the join is not refused, and name, pass text and world keep
+    -- their rules
     pub joined-sound : IsSound w c → IsSound w (after_join w name pass word c)
     joined-sound old = let next = old.steady.next in record {
       steady = joined-steady old.steady;

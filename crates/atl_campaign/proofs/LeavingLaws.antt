@@ -267,7 +267,7 @@ module _ (w : WorldValue) (c : CampaignValue) (n : ℕ) (u : Unit) (is : get c.u
   abbrev gone_from : CampaignValue
   gone_from = record c { units = left }
 
-  -- without_unit removes unit n, and hands the structure that n owned to its next owner (`heir`)
+  -- without_unit removes unit n, and hands the structure that n was inside, if n owned it, to its next owner (`heir`)
   without-known : without_unit c n ≡ after_handover gone_from u.structure n (heir c u.structure n)
   unfolding without_unit
   without-known = ap (without_unit_at c n) is
@@ -355,7 +355,7 @@ marks-after_handover c s from to = by_test (is_owned_by (get c.value.structures 
     by_test true = marks-structure (owned_by to) c s
     by_test false = marks-refl c
 
--- taking unit n out, with it, its row and all its goods marked, marks all that changes
+-- taking unit n out, with it, its row and all its goods (items and days) marked, marks all that changes
 pub marks-taken : (c : MarkedCampaign) (n : ℕ) → MarksChanges c (taken_marked c n)
 marks-taken c n = by_unit (get c.value.units n) refl
   where

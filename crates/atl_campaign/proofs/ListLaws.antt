@@ -2,7 +2,7 @@
 -- and go. A unit's key is the number of its region, faction or structure, which says in whose list the unit is.
 -- `belongs_to` gives this key.
 -- `old`, `mid` and `new` are the lists before a change, within it and after it; in `AreUnitLists-set`, `old` and `new`
--- are the units. Where a unit changes, u is the unit before and v the unit after.
+-- are the units. Where a unit changes, u is the unit before and v the unit after; n or k is its number, `key` its key.
 use Rattle.std.proofs.Common.{◌≡◌, ◌≢◌, ◌==◌, ℕ, true, false, cond, Option, Some, None, List, [], map, filter, refl, sym, ap, subst, ◌∙◌, arith, inl, inr}
 use Rattle.std.specs.declared.cmp.Ordering.TheVariants.{Less, Equal, Greater}
 use Rattle.std.specs.Prelude.{Result, Ok, Err, OnOk, OnErr, unwrap_or}

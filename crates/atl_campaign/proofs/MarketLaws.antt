@@ -1,4 +1,4 @@
--- A law of markets: an item i that has a market in region n is one of the world's items.
+-- A law of markets: if a world keeps its rules, an item i that has a market in region n is one of the world's items.
 use Rattle.std.proofs.Common.{◌≡◌, ℕ, ◌<◌, Option, Some, None, is_some, IsSome, length, true, refl, arith}
 use Rattle.std.specs.Prelude.{option_and_then}
 use Rattle.std.proofs.lemmas.Bool.{false≢true}

@@ -1,6 +1,7 @@
 -- Laws of moving and removing a unit with marks: but for marks they do what with_place and without_unit do.
 -- c is the campaign before, and n the unit's number. `with_place` puts the unit in region r and structure s, and
--- `without_unit` removes it; both give a structure that the unit owned and leaves to its next owner.
+-- `without_unit` removes it; both give a structure that the unit owned and leaves to its next owner, and `with_place`
+-- gives the unit one that it enters and nobody owns.
 use Rattle.std.proofs.Common.{◌≡◌, ◌==◌, ℕ, Bool, true, false, Option, Some, None, refl, sym, ap, ◌∙◌}
 use Rattle.std.specs.Prelude.{if◌then◌else◌}
 use Rattle.std.specs.FinMap.{FinMap, get}
@@ -94,7 +95,8 @@ pub gone_none : (c : MarkedCampaign) (n : ℕ) → get c.value.units n ≡ None 
 unfolding gone_marked
 gone_none c n none = sym (ap (gone_marked_at c n) none)
 
--- removing a unit that is there takes it out, and hands a structure that it owned to the next owner
+-- removing a unit that is there takes it out, and hands the structure that it was inside, if it owned that, to the next
+-- owner
 pub gone_some : (c : MarkedCampaign) (n : ℕ) (u : Unit) → get c.value.units n ≡ Some u
     → handed_marked (taken_marked c n) u.structure n (heir c.value u.structure n) ≡ gone_marked c n
 unfolding gone_marked

@@ -1,6 +1,7 @@
 -- Laws of reading maps back: the rows of a map's entries, in any order, give that map again. `row` makes the row of a
 -- number and its value, and `number` and `value` read both from a row.
--- m is a map by number, and `rows_by row (entries m)` are its rows; P is a condition, and p a test of rows.
+-- m is a map by number, and `rows_by row (entries m)` are its rows; P is a condition, p a test of rows, and e tests
+-- whether two rows or elements count as the same.
 use Rattle.std.proofs.Common.{◌≡◌, ℕ, suc, ◌≤◌, ◌<◌, ◌&&◌, ◌++◌, List, [], ◌∷◌, Bool, true, false, length, Some, None, refl, sym, ap, ◌∙◌, arith}
 use Rattle.std.specs.Prelude.{pos, ⊤}
 use Rattle.std.specs.declared.cmp.Ordering.{Ordering}
@@ -57,7 +58,7 @@ written_fits_u32 n h = ap pos (sym (written_is_read n h))
 
 -- ---- maps
 
--- two maps are equal if each value of one is under the same number in the other
+-- two maps are equal if each value of either is under the same number in the other
 pub equal_by_values : {V : Type 0} (m k : FinMap nat_cmp V) → Every (λ n v. get k n ≡ Some v) m
     → Every (λ n v. get m n ≡ Some v) k → m ≡ k
 equal_by_values {V} m k there back = same_map nat_cmp_total nat_cmp-IsAntisymmetric m k (λ n.
@@ -200,7 +201,6 @@ abbrev pub InOrder : {X : Type 0} → (X → X → Type 0) → List X → Type 0
 InOrder Before [] = ⊤
 InOrder Before (x ∷ xs) = AllByRecursion (Before x) xs × InOrder Before xs
 
--- e tests whether two elements count as the same
 module _ {A : Type 0} (e : A → A → Bool) where
   -- two joined lists are distinct by e if both are, and no element of the first equals one of the second by e
   pub append_apart : (xs ys : List A) → IsDistinct e xs → IsDistinct e ys

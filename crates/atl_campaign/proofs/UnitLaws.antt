@@ -1,4 +1,6 @@
 -- Laws of AreUnits, the units' invariant: there is room for all marks, and a unit with a marked part is marked.
+-- `marks` has the units of which a part is marked. Of these, `rows` has those whose rows are, `goods` those all of
+-- whose items and days are, and `items` and `skills` the single ones. Unit n is u before a change, and w after it.
 use Rattle.std.proofs.Common.{◌≡◌, ℕ, ◌+◌, ◌≤◌, Bool, true, false, ◌||◌, cond, Option, Some, None, refl, sym, ap, ◌∙◌, arith}
 use Rattle.std.specs.Prelude.{is_some, if◌then◌else◌}
 use Rattle.std.specs.Ordering.{nat_cmp, eq_by_cmp}
@@ -120,8 +122,6 @@ pub AreUnits-of : (units : FinMap nat_cmp Unit)
 AreUnits-of units =
     record { within = within-none; marks_fit = Room-of units; rows_fit = Room-of units; goods_fit = Room-of units }
 
--- `marks` has the units of which a part is marked. Of these, `rows` has those whose rows are, `goods` those all of
--- whose items and days are, and `items` and `skills` the single ones. Unit n is u before a change, and w after it.
 module _ (units : FinMap nat_cmp Unit) (marks rows goods : RoomySet) (items skills : MarkedThings) where
   -- before a change, there is room for all marks of units, and each unit with a marked part is marked (AreUnits)
   abbrev Before : Type 0
@@ -194,7 +194,7 @@ module _ (units : FinMap nat_cmp Unit) (marks rows goods : RoomySet) (items skil
 
 -- ---- a unit that is new
 
--- a dirty set with the same numbers as another, and room for one unit more
+-- a dirty set with the same numbers as another, and with room for these and, besides, for each unit and one unit more
 pub record IsWider (units : FinMap nat_cmp Unit) (marks more : RoomySet) : Type 0 where
   pub same : more.numbers ≡ marks.numbers
   pub room : set.len marks.numbers + (len units + 1) ≤ more.room
@@ -229,6 +229,7 @@ AreUnits-added units marks rows goods marks2 rows2 goods2 items skills n w wider
 pub same_values : (r : Roster) (values : FinMap nat_cmp Unit) → values ≡ r.values → record r { values = values } ≡ r
 same_values r values e = ap (λ (v : FinMap nat_cmp Unit). record r { values = v }) e
 
+-- r has the units with their marks; unit n's amount of `item` is set to `amount`
 module _ (r : Roster) (n item amount : ℕ) where
   abbrev with_other : Unit → Unit
   with_other u = record u { holding = record u.holding { items = with_amount_of u.holding.items item amount } }

@@ -30,15 +30,16 @@ campaign_maps_of p = record {
   reports = without_marks (by_number (λ r. as_u32 r.faction) (λ r. r.text) p.reports);
 }
 
--- the unit that a row of `unit` says, without items and days of study
+-- the unit that a row of the table `unit` says, without items and days of study
 abbrev pub bare_unit : StoredUnit → Unit
 bare_unit r = unit_with_goods r empty empty
 
--- the region that a row of `region` says, with nothing in stock
+-- the region that a row of the table `region` says, with nothing in stock
 abbrev pub bare_region : StoredRegion → Region
 bare_region r = region_with_stocks r empty
 
--- a unit with the amount of a row of `has` put in: pieces of an item (sort 0) or days of a skill (sort 1)
+-- A unit with the amount of a row of the table `has` put in: pieces of an item (sort 0) or days of a skill (sort 1).
+-- With another sort the unit is unchanged.
 abbrev pub with_has_row : StoredHas → Unit → Unit
 with_has_row r u =
     if as_u32 r.sort == 0
@@ -47,7 +48,7 @@ with_has_row r u =
     then record u { holding = record u.holding { days = insert u.holding.days (as_u32 r.thing) (as_u32 r.amount) } }
     else u
 
--- a region with the stock of a row of `market` put in
+-- a region with the stock of a row of the table `market` put in
 abbrev pub with_market_row : StoredMarket → Region → Region
 with_market_row r x = record x { stocks = insert x.stocks (as_u32 r.item) (as_u32 r.stock) }
 

@@ -131,7 +131,7 @@ numbers_of_faction f units = numbers_where (λ u. u.faction == f) units
 abbrev pub numbers_inside : ℕ → FinMap nat_cmp Unit → List ℕ
 numbers_inside s units = if s == 0 then [] else numbers_where (λ u. u.structure == s) units
 
--- ---- one entry changed; where there is none under the number nothing changes
+-- ---- one change of the campaign
 
 -- the campaign with faction n, if there is one, changed by the function f
 abbrev pub faction_changed : (Faction → Faction) → CampaignValue → ℕ → CampaignValue
@@ -223,7 +223,7 @@ with_booking c e t n = record c { books = after_booking c.books e t n }
 abbrev pub without_mail : CampaignValue → CampaignValue
 without_mail c = record c { mail = empty }
 
--- the campaign with a structure added under the next structure number, which rises by one
+-- the campaign with a structure put under the next structure number, which rises by one
 abbrev pub with_structure_begun : CampaignValue → Structure → CampaignValue
 with_structure_begun c s = record c { next_structure = c.next_structure + 1; structures = insert c.structures c.next_structure s }
 
@@ -231,7 +231,7 @@ with_structure_begun c s = record c { next_structure = c.next_structure + 1; str
 abbrev pub with_unit : CampaignValue → ℕ → Unit → CampaignValue
 with_unit c n u = record c { units = insert c.units n u }
 
--- the campaign with a unit added under the next unit number, which rises by one
+-- the campaign with a unit put under the next unit number, which rises by one
 abbrev pub with_unit_begun : CampaignValue → Unit → CampaignValue
 with_unit_begun c u = record c { next_unit = c.next_unit + 1; units = insert c.units c.next_unit u }
 

@@ -36,7 +36,7 @@ days_under None = empty
 days_under (Some u) = u.holding.days
 
 -- Of each item, or each skill (`under` picks which), that is not marked, each unit has as much in `before` as in
--- `after`. `goods` has the units all of whose things are marked, and `things` the single marks.
+-- `after`, or it is listed in neither. `goods` has the units all of whose things are marked, `things` the single marks.
 abbrev pub SameThings : FinSet nat_cmp → MarkedThings → (Option Unit → FinMap nat_cmp ℕ) → FinMap nat_cmp Unit
     → FinMap nat_cmp Unit → Type 0
 SameThings goods things under before after =

@@ -1,4 +1,7 @@
 -- How a campaign is read from the rows of its tables, also from rows that break rules. See docs/FORMATS.md, "Tables".
+-- A name as `faction` is that of a table; the table `has` has the items and days of study of units. A number that
+-- doesn't fit 32 bits (of a kind 16), also a negative one, is read as the largest; amounts of the books as they are.
+-- Of rows for one key the last counts, but of campaign rows the first.
 use Rattle.std.specs.Prelude.{ℕ, ℤ, pos, negsuc, Bool, not, ◌==◌, ◌&&◌, nat_lt, min, List, [], ◌∷◌, filter, slice_index_or, if◌then◌else◌}
 use Rattle.std.specs.Option.{option_map_or}
 use Rattle.std.specs.Ordering.{nat_cmp}

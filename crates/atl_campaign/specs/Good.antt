@@ -265,7 +265,8 @@ HasNoStocks c = Every (λ n r. r.stocks ≡ empty) c.regions
 
 -- a campaign within a month: the rules on numbers, names, what is named by number, next numbers, days, owners, water
 -- and guards hold, and gone factions have no units. Unlike in a good campaign, a unit may have no men, and a faction
--- without units needn't be gone yet.
+-- without units needn't be gone yet. Nor need the books balance or be within their bound, mail be valid, or factions
+-- have reports.
 pub record IsSteady (w : WorldValue) (c : CampaignValue) : Type 0 where
   -- there are not too many factions, regions, units and structures, and all numbers are in their ranges
   pub numbers : AreInRange w c

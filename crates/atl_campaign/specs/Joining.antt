@@ -20,7 +20,8 @@ use Rattle.atl_campaign.specs.Campaign.{CampaignValue}
 abbrev pub name_taken : CampaignValue → List ℕ → Bool
 name_taken c name = list_any (λ e. pointwise nat_eq e.1.joined_as name) (entries c.factions)
 
--- whether 9,999 factions have joined, there are 100,000 units, or the next unit number is above 999,999,999
+-- whether at least 9,999 factions have joined, there are at least 100,000 units, or the next unit number is above
+-- 999,999,999
 abbrev pub is_full : CampaignValue → Bool
 is_full c = (nat_le last_faction (len c.factions) || nat_le most_units (len c.units)) || nat_lt last_unit c.next_unit
 
@@ -34,9 +35,9 @@ home_of w word = slice_index (land_of w) (word % length (land_of w))
 abbrev pub new_faction : ℕ → List ℕ → List ℕ → Faction
 new_faction number name pass = record { number = number; joined_as = name; name = name; pass = pass; gone = false }
 
--- the unit of a faction that joins: one man with the start money, no goods, and the name `Unit` with the unit's number.
--- The unit is in the land region picked by `word`, a word of the dice, inside no structure, and its guard flag is
--- clear.
+-- the unit of a faction that joins c: one man with the start money, no items or days of study, and the name `Unit` with
+-- the next unit number. It is of the faction with the next number, in the land region that `word`, a word of the dice,
+-- picks (`home_of`), and inside no structure. Its guard flag is clear.
 abbrev pub first_unit : WorldValue → ℕ → CampaignValue → Unit
 first_unit w word c = record {
   faction = c.next_faction;
@@ -52,8 +53,8 @@ first_unit w word c = record {
   };
 }
 
--- the campaign with a faction of the given name and pass text, and its unit, added under the next numbers, and what
--- they bring booked. The word of the dice, a number, picks where the unit is.
+-- the campaign with a faction of the given name and pass text, and its unit, put under the next numbers, which rise by
+-- one, and what they bring booked under Joining. The word of the dice, a number, picks where the unit is.
 unfoldable pub after_join : WorldValue → List ℕ → List ℕ → ℕ → CampaignValue → CampaignValue
 after_join w name pass word c = record c {
   next_faction = c.next_faction + 1;
@@ -64,7 +65,7 @@ after_join w name pass word c = record c {
 }
 
 -- what a join with a name, a pass text and a word of the dice gives: the new campaign with the numbers of the faction
--- and its unit, or its refusal
+-- and its unit, or its refusal: NameTaken, or else Full
 unfoldable pub join_of : WorldValue → List ℕ → List ℕ → ℕ → CampaignValue → Result (CampaignValue × (ℕ × ℕ)) JoinFault
 join_of w name pass word c =
     if name_taken c name then Err NameTaken

@@ -43,7 +43,7 @@ AreInsideLists units lists = (s : ℕ) → list_of lists s ≡ numbers_inside s 
 abbrev pub relisted_inside : FinMap nat_cmp (List ℕ) → ℕ → ℕ → ℕ → FinMap nat_cmp (List ℕ)
 relisted_inside lists n from to = if from == to then lists else unlisted_unless (listed_unless lists n to 0) n from 0
 
--- each unit is in the list of its region, of its faction, and of its structure unless that is 0, and in no other
+-- each unit is in the list of its region, its faction, and its structure unless that is 0, and in no other; lists rise
 pub record AreUnitLists (units : FinMap nat_cmp Unit) (lists : UnitLists) : Type 0 where
   pub regions : AreLists (λ u. u.region) units lists.by_region
   pub factions : AreLists (λ u. u.faction) units lists.by_faction

@@ -1,4 +1,5 @@
--- What becomes of a campaign after a write through the holding that `unit_mut` lends.
+-- What becomes of a campaign after a write through the holding that `unit_mut` lends. A unit's goods are its items and
+-- days of study.
 use Rattle.std.specs.Prelude.{ℕ, Option, Some, None}
 use Rattle.std.specs.FinMap.{get, insert}
 use Rattle.std.specs.Borrow.{LendsIf, MutBor, Fml}
@@ -18,7 +19,8 @@ with_holding_at c n h (Some u) = record c { units = insert c.units n (record u {
 abbrev pub with_holding : CampaignValue → ℕ → HoldingValue → CampaignValue
 with_holding c n h = with_holding_at c n h (get c.units n)
 
--- the campaign with h as the holding of unit n after a loan; the unit, its row and all its goods are marked
+-- the campaign with h as the holding of unit n after a loan, with the unit, its row and all its goods marked; unchanged
+-- where there is no unit n
 abbrev pub after_loan : MarkedCampaign → ℕ → HoldingValue → MarkedCampaign
 after_loan c n h = record { value = with_holding c.value n h; marks = mark_unit c n }
 

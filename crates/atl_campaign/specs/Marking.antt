@@ -1,6 +1,6 @@
 -- What is marked, as rows to be written, after each change of a campaign.
 -- c is the campaign before the change, with its marks, and n the number of what changes. A result that is a campaign is
--- the one after the change.
+-- the one after the change. A unit's goods are its items and days of study.
 use Rattle.std.specs.Prelude.{◌≡◌, ◌⊎◌, ◌==◌, ℕ, Bool, true, Option, Some, None, if◌then◌else◌}
 use Rattle.std.specs.FinMap.{get, remove, keys}
 use Rattle.std.specs.FinSet.{FinSet, insert, union, from_list}
@@ -64,8 +64,8 @@ mark_unit_row c n = record c.marks {
   rows = marked_with c.marks.rows n (get c.value.units n);
 }
 
--- the marks after an amount of an item of unit n was set. If the unit is there and had another amount of it, the unit
--- and that item are marked too, not its row.
+-- the marks after unit n's amount of an item was set to the last number. If the unit is there and had another amount of
+-- it, the unit and that item are marked too, not its row.
 abbrev pub mark_item : MarkedCampaign → (unit item : ℕ) → ℕ → Marks
 mark_item c n item amount =
     let unit = unit_to_supply c.value.units n item amount in
@@ -106,8 +106,8 @@ mark_peasants = mark_region (λ r. r.peasants)
 abbrev pub mark_region_money : MarkedCampaign → ℕ → ℕ → Marks
 mark_region_money = mark_region (λ r. r.money)
 
--- the marks after a stock of a region was set: if the region is there and had another amount, that stock is marked too,
--- and no other stock
+-- the marks after a stock of a region was set to the last number: if the region is there and had another amount, that
+-- stock is marked too, and no other stock
 abbrev pub mark_stock : MarkedCampaign → (region item : ℕ) → ℕ → Marks
 mark_stock c n item amount =
     let region = region_to_restock c.value.regions n item amount in
@@ -116,15 +116,15 @@ mark_stock c n item amount =
       stock_items = thing_marked c.marks.stock_items n item region;
     }
 
--- the marks after a stock of a region was set without memory for a mark of its own: if the region is there and had
--- another amount, all its stocks are marked too
+-- the marks after a stock of a region was set to the last number without memory for a mark of its own: if the region is
+-- there and had another amount, all its stocks are marked too
 abbrev pub mark_all_stocks : MarkedCampaign → (region item : ℕ) → ℕ → Marks
 mark_all_stocks c n item amount =
     let region = region_to_restock c.value.regions n item amount in
     record c.marks { markets = marked_with c.marks.markets n region; stocks = marked_with c.marks.stocks n region }
 
--- m has the marks after the stock of an item in a region was set to `amount`. If that was another amount, the stock
--- alone is marked too (`mark_stock`), or all stocks of the region are (`mark_all_stocks`).
+-- m has the marks after the stock of an item in a region was set to `amount`. If the region is there and had another
+-- amount, the stock alone is marked too (`mark_stock`), or all stocks of the region are (`mark_all_stocks`).
 abbrev pub MarksStock : MarkedCampaign → (region item : ℕ) → ℕ → Marks → Type 0
 MarksStock c n item amount m = (m ≡ mark_stock c n item amount) ⊎ (m ≡ mark_all_stocks c n item amount)
 
@@ -148,7 +148,7 @@ mark_amount c e t = record c.marks { books = amount_marked c.marks.books e t }
 abbrev pub mark_all_mail : MarkedCampaign → Marks
 mark_all_mail c = record c.marks { mail = union c.marks.mail (from_list (keys c.value.mail)) }
 
--- the campaign with structure s handed from owner `from` to `to` and marked; unchanged unless `from` owns it
+-- the campaign with structure s handed from `from` to `to` (0: nobody) and marked; unchanged unless `from` owns it
 abbrev pub handed_marked : MarkedCampaign → ℕ → ℕ → ℕ → MarkedCampaign
 handed_marked c s from to =
     if is_owned_by (get c.value.structures s) from
@@ -170,8 +170,8 @@ place_marked_at c n r s (Some u) =
     if u.structure == s then put_marked c n r s
     else handed_marked (handed_marked (put_marked c n r s) u.structure n (heir c.value u.structure n)) s 0 n
 
--- the campaign with unit n, if it is there, put in region r and structure s (0: in none); the unit, its row, and
--- structures that get another owner are marked
+-- the campaign with unit n, if it is there, put in region r and structure s (0: in none), and owners changed as
+-- `place_marked_at` says; the unit, its row, and structures that get another owner are marked
 unfoldable pub place_marked : MarkedCampaign → ℕ → ℕ → ℕ → MarkedCampaign
 place_marked c n r s = place_marked_at c n r s (get c.value.units n)
 
@@ -179,14 +179,14 @@ place_marked c n r s = place_marked_at c n r s (get c.value.units n)
 abbrev pub taken_marked : MarkedCampaign → ℕ → MarkedCampaign
 taken_marked c n = record { value = record c.value { units = remove c.value.units n }; marks = mark_unit c n }
 
--- `gone_marked` once unit n is looked up: n is removed, a structure that it owned gets its next owner, and changes are
--- marked. Where n isn't there (None), nothing changes.
+-- `gone_marked` once unit n is looked up: n is removed, the structure that it was inside gets its next owner if n owned
+-- it, and changes are marked. Where n isn't there (None), nothing changes.
 abbrev pub gone_marked_at : MarkedCampaign → ℕ → Option Unit → MarkedCampaign
 gone_marked_at c n None = c
 gone_marked_at c n (Some u) = handed_marked (taken_marked c n) u.structure n (heir c.value u.structure n)
 
--- the campaign without unit n; if the unit was there, it, its row and goods are marked, and its structure where that
--- gets another owner
+-- the campaign without unit n, whose structure gets its next owner if n owned it; if n was there, it, its row and goods
+-- are marked, and its structure where that gets another owner
 unfoldable pub gone_marked : MarkedCampaign → ℕ → MarkedCampaign
 gone_marked c n = gone_marked_at c n (get c.value.units n)
 
@@ -198,7 +198,8 @@ mark_report c n = record c.marks { reports = insert c.marks.reports n }
 abbrev pub mark_mail : MarkedCampaign → ℕ → Marks
 mark_mail c n = record c.marks { mail = insert c.marks.mail n }
 
--- the marks after a join: faction, unit with row and goods, two amounts booked, and the campaign row are marked too
+-- the marks after a join: the new faction, its unit with row and goods, the amounts of money and people under Joining,
+-- and the campaign row are marked too
 abbrev pub mark_join : MarkedCampaign → Marks
 mark_join c = record c.marks {
   factions = insert c.marks.factions c.value.next_faction;

@@ -34,7 +34,7 @@ abbrev pub is_owned_by : Option Structure → ℕ → Bool
 is_owned_by None n = false
 is_owned_by (Some x) n = x.owner == n
 
--- the campaign with structure s handed from owner `from` to `to`; unchanged unless `from` owns it
+-- the campaign with structure s handed from `from` to `to` (0: nobody); unchanged unless `from` owns it
 abbrev pub after_handover : CampaignValue → ℕ → ℕ → ℕ → CampaignValue
 after_handover c s from to = if is_owned_by (get c.structures s) from then with_owner c s to else c
 
@@ -55,12 +55,12 @@ with_place_at c n r s (Some u) =
 unfoldable pub with_place : CampaignValue → ℕ → ℕ → ℕ → CampaignValue
 with_place c n r s = with_place_at c n r s (get c.units n)
 
--- `without_unit` once unit n is looked up: n is removed, and a structure that it owned gets its next owner; where n
--- isn't there (None), nothing changes
+-- `without_unit` once unit n is looked up: n is removed, and the structure that it was inside gets its next owner if n
+-- owned it; where n isn't there (None), nothing changes
 abbrev pub without_unit_at : CampaignValue → ℕ → Option Unit → CampaignValue
 without_unit_at c n None = c
 without_unit_at c n (Some u) = after_handover (record c { units = remove c.units n }) u.structure n (heir c u.structure n)
 
--- the campaign without unit n; a structure that unit n owned gets its next owner
+-- the campaign without unit n; the structure that n was inside gets its next owner if n owned it
 unfoldable pub without_unit : CampaignValue → ℕ → CampaignValue
 without_unit c n = without_unit_at c n (get c.units n)

@@ -46,8 +46,8 @@ number_in of values n = option_map_or of (map.get values n) 0
 abbrev pub region_to_set : (of : Region → ℕ) → map.FinMap nat_cmp Region → ℕ → ℕ → Option Region
 region_to_set of values n x = if number_in of values n == x then None else map.get values n
 
--- The regions with region n, if there is one, changed by the function f, which sets its number that `of` reads to x.
--- If it was another number, the region's row is marked; stocks get no mark.
+-- The regions with region n, if there is one, changed by the function f, which is to set the number that `of` reads to
+-- x. If it was another number, the region's row is marked; stocks get no mark.
 abbrev pub with_region_number : (of : Region → ℕ) → (Region → Region) → MarkedRegions → ℕ → ℕ → MarkedRegions
 with_region_number of f r n x =
     record r { values = with_changed_value f r.values n; rows = marked_with r.rows n (region_to_set of r.values n x) }
@@ -78,8 +78,8 @@ with_stocks_marked r n = with_stocks_marked_in r n (map.get r.values n)
 abbrev pub region_to_restock : map.FinMap nat_cmp Region → (region item : ℕ) → ℕ → Option Region
 region_to_restock values n item amount = if stock_in values n item == amount then None else map.get values n
 
--- `after` has the marks of `before`, and, if a stock was set to another amount, a mark on that stock alone, or on all
--- stocks of its region
+-- `after` has the marks of `before`. If the region was there with another stock of the item than the last number, there
+-- is also a mark on that stock alone, or on all stocks of the region. Any regions may be in `after`.
 abbrev pub MarksStockAt : (before after : MarkedRegions) → (region item : ℕ) → ℕ → Type 0
 MarksStockAt before after n item amount =
     let region = region_to_restock before.values n item amount in

@@ -1,4 +1,5 @@
--- The units of a campaign with marks: on units, their rows, all goods of a unit, and single items and skills.
+-- The units of a campaign with marks: on units, their rows, all goods of a unit, and single items and skills. A unit's
+-- goods are its items and days of study.
 use Rattle.std.specs.Prelude.{ℕ, refl, Option, Some, None, if◌then◌else◌}
 use Rattle.std.specs.Ordering.{nat_cmp}
 use Rattle.std.specs.Coded.{Coded, code_by, coded×, coded_ℕ}
@@ -75,7 +76,7 @@ unit_if_other_amount item amount (Some u) = if has_amount u.holding.items item a
 abbrev pub unit_to_supply : map.FinMap nat_cmp Unit → (unit item : ℕ) → ℕ → Option Unit
 unit_to_supply values n item amount = unit_if_other_amount item amount (map.get values n)
 
--- The roster with unit n and one of its items marked, if the unit has another amount of it than `amount`.
+-- The roster with unit n and one of its items marked, if the unit is there and has another amount of it than `amount`.
 -- The units stay as they are.
 abbrev pub item_marked_at : Roster → (unit item : ℕ) → ℕ → Roster
 item_marked_at r n item amount =
@@ -87,8 +88,8 @@ item_marked_at r n item amount =
 abbrev pub with_item_at : (Unit → Unit) → Roster → (unit item : ℕ) → ℕ → Roster
 with_item_at f r n item amount = record (item_marked_at r n item amount) { values = with_changed_value f r.values n }
 
--- The roster after f changed unit n in one of its skills: the unit and that skill are marked, the unit's own row isn't.
--- Without a unit n nothing changes.
+-- The roster with unit n, if there is one, changed by the function f. It and one of its skills are marked, but not its
+-- row.
 abbrev pub with_skill_at : (Unit → Unit) → Roster → ℕ → ℕ → Roster
 with_skill_at f r n skill = record r {
   values = with_changed_value f r.values n;

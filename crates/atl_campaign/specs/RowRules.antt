@@ -1,5 +1,6 @@
 -- The rules that are about rows, and not about the campaign read from them: rules 1 to 3, and parts of rules 4 and 11.
--- See docs/FORMATS.md, "Rules of the tables".
+-- See docs/FORMATS.md, "Rules of the tables". A name as `faction` is that of a table; the table `has` has the items and
+-- days of study of units.
 use Rattle.std.specs.Prelude.{◌+◌, ◌*◌, ◌==◌, ℕ, ℤ, pos, negsuc, Bool, false, true, not, ◌&&◌, ◌||◌, nat_le, nat_lt, nat_abs, is_some, IsTrue, List, [], ◌∷◌, length, map}
 use Rattle.std.specs.List.{list_all, IsDistinct}
 use Rattle.std.specs.declared.cmp.Ordering.{Ordering}
@@ -52,7 +53,8 @@ are_of_format Second rows = true
 abbrev pub is_within : ℕ → ℤ → Bool
 is_within bound z = nat_le (nat_abs z) bound
 
--- whether the campaign row's month is 0 to 9,999, and each next number from 1 to one above the highest one allowed
+-- whether the campaign row's month is 0 to 9,999, and its next numbers of a faction, a unit and a structure are from 1
+-- to 10,000, to 1,000,000,000 and to 10,001
 abbrev pub campaign_row_in_range : StoredCampaignRow → Bool
 campaign_row_in_range h =
     ((is_from 0 last_month h.month && is_from 1 (last_faction + 1) h.next_faction)
@@ -82,7 +84,8 @@ has_in_range r = is_from 1 1 r.sort || (is_from 0 0 r.sort && is_from 1 holding_
 abbrev pub structure_in_range : WorldValue → StoredStructure → Bool
 structure_in_range w r = is_from 1 most_structures r.number && is_from 1 (size_of w (as_u16 r.kind)) r.done
 
--- how large an amount of the books may be, without its sign: 2*10^14*(month + 1) + 10^9*factions
+-- how large an amount of the books may be, without its sign: 2*10^14*(month + 1) + 10^9*factions; the month is that of
+-- the campaign row, and `factions` how many rows of `faction` there are
 abbrev pub books_bound : Parts → ℕ
 books_bound p = most_in_month * (as_u32 (campaign_row_of p).month + 1) + most_in_joining * length p.factions
 

@@ -1,4 +1,5 @@
 -- The rows that a campaign has in each table of a format, in the order of their keys. See docs/FORMATS.md, "Tables".
+-- A name as `faction` is that of a table; the table `has` has the items and days of study of units.
 use Rattle.std.specs.Prelude.{◌+◌, ◌++◌, ℕ, ℤ, pos, Bool, true, false, not, List, [], ◌∷◌, map, filter}
 use Rattle.std.specs.List.{flat_map}
 use Rattle.std.specs.List.Sorted.{IsPermutation}
@@ -112,11 +113,11 @@ amount_rows amount row es = filter (λ r. not (is_zero (amount r))) (rows_by row
 abbrev pub rows_of_sort : ℕ → ℕ → List (ℕ × ℕ) → List StoredHas
 rows_of_sort n sort es = amount_rows (λ r. r.amount) (has_row n sort) es
 
--- the rows of `has` for what unit n has: items, then days of study
+-- the rows of `has` for what unit n has: items, then days of study; there is none for the amount 0
 abbrev pub held_rows : ℕ → HoldingValue → List StoredHas
 held_rows n h = rows_of_sort n 0 (entries h.items) ++ rows_of_sort n 1 (entries h.days)
 
--- the rows of `has` of the given units, one unit after another
+-- the rows of `has` of the given units, one unit after another, with none for the amount 0
 abbrev pub has_rows : List (ℕ × Unit) → List StoredHas
 has_rows es = flat_map (λ e. held_rows e.0 e.1.holding) es
 
@@ -152,7 +153,7 @@ rows_of f c = record {
   markets = market_rows f (entries c.regions);
 }
 
--- the parts `some` and `others` have the same rows in each table, in any order
+-- the parts `some` and `others` have the same rows in each table, each as often, in any order
 pub record AreSameRows (some others : Parts) : Type 0 where
   pub campaign : IsPermutation some.campaign others.campaign
   pub factions : IsPermutation some.factions others.factions

@@ -1,4 +1,4 @@
--- For proofs alone: the invariant of `Units`, which holds the units with their marks.
+-- For proofs alone: the invariant of `Units`, which holds the units with their marks. Goods are items and days.
 use Rattle.std.specs.Ordering.{nat_cmp}
 use Rattle.std.specs.FinMap.{FinMap}
 use Rattle.atl_world.specs.RoomySets.{RoomySet, HasRoomForMarks}

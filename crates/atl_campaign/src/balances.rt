@@ -37,7 +37,6 @@ fn are_items_balanced(world: &World, campaign: &Campaign) -> bool
     true
 }
 
-/// Whether money and people balance.
 fn are_people_balanced(campaign: &Campaign) -> bool
     requires few { IsCountable campaign.now.value }
     requires there { 1 < campaign.now.value.books.things }
@@ -49,8 +48,9 @@ fn are_people_balanced(campaign: &Campaign) -> bool
 }
 
 /// Whether the books balance: the total of each thing over all units and regions equals the sum
-/// booked of it under all entries. All items held must be the world's, and all stocks of the
-/// world's markets. Takes no memory. See docs/RULES.md, "Books".
+/// booked of it under all entries. There have to be at most 1,000,000 units and regions together.
+/// All items held must be the world's, all stocks of the world's markets, and the books those of
+/// the world's things (`AreBooks`). Takes no memory. See docs/RULES.md, "Books".
 pub fn are_balanced(world: &World, campaign: &Campaign) -> bool
     requires few { IsCountable campaign.now.value }
     requires books { AreBooks (thing_count world.now) campaign.now.value.books }

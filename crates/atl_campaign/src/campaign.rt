@@ -1,4 +1,6 @@
-//! The campaign: the calls that read it, lend a unit's holding, or store mail and reports.
+//! The campaign: the calls that read it, lend a unit's holding, or store mail and reports. What is
+//! said of ranges, and of which numbers there are, holds of good campaigns. A unit's goods are its
+//! items and days of study.
 ghost use Rattle.std.specs.Prelude.{◌≡◌, ◌<◌, ◌≤◌, IfOk, OnOk, OnErr};
 ghost use Rattle.std.specs.Option.{option_copied};
 ghost use Rattle.std.specs.FinMap as map;
@@ -63,7 +65,7 @@ impl Drop for Campaign {
 }
 
 /// Clauses see a campaign as its value and its marks. The lists have just its units, by region,
-/// faction and structure, and there is room to mark each amount of the books.
+/// faction and structure. Only amounts of the books' things are marked, with room for each of them.
 impl Model for Campaign {
     ghost use Rattle.atl_campaign.specs.Campaign.{MarkedCampaign, marked_code};
     ghost use Rattle.atl_campaign.specs.KeptLists.{AreListsAndMarksKept};
@@ -172,7 +174,7 @@ impl Campaign {
         self.factions.len()
     }
 
-    /// The region of this number; None where the world has none.
+    /// The region of this number; None where there is none.
     pub fn region(&self, number: u32) -> Option<&Region>
         ensures { option_copied result ≡ map.get self.now.value.regions number }
     {
@@ -271,8 +273,9 @@ impl Campaign {
         self.reports.iter()
     }
 
-    /// How many things the books have amounts of: money, people, and the items of the world. No
-    /// amount of another thing is marked.
+    /// How many things the books have amounts of, at most 65,538: in a good campaign money, people,
+    /// and the items of the world. No amount of another thing is listed or marked, and no listed
+    /// amount is 0.
     pub fn things(&self) -> usize
         ensures count { result ≡ self.now.value.books.things }
         ensures few { result ≤ possible_things }

@@ -31,7 +31,6 @@ pub(crate) struct ListKeys {
     pub(crate) structure: u32,
 }
 
-/// The keys of the lists that a unit is in.
 pub(crate) fn list_keys_of(unit: &Unit) -> ListKeys
     ensures { result ≡ list_keys_of unit.now }
 {
@@ -43,7 +42,6 @@ pub(crate) fn list_keys_of(unit: &Unit) -> ListKeys
 }
 
 impl UnitLists {
-    /// The lists of no units: none is there yet. It takes no memory.
     pub(crate) fn new(alloc: Global) -> UnitLists
         ensures { AreUnitLists map.empty result }
     {
@@ -54,8 +52,8 @@ impl UnitLists {
         }
     }
 
-    /// Adds a unit to the lists of its region, faction and structure. Without memory for it nothing
-    /// changes.
+    /// Adds a unit to the lists of its keys, `listing`. Without memory for it they stay lists of
+    /// the same units.
     pub(crate) fn add(
         &mut self,
         alloc: Global,
@@ -83,7 +81,7 @@ impl UnitLists {
         }
     }
 
-    /// Removes a unit from the lists of its region, faction and structure. It takes no memory.
+    /// Removes a unit from the lists of its keys, `listing`.
     pub(crate) fn remove(&mut self, number: u32, listing: ListKeys)
         ensures { UnlistsUnit number listing self.old self.new }
     {
@@ -93,7 +91,7 @@ impl UnitLists {
     }
 
     /// Moves a unit into the lists of another region and structure; the faction has to stay the
-    /// same. Without memory for it nothing changes.
+    /// same. Without memory for it they stay lists of the same units.
     pub(crate) fn relist(
         &mut self,
         alloc: Global,

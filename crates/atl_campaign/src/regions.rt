@@ -59,7 +59,6 @@ impl Regions {
     ghost use Rattle.std.specs.Borrow.{sem};
     ghost use Rattle.atl_campaign.specs.RegionLending.{LendsRegion};
 
-    /// No regions, and nothing marked. It takes no memory.
     pub(crate) fn new(alloc: Global) -> Regions
         ensures { result ≡ unmarked_regions map.empty }
     {
@@ -72,7 +71,6 @@ impl Regions {
         }
     }
 
-    /// The given regions, with nothing marked. AllocError if there is no memory for their marks.
     pub(crate) fn unmarked_from(
         alloc: Global,
         values: Numbered<Region>,
@@ -129,22 +127,18 @@ impl Regions {
         self.rows.len() + self.markets.len()
     }
 
-    /// The numbers of the regions whose rows are marked, in rising order.
     pub(crate) fn marked_rows(&self) -> MarkedNumbers<'_>
         ensures { IsAscendingListOf self.now.rows result }
     {
         self.rows.iter()
     }
 
-    /// The numbers of the regions all of whose stocks are marked, in rising order.
     pub(crate) fn marked_stocks(&self) -> MarkedNumbers<'_>
         ensures { IsAscendingListOf self.now.stocks result }
     {
         self.stocks.iter()
     }
 
-    /// The stocks that are marked one by one: the items' numbers by the region's number, in rising
-    /// order.
     pub(crate) fn marked_stock_items(&self) -> Entries<'_, Numbered<()>>
         ensures { result ≡ map.entries self.now.items }
     {
@@ -221,8 +215,6 @@ impl Regions {
         }
     }
 
-    /// Sets how many peasants a region has, if it is there, and marks its row if it had others. It
-    /// takes no memory.
     pub(crate) fn set_peasants(&mut self, number: u32, peasants: u32)
         ensures { self.new ≡ with_region_number (λ r. r.peasants)
             (λ r. record r { peasants = peasants }) self.old number peasants }
@@ -234,8 +226,6 @@ impl Regions {
         }
     }
 
-    /// Sets how much money a region has, if it is there, and marks its row if it had more or less.
-    /// It takes no memory.
     pub(crate) fn set_money(&mut self, number: u32, money: u32)
         ensures { self.new ≡ with_region_number (λ r. r.money) (λ r. record r { money = money })
             self.old number money }
@@ -262,7 +252,6 @@ impl Regions {
         put_amount(&mut lent.stocks, item, stock)
     }
 
-    /// Clears all marks, and leaves the regions as they are. It takes no memory.
     pub(crate) fn unmark(&mut self)
         ensures { self.new ≡ unmarked_regions self.old.values }
     {

@@ -17,10 +17,10 @@ use atl_rows::parts::{
 use atl_world::{Entries, Format, Sequence, Text};
 use std::alloc::{AllocError, Global};
 
-/// The `sort` of a row of `has` for an item.
+/// The `sort` of a row of the table `has` for an item.
 pub(crate) const ITEM_SORT: u32 = 0;
 
-/// The `sort` of a row of `has` for a skill.
+/// The `sort` of a row of the table `has` for a skill.
 pub(crate) const SKILL_SORT: u32 = 1;
 
 const CAMPAIGN_ID: i64 = 1;

@@ -9,7 +9,6 @@ use crate::regions::Regions;
 use crate::units::Units;
 use atl_records::{Thing, region_amount, unit_amount};
 
-/// How much of a thing all units hold together. There have to be at most 1,000,000 units.
 pub(crate) fn units_total(units: &Units, thing: Thing) -> u64
     requires { length (map.entries units.now.values) ≤ 1000000 }
     ensures value { result ≡ sum_over (λ u. unit_amount thing u.holding) units.now.values }
@@ -23,8 +22,7 @@ pub(crate) fn units_total(units: &Units, thing: Thing) -> u64
     sum
 }
 
-/// How much of a thing all regions hold together, with their stocks. There have to be at most
-/// 1,000,000 regions.
+/// With the regions' stocks.
 pub(crate) fn regions_total(regions: &Regions, thing: Thing) -> u64
     requires { length (map.entries regions.now.values) ≤ 1000000 }
     ensures value { result ≡ sum_over (λ r. region_amount thing r) regions.now.values }

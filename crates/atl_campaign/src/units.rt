@@ -1,5 +1,6 @@
-//! The units of a campaign by number, with dirty marks on their rows, goods, items and skills. A
-//! call that changes or removes a unit does nothing where no unit has the number given.
+//! The units of a campaign by number, with dirty marks on their rows, all goods (items and days of
+//! study), and single items and skills. A call that changes or removes a unit does nothing where no
+//! unit has the number given.
 ghost use Rattle.std.specs.Prelude.{◌≡◌, ◌≤◌, ◌⊎◌, IfOk, OnOk, OnErr, option_copied, None};
 ghost use Rattle.std.specs.FinMap as map;
 ghost use Rattle.std.specs.FinSet as set;
@@ -64,7 +65,6 @@ impl Units {
     ghost use Rattle.std.specs.Borrow.{sem};
     ghost use Rattle.atl_campaign.specs.UnitMarks.{LendsUnit, LendsRow};
 
-    /// No units, and nothing marked. It takes no memory.
     pub(crate) fn new(alloc: Global) -> Units
         ensures { result ≡ no_units }
     {
@@ -78,7 +78,6 @@ impl Units {
         }
     }
 
-    /// The given units, with nothing marked. AllocError if there is no memory for their marks.
     pub(crate) fn unmarked_from(alloc: Global, values: Arena<Unit>) -> Result<Units, AllocError>
         ensures { IfOk result (λ units. units ≡ unmarked_units values) }
     {
@@ -114,7 +113,7 @@ impl Units {
         self.units.len()
     }
 
-    /// The number of units of which something is marked. Units that are gone count too.
+    /// Units that were removed since the last write count too.
     pub(crate) fn marked_count(&self) -> usize
         ensures value { result ≡ set.len self.now.marks }
         ensures small { result ≤ most_map_entries }
@@ -125,35 +124,30 @@ impl Units {
         self.marks.len()
     }
 
-    /// The numbers of the units of which something is marked, in rising order.
     pub(crate) fn marked_numbers(&self) -> MarkedNumbers<'_>
         ensures { IsAscendingListOf self.now.marks result }
     {
         self.marks.iter()
     }
 
-    /// The numbers of the units whose rows are marked, in rising order.
     pub(crate) fn marked_rows(&self) -> MarkedNumbers<'_>
         ensures { IsAscendingListOf self.now.rows result }
     {
         self.rows.iter()
     }
 
-    /// The numbers of the units all of whose goods are marked, in rising order.
     pub(crate) fn marked_goods(&self) -> MarkedNumbers<'_>
         ensures { IsAscendingListOf self.now.goods result }
     {
         self.goods.iter()
     }
 
-    /// The items that are marked one by one: their numbers by the unit's number, in rising order.
     pub(crate) fn marked_items(&self) -> Entries<'_, Numbered<()>>
         ensures { result ≡ map.entries self.now.items }
     {
         self.items.iter()
     }
 
-    /// The skills that are marked one by one: their numbers by the unit's number, in rising order.
     pub(crate) fn marked_skills(&self) -> Entries<'_, Numbered<()>>
         ensures { result ≡ map.entries self.now.skills }
     {
@@ -195,7 +189,6 @@ impl Units {
         }
     }
 
-    /// Sets a unit's name, and marks its row. It takes no memory.
     pub(crate) fn set_name(&mut self, number: u32, name: Text)
         ensures { self.new ≡ with_unit_row
             (λ u. record u { holding = record u.holding { name = name } }) self.old number }
@@ -205,7 +198,6 @@ impl Units {
         }
     }
 
-    /// Sets how many men a unit has, at most 999,999, and marks its row. It takes no memory.
     pub(crate) fn set_men(&mut self, number: u32, men: u32)
         requires { men ≤ men_limit }
         ensures { self.new ≡ with_unit_row
@@ -216,7 +208,6 @@ impl Units {
         }
     }
 
-    /// Sets a unit's money, at most 999,999,999, and marks its row. It takes no memory.
     pub(crate) fn set_money(&mut self, number: u32, money: u32)
         requires { money ≤ holding_limit }
         ensures { self.new ≡ with_unit_row
@@ -227,7 +218,6 @@ impl Units {
         }
     }
 
-    /// Sets or clears a unit's guard flag, and marks its row. It takes no memory.
     pub(crate) fn set_guard(&mut self, number: u32, guard: bool)
         ensures { self.new ≡ with_unit_row
             (λ u. record u { holding = record u.holding { guard = guard } }) self.old number }
@@ -237,7 +227,7 @@ impl Units {
         }
     }
 
-    /// Sets a unit's region and structure, and marks its row; no owner changes. It takes no memory.
+    /// No owner changes.
     pub(crate) fn set_place(&mut self, number: u32, region: u32, structure: u32)
         ensures { self.new ≡ with_unit_row
             (λ u. record u { region = region; structure = structure }) self.old number }
@@ -305,8 +295,6 @@ impl Units {
         unit.holding.set_days(skill, days)
     }
 
-    /// Puts a unit under a number that has none, and marks the unit, its row and all its goods.
-    /// Without memory for it nothing changes.
     pub(crate) fn insert(&mut self, number: u32, unit: Unit) -> Result<(), AllocError>
         requires { map.get self.old.values number ≡ None }
         ensures ok { OnOk result (self.new ≡ with_unit_at self.old number unit) }
@@ -323,8 +311,6 @@ impl Units {
         Ok(())
     }
 
-    /// Removes a unit, where there is one, and marks it, its row and all its goods. It takes no
-    /// memory.
     pub(crate) fn remove(&mut self, number: u32)
         ensures { self.new ≡ without_unit_at self.old number }
     {
@@ -335,7 +321,6 @@ impl Units {
         }
     }
 
-    /// Clears all marks, and leaves the units as they are. It takes no memory.
     pub(crate) fn unmark(&mut self)
         ensures { self.new ≡ unmarked_units self.old.values }
     {

@@ -84,7 +84,7 @@ module _ {R : Type 0} (none : R → Bool) (row : ℕ → ℕ → R) (m : FinMap 
 -- ---- the amounts of a group
 
 -- `listed` and `rows` are the same rows in another order, and `mine` tests whether a row is of the group whose amounts
--- are in m
+-- are in m; `thing` and `amount` read both from a row
 module _ {R : Type 0} (thing amount : R → ℕ) (mine : R → Bool) (m : FinMap nat_cmp ℕ) (listed rows : List R) (same : IsPermutation listed rows) where
   -- the map has the amount of a row under the row's thing
   abbrev IsIn : FinMap nat_cmp ℕ → R → Type 0

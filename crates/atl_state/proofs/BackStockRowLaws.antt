@@ -1,4 +1,4 @@
--- Laws of reading stocks back: the rows of `market`, in any order, give each region its stocks again.
+-- Laws of reading stocks back: the rows of the table `market`, in any order, give each region its stocks again.
 -- n and r are a region's number and the region, i an item, a its stock, and `rows` the rows of `market`.
 use Rattle.std.proofs.Common.{◌≡◌, ℕ, ◌≤◌, ◌<◌, List, true, false, Some, refl, sym, ap, ◌∙◌, arith}
 use Rattle.std.specs.Prelude.{pos, Bool}

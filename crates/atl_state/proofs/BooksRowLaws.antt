@@ -1,4 +1,4 @@
--- Laws of rows of `books`, each of an account (an entry and a thing): books that are assembled from rows with
+-- Laws of rows of the table `books`, each of an account (an entry and a thing): books that are assembled from rows with
 -- distinct keys have these rows, in some order.
 -- `things` is how many things the books have.
 use Rattle.std.proofs.Common.{◌≡◌, ◌≢◌, ℕ, ◌≤◌, ◌<◌, ◌+◌, ◌-◌, ◌++◌, List, [], ◌∷◌, true, false, cond, map, Some, None, refl, sym, ap, subst, ◌∙◌, arith, inl, inr}
@@ -88,7 +88,7 @@ booked_row things r entry thing least most there some =
 pub account_there : (things : ℕ) (r : StoredBooks) (h : IsBooked things r) → thing_index h.account.1 < things
 account_there things r h = let is = sym (ap thing_index h.numbered) ∙ index_of_thing_at (as_u32 r.thing) in omega (arith, is, h.there)
 
--- a row that is read as an account puts its amount into the books under that account
+-- a row that is read as an account puts its amount into books of `things` things under that account
 pub with_booked_row : (things : ℕ) (books : BooksValue) (r : StoredBooks) → AreBooks things books
     → (h : IsBooked things r) → with_books_row books r ≡ with_amount books h.account.0 h.account.1 r.amount
 with_booked_row things books r are h =

@@ -1,6 +1,7 @@
 -- Laws of checking: rows that keep all rules are those of a good campaign; else one rule is the first that is broken.
 -- f is the format of the tables, w the world, p the rows, and `campaign_of w p` the campaign assembled from them.
--- `KeepsRulesBelow f w p n` says that the rows keep each rule whose number is below n.
+-- `KeepsRulesBelow f w p n` says that the rows keep each rule whose number is below n, and `IsWorld w` that the world
+-- keeps the rules of worlds; laws on all rules suppose it.
 use Rattle.std.proofs.Common.{◌≡◌, ◌==◌, ℕ, ◌≤◌, ◌<◌, ◌+◌, ◌&&◌, List, [], ◌∷◌, length, nat_le, nat_lt, Bool, true, false, cond, refl, sym, ap, subst, ◌∙◌, arith, inl, inr}
 use Rattle.std.specs.Prelude.{pos, unwrap_or, Some, None}
 use Rattle.std.specs.Bool.{Decides}
@@ -184,7 +185,7 @@ module _ (f : Format) (w : WorldValue) (p : Parts) where
   pub one-said : KeepsRulesBelow f w p 4 → length p.campaign ≡ 1
   one-said k = only_one f p.campaign (k OneRow (omega arith)).0
 
-  -- rows that keep rules 1 to 3 have `faction`, `region`, `unit` and `has` in their ranges
+  -- if rows keep rules 1 to 3, those of the tables `faction`, `region`, `unit` and `has` are in their ranges
   pub people-said : KeepsRulesBelow f w p 4 → first_tables_in_range p ≡ true
   people-said k =
       let head = campaign_row_in_range (campaign_row_of p) in

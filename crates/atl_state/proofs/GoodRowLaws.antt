@@ -245,7 +245,7 @@ module _ (w : WorldValue) (world : IsWorld w) (c : CampaignValue) (good : IsGood
       let holding = (good.sound.steady.numbers.units n u is).1 in
       goods_fit w world u placed.items placed.skills holding.items holding.men (good.sound.steady.days n u is)
 
-  -- what units of a good campaign have fits the rows of `has` (AreHad)
+  -- what units of a good campaign have fits the rows of the table `has` (AreHad)
   pub had : AreHad c.units
   had = record { numbers = small_enough c.units last_unit (omega arith) few_units; goods = goods_few }
 
@@ -255,7 +255,7 @@ module _ (w : WorldValue) (world : IsWorld w) (c : CampaignValue) (good : IsGood
       let below = market_known w world n i named in
       omega (arith, few, below)
 
-  -- what regions of a good campaign have in stock fits the rows of `market` (AreStocked)
+  -- what regions of a good campaign have in stock fits the rows of the table `market` (AreStocked)
   pub stocked : AreStocked c.regions
   stocked = record {
     numbers = λ n r is. let most = region_small n (r, is) in omega (arith, most);
@@ -266,7 +266,7 @@ module _ (w : WorldValue) (world : IsWorld w) (c : CampaignValue) (good : IsGood
   }
 
   -- A law named `.._listed` says that the rows of a table are just the campaign's, in some order; one named `.._whole`
-  -- says that the numbers of a map fit 32 bits.
+  -- says that the numbers of a map fit 32 bits, and one named `.._said` that what rows are read as is the campaign's.
   module _ (f : Format) (fits : Fits f c) (p : Parts) (rows : AreRowsOf f c p) where
     head_listed : IsPermutation (campaign_row f c ∷ []) p.campaign
     unfolding rows_of

@@ -95,19 +95,19 @@ pub record RowsKeep (f : Format) (w : WorldValue) (p : Parts) : Type 0 where
   pub world : IsWorld w
   -- rule 1: there is exactly one campaign row, with the id 1 and the number of the format
   pub one : is_one_campaign_row f p.campaign ≡ true
-  -- rule 1: there are only rows of `market` that the format may have: in the first none, in the second any
+  -- rule 1: there are only rows of the table `market` that the format may have: in the first none, in the second any
   pub format : are_of_format f p.markets ≡ true
   -- rule 2: keys differ, numbers are in their ranges, and there are not too many rows
   pub range : AreRowsInRange w p
   -- rule 4: the regions read from the rows are the world's, and all that the campaign read from the rows names exists
   pub known : AreKnown w (campaign_of w p)
-  -- rule 4: each row of `has` is of a unit that exists
+  -- rule 4: each row of the table `has` (items and days of study) is of a unit that exists
   pub held : list_all (is_of_unit (campaign_of w p)) p.has ≡ true
   -- rule 4: each row of `market` is of a market of the world
   pub stocked : list_all (is_of_market w) p.markets ≡ true
   -- rule 6: each skill of a unit has days within their bounds
   pub days : AreDays (campaign_of w p)
-  -- rule 11: each row of `books` is of an entry of the format and a thing of the world
+  -- rule 11: each row of the table `books` is of an entry of the format and a thing of the world
   pub booked : list_all (is_booked f w) p.books ≡ true
 
 -- ---- the campaign's own row

@@ -1,5 +1,5 @@
--- Laws of the rows of `market`: the regions assembled from rows are written as the same rows, in some order.
--- `markets` are the rows of `market`, m is one of them, `regions` are the rows of `region`, and n is a region's number.
+-- Laws of the rows of the table `market`: regions assembled from rows are written as the same rows, in some order.
+-- `markets` are these rows, m is one of them, `regions` are the rows of the table `region`, and n is a region's number.
 use Rattle.std.proofs.Common.{◌≡◌, ◌==◌, ℕ, List, Bool, true, false, not, map, filter, sym, ap, ◌∙◌}
 use Rattle.std.specs.Prelude.{pos}
 use Rattle.std.specs.List.{flat_map, AllByRecursion, IsDistinct}
@@ -76,8 +76,8 @@ stocks_are_written_as_rows n markets all d =
 abbrev region_lines : ℕ × Region → List StoredMarket
 region_lines e = stock_rows e.0 (entries e.1.stocks)
 
--- if rows of `market` are exact (`IsExactMarket`), of listed regions, and differ in keys, the regions read with them
--- are written as these rows, in some order
+-- if regions have different numbers, and rows of `market` are exact (`IsExactMarket`), of these regions, and differ in
+-- keys, the regions read with them are written as these rows, in some order
 pub regions_are_written_as_rows : (markets : List StoredMarket) (regions : List StoredRegion)
     → HaveDistinctNumbers (λ r. as_u32 r.number) regions
     → AllByRecursion (λ m. HasNumber (λ r. as_u32 r.number) regions (as_u32 m.region)) markets

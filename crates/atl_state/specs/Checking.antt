@@ -1,5 +1,5 @@
 -- The twelve rules of the tables, and what `check` may answer. See docs/FORMATS.md, "Rules of the tables". f is the
--- format of the tables, and p are their rows.
+-- format of the tables, w the world, and p are the rows.
 use Rattle.std.specs.Prelude.{◌≡◌, ◌≤◌, ℕ, ◌<◌, pos, IsTrue, Result, Ok, Err, ⊤}
 use Rattle.std.specs.List.{list_all}
 use Rattle.atl_world.specs.Worlds.{WorldValue}
@@ -82,7 +82,8 @@ pub record IsChecked (f : Format) (w : WorldValue) (p : Parts) (c : MarkedCampai
   pub good : IsGood w c.value
   pub marks : c.marks ≡ no_marks
 
--- what `check_as` may answer: a good campaign with just these rows, the first rule that they break, or Memory
+-- what `check_as` may answer: a good campaign with just these rows (`IsChecked`), the first rule that they break, or
+-- Memory
 abbrev pub Checks : Format → WorldValue → Parts → Result MarkedCampaign CheckFault → Type 0
 Checks f w p (Ok c) = IsChecked f w p c
 Checks f w p (Err (Damaged r)) = IsFirstBroken f w p r

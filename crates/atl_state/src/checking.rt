@@ -33,15 +33,17 @@ use std::fmt;
 #[derive(Drop, Clone, Copy, Debug, PartialEq, Eq)]
 pub enum Rule {
     /// There is one campaign row, with the id 1 and the format that is asked for. In the first
-    /// format there are no rows of `market`.
+    /// format there are no rows of the table `market`. `check` doesn't judge the world text.
     OneRow = 1,
     /// Keys differ, each number is in its range, and there are not too many rows.
     Ranges = 2,
     /// Names and pass texts keep their rules, and no two factions joined under the same name.
     Names = 3,
     /// The regions are the world's, and all that a row names by its number exists, markets too.
+    /// What rows of `books` name is of rule 11. A unit's structure is in the unit's region.
     Known = 4,
-    /// Factions and structures are numbered from 1 without a gap, and all next numbers are free.
+    /// Factions and structures are numbered from 1 to one below their next number, without a gap.
+    /// No unit has the next unit number or a greater one.
     Next = 5,
     /// A unit has at least 1 day in each skill that it studied, and at most MOST_DAYS for each man.
     Days = 6,
@@ -118,7 +120,6 @@ fn check_rows(alloc: Global, world: &World, parts: &Parts, format: Format) -> Re
     }
 }
 
-/// Whether each row of `has` is of a unit that is there.
 fn are_of_units(parts: &Parts, campaign: &Campaign) -> bool
     ensures { result ≡ list_all (is_of_unit campaign.now.value) parts.now.has }
 {
@@ -272,8 +273,9 @@ fn check_parts(
 
 /// Checks the rows of a format by the twelve rules. Ok has the good campaign whose rows are just
 /// these, in any order, with nothing marked; Err has the first rule that they break, or Memory. The
-/// rows of a good campaign break no rule; in the first format this needs a campaign without stocks,
-/// and without amounts under the entries of markets. See docs/FORMATS.md, "Rules of the tables".
+/// rows of a good campaign, in any order, give that campaign or Memory; in the first format this
+/// needs a campaign without stocks, and without amounts under the entries of markets. See
+/// docs/FORMATS.md, "Rules of the tables".
 pub fn check_as(
     alloc: Global,
     world: &World,
@@ -289,7 +291,7 @@ pub fn check_as(
 
 /// Checks the rows of the second format by the twelve rules. Ok has the good campaign whose rows
 /// are just these, in any order, with nothing marked; Err has the first rule that they break, or
-/// Memory.
+/// Memory. The rows of a good campaign, in any order, give that campaign or Memory.
 pub fn check(alloc: Global, world: &World, parts: Parts) -> Result<Campaign, CheckFault>
     ensures rules { Checks Second world.now parts result }
     ensures whole { IsWorld world.now → GivesBack Second world.now parts result }

@@ -1,5 +1,5 @@
-//! The rules that are checked on rows, before a campaign is made of them: 1 to 3, and part of 4.
-//! See docs/FORMATS.md, "Rules of the tables".
+//! The rules that are checked on rows: 1 to 3, before a campaign is made of them, and after it the
+//! part of 4 on rows of the table `market`. See docs/FORMATS.md, "Rules of the tables".
 mod head;
 mod keys;
 mod markets;

@@ -22,8 +22,8 @@ fn put_row(books: &mut Books, row: &StoredBooks)
     }
 }
 
-/// The books of this many things, at most 65,538, that are read from rows; a row whose entry or
-/// thing these books don't have is left out. AllocError without memory.
+/// The books of this many things, at most 65,538, that are read from rows. A row whose entry or
+/// thing these books don't have is left out, and of rows for one amount the last counts.
 pub(crate) fn books_of(
     alloc: Global,
     things: usize,

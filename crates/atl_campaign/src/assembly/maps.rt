@@ -1,5 +1,7 @@
-//! Builds the maps of factions, regions, structures, mail and reports from their rows. The texts of
-//! mail and reports are moved, not copied. Where memory runs out, the answer is AllocError.
+//! Builds the maps of factions, regions, structures, mail and reports from their rows. A number
+//! that doesn't fit 32 bits (of a kind 16) is read as the largest, and of rows with one number the
+//! last counts. The texts of mail and reports are moved, not copied. Where memory runs out, the
+//! answer is AllocError.
 ghost use Rattle.std.specs.Prelude.{◌≡◌, IfOk, OnOk, true};
 ghost use Rattle.std.specs.List.{list_all};
 ghost use Rattle.atl_world.specs.Names.{name_ok};
@@ -21,8 +23,6 @@ use atl_world::{MarkedMap, Numbered, Sequence, Text};
 use std::alloc::{AllocError, Global};
 use std::mem;
 
-/// The factions that rows of `faction` say, by number. Their names and pass texts have to keep
-/// their rules.
 pub(crate) fn factions_of(
     alloc: Global,
     rows: &[StoredFaction],
@@ -63,7 +63,6 @@ pub(crate) fn regions_of(
     Ok(regions)
 }
 
-/// The structures that rows of `structure` say, by number. Their names have to keep the name rule.
 pub(crate) fn structures_of(
     alloc: Global,
     rows: &[StoredStructure],

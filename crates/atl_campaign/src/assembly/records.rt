@@ -1,5 +1,6 @@
-//! Builds one faction, region or structure, and one name or pass text, from a row. Where memory
-//! runs out, the answer is AllocError. `take_rows` takes all rows out of a list.
+//! Builds one faction, region or structure, and one name or pass text, from a row. A number that
+//! doesn't fit 32 bits (of a kind 16) is read as the largest. Where memory runs out, the answer is
+//! AllocError. `take_rows` takes all rows out of a list.
 ghost use Rattle.std.specs.Prelude.{◌≡◌, IfOk, [], true};
 ghost use Rattle.atl_world.specs.Names.{name_ok, pass_ok};
 ghost use Rattle.atl_campaign.specs.Assembling.{bare_region};
@@ -13,7 +14,6 @@ use atl_world::{Numbered, Sequence, Text};
 use std::alloc::{AllocError, Global};
 use std::mem;
 
-/// The name that the bytes of a row are. They have to keep the name rule.
 pub(super) fn name_of(alloc: Global, bytes: &Sequence<u8>) -> Result<Text, AllocError>
     requires { name_ok bytes.now ≡ true }
     ensures { IfOk result (λ name. name ≡ bytes.now) }
@@ -21,7 +21,7 @@ pub(super) fn name_of(alloc: Global, bytes: &Sequence<u8>) -> Result<Text, Alloc
     Text::from_utf8(alloc, bytes.as_slice())
 }
 
-/// The name that bytes are, without a copy. They have to keep the name rule.
+/// Without a copy of the bytes.
 pub(super) fn moved_name(bytes: Sequence<u8>) -> Text
     requires { name_ok bytes ≡ true }
     ensures { result ≡ bytes }
@@ -30,7 +30,6 @@ pub(super) fn moved_name(bytes: Sequence<u8>) -> Text
     Text::from_string(letters)
 }
 
-/// The pass text that the bytes of a row are. They have to keep the rule of pass texts.
 pub(crate) fn pass_of(alloc: Global, bytes: &Sequence<u8>) -> Result<Text, AllocError>
     requires { pass_ok bytes.now ≡ true }
     ensures { IfOk result (λ pass. pass ≡ bytes.now) }
@@ -38,7 +37,6 @@ pub(crate) fn pass_of(alloc: Global, bytes: &Sequence<u8>) -> Result<Text, Alloc
     Text::from_utf8(alloc, bytes.as_slice())
 }
 
-/// Takes all rows of a list, and leaves it empty.
 pub(crate) fn take_rows<T: Drop>(alloc: Global, rows: &mut Sequence<T>) -> Sequence<T>
     ensures taken { result ≡ rows.old }
     ensures left { rows.new ≡ [] }
@@ -46,7 +44,8 @@ pub(crate) fn take_rows<T: Drop>(alloc: Global, rows: &mut Sequence<T>) -> Seque
     mem::replace(rows, Sequence::new(alloc))
 }
 
-/// The faction that a row of `faction` says. Its names and pass text have to keep their rules.
+/// The faction that a row of the table `faction` says. Its names and pass text have to keep their
+/// rules. It is gone if the flag of the row is any number but 0.
 pub(super) fn faction_of(alloc: Global, row: &StoredFaction) -> Result<Faction, AllocError>
     requires { faction_named row.now ≡ true }
     ensures { IfOk result (λ faction. faction ≡ faction_of row.now) }
@@ -73,7 +72,7 @@ pub(super) fn bare_region(alloc: Global, row: &StoredRegion) -> Region
     }
 }
 
-/// The structure that a row of `structure` says. Its name has to keep the name rule.
+/// The structure that a row of the table `structure` says. Its name has to keep the name rule.
 pub(super) fn structure_of(alloc: Global, row: &StoredStructure) -> Result<Structure, AllocError>
     requires { name_ok row.now.name ≡ true }
     ensures { IfOk result (λ structure. structure ≡ structure_of row.now) }

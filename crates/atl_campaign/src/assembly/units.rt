@@ -1,5 +1,6 @@
-//! Builds the units from their rows, and the lists of units. Names are moved, not copied. Where
-//! memory runs out, the answer is AllocError.
+//! Builds the units from their rows, and the lists of units. A number that doesn't fit 32 bits is
+//! read as the largest, and of rows with one number the last counts. Names are moved, not copied.
+//! Where memory runs out, the answer is AllocError.
 ghost use Rattle.std.specs.Prelude.{◌≡◌, IfOk, true};
 ghost use Rattle.std.specs.List.{list_all};
 ghost use Rattle.atl_world.specs.Names.{name_ok};
@@ -52,8 +53,7 @@ fn bare_units(alloc: Global, rows: Sequence<StoredUnit>) -> Result<Arena<Unit>, 
     Ok(units)
 }
 
-/// The units that rows of `unit` say, by number, with the items and days of study that rows of
-/// `has` say. Names have to keep the name rule, and numbers have to be in their ranges.
+/// `has` are rows of the table `has`: items and days of study.
 pub(crate) fn units_of(
     alloc: Global,
     rows: Sequence<StoredUnit>,
@@ -70,7 +70,6 @@ pub(crate) fn units_of(
     Ok(units)
 }
 
-/// The units that rows say, as `units_of` gives them, with nothing marked.
 pub(crate) fn roster_of(
     alloc: Global,
     rows: Sequence<StoredUnit>,

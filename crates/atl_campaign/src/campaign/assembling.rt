@@ -16,10 +16,11 @@ use atl_rows::parts::Parts;
 use atl_world::{Marks, World};
 use std::alloc::{AllocError, Global};
 
-/// The campaign that is read from rows, with nothing marked. There has to be one campaign row.
-/// Names and pass texts have to keep their rules, and rows of `faction`, `region`, `unit` and `has`
-/// have to be in their ranges. The rows of units, mail and reports are taken, since names and texts
-/// are moved; all other rows stay. AllocError without memory: nothing is said of the rows then.
+/// The campaign of the world that is read from rows, with nothing marked. There has to be one
+/// campaign row. Names and pass texts have to keep their rules, and rows of the tables `faction`,
+/// `region`, `unit` and `has` have to be in their ranges. The rows of units, mail and reports are
+/// taken, since names and texts are moved; all other rows stay. AllocError without memory: nothing
+/// is said of the rows then.
 #[tactic(auto, unfolding(crate::specs::FromRows::campaign_of))]
 pub fn assemble(alloc: Global, world: &World, parts: &mut Parts) -> Result<Campaign, AllocError>
     requires one { length parts.old.campaign ≡ 1 }

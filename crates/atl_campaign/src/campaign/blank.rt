@@ -1,4 +1,4 @@
-//! The blank campaign, which founding fills. It has no factions, regions or units.
+//! The blank campaign, which founding fills.
 ghost use Rattle.std.specs.Prelude.{◌≡◌};
 ghost use Rattle.atl_campaign.specs.Campaign.{blank};
 
@@ -11,9 +11,10 @@ use atl_world::{MarkedMap, Marks, Text};
 use std::alloc::Global;
 
 impl Campaign {
-    /// A campaign without regions, factions, units or pass text, in month 0, with books of no
-    /// things and nothing marked. `founded` starts from it and fills it. Closing a month leaves it
-    /// in place of the campaign that moves through the phases. It takes no memory.
+    /// A campaign without factions, regions, units, structures, mail, reports or pass text. It is
+    /// in month 0, with next numbers 1, books of no things and nothing marked. `founded` starts
+    /// from it and fills it. Closing a month leaves it in place of the campaign that moves through
+    /// the phases. It takes no memory.
     pub fn blank(alloc: Global) -> Campaign
         ensures { result ≡ blank }
     {

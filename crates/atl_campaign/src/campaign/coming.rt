@@ -1,4 +1,5 @@
-//! Adds units and structures to a campaign under new numbers.
+//! Adds units and structures to a campaign under new numbers. A unit's goods are its items and days
+//! of study.
 ghost use Rattle.std.specs.Prelude.{◌≡◌, ◌≤◌, IfOk, OnOk, OnErr, None};
 ghost use Rattle.std.specs.FinMap as map;
 ghost use Rattle.atl_records.specs.Limits.{last_unit, most_structures};

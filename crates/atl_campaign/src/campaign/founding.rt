@@ -60,8 +60,9 @@ fn founding_books(alloc: Global, things: usize, regions: &Regions) -> Result<Boo
 }
 
 /// The campaign right after founding: month 0 is closed, and there are no factions. The regions are
-/// the world's, and the books say what they hold. Nothing is marked. The pass text has to keep its
-/// rule. AllocError without memory. See docs/RULES.md, "Founding".
+/// the world's, and the books, of at most 202 things, say what they hold. The campaign is good, and
+/// nothing is marked. The pass text has to keep its rule. AllocError without memory. See
+/// docs/RULES.md, "Founding".
 pub fn founded(alloc: Global, world: &World, pass: &[u8]) -> Result<Campaign, AllocError>
     requires pass { IsTrue (pass_ok pass.now) }
     ensures definition { IfOk result (λ c. c.value ≡ founded_of world.now pass.now) }

@@ -37,7 +37,6 @@ fn is_taken(factions: &MarkedMap<Faction>, name: &[u8]) -> bool
     false
 }
 
-/// The land region at the index `word` modulo the number of land regions.
 fn home(world: &World, word: u32) -> u32
     ensures { result ≡ home_of world.now word }
 {
@@ -120,9 +119,11 @@ impl Campaign {
 
     /// Adds a faction with one unit, and returns the numbers of both. The campaign has to be good,
     /// and the name and the pass text have to keep their rules. The unit is one man with the start
-    /// money, in the land region that the word of the dice picks. What the unit brings is booked.
-    /// NameTaken if a faction joined under this name, Full if no faction can join, or Memory; after
-    /// a fault the campaign and its marks stay as they are. See docs/RULES.md, "Joining".
+    /// money, in the land region that the word of the dice picks. What the unit brings is booked,
+    /// and what changed is marked. The campaign is sound then: good, but that the new faction lacks
+    /// its report. NameTaken if a faction joined under this name, Full if no faction can join, or
+    /// Memory; after a fault the campaign and its marks stay as they are. See docs/RULES.md,
+    /// "Joining".
     #[tactic(auto, unfolding(crate::specs::Joining::join_of))]
     pub fn join(
         &mut self,

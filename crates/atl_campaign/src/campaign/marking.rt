@@ -1,4 +1,5 @@
-//! Reads and clears the marks of a campaign: what is to be written.
+//! Reads and clears the marks of a campaign: what is to be written. A unit's goods are its items
+//! and days of study.
 ghost use Rattle.std.specs.Prelude.{◌≡◌, ◌<◌};
 ghost use Rattle.std.specs.FinMap as map;
 ghost use Rattle.std.specs.FinSet as set;
@@ -62,24 +63,24 @@ impl Campaign {
         self.regions.marked_stock_items()
     }
 
-    /// The numbers of the units of which something is marked, in rising order. Units that are gone
-    /// are among them. It takes no memory.
+    /// The numbers of the units of which something is marked, in rising order. Units that were
+    /// removed since the last write are among them. It takes no memory.
     pub fn marked_units(&self) -> MarkedNumbers<'_>
         ensures { IsAscendingListOf self.now.marks.units result }
     {
         self.units.marked_numbers()
     }
 
-    /// The numbers of the units whose rows are marked, in rising order. Units that are gone are
-    /// among them. It takes no memory.
+    /// The numbers of the units whose rows are marked, in rising order. Units that were removed
+    /// since the last write are among them. It takes no memory.
     pub fn marked_rows(&self) -> MarkedNumbers<'_>
         ensures { IsAscendingListOf self.now.marks.rows result }
     {
         self.units.marked_rows()
     }
 
-    /// The numbers of the units all of whose goods are marked, in rising order. Units that are gone
-    /// are among them. It takes no memory.
+    /// The numbers of the units all of whose goods are marked, in rising order. Units that were
+    /// removed since the last write are among them. It takes no memory.
     pub fn marked_goods(&self) -> MarkedNumbers<'_>
         ensures { IsAscendingListOf self.now.marks.goods result }
     {
@@ -87,7 +88,7 @@ impl Campaign {
     }
 
     /// The items that are marked one by one: their numbers by the unit's number, in rising order.
-    /// Items of units that are gone are among them. It takes no memory.
+    /// Those of a unit stay among them when it is removed. It takes no memory.
     pub fn marked_items(&self) -> Entries<'_, Numbered<()>>
         ensures { result ≡ map.entries self.now.marks.items }
     {
@@ -95,7 +96,7 @@ impl Campaign {
     }
 
     /// The skills that are marked one by one: their numbers by the unit's number, in rising order.
-    /// Skills of units that are gone are among them. It takes no memory.
+    /// Those of a unit stay among them when it is removed. It takes no memory.
     pub fn marked_skills(&self) -> Entries<'_, Numbered<()>>
         ensures { result ≡ map.entries self.now.marks.skills }
     {
@@ -110,7 +111,7 @@ impl Campaign {
     }
 
     /// The numbers of the factions whose mail is marked, in rising order. Factions whose mail was
-    /// removed are among them. It takes no memory.
+    /// removed since the last write are among them. It takes no memory.
     pub fn marked_mail(&self) -> MarkedNumbers<'_>
         ensures { IsAscendingListOf self.now.marks.mail result }
     {
@@ -133,7 +134,7 @@ impl Campaign {
         self.amounts_marked.contains(amount_number(entry, thing))
     }
 
-    /// Whether the campaign row is marked: the month or a next number changed.
+    /// Whether the campaign row is marked: the month or a next number was set since the last write.
     pub fn is_row_marked(&self) -> bool
         ensures { result ≡ self.now.marks.row }
     {

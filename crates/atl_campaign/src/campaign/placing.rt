@@ -1,5 +1,5 @@
 //! Moves and removes units, and finds the next owners of the structures that they leave and enter.
-//! See docs/RULES.md, "Owners".
+//! See docs/RULES.md, "Owners". A unit's goods are its items and days of study.
 ghost use Rattle.std.specs.Prelude.{◌≡◌, OnOk, OnErr};
 ghost use Rattle.std.specs.FinMap as map;
 ghost use Rattle.atl_campaign.specs.Marking.{handed_marked, put_marked, place_marked, taken_marked, gone_marked};
@@ -80,10 +80,11 @@ impl Campaign {
         Ok(())
     }
 
-    /// Puts a unit in a region, and inside a structure there, or inside none for 0. A structure
-    /// that it owned and leaves gets its next owner; where it enters one without an owner, the unit
-    /// owns it. The unit's row is marked, and each structure that got another owner. Where there is
-    /// no such unit, or no memory, nothing changes. See docs/RULES.md, "Owners".
+    /// Puts a unit in a region, and inside a structure, or inside none for 0. A structure that it
+    /// owned and leaves gets its next owner; one without an owner that it enters becomes the
+    /// unit's. The unit and its row are marked, and each structure that got another owner. Where
+    /// there is no such unit nothing changes. AllocError without memory, and then nothing changes
+    /// either. See docs/RULES.md, "Owners".
     pub fn place(&mut self, number: u32, region: u32, structure: u32) -> Result<(), AllocError>
         ensures ok { OnOk result
             (self.new.value ≡ with_place self.old.value number region structure) }

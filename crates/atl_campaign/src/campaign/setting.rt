@@ -1,5 +1,6 @@
 //! Calls that set one value of a campaign. Where no faction, region, unit or structure has the
-//! number given, nothing changes. Only `set_stock`, `set_item` and `set_days` take memory.
+//! number given, nothing changes. Only `set_stock`, `set_item` and `set_days` take memory. A unit's
+//! goods are its items and days of study.
 ghost use Rattle.std.specs.Prelude.{◌≡◌, ◌≤◌, ◌<◌, ◌⊎◌, ◌+ℤ◌, IsOk, OnErr, OnOk};
 ghost use Rattle.std.specs.Int.{w64};
 ghost use Rattle.std.specs.Int.RustNames.{FitsSigned};
@@ -14,7 +15,7 @@ use atl_world::Text;
 use std::alloc::AllocError;
 
 impl Campaign {
-    /// Sets the month last closed, from 0 to LAST_MONTH, and marks the campaign row.
+    /// Sets the month last closed, in a good campaign 0 to LAST_MONTH, and marks the campaign row.
     pub fn set_month(&mut self, month: u32)
         ensures what { self.new.value ≡ with_month self.old.value month }
         ensures marks { self.new.marks ≡ mark_campaign_row self.old }

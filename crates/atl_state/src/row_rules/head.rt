@@ -6,7 +6,6 @@ use super::numbers::is_from;
 use atl_campaign::parts::{Parts, StoredCampaignRow, StoredMarket};
 use atl_world::Format;
 
-/// Whether there is exactly one campaign row, with the id 1 and the number of the format.
 pub(crate) fn is_one_campaign_row(format: Format, rows: &[StoredCampaignRow]) -> bool
     ensures { result ≡ is_one_campaign_row format rows.now }
 {
@@ -18,7 +17,6 @@ pub(crate) fn is_one_campaign_row(format: Format, rows: &[StoredCampaignRow]) ->
     is_from(1, 1, head.id) && is_from(number, number, head.format)
 }
 
-/// Whether a format may have the given rows of `market`: the first none, the second any.
 pub(crate) fn are_of_format(format: Format, rows: &[StoredMarket]) -> bool
     ensures { result ≡ are_of_format format rows.now }
 {

@@ -128,8 +128,8 @@ fn sorted<K: Ord + Copy + Drop>(alloc: Global, keys: &[K]) -> Result<Vec<K>, All
     Ok(sorted)
 }
 
-/// Whether no two of the values are equal. Where the values don't rise, the test takes memory for
-/// each of them, and n log n steps.
+/// Whether no two of the values are equal by their order. Where the values don't rise, the test
+/// takes n log n steps, and memory for each of them; AllocError without it.
 pub fn are_distinct<K: Ord + Copy + Drop>(alloc: Global, keys: &[K]) -> Result<bool, AllocError>
     ensures { IfOk result (λ yes. IsTrue yes ↔ (IsDistinct (eq_by_cmp K.cmp) keys.now)) }
 {
@@ -147,7 +147,6 @@ fn have_distinct_keys<R: Keyed>(alloc: Global, rows: &[R]) -> Result<bool, Alloc
     are_distinct(alloc, &keys)
 }
 
-/// Whether in each table but `campaign` no two rows have the same key.
 pub(super) fn tables_have_distinct_keys(alloc: Global, parts: &Parts) -> Result<bool, AllocError>
     ensures { IfOk result (λ yes. IsTrue yes ↔ (HaveDistinctKeysByTable parts.now)) }
 {

@@ -1,4 +1,4 @@
-//! The part of rule 4 that each row of `market` is of a market of the world.
+//! The part of rule 4 that each row of the table `market` is of a market of the world.
 ghost use Rattle.std.specs.Prelude.{◌≡◌};
 ghost use Rattle.std.specs.List.{list_all};
 ghost use Rattle.std.specs.Option.{option_copied};
@@ -10,7 +10,6 @@ use atl_campaign::as_u32;
 use atl_campaign::parts::StoredMarket;
 use atl_world::{Market, World};
 
-/// The market of the world for the region and item of a row of `market`; None if there is none.
 pub(super) fn market_of<'w>(world: &'w World, row: &StoredMarket) -> Option<&'w Market>
     ensures { option_copied result
         ≡ market_of world.now (as_u32 row.now.region) (as_u32 row.now.item) }
@@ -25,7 +24,6 @@ fn is_of_market(world: &World, row: &StoredMarket) -> bool
     market_of(world, row).is_some()
 }
 
-/// Whether each row of `market` is of a market of the world.
 pub(crate) fn are_of_markets(world: &World, rows: &[StoredMarket]) -> bool
     ensures { result ≡ list_all (is_of_market world.now) rows.now }
 {

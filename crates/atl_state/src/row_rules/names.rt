@@ -64,8 +64,6 @@ fn joined_names_differ(alloc: Global, rows: &[StoredFaction]) -> Result<bool, Al
     are_distinct(alloc, &names)
 }
 
-/// Whether rows keep rule 3: names and pass texts keep their rules, and no two factions joined
-/// under the same name.
 pub(crate) fn rows_named(alloc: Global, parts: &Parts) -> Result<bool, AllocError>
     requires { length parts.now.campaign ≡ 1 }
     ensures { IfOk result (λ yes. IsTrue yes ↔ (AreRowsNamed parts.now)) }

@@ -2,14 +2,12 @@
 ghost use Rattle.std.specs.Prelude.{◌≡◌};
 ghost use Rattle.atl_campaign.specs.RowRules.{is_from, is_within};
 
-/// Whether a row's number is from `low` to `high`.
 pub(super) fn is_from(low: u32, high: u32, number: i64) -> bool
     ensures { result ≡ is_from low high number }
 {
     i64::from(low) <= number && number <= i64::from(high)
 }
 
-/// Whether a row's number, without its sign, is at most `bound`.
 pub(super) fn is_within(bound: u128, number: i64) -> bool
     ensures { result ≡ is_within bound number }
 {

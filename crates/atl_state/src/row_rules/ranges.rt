@@ -142,7 +142,6 @@ fn first_tables_in_range(parts: &Parts) -> bool
         && all_has_in_range(parts.has.as_slice())
 }
 
-/// How large an amount of the books may be, without its sign.
 fn books_bound(parts: &Parts) -> u128
     requires { length parts.now.campaign ≡ 1 }
     ensures { result ≡ books_bound parts.now }
@@ -162,8 +161,6 @@ fn numbers_in_range(world: &World, parts: &Parts) -> bool
         && markets_in_range(world, parts.markets.as_slice())
 }
 
-/// Whether rows keep rule 2: keys differ, each number is in its range, and there are not too many
-/// rows.
 pub(crate) fn rows_in_range(alloc: Global, world: &World, parts: &Parts) -> Result<bool, AllocError>
     requires { length parts.now.campaign ≡ 1 }
     ensures { IfOk result (λ yes. IsTrue yes ↔ (AreRowsInRange world.now parts.now)) }

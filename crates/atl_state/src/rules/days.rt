@@ -15,8 +15,6 @@ fn has_days(holding: &Holding) -> bool
     holding.days().all(|(_, days)| 1 <= *days && *days <= most)
 }
 
-/// Whether each skill listed of each unit has at least 1 day, and at most MOST_DAYS for each man.
-/// Takes no memory.
 pub(crate) fn are_days(campaign: &Campaign) -> bool
     ensures { IsTrue result ↔ (AreDays campaign.now.value) }
 {

@@ -14,7 +14,6 @@ fn is_gone_iff_unitless(campaign: &Campaign, number: u32, faction: &Faction) -> 
     faction.gone == campaign.of_faction(number).is_empty()
 }
 
-/// Whether the factions that are gone are exactly those without units. Takes no memory.
 pub(crate) fn are_gone_iff_unitless(campaign: &Campaign) -> bool
     ensures { IsTrue result ↔ (GoneHaveNone campaign.now.value × UnitlessAreGone
         campaign.now.value) }

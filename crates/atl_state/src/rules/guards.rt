@@ -41,8 +41,6 @@ fn has_one_holder(campaign: &Campaign, region: u32) -> bool
     true
 }
 
-/// Whether in each region all units that guard are of one faction. The region of each unit has to
-/// exist. Takes no memory.
 pub(crate) fn are_guarded(campaign: &Campaign) -> bool
     requires { Every (λ n u. HasValue campaign.now.value.regions u.region)
         campaign.now.value.units }

@@ -1,4 +1,4 @@
-//! Rule 4 on a campaign: everything that it names by number exists.
+//! Rule 4 on a campaign: its regions are the world's, and all that it names by number exists.
 ghost use Rattle.std.specs.Prelude.{◌≡◌, ◌≢◌, ◌<◌, ◌↔◌, ℕ, IsSome, Some, length, IsTrue};
 ghost use Rattle.std.specs.FinMap as map;
 ghost use Rattle.atl_world.specs.ByNumber.{market_of};
@@ -232,9 +232,6 @@ fn are_mail_and_reports_known(campaign: &Campaign) -> bool
     are_mail_known(campaign) && are_reports_known(campaign)
 }
 
-/// Whether all that the campaign names by number exists, and its regions are exactly the world's.
-/// Each item in stock must have a market in its region, and each unit's structure, unless 0 (none),
-/// be in the unit's region. Takes no memory.
 pub(crate) fn are_known(world: &World, campaign: &Campaign) -> bool
     ensures { IsTrue result ↔ (AreKnown world.now campaign.now.value) }
 {

@@ -23,8 +23,6 @@ fn is_mailing_of_active(campaign: &Campaign, number: u32, text: &Sequence<u8>) -
     is_mailing_of(number, text.as_slice()) && is_active(campaign, number)
 }
 
-/// Whether each mail is of a faction that is not gone, is not too long and has a header that names
-/// the faction. Takes no memory.
 pub(crate) fn are_mailings(campaign: &Campaign) -> bool
     ensures { IsTrue result ↔ (HasValidMail campaign.now.value) }
 {

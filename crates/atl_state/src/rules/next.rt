@@ -45,8 +45,6 @@ fn are_units_before(campaign: &Campaign) -> bool
     campaign.units().all(|(number, _)| number < next)
 }
 
-/// Whether factions and structures are numbered from 1 to one below their next number, without a
-/// gap, and units below the next unit number. Takes no memory.
 pub(crate) fn are_numbered(campaign: &Campaign) -> bool
     ensures { IsTrue result ↔ (AreNumbered campaign.now.value) }
 {

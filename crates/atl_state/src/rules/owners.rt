@@ -52,8 +52,6 @@ fn are_with_owners(campaign: &Campaign) -> bool
         .all(|(_, unit)| is_with_owner(campaign, unit))
 }
 
-/// Whether each structure is owned by a unit inside it, or by nobody where none is inside. Takes no
-/// memory.
 pub(crate) fn are_owned(campaign: &Campaign) -> bool
     ensures { IsTrue result ↔ (AreOwned campaign.now.value) }
 {

@@ -11,7 +11,6 @@ fn has_report(campaign: &Campaign, number: u32) -> bool
     campaign.report(number).is_some()
 }
 
-/// Whether each faction has a report. Takes no memory.
 pub(crate) fn are_reported(campaign: &Campaign) -> bool
     ensures { IsTrue result ↔ (AreReported campaign.now.value) }
 {

@@ -44,8 +44,6 @@ fn are_ships_afloat(world: &World, campaign: &Campaign) -> bool
         || is_complete_ship(world, structure))
 }
 
-/// Whether each unit on water is inside a ship, and each structure on water is a complete ship.
-/// Takes no memory.
 pub(crate) fn are_afloat(world: &World, campaign: &Campaign) -> bool
     ensures { IsTrue result ↔ (AreAfloat world.now campaign.now.value) }
 {
