@@ -35,7 +35,6 @@ fn skill_of(order: PhaseOrder<'_>) -> u16
     }
 }
 
-/// The fee of a skill, in money, for this number of men.
 pub(crate) fn cost_of(world: &World, skill: u16, men: u32) -> u64
     ensures { result ≡ fee_of world.now skill * men }
 {

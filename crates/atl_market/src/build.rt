@@ -111,8 +111,6 @@ fn name_of(alloc: Global, kind: &Kind, number: u32) -> Result<Text, AllocError>
     Ok(Text::from_string(letters))
 }
 
-/// Unit `unit`, in `region`, uses `size` of the material, begins a structure of the kind with the
-/// number `number`, and enters it.
 fn start_structure(
     alloc: Global,
     world: &World,

@@ -12,7 +12,6 @@ use atl_campaign::{Campaign, EventFault, HOLDING_LIMIT, Holding, level_in_any};
 use atl_world::{Item, World};
 use std::alloc::AllocError;
 
-/// The world's item under the number that an order names (`asked`), if there is one.
 pub(crate) fn item_of(world: &World, asked: Option<u16>) -> Option<&Item>
     ensures value { option_copied result ≡ item_of world.now asked }
     ensures bounds { IfSome result (λ item. 1 ≤ item.now.raw_count) }
@@ -78,7 +77,6 @@ fn most_makeable_of(holding: &Holding, number: u16, item: &Item) -> u32
     up_to_raw(holding, item.raw_count, item.raw, skilled.min(room))
 }
 
-/// The most that a unit can make of the item of the world that its order names (`asked`).
 pub(crate) fn most_makeable(world: &World, holding: &Holding, asked: Option<u16>) -> u32
     requires { is_some (item_of world.now asked) ≡ true }
     ensures value { result ≡ most_makeable world.now holding.now asked }

@@ -44,7 +44,6 @@ fn add_writer(campaign: &Campaign, unit: u32, faction: u32, writers: &mut Marks)
     }
 }
 
-/// The units for which their own faction wrote one of the orders.
 fn own_writers(
     alloc: Global,
     campaign: &Campaign,
