@@ -24,7 +24,7 @@ mod unit;
 
 use atl_campaign::{Campaign, SlotEntries, Unit};
 use atl_world::{Entries, MarkedNumbers};
-pub use mail::put_mail;
+pub(crate) use mail::put_mail;
 use sqlite::{Alter, Error, Transaction};
 
 /// A type, such as `Faction`, each of whose values has a number and one row in a table, with the
