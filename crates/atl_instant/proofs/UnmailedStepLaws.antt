@@ -1,5 +1,5 @@
--- Laws of the phases from FORM to QUIT: in each, units of a faction that sent no mailing keep their men and items.
--- `LeavesUnmailed` says this of a phase's effect, and `PhaseLeavesUnmailed` of its specification. Both count as starved
+-- Laws of the phases from FORM to QUIT: in each, units of a faction that sent no mailing keep their men and no
+-- less of any item. `LeavesUnmailed` says this of a phase's effect, if the phase keeps what its specification says, and `PhaseLeavesUnmailed` of its specification. Both count as starved
 -- the men whom the phase's Starved events report; these phases report none.
 use Rattle.std.proofs.Common.{◌≡◌, ℕ, List, [], ◌∷◌, refl, sym, ◌∙◌, arith}
 use Rattle.std.specs.Prelude.{IfSome, fold}

@@ -32,7 +32,8 @@ item_at = do
   making ← as_one_condition making_at
   value_only (record { name = name; weight = weight; carry = carry; making = making })
 
--- the conditions on the keys of the table `[[item]]` at a path: each has its type and range, and is there if needed
+-- the conditions on the keys of the table `[[item]]` at a path: each has its type, keeps its range or the
+-- rule of names, and is there if needed
 abbrev pub item_keys : List ℕ → Members → Conditions
 item_keys = conditions_of item_at
 
