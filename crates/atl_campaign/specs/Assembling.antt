@@ -1,4 +1,6 @@
 -- For proofs alone: how a campaign is built from rows: maps with nothing marked, then goods and stocks row by row.
+-- A number that doesn't fit 32 bits (of a kind 16), also a negative one, is read as the largest. A flag is set if it is
+-- any number but 0. Of rows for one key the last counts, and an amount of 0 is listed too.
 use Rattle.std.specs.Prelude.{ℕ, ◌==◌, List, [], ◌∷◌, if◌then◌else◌}
 use Rattle.std.specs.Ordering.{nat_cmp}
 use Rattle.std.specs.FinMap.{FinMap, empty, insert}

@@ -1,4 +1,5 @@
--- What change marks say of a campaign before and after some changes: all that is not marked is unchanged.
+-- What change marks say of a campaign before and after some changes: all that is not marked is unchanged, but for what
+-- `Covers` leaves out. A unit's goods are its items and days of study.
 use Rattle.std.specs.Prelude.{◌≡◌, ℕ, List, true, false, Option, Some, None, option_map}
 use Rattle.std.specs.Ordering.{nat_cmp}
 use Rattle.std.specs.FinMap.{FinMap, get, empty}
@@ -21,7 +22,7 @@ SameBut marks before after = (n : ℕ) → contains marks n ≡ false → get af
 abbrev pub unstocked : Region → Region
 unstocked r = record r { stocks = empty }
 
--- a unit without its goods: without items and days of study
+-- a unit without its goods
 abbrev pub without_goods : Unit → Unit
 without_goods u = record u { holding = record u.holding { items = empty; days = empty } }
 
@@ -36,7 +37,7 @@ days_under None = empty
 days_under (Some u) = u.holding.days
 
 -- Of each item, or each skill (`under` picks which), that is not marked, each unit has as much in `before` as in
--- `after`, or it is listed in neither. `goods` has the units all of whose things are marked, `things` the single marks.
+-- `after`, or it is listed in neither. `goods` has the units all of whose goods are marked, `things` the single marks.
 abbrev pub SameThings : FinSet nat_cmp → MarkedThings → (Option Unit → FinMap nat_cmp ℕ) → FinMap nat_cmp Unit
     → FinMap nat_cmp Unit → Type 0
 SameThings goods things under before after =
@@ -47,7 +48,8 @@ SameThings goods things under before after =
 abbrev pub said_by_campaign_row : CampaignValue → ℕ × (List ℕ × (ℕ × (ℕ × ℕ)))
 said_by_campaign_row c = (c.month, (c.pass, (c.next_faction, (c.next_unit, c.next_structure))))
 
--- all that is not marked in the marks m is the same in the campaigns `before` and `after`
+-- All that is not marked in the marks m is the same in the campaigns `before` and `after`. Nothing is said of how many
+-- things the books have, nor of whether a stock of 0 is listed.
 pub record Covers (m : Marks) (before after : CampaignValue) : Type 0 where
   pub factions : SameBut m.factions before.factions after.factions
   -- A region whose row is not marked is the same in the campaigns before and after but for its stocks, or is in

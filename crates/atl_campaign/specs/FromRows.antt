@@ -1,7 +1,8 @@
 -- How a campaign is read from the rows of its tables, also from rows that break rules. See docs/FORMATS.md, "Tables".
 -- A name as `faction` is that of a table; the table `has` has the items and days of study of units. A number that
 -- doesn't fit 32 bits (of a kind 16), also a negative one, is read as the largest; amounts of the books as they are.
--- Of rows for one key the last counts, but of campaign rows the first.
+-- So keys are compared as they are read. Of rows for one key the last counts, but of campaign rows the first. A flag is
+-- set if it is any number but 0. An amount of 0 is listed, but not in the books.
 use Rattle.std.specs.Prelude.{ℕ, ℤ, pos, negsuc, Bool, not, ◌==◌, ◌&&◌, nat_lt, min, List, [], ◌∷◌, filter, slice_index_or, if◌then◌else◌}
 use Rattle.std.specs.Option.{option_map_or}
 use Rattle.std.specs.Ordering.{nat_cmp}
@@ -43,7 +44,7 @@ as_u16 z = clamp most_u16 z
 abbrev pub is_set : ℤ → Bool
 is_set z = not (is_zero z)
 
--- the faction that a row of `faction` says; it is gone if the row's flag is any number but 0
+-- the faction that a row of `faction` says
 abbrev pub faction_of : StoredFaction → Faction
 faction_of r = record { number = as_u32 r.number; joined_as = r.joined_as; name = r.name; pass = r.pass; gone = is_set r.gone }
 
@@ -103,7 +104,7 @@ region_with_stocks r stocks = record { peasants = as_u32 r.peasants; money = as_
 abbrev pub region_of : List StoredMarket → StoredRegion → Region
 region_of markets r = region_with_stocks r (stocks_of (as_u32 r.number) markets)
 
--- the books with the amount of a row put in, if the row's entry exists and its thing is one of the books'
+-- the books with the amount of a row put in, unless there is no such entry, or the thing is none of the books'
 abbrev pub with_books_row : BooksValue → StoredBooks → BooksValue
 with_books_row books r =
     option_map_or (λ e.

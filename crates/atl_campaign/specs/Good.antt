@@ -32,7 +32,7 @@ IsActive c n = (f : Faction) × (get c.factions n ≡ Some f) × (f.gone ≡ fal
 
 -- ---- of numbers: each is in its range, and there are not too many things
 
--- how large an amount of the books may be, without its sign: 2*10^14*(month + 1) + 10^9*factions
+-- how large an amount of the books may be, without its sign: 2*10^14*(month last closed + 1) + 10^9*(count of factions)
 abbrev pub amount_bound : CampaignValue → ℕ
 amount_bound c = most_in_month * (c.month + 1) + most_in_joining * len c.factions
 
@@ -66,9 +66,9 @@ pub record AreInRange (w : WorldValue) (c : CampaignValue) : Type 0 where
   pub factions : Every (λ n f. f.number ≡ n) c.factions
   -- the peasants, the money and the stocks of each region are in their ranges
   pub regions : Every (λ n r. IsRegion w n r) c.regions
-  -- the number of each unit is at least 1, and its men, money and items are within their limits
+  -- the number of each unit is at least 1, and its men, money and items are in their ranges (`IsHolding`)
   pub units : Every (λ n u. (1 ≤ n) × IsHolding u.holding) c.units
-  -- of each structure at least 1 is done, and at most its kind's size
+  -- of each structure at least 1 is done, and at most its kind's size, or 999,999 where the world has no such kind
   pub structures : Every (λ n s. (1 ≤ s.done) × (s.done ≤ size_of w s.kind)) c.structures
   -- the books have as many things as the world, and each amount they list is of one of these things and not 0
   pub books : AreBooks (thing_count w) c.books
@@ -226,7 +226,8 @@ is_ship w s = of_world.is_ship w s.kind
 abbrev pub IsAboard : WorldValue → CampaignValue → Unit → Type 0
 IsAboard w c u = (s : Structure) × (get c.structures u.structure ≡ Some s) × (is_ship w s ≡ true)
 
--- each unit on water is inside a ship, and each structure on water is a complete ship
+-- Each unit on water is inside a ship, and each structure on water is a complete ship. A region that the world doesn't
+-- have counts as water here.
 pub record AreAfloat (w : WorldValue) (c : CampaignValue) : Type 0 where
   -- each unit in a region on water is inside a ship
   pub units : Every (λ n u. is_land_at w u.region ≡ false → IsAboard w c u) c.units
@@ -246,7 +247,8 @@ AreOfOneFaction test c =
 
 -- ---- of mail and reports
 
--- each mail is of a faction that is there and not gone, is short enough, and has a header with the faction's number
+-- each mail is of a faction that is there and not gone, and is a mailing of it: it has at most 65,536 bytes, and its
+-- header has the faction's number
 abbrev pub HasValidMail : CampaignValue → Type 0
 HasValidMail c = Every (λ n text. IsMailingOf n text × IsActive c n) c.mail
 
@@ -305,7 +307,7 @@ pub record IsSound (w : WorldValue) (c : CampaignValue) : Type 0 where
   pub gone : UnitlessAreGone c
   -- the books of the campaign balance
   pub balances : Balances c
-  -- each mail is of a faction that is there and not gone, is short enough, and has the faction's number in its header
+  -- each mail is of a faction that is there and not gone, and is a mailing of it (`IsMailingOf`)
   pub mail : HasValidMail c
 
 -- a good campaign, one that keeps all rules, as it is between commands: a sound one in which each faction has a report

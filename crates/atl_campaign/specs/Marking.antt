@@ -1,6 +1,8 @@
 -- What is marked, as rows to be written, after each change of a campaign.
 -- c is the campaign before the change, with its marks, and n the number of what changes. A result that is a campaign is
--- the one after the change. A unit's goods are its items and days of study.
+-- the one after the change. A unit's goods are its items and days of study. Structure 0 is none. An item that
+-- a unit lists with 0 pieces counts as another amount than any (`has_amount`). Where a stock is marked, its region is
+-- put in `markets`.
 use Rattle.std.specs.Prelude.{◌≡◌, ◌⊎◌, ◌==◌, ℕ, Bool, true, Option, Some, None, if◌then◌else◌}
 use Rattle.std.specs.FinMap.{get, remove, keys}
 use Rattle.std.specs.FinSet.{FinSet, insert, union, from_list}
@@ -78,12 +80,12 @@ mark_skill c n skill = record c.marks {
   skills = thing_marked c.marks.skills n skill (get c.value.units n);
 }
 
--- the campaign with an item of unit n marked, if there is such a unit and it has another amount of it than `amount`,
--- and nothing else changed
+-- the campaign with unit n and one of its items marked, if there is such a unit and it has another amount of that item
+-- than `amount`, and nothing else changed
 abbrev pub item_marked : MarkedCampaign → (unit item : ℕ) → ℕ → MarkedCampaign
 item_marked c n item amount = record c { marks = mark_item c n item amount }
 
--- the campaign with a skill of unit n marked, if there is such a unit, and nothing else changed
+-- the campaign with unit n and one of its skills marked, if there is such a unit, and nothing else changed
 abbrev pub skill_marked : MarkedCampaign → ℕ → ℕ → MarkedCampaign
 skill_marked c n skill = record c { marks = mark_skill c n skill }
 
@@ -155,8 +157,7 @@ handed_marked c s from to =
     then record { value = with_owner c.value s to; marks = mark_structure c s }
     else c
 
--- the campaign with unit n, if it is there, put in region r and structure s, and the unit and its row marked; no owner
--- changes
+-- the campaign with unit n, if it is there, put in region r and structure s, and n and its row marked; no owner changes
 abbrev pub put_marked : MarkedCampaign → ℕ → ℕ → ℕ → MarkedCampaign
 put_marked c n r s = record { value = with_position c.value n r s; marks = mark_unit_row c n }
 

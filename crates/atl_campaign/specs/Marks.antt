@@ -25,7 +25,7 @@ thing_marked things n thing None = things
 thing_marked things n thing (Some v) = with_thing things n thing
 
 -- The marks of a campaign: the numbers of what changed since it was last written. `factions`, `regions` (rows) and
--- `structures` are by number, `mail` and `reports` by faction, and `books` by the numbers of amounts.
+-- `structures` are by number, `mail` and `reports` by faction, and `books` by `amount_number` of the account.
 -- `markets` has the regions of which a stock is marked: of these `stocks` has those all of whose stocks are, and
 -- `stock_items` single stocks by region. `units` has the units of which something is marked: of these `rows` has those
 -- whose rows are, `goods` those all of whose items and days are, and `items` and `skills` single ones by unit.

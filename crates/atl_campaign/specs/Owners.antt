@@ -19,8 +19,8 @@ first_other ns leaving = first_or_zero (filter (λ n. not (n == leaving)) ns)
 abbrev pub heir : CampaignValue → ℕ → ℕ → ℕ
 heir c s leaving = first_other (numbers_inside s c.units) leaving
 
--- `owner_after` once structure s is looked up: the owner of s when unit `leaving` has left it; 0 where s isn't there
--- (None)
+-- `owner_after` once structure s is looked up: its owner, or the next one (`heir`) if unit `leaving` owns it; 0 where s
+-- isn't there (None)
 abbrev pub owner_after_at : CampaignValue → ℕ → ℕ → Option Structure → ℕ
 owner_after_at c s leaving None = 0
 owner_after_at c s leaving (Some x) = if x.owner == leaving then heir c s leaving else x.owner
@@ -38,7 +38,7 @@ is_owned_by (Some x) n = x.owner == n
 abbrev pub after_handover : CampaignValue → ℕ → ℕ → ℕ → CampaignValue
 after_handover c s from to = if is_owned_by (get c.structures s) from then with_owner c s to else c
 
--- the campaign with unit n put in region r and structure s, if there is such a unit; no owner changes
+-- the campaign with unit n put in region r and structure s (0: none), if there is such a unit; no owner changes
 abbrev pub with_position : CampaignValue → ℕ → ℕ → ℕ → CampaignValue
 with_position c n r s = unit_changed (λ u. record u { region = r; structure = s }) c n
 

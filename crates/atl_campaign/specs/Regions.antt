@@ -1,4 +1,5 @@
--- The regions of a campaign as clauses see them: by their numbers, with the marks on their rows and stocks.
+-- The regions of a campaign as clauses see them: by their numbers, with the marks on their rows and stocks. Where a
+-- stock is marked, its region is put in `markets`.
 use Rattle.std.specs.Prelude.{◌≡◌, ◌⊎◌, ◌==◌, ℕ, Option, None, refl, if◌then◌else◌}
 use Rattle.std.specs.Option.{option_map_or}
 use Rattle.std.specs.Ordering.{nat_cmp}

@@ -1,5 +1,5 @@
 -- The units of a campaign with marks: on units, their rows, all goods of a unit, and single items and skills. A unit's
--- goods are its items and days of study.
+-- goods are its items and days of study. An item that is listed with 0 counts as another amount than 0 (`has_amount`).
 use Rattle.std.specs.Prelude.{ℕ, refl, Option, Some, None, if◌then◌else◌}
 use Rattle.std.specs.Ordering.{nat_cmp}
 use Rattle.std.specs.Coded.{Coded, code_by, coded×, coded_ℕ}

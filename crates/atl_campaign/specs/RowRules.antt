@@ -1,6 +1,9 @@
 -- The rules that are about rows, and not about the campaign read from them: rules 1 to 3, and parts of rules 4 and 11.
+-- Not among them are the world text of rule 1, and of rule 2 the types of values and UTF-8.
 -- See docs/FORMATS.md, "Rules of the tables". A name as `faction` is that of a table; the table `has` has the items and
--- days of study of units.
+-- days of study of units. A number that refers to something, or is looked up, is read by `as_u32` (of a kind `as_u16`):
+-- one that doesn't fit counts as the largest. Keys are compared as they are stored. The campaign row is the first, or
+-- `no_campaign_row` where there is none.
 use Rattle.std.specs.Prelude.{◌+◌, ◌*◌, ◌==◌, ℕ, ℤ, pos, negsuc, Bool, false, true, not, ◌&&◌, ◌||◌, nat_le, nat_lt, nat_abs, is_some, IsTrue, List, [], ◌∷◌, length, map}
 use Rattle.std.specs.List.{list_all, IsDistinct}
 use Rattle.std.specs.declared.cmp.Ordering.{Ordering}
@@ -85,7 +88,7 @@ abbrev pub structure_in_range : WorldValue → StoredStructure → Bool
 structure_in_range w r = is_from 1 most_structures r.number && is_from 1 (size_of w (as_u16 r.kind)) r.done
 
 -- how large an amount of the books may be, without its sign: 2*10^14*(month + 1) + 10^9*factions; the month is that of
--- the campaign row, and `factions` how many rows of `faction` there are
+-- the campaign row (`as_u32`), and `factions` how many rows of `faction` there are
 abbrev pub books_bound : Parts → ℕ
 books_bound p = most_in_month * (as_u32 (campaign_row_of p).month + 1) + most_in_joining * length p.factions
 
@@ -174,7 +177,7 @@ first_tables_in_range p =
     ((list_all faction_in_range p.factions && list_all region_in_range p.regions) && list_all unit_in_range p.units)
     && list_all has_in_range p.has
 
--- whether the campaign row and all rows of the other tables, but for mail and reports, are in their ranges
+-- whether the campaign row and all rows of the other tables, but for `mail` and `report`, are in their ranges
 abbrev pub numbers_in_range : WorldValue → Parts → Bool
 numbers_in_range w p =
     (((campaign_row_in_range (campaign_row_of p) && first_tables_in_range p)
@@ -182,7 +185,8 @@ numbers_in_range w p =
     && list_all (books_in_range (books_bound p)) p.books)
     && list_all (market_in_range w) p.markets
 
--- rule 2: no two rows of a table have the same key, there are not too many rows, and each number is in its range
+-- of rule 2: no two rows of a table but `campaign` have the same key, there are not too many factions, regions, units
+-- and structures, and each number that has a range is in it
 pub record AreRowsInRange (w : WorldValue) (p : Parts) : Type 0 where
   pub keys : HaveDistinctKeysByTable p
   pub few : IsTrue (are_few p)
@@ -192,7 +196,7 @@ pub record AreRowsInRange (w : WorldValue) (p : Parts) : Type 0 where
 abbrev pub faction_named : StoredFaction → Bool
 faction_named r = (name_ok r.joined_as && name_ok r.name) && pass_ok r.pass
 
--- whether each name and each pass text of the rows keeps its rule
+-- whether each name of the rows keeps its rule, and each pass text of factions and of the campaign row
 abbrev pub are_named : Parts → Bool
 are_named p =
     ((pass_ok (campaign_row_of p).pass && list_all faction_named p.factions) && list_all (λ r. name_ok r.name) p.units)

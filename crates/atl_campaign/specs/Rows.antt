@@ -1,5 +1,6 @@
 -- The rows that a campaign has in each table of a format, in the order of their keys. See docs/FORMATS.md, "Tables".
--- A name as `faction` is that of a table; the table `has` has the items and days of study of units.
+-- A name as `faction` is that of a table; the table `has` has the items and days of study of units. No amount of 0
+-- of an item, a skill or a stock has a row.
 use Rattle.std.specs.Prelude.{◌+◌, ◌++◌, ℕ, ℤ, pos, Bool, true, false, not, List, [], ◌∷◌, map, filter}
 use Rattle.std.specs.List.{flat_map}
 use Rattle.std.specs.List.Sorted.{IsPermutation}
@@ -87,7 +88,7 @@ mail_row n text = record { faction = pos n; text = text }
 abbrev pub report_row : ℕ → List ℕ → StoredReport
 report_row n text = record { faction = pos n; text = text }
 
--- the row of `has` for unit n, a sort (0 items, 1 skills), the number of a thing of that sort, and its amount
+-- the row of `has` for unit n, a sort (0 items, 1 skills), the number of an item or a skill, and its amount
 abbrev pub has_row : ℕ → ℕ → ℕ → ℕ → StoredHas
 has_row n sort thing amount = record { unit = pos n; sort = pos sort; thing = pos thing; amount = pos amount }
 
@@ -103,13 +104,13 @@ market_row region item stock = record { region = pos region; item = pos item; st
 abbrev pub rows_by : {V R : Type 0} → (ℕ → V → R) → List (ℕ × V) → List R
 rows_by row es = map (λ e. row e.0 e.1) es
 
--- a row for each listed pair of a thing and its amount, in their order, but none that shows the amount 0; `row` makes
+-- a row for each listed pair of a number and its amount, in their order, but none that shows the amount 0; `row` makes
 -- it of the pair, and `amount` reads the amount that it shows
 abbrev pub amount_rows : {R : Type 0} → (R → ℤ) → (ℕ → ℕ → R) → List (ℕ × ℕ) → List R
 amount_rows amount row es = filter (λ r. not (is_zero (amount r))) (rows_by row es)
 
--- the rows of `has` for what unit n has of a sort (0 items, 1 skills), given as pairs of a thing and its amount; there
--- is none for the amount 0
+-- the rows of `has` for what unit n has of a sort (0 items, 1 skills), given as pairs of an item or a skill and its
+-- amount; there is none for the amount 0
 abbrev pub rows_of_sort : ℕ → ℕ → List (ℕ × ℕ) → List StoredHas
 rows_of_sort n sort es = amount_rows (λ r. r.amount) (has_row n sort) es
 
@@ -170,6 +171,6 @@ pub record AreSameRows (some others : Parts) : Type 0 where
 abbrev pub AreRowsOf : Format → CampaignValue → Parts → Type 0
 AreRowsOf f c parts = AreSameRows (rows_of f c) parts
 
--- For proofs alone: a row of `books` for each of the given accounts (an entry and a thing) whose amount is not 0.
+-- for proofs alone: a row of `books` for each of the given accounts whose amount in the given books is not 0
 abbrev pub rows_under : BooksValue → List Account → List StoredBooks
 rows_under books accounts = amounts_rows (listed_of (λ a. amount_in books a.0 a.1) accounts)

@@ -10,7 +10,7 @@ use Rattle.atl_records.specs.declared.records.Region.{Region}
 use Rattle.atl_records.specs.Holdings.{amount_of}
 use Rattle.atl_campaign.specs.Campaign.{CampaignValue}
 
--- how many pieces of an item one of the given regions has in stock; 0 where there is no such region
+-- how many pieces of an item one of the given regions has in stock; 0 where none is listed or there is no such region
 abbrev pub stock_in : FinMap nat_cmp Region → (region item : ℕ) → ℕ
 stock_in regions region item = option_map_or (λ r. amount_of r.stocks item) (get regions region) 0
 

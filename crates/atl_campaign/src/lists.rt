@@ -1,4 +1,6 @@
-//! Sorted lists of units, one for each region, faction and structure.
+//! Sorted lists of units, one for each region, faction and structure. Where a number to take out
+//! isn't in a list, the first one that isn't below it is taken out (`take_number`). Where memory
+//! runs out, the answer is AllocError.
 ghost use Rattle.std.specs.Prelude.{◌≡◌, OnOk, OnErr};
 ghost use Rattle.std.specs.FinMap as map;
 ghost use Rattle.atl_campaign.specs.KeptLists.{list_of, list_keys_of, listed_unless, unlisted_unless, relisted_inside, AreUnitLists, SameLists, ListsUnit, KeepsLists, KeepsAll, UnlistsUnit, RelistsUnit};
@@ -52,8 +54,8 @@ impl UnitLists {
         }
     }
 
-    /// Adds a unit to the lists of its keys, `listing`. Without memory for it they stay lists of
-    /// the same units.
+    /// Adds a unit that they don't list to the lists of its keys, `listing`. Without memory for it
+    /// they stay lists of the same units.
     pub(crate) fn add(
         &mut self,
         alloc: Global,
@@ -81,7 +83,7 @@ impl UnitLists {
         }
     }
 
-    /// Removes a unit from the lists of its keys, `listing`.
+    /// Removes a unit that they list from the lists of its keys, `listing`. It takes no memory.
     pub(crate) fn remove(&mut self, number: u32, listing: ListKeys)
         ensures { UnlistsUnit number listing self.old self.new }
     {
@@ -90,8 +92,8 @@ impl UnitLists {
         unlist_unless(&mut self.by_structure, number, listing.structure, 0);
     }
 
-    /// Moves a unit into the lists of another region and structure; the faction has to stay the
-    /// same. Without memory for it they stay lists of the same units.
+    /// Moves a unit that they list under the keys `from` to those of `to`; the faction has to stay
+    /// the same. Without memory for it they stay lists of the same units.
     pub(crate) fn relist(
         &mut self,
         alloc: Global,
@@ -188,7 +190,7 @@ pub(crate) fn list_number(
     }
 }
 
-/// Takes a number out of the list under a key. It takes no memory.
+/// Takes a number out of the list under a key, which has it. It takes no memory.
 pub(crate) fn unlist_number(lists: &mut Numbered<Numbers>, key: u32, number: u32)
     ensures { SameLists lists.new
         (map.insert lists.old key (take_number number (list_of lists.old key))) }

@@ -1,5 +1,6 @@
 //! The regions of a campaign by number, with dirty marks on their rows and their stocks. A call
-//! that changes or marks a region does nothing where no region has the number given.
+//! that changes or marks a region does nothing where no region has the number given. `get` answers
+//! None there. Where memory runs out, the answer is AllocError.
 ghost use Rattle.std.specs.Prelude.{◌≡◌, ◌≤◌, ◌+◌, ◌*◌, ◌⊎◌, IfOk, IsOk, OnOk, OnErr, None, option_copied, if◌then◌else◌};
 ghost use Rattle.std.specs.FinMap as map;
 ghost use Rattle.std.specs.FinSet as set;
@@ -118,7 +119,6 @@ impl Regions {
         }
     }
 
-    /// The number of regions whose rows are marked, plus the number of regions with a marked stock.
     pub(crate) fn marked_count(&self) -> usize
         ensures value { result ≡ set.len self.now.rows + set.len self.now.markets }
         ensures small { result ≤ 2 * number_count }

@@ -1,5 +1,6 @@
-//! Makes the rows of a campaign in each table of a format. Where memory runs out, the answer is
-//! AllocError. See docs/FORMATS.md, "Tables".
+//! Makes the rows of a campaign in each table of a format. No amount or stock of 0 has a row, and
+//! the first format has no rows of stocks. Where memory runs out, the answer is AllocError; then
+//! nothing is said of rows that were being added to. See docs/FORMATS.md, "Tables".
 ghost use Rattle.std.specs.Prelude.{◌≡◌, ◌≤◌, ◌<◌, ◌++◌, ◌∷◌, [], IfOk, OnOk};
 ghost use Rattle.std.specs.FinMap as map;
 ghost use Rattle.std.specs.List.{flat_map};

@@ -1,4 +1,5 @@
-//! Builds the books from their rows.
+//! Builds the books from their rows. The number of an entry or a thing that doesn't fit 32 bits is
+//! read as the largest. An amount of 0 isn't listed. Without memory the answer is AllocError.
 ghost use Rattle.std.specs.Prelude.{◌≡◌, ◌≤◌, IfOk};
 ghost use Rattle.atl_records.specs.Limits.{possible_things};
 ghost use Rattle.atl_campaign.specs.FromRows.{with_books_row, with_books_rows};

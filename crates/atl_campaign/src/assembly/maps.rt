@@ -177,8 +177,8 @@ fn unmarked_reports(
 }
 
 /// The factions, regions, structures, mail and reports that are read from rows, with nothing
-/// marked. Names and pass texts have to keep their rules. The rows of mail and reports are taken,
-/// and all others stay. AllocError without memory.
+/// marked. Names and pass texts of factions and names of structures have to keep their rules. The
+/// rows of mail and reports are taken, and all others stay. AllocError: nothing is said of rows.
 pub(crate) fn campaign_maps_of(alloc: Global, parts: &mut Parts) -> Result<CampaignMaps, AllocError>
     requires factions { list_all faction_named parts.old.factions ≡ true }
     requires structures { list_all (λ r. name_ok r.name) parts.old.structures ≡ true }

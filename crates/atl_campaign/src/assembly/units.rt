@@ -1,6 +1,8 @@
 //! Builds the units from their rows, and the lists of units. A number that doesn't fit 32 bits is
 //! read as the largest, and of rows with one number the last counts. Names are moved, not copied.
-//! Where memory runs out, the answer is AllocError.
+//! `has` are rows of the table `has`: items and days of study. The rows of units and of `has` have
+//! to be in their ranges, and the names of units to keep their rule. Where memory runs out, the
+//! answer is AllocError.
 ghost use Rattle.std.specs.Prelude.{◌≡◌, IfOk, true};
 ghost use Rattle.std.specs.List.{list_all};
 ghost use Rattle.atl_world.specs.Names.{name_ok};
@@ -53,7 +55,6 @@ fn bare_units(alloc: Global, rows: Sequence<StoredUnit>) -> Result<Arena<Unit>, 
     Ok(units)
 }
 
-/// `has` are rows of the table `has`: items and days of study.
 pub(crate) fn units_of(
     alloc: Global,
     rows: Sequence<StoredUnit>,

@@ -1,5 +1,5 @@
 //! Adds units and structures to a campaign under new numbers. A unit's goods are its items and days
-//! of study.
+//! of study. A call that answers AllocError ran out of memory, and has changed nothing.
 ghost use Rattle.std.specs.Prelude.{◌≡◌, ◌≤◌, IfOk, OnOk, OnErr, None};
 ghost use Rattle.std.specs.FinMap as map;
 ghost use Rattle.atl_records.specs.Limits.{last_unit, most_structures};

@@ -1,4 +1,5 @@
-//! Founds a campaign of a world. See docs/RULES.md, "Founding".
+//! Founds a campaign of a world. Where memory runs out, the answer is AllocError. See
+//! docs/RULES.md, "Founding".
 ghost use Rattle.std.specs.Prelude.{◌≡◌, ◌≤◌, ◌+◌, IsTrue, IfOk, length, pos};
 ghost use Rattle.std.specs.FinMap as map;
 ghost use Rattle.atl_world.specs.Limits.{most_regions};
@@ -59,7 +60,7 @@ fn founding_books(alloc: Global, things: usize, regions: &Regions) -> Result<Boo
     Ok(books)
 }
 
-/// The campaign right after founding: month 0 is closed, and there are no factions. The regions are
+/// The campaign right after founding: its month is 0, and there are no factions. The regions are
 /// the world's, and the books, of at most 202 things, say what they hold. The campaign is good, and
 /// nothing is marked. The pass text has to keep its rule. AllocError without memory. See
 /// docs/RULES.md, "Founding".

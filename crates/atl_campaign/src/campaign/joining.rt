@@ -1,4 +1,5 @@
-//! Lets a faction join. See docs/RULES.md, "Joining".
+//! Lets a faction join. Where memory runs out, the private calls answer AllocError. See
+//! docs/RULES.md, "Joining".
 ghost use Rattle.std.specs.Prelude.{◌≡◌, ◌≤◌, ◌<◌, ◌++◌, IsTrue, IfOk, OnOk, OnErr, codes, false, nat_eq, pos};
 ghost use Rattle.std.specs.Cmp.Lexicographic.{pointwise};
 ghost use Rattle.std.specs.FinMap as map;
@@ -153,7 +154,7 @@ impl Campaign {
         }
     }
 
-    /// What `join` does once the name is free and the campaign isn't full.
+    /// What `join` does once the name is free and the campaign isn't full. AllocError: no change.
     fn enroll(
         &mut self,
         world: &World,

@@ -1,5 +1,7 @@
 //! Moves and removes units, and finds the next owners of the structures that they leave and enter.
-//! See docs/RULES.md, "Owners". A unit's goods are its items and days of study.
+//! See docs/RULES.md, "Owners". A unit's goods are its items and days of study. After AllocError
+//! nothing has changed. Nor does a call that moves or removes a unit that isn't there change
+//! anything.
 ghost use Rattle.std.specs.Prelude.{◌≡◌, OnOk, OnErr};
 ghost use Rattle.std.specs.FinMap as map;
 ghost use Rattle.atl_campaign.specs.Marking.{handed_marked, put_marked, place_marked, taken_marked, gone_marked};
