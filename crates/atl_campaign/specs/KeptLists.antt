@@ -1,6 +1,6 @@
 -- For proofs alone: the lists of units by region, faction and structure that a campaign keeps, and room for marks. A
 -- unit's keys are the numbers of its faction, region and structure. Putting a number in keeps a sorted list sorted.
--- Taking n out needs a sorted list that has n; of another it takes the first number that isn't below n, if any.
+-- What is taken out for n is the first number that isn't below n, if any: n itself in a sorted list that has n.
 use Rattle.std.specs.Prelude.{◌≡◌, ◌==◌, ◌≤◌, ◌*◌, ℕ, List, [], unwrap_or, Some, None, if◌then◌else◌}
 use Rattle.std.specs.Ordering.{nat_cmp}
 use Rattle.std.specs.FinMap.{FinMap, get, insert, remove}

@@ -54,8 +54,8 @@ impl UnitLists {
         }
     }
 
-    /// Adds a unit that they don't list to the lists of its keys, `listing`. Without memory for it
-    /// they stay lists of the same units.
+    /// Adds a unit that isn't listed yet to the lists of its keys, `listing`. Without memory the
+    /// lists stay those of the same units.
     pub(crate) fn add(
         &mut self,
         alloc: Global,
@@ -83,7 +83,7 @@ impl UnitLists {
         }
     }
 
-    /// Removes a unit that they list from the lists of its keys, `listing`. It takes no memory.
+    /// Removes a listed unit from the lists of its keys, `listing`. It takes no memory.
     pub(crate) fn remove(&mut self, number: u32, listing: ListKeys)
         ensures { UnlistsUnit number listing self.old self.new }
     {
@@ -92,8 +92,8 @@ impl UnitLists {
         unlist_unless(&mut self.by_structure, number, listing.structure, 0);
     }
 
-    /// Moves a unit that they list under the keys `from` to those of `to`; the faction has to stay
-    /// the same. Without memory for it they stay lists of the same units.
+    /// Moves a unit that is listed under the keys `from` to those of `to`; the faction has to stay
+    /// the same. Without memory the lists stay those of the same units.
     pub(crate) fn relist(
         &mut self,
         alloc: Global,

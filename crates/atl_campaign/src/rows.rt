@@ -1,6 +1,7 @@
-//! Makes the rows of a campaign in each table of a format. No amount or stock of 0 has a row, and
-//! the first format has no rows of stocks. Where memory runs out, the answer is AllocError; then
-//! nothing is said of rows that were being added to. See docs/FORMATS.md, "Tables".
+//! Makes the rows of a campaign in each table of a format. No row of the tables `has`, `books` and
+//! `market` is of an amount of 0, and the first format has no rows of `market`. Where memory runs
+//! out, the answer is AllocError; then nothing is said of rows that were being added to. See
+//! docs/FORMATS.md, "Tables".
 ghost use Rattle.std.specs.Prelude.{◌≡◌, ◌≤◌, ◌<◌, ◌++◌, ◌∷◌, [], IfOk, OnOk};
 ghost use Rattle.std.specs.FinMap as map;
 ghost use Rattle.std.specs.List.{flat_map};

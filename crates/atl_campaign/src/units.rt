@@ -1,7 +1,7 @@
 //! The units of a campaign by number, with dirty marks on their rows, all goods (items and days of
 //! study), and single items and skills. A call that changes or removes a unit does nothing where no
 //! unit has the number given. `get` answers None there. Where memory runs out, the answer is
-//! AllocError. An item that a unit lists with 0 pieces is marked whatever it is set to.
+//! AllocError. If a unit lists an item with 0 pieces, the item is marked whatever it is set to.
 ghost use Rattle.std.specs.Prelude.{◌≡◌, ◌≤◌, ◌⊎◌, IfOk, OnOk, OnErr, option_copied, None};
 ghost use Rattle.std.specs.FinMap as map;
 ghost use Rattle.std.specs.FinSet as set;

@@ -1,8 +1,8 @@
 //! Calls that set one value of a campaign. Where no faction, region, unit or structure has the
 //! number given, nothing changes. Only `set_stock`, `set_item` and `set_days` take memory. A unit's
 //! goods are its items and days of study. With a unit's row or one of its goods the unit is marked
-//! too. With a stock its region is marked as one with a marked stock. An item that a unit lists with
-//! 0 pieces is marked whatever it is set to. Items and days of 0 aren't listed.
+//! too. With a stock its region is marked as one with a marked stock. If a unit lists an item with
+//! 0 pieces, the item is marked whatever it is set to. Items and days of 0 aren't listed.
 ghost use Rattle.std.specs.Prelude.{◌≡◌, ◌≤◌, ◌<◌, ◌⊎◌, ◌+ℤ◌, IsOk, OnErr, OnOk};
 ghost use Rattle.std.specs.Int.{w64};
 ghost use Rattle.std.specs.Int.RustNames.{FitsSigned};
