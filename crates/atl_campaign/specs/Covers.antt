@@ -81,8 +81,8 @@ pub record Covers (m : Marks) (before after : CampaignValue) : Type 0 where
 abbrev pub StaysMarked : FinSet nat_cmp → FinSet nat_cmp → Type 0
 StaysMarked before after = (n : ℕ) → contains before n ≡ true → contains after n ≡ true
 
--- each item, skill or stock that is marked before some changes, by itself or with all of its unit or region, is marked
--- after them
+-- each item, skill or stock that is marked before some changes, by itself (in `things`) or with all of its unit or
+-- region (in `goods`), is marked after them, in either way
 abbrev pub ThingsStayMarked : (goods : FinSet nat_cmp) (things : MarkedThings)
     (goods_after : FinSet nat_cmp) (things_after : MarkedThings) → Type 0
 ThingsStayMarked goods things goods_after things_after =

@@ -66,7 +66,7 @@ impl Campaign {
 
     /// Sets how many pieces of an item a region has in stock. In a good campaign it is at most the
     /// limit of its market there. If there were more or fewer, that stock is marked alone, or all
-    /// stocks of the region where there is no memory for that mark, and never the region's row. An
+    /// stocks of the region where there is no memory for that mark, and not the region's row. An
     /// item of which there is 0 isn't listed, which needs no memory. AllocError without memory, and
     /// then the campaign is as it was, but for that mark.
     pub fn set_stock(&mut self, region: u32, item: u32, amount: u32) -> Result<(), AllocError>
@@ -107,7 +107,7 @@ impl Campaign {
     }
 
     /// Sets how many pieces of an item a unit has, at most HOLDING_LIMIT. If it had more or fewer,
-    /// that item is marked, and never the unit's row or another of its goods. AllocError without
+    /// that item is marked, and not the unit's row or another of its goods. AllocError without
     /// memory, and then the campaign is as it was, but that mark may be set.
     pub fn set_item(&mut self, unit: u32, item: u32, amount: u32) -> Result<(), AllocError>
         requires { amount ≤ holding_limit }
