@@ -1,6 +1,6 @@
 -- Laws of reading books back: their rows, each of an account (an entry and a thing), in any order give the same books.
--- `things` is how many things the books have, and `rows` are the books' rows in any order; e, t and z are an entry, a
--- thing and its amount. P is a condition on rows.
+-- `things` is how many things the books have, at most 4,294,967,294 (`few`), and `rows` are the books' rows in any
+-- order; e, t and z are an entry, a thing and its amount. P is a condition on rows.
 use Rattle.std.proofs.Common.{◌≡◌, ℕ, ◌+◌, ◌≤◌, List, [], ◌∷◌, true, false, Some, None, refl, sym, ap, ◌∙◌, arith}
 use Rattle.std.specs.Prelude.{pos, ℤ, unwrap_or}
 use Rattle.std.specs.List.{AllByRecursion, IsDistinct}
