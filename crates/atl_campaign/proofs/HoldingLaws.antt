@@ -57,7 +57,7 @@ may_hold_money w c n money u is most steady =
       guard = λ g. g;
     }
 
--- the structure that a unit is inside, or, if None is given for it, the one that the default unit is inside
+-- the number of the first unit's structure (0: none), or of the second's where None is given for the first
 abbrev pub structure_in : Option Unit → Unit → ℕ
 structure_in (Some y) z = y.structure
 structure_in None z = z.structure

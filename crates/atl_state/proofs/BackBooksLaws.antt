@@ -113,6 +113,7 @@ unfolding IsDistinct
 entries_apart [] h = tt
 entries_apart (x ∷ es) h = let parts = and_parts (below_all account_cmp x.0 es) (is_sorted account_cmp es) h in (others_apart x es parts.0, entries_apart es parts.1)
 
+-- the books have `things` things, and list only amounts of these that aren't 0 (`are`)
 module _ (things : ℕ) (few : things ≤ 4294967294) (books : BooksValue) (are : AreBooks things books) where
   -- each row of books of `things` things is read as the account and the amount that it was written from (IsBooked)
   pub lines_booked : AllByRecursion (IsBooked things) (books_rows books)

@@ -291,7 +291,8 @@ pub fn check_as(
 
 /// Checks the rows of the second format by the twelve rules. Ok has the good campaign whose rows
 /// are just these, in any order, with nothing marked; Err has the first rule that they break, or
-/// Memory. If the world keeps its rules, the rows of a good campaign give that campaign or Memory.
+/// Memory. If the world keeps its rules, the rows of a good campaign, in any order, give that
+/// campaign or Memory.
 pub fn check(alloc: Global, world: &World, parts: Parts) -> Result<Campaign, CheckFault>
     ensures rules { Checks Second world.now parts result }
     ensures whole { IsWorld world.now → GivesBack Second world.now parts result }
