@@ -136,7 +136,7 @@ module _ (units : FinMap nat_cmp Unit) (marks rows goods : RoomySet) (items skil
     goods_fit = Room-unmarked units goods.numbers goods.room h.goods_fit;
   }
 
-  -- the invariant still holds once a unit is replaced, as after a loan, and it, its row and its goods are marked
+  -- the invariant still holds once a unit is replaced, as through `get_mut`, and it, its row and its goods are marked
   pub AreUnits-lent : (n : ℕ) (u w : Unit) → get units n ≡ Some u → Before
       → AreUnits (insert units n w) (with_number_marked marks n) (with_number_marked rows n) (with_number_marked goods n) items skills
   AreUnits-lent n u w is h = record {
