@@ -33,8 +33,9 @@ unlisted_amount_is_zero : (items : FinMap nat_cmp ℕ) (count i : ℕ) → Every
 unlisted_amount_is_zero items count i known l =
     ap (λ o. unwrap_or o 0) (free_from items i (λ there. let few = known i there.0 there.1 in omega (arith, few)))
 
--- The books of the campaign c have the things of the world w and list amounts of these alone (`are`). Its units list
--- only items of the world (`known`), and its regions only stocks of their markets (`stocks`). w keeps its rules.
+-- The books of the campaign c have the things of the world w, and list only amounts of these that aren't 0 (`are`). Its
+-- units list only items of the world (`known`), and its regions only stocks of their markets (`stocks`). w keeps its
+-- rules.
 module _ (w : WorldValue) (c : CampaignValue) (world : IsWorld w) (are : AreBooks (thing_count w) c.books) (known : Every (λ n u. Every (λ i amount. i < length w.items) u.holding.items) c.units)
     (stocks : Every (λ n r. AreOfMarkets w n r.stocks) c.regions) where
   none_kept : (i : ℕ) → length w.items ≤ i → EachEntry (λ _ r. region_amount (Item i) r ≡ 0) (entries c.regions)
@@ -52,8 +53,7 @@ module _ (w : WorldValue) (c : CampaignValue) (world : IsWorld w) (are : AreBook
   unknown_booked : (i : ℕ) → length w.items ≤ i → booked c.books (Item i) ≡ pos 0
   unknown_booked i l = booked_past (thing_count w) c.books are (Item i) (omega arith)
 
-  -- the books balance for all things if they do for money, for people, and for each item of the world, and if units,
-  -- regions and books list no other items
+  -- the books balance for all things if they do for money, for people, and for each item of the world
   pub all_balance : (pos (total c Money) ≡ booked c.books Money) × (pos (total c People) ≡ booked c.books People)
       → ((i : ℕ) → i < length w.items → pos (total c (Item i)) ≡ booked c.books (Item i)) → Balances c
   all_balance both items Money = both.0

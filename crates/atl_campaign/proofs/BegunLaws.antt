@@ -1,7 +1,7 @@
 -- Laws of beginning a structure and building on it: the campaign stays steady, totals are kept, and changes are marked.
 -- To build on a structure sets how much of it is done, to as much as before or more, up to its kind's size.
 -- w is the world, c the campaign before the change, and s the structure. In the laws on building, s is structure k as
--- it is before, and `done` is how much of it is done after.
+-- it is before, and `done` is how much of it is done after. `MarksChanges` also says that no mark is lost.
 use Rattle.std.proofs.Common.{◌≡◌, ◌≢◌, ℕ, ◌+◌, ◌≤◌, ◌<◌, true, false, cond, length, Some, None, refl, sym, ap, subst, ◌∙◌, inl, inr, arith, true≢false}
 use Rattle.std.specs.Prelude.{IsTrue, is_some}
 use Rattle.std.proofs.lemmas.Bool.{cases_eq}
@@ -37,6 +37,7 @@ pub record IsFresh (w : WorldValue) (c : CampaignValue) (s : Structure) : Type 0
   pub most : s.done ≤ size_of w s.kind
   pub ownerless : s.owner ≡ 0
 
+-- c is steady, s can be begun (IsFresh), and the next structure number, which s gets, is at most most_structures
 module _ (w : WorldValue) (c : CampaignValue) (s : Structure) (fresh : IsFresh w c s) (room : c.next_structure ≤ most_structures) (old : IsSteady w c) where
   abbrev next : ℕ
   next = c.next_structure
@@ -125,8 +126,7 @@ module _ (w : WorldValue) (c : CampaignValue) (s : Structure) (fresh : IsFresh w
     structures = every-insert (λ k x. is_land_at w x.region ≡ false → (is_ship w x ≡ true) × (x.done ≡ size_of w x.kind)) c.structures next s (λ wet. absurd (true≢false (sym fresh.land ∙ wet))) old.water.structures;
   }
 
-  -- a steady campaign stays steady once a structure that can be begun (IsFresh) is begun, if its number is at most
-  -- most_structures
+  -- the campaign stays steady once structure s is begun
   pub steady_raised : IsSteady w raised
   steady_raised = record {
     numbers = numbers_kept;
@@ -181,6 +181,7 @@ module _ (w : WorldValue) (c : CampaignValue) (k : ℕ) (s : Structure) (done : 
   pub built_is : with_done c k done ≡ built
   built_is = ap (λ m. record c { structures = m }) (changed-known (λ x. record x { done = done }) c.structures k s is)
 
+  -- c is steady, and `done` is at least as much as before, and at most the size of s's kind
   module _ (more : s.done ≤ done) (most : done ≤ size_of w s.kind) (was : IsSteady w c) where
     -- a structure with a property P is still there with P after building on structure k, if building on k keeps P
     still : (P : Structure → Type 0) → (P s → P further) → (j : ℕ)
@@ -257,7 +258,7 @@ module _ (w : WorldValue) (c : CampaignValue) (k : ℕ) (s : Structure) (done : 
           (λ wet. let (ship, all) = was.water.structures k s is wet in (ship, complete all)) was.water.structures;
     }
 
-    -- the campaign stays steady when more of a structure is done, up to its kind's size
+    -- building on a structure keeps the campaign steady
     pub steady_built : IsSteady w built
     steady_built = record {
       numbers = numbers_built;

@@ -2,7 +2,7 @@
 -- `MarksChanges c d` says that from the marked campaign c to d no mark is lost, and all that changed is marked. In a
 -- law of one change, c is the campaign before it, the record the campaign after it, and n the number of what changes.
 -- In laws of several changes, a, b and c are the campaign, or its marks, at moments in turn. A unit's goods are its
--- items and days of study.
+-- items and days of study. A thing of a unit or region is an item, a skill, or an item in stock, by its number.
 use Rattle.std.proofs.Common.{◌≡◌, ◌≢◌, ◌==◌, ◌||◌, ℕ, Bool, true, false, if◌then◌else◌, Option, Some, None, refl, sym, ap, ◌∙◌, subst, inl, inr, arith, true≢false}
 use Rattle.std.specs.Prelude.{ℤ, List, cond, is_some, option_map, unwrap_or}
 use Rattle.std.proofs.lemmas.Bool.Decides.{nat_tests}
@@ -194,6 +194,7 @@ pub data MarkedPart : Type 0 where
   Skills : MarkedPart
   -- the amounts of the books, marked by the amounts' numbers (amount_number)
   Books : MarkedPart
+  -- the campaign row
   Row : MarkedPart
 
 -- what names one mark of a part: region and item for Stocks, unit and thing for Items and Skills, nothing for Row,

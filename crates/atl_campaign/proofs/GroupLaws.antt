@@ -1,4 +1,5 @@
 -- Laws of rows in groups (goods by unit, stocks by region): filtered group by group, and listed from a group's map.
+-- Goods are items and days of study; a thing of a group is the number of an item or a skill.
 use Rattle.std.proofs.Common.{◌≡◌, ◌≢◌, ◌==◌, ℕ, ◌++◌, ◌&&◌, List, [], ◌∷◌, Bool, true, false, not, cond, map, filter, refl, sym, ap, subst, ◌∙◌, arith, inl, inr, ◌⊎◌}
 use Rattle.std.specs.List.{flat_map, AllByRecursion, IsDistinct}
 use Rattle.std.specs.List.Sorted.{IsPermutation}
@@ -152,8 +153,8 @@ module _ {R U : Type 0} (group : R → ℕ) (number : U → ℕ) where
 
 -- ---- rows of a group with keys
 
--- `mine` tests whether a row is of the group, and `same` whether two keys are equal; `key` and `thing` give the key and
--- the thing of a row, and P is a condition on rows
+-- `mine` tests whether a row is of the group, and `same` whether two keys are equal, as each is to itself (`itself`);
+-- `key` and `thing` give the key and the thing of a row, and P is a condition on rows
 module _ {R K : Type 0} (key : R → K) (same : K → K → Bool) (itself : (k : K) → same k k ≡ true) (thing : R → ℕ) (mine : R → Bool) (P : R → Type 0) where
   -- a row of the group for which P holds
   abbrev pub IsOfGroupWithP : R → Type 0

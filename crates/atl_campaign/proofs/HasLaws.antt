@@ -1,7 +1,8 @@
 -- Laws of the rows of the table `has` (units' goods): units assembled from rows are written as the same rows, in some
 -- order.
 -- A row is exact (IsExactGoods) if its key and its amount are read as they are, and the amount is not 0.
--- `has` are its rows, `units` those of the table `unit`, n is a unit's number, and a sort is 0 (items) or 1 (days).
+-- `has` are its rows, `units` those of the table `unit`, n is a unit's number, and a sort is 0 (items) or 1 (days). The
+-- thing of a row is the number of an item or a skill.
 use Rattle.std.proofs.Common.{◌≡◌, ◌==◌, ℕ, ◌++◌, List, [], ◌∷◌, Bool, true, false, not, map, filter, sym, ap, subst, ◌∙◌, arith, inl, inr, ◌⊎◌}
 use Rattle.std.specs.Prelude.{pos, ℤ}
 use Rattle.std.specs.List.{flat_map, AllByRecursion, IsDistinct}

@@ -1,6 +1,6 @@
 -- Laws of a unit that gets another holding and does not begin to guard: steadiness, totals and marks. A unit may have a
 -- holding with a valid name, numbers within their limits, and only items and skills of the world. c is the campaign
--- before the change, and n the unit's number.
+-- before the change, and n the unit's number. `MarksChanges` also says that no mark is lost.
 use Rattle.std.proofs.Common.{◌≡◌, ◌≢◌, ◌==◌, ℕ, ◌+◌, ◌*◌, ◌≤◌, ◌<◌, Bool, true, false, Option, Some, None, length, refl, sym, ap, subst, ◌∙◌, arith}
 use Rattle.std.specs.Prelude.{IsTrue, option_map, if◌then◌else◌}
 use Rattle.std.specs.Ordering.{nat_cmp}
@@ -57,7 +57,7 @@ may_hold_money w c n money u is most steady =
       guard = λ g. g;
     }
 
--- the structure that a unit is inside, or, if None is given for it, the one that the default unit is inside
+-- the number of the first unit's structure (0: none), or of the second's where None is given for the first
 abbrev pub structure_in : Option Unit → Unit → ℕ
 structure_in (Some y) z = y.structure
 structure_in None z = z.structure

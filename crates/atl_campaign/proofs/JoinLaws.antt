@@ -315,8 +315,8 @@ module _ (w : WorldValue) (name pass : List ℕ) (word : ℕ) (c : CampaignValue
       guarded = joined-guarded old.guarded;
     }
 
-    -- a sound campaign that a faction joins stays sound, if the join is not refused, and name, pass text and world keep
-    -- their rules
+    -- a sound campaign that a faction joins stays sound, if it isn't full, no faction joined under this name, and name,
+    -- pass text and world keep their rules
     pub joined-sound : IsSound w c → IsSound w (after_join w name pass word c)
     joined-sound old = let next = old.steady.next in record {
       steady = joined-steady old.steady;

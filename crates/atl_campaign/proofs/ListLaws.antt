@@ -3,6 +3,7 @@
 -- `belongs_to` gives this key.
 -- `old`, `mid` and `new` are the lists before a change, within it and after it; in `AreUnitLists-set`, `old` and `new`
 -- are the units. Where a unit changes, u is the unit before and v the unit after; n or k is its number, `key` its key.
+-- Lists are the same (`SameLists`) if they are under each key; a key without a list counts as one with the empty list.
 use Rattle.std.proofs.Common.{◌≡◌, ◌≢◌, ◌==◌, ℕ, true, false, cond, Option, Some, None, List, [], map, filter, refl, sym, ap, subst, ◌∙◌, arith, inl, inr}
 use Rattle.std.specs.declared.cmp.Ordering.TheVariants.{Less, Equal, Greater}
 use Rattle.std.specs.Prelude.{Result, Ok, Err, OnOk, OnErr, unwrap_or}
@@ -270,7 +271,7 @@ module _ (belongs_to : Unit → ℕ) where
 
   -- If the lists `old` have just the units of each key (AreLists), so do the lists `new` once unit n is changed from u
   -- to v. They are `old` with n put into the list of its new key, `to` (`mid`), and then taken out of that of its old
-  -- key, `from`.
+  -- key, `from`. Where both are one key, nothing is done.
   pub AreLists-relisted : (units : FinMap nat_cmp Unit) (old mid new : FinMap nat_cmp (List ℕ)) (n from to : ℕ) (u v : Unit)
       → get units n ≡ Some u → belongs_to u ≡ from → belongs_to v ≡ to → mid ≡ listed_unless old n to from
       → SameLists new (unlisted_unless mid n from to)
@@ -293,7 +294,7 @@ module _ (belongs_to : Unit → ℕ) where
       ] put same
 
 -- the lists by structure stay those of the units when a unit changes its structure, and is moved from the old one's
--- list to the new one's
+-- list to the new one's; structure 0 has no list
 pub AreInsideLists-relisted : (units : FinMap nat_cmp Unit) (old new : FinMap nat_cmp (List ℕ)) (n from to : ℕ) (u v : Unit)
     → get units n ≡ Some u → u.structure ≡ from → v.structure ≡ to → SameLists new (relisted_inside old n from to)
     → AreInsideLists units old → AreInsideLists (insert units n v) new

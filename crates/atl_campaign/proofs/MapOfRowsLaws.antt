@@ -1,5 +1,5 @@
 -- Laws of the map made of rows: each row's value is found in it, and it is written as just these rows, in some order.
--- `number` and `value` read the number and the value of a row.
+-- `number` and `value` read the number and the value of a row, and `row` makes the row of both.
 -- `by_number number value rows` is the map with the value of each row under its number. Of rows with the same number,
 -- the last counts.
 use Rattle.std.proofs.Common.{◌≡◌, ◌≢◌, ℕ, ◌++◌, List, [], ◌∷◌, Bool, true, false, cond, map, Some, None, refl, sym, ap, subst, ◌∙◌, suc, length, inl, inr, ◌⊎◌}
@@ -125,7 +125,7 @@ each_apart key number same P r apart (s ∷ rows) h d =
     (apart s h.0 d.0, each_apart key number same P r apart rows h.1 d.1)
 
 -- no two rows have the same number, if P holds of each row, the rows have distinct keys, and rows of which P holds have
--- different numbers if their keys differ
+-- different numbers if their keys differ; `same` compares two keys
 pub HaveDistinctNumbers-keys : {R K : Type 0} (key : R → K) (number : R → ℕ) (same : K → K → Bool) (P : R → Type 0)
     → ((r s : R) → P r → P s → same (key r) (key s) ≡ false → number s ≢ number r)
     → (rows : List R) → AllByRecursion P rows → IsDistinct same (map key rows) → HaveDistinctNumbers number rows

@@ -74,7 +74,7 @@ module _ (regions : FinMap nat_cmp Region) (rows markets stocks : RoomySet) (ite
       stocks_fit = h.stocks_fit;
     }
 
-    -- the invariant still holds once all stocks of region n are marked
+    -- the invariant still holds once all stocks of region n are marked, and the region is put into `markets`
     pub AreRegions-stocks : AreRegions regions rows (with_region_marked regions markets n) (with_region_marked regions stocks n) items
     AreRegions-stocks = record {
       within = subst (λ o. AreStocksWithin (marked_with markets.numbers n o) (marked_with stocks.numbers n o) items) (sym is) (record {

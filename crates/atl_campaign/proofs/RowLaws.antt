@@ -1,5 +1,5 @@
 -- Laws of the lists of rows that a campaign is written as, one row more at a time.
--- `es` are pairs of a thing's number and its amount. An account is an entry of the books and a thing, and
+-- `es` are pairs of a number, of an item or a skill, and its amount. An account is an entry of the books and a thing;
 -- `accounts_under n entry` are the accounts of the entry and each of the first n things.
 use Rattle.std.proofs.Common.{◌≡◌, ◌≢◌, ℕ, ◌+◌, ◌++◌, List, [], ◌∷◌, true, false, not, cond, refl, sym, ap, ◌∙◌, arith}
 use Rattle.std.specs.Prelude.{ℤ, pos}

@@ -59,7 +59,8 @@ module _ {V : Type 0} (P : ℕ → V → Type 0) where
   shown e = (e.0, e.1.now)
 
   -- `ran` is what the kit says of a call of `all` over the entries s: by g it calls the closure f on one after another,
-  -- up to the first answer false. Its own answer is r, and u are the entries left over.
+  -- up to the first answer false. Its own answer is r, and u are the entries left over. The laws suppose that f stays
+  -- as it is where it answers true.
   module _ {F : Type 0} {g : Mut F ((ℕ × Bor V) × Unit {0}) Bool} {s : List (ℕ × V)} (u : List (ℕ × V)) (f : F) (r : Bool)
       (ran : (xs : List (ℕ × Bor V)) × (o : Option (ℕ × Bor V)) × (j : F) × YieldsThen (YieldsFirstBy shown (λ t. t)) s xs o u × FoldsTo (λ p x q. Called g p (x, tt) true q) f xs j × MatchOption o (r ≡ true) (λ x. (r ≡ false) × ((h : F) × Called g j (x, tt) false h))) where
     -- the answer of `all` over borrowed entries decides whether P holds of each (EachEntry), if the closure decides P

@@ -15,7 +15,7 @@ use Rattle.atl_campaign.specs.Totals.{total}
 use Rattle.atl_records.proofs.HoldingLaws.{every_amount, set_other, set_same}
 use Rattle.atl_campaign.proofs.RegionLaws.{steady-region, total-region}
 
--- the region with its stock of an item set to the given amount
+-- the region with its stock of an item set to the given amount; 0 of an item isn't listed
 abbrev pub restocked : Region → (item amount : ℕ) → Region
 restocked r item amount = record r { stocks = with_amount_of r.stocks item amount }
 

@@ -6,8 +6,8 @@ use Rattle.atl_world.specs.MarkedMaps.{MarkedMapValue}
 use Rattle.atl_world.specs.Tracking.{with_value, without_new_value}
 use Rattle.atl_world.proofs.TrackLaws.{taken_out-undone}
 
--- `mid` is `old` with x under the new number n, and `new` is `mid` without it, with n marked only if it was before:
--- `new` is `old` again
+-- `mid` is `old` with x under the new number n, and n marked; `new` is `mid` without x, with n marked only if it was
+-- before: `new` is `old` again
 pub insert_is_undone : {V : Type 0} (old mid new : MarkedMapValue V) (n : ℕ) (x : V) (was_marked : Bool)
     → get old.values n ≡ None → was_marked ≡ set.contains old.marks n → mid ≡ with_value old n x
     → new ≡ without_new_value mid n was_marked → new ≡ old

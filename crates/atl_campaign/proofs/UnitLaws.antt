@@ -136,8 +136,7 @@ module _ (units : FinMap nat_cmp Unit) (marks rows goods : RoomySet) (items skil
     goods_fit = Room-unmarked units goods.numbers goods.room h.goods_fit;
   }
 
-  -- once a lent unit is replaced, and marked with its row and its goods, there is still room for all marks, and still
-  -- no part of a unit is marked without the unit (AreUnits)
+  -- the invariant still holds once a unit is replaced, as through `get_mut`, and it, its row and its goods are marked
   pub AreUnits-lent : (n : ℕ) (u w : Unit) → get units n ≡ Some u → Before
       → AreUnits (insert units n w) (with_number_marked marks n) (with_number_marked rows n) (with_number_marked goods n) items skills
   AreUnits-lent n u w is h = record {
@@ -229,7 +228,7 @@ AreUnits-added units marks rows goods marks2 rows2 goods2 items skills n w wider
 pub same_values : (r : Roster) (values : FinMap nat_cmp Unit) → values ≡ r.values → record r { values = values } ≡ r
 same_values r values e = ap (λ (v : FinMap nat_cmp Unit). record r { values = v }) e
 
--- r has the units with their marks; unit n's amount of `item` is set to `amount`
+-- r has the units with their marks; unit n's amount of `item` is set to `amount` (`with_other`)
 module _ (r : Roster) (n item amount : ℕ) where
   abbrev with_other : Unit → Unit
   with_other u = record u { holding = record u.holding { items = with_amount_of u.holding.items item amount } }

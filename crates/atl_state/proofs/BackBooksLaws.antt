@@ -1,6 +1,6 @@
 -- Laws of reading books back: their rows, each of an account (an entry and a thing), in any order give the same books.
--- `things` is how many things the books have, and `rows` are the books' rows in any order; e, t and z are an entry, a
--- thing and its amount. P is a condition on rows.
+-- `things` is how many things the books have, at most 4,294,967,294 (`few`), and `rows` are the books' rows in any
+-- order; e, t and z are an entry, a thing and its amount. P is a condition on rows.
 use Rattle.std.proofs.Common.{◌≡◌, ℕ, ◌+◌, ◌≤◌, List, [], ◌∷◌, true, false, Some, None, refl, sym, ap, ◌∙◌, arith}
 use Rattle.std.specs.Prelude.{pos, ℤ, unwrap_or}
 use Rattle.std.specs.List.{AllByRecursion, IsDistinct}
@@ -113,6 +113,7 @@ unfolding IsDistinct
 entries_apart [] h = tt
 entries_apart (x ∷ es) h = let parts = and_parts (below_all account_cmp x.0 es) (is_sorted account_cmp es) h in (others_apart x es parts.0, entries_apart es parts.1)
 
+-- the books have `things` things, and list only amounts of these that aren't 0 (`are`)
 module _ (things : ℕ) (few : things ≤ 4294967294) (books : BooksValue) (are : AreBooks things books) where
   -- each row of books of `things` things is read as the account and the amount that it was written from (IsBooked)
   pub lines_booked : AllByRecursion (IsBooked things) (books_rows books)

@@ -1,5 +1,6 @@
 -- Laws of reading groups back (the goods of a unit, the stocks of a region) from rows in any order.
--- i is the number of an item or a skill, and a its amount; P is a condition on rows.
+-- i is the number of an item or a skill, which is the thing of a row, and a its amount; P is a condition on rows. Goods
+-- are items and days of study.
 use Rattle.std.proofs.Common.{◌≡◌, ◌<◌, ℕ, List, [], ◌∷◌, Bool, true, false, not, filter, Some, sym, ap, ◌∙◌}
 use Rattle.std.specs.List.{flat_map, AllByRecursion, IsDistinct}
 use Rattle.std.specs.List.Sorted.{IsPermutation}

@@ -1,6 +1,7 @@
 -- Laws of reading back what units have: the rows of the table `has`, in any order, give each unit its goods again.
 -- Goods are here items (sort 0) and days of study (sort 1).
 -- n and u are a unit's number and the unit, s a sort, i an item or a skill, a its amount, and `rows` the rows of `has`.
+-- In the last laws `rows` are the units' rows in any order, and what the units have fits 32 bits (`had`: AreHad).
 use Rattle.std.proofs.Common.{◌≡◌, ◌==◌, ℕ, zero, suc, ◌≤◌, ◌<◌, ◌&&◌, List, [], ◌∷◌, Bool, true, false, Some, refl, sym, ap, ◌∙◌, arith}
 use Rattle.std.specs.Prelude.{pos}
 use Rattle.std.specs.List.{AllByRecursion, IsDistinct}

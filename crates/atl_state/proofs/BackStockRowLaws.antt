@@ -1,5 +1,6 @@
 -- Laws of reading stocks back: the rows of the table `market`, in any order, give each region its stocks again.
 -- n and r are a region's number and the region, i an item, a its stock, and `rows` the rows of `market`.
+-- In the last laws `rows` are the regions' rows in any order, and what is in stock fits 32 bits (`few`: AreStocked).
 use Rattle.std.proofs.Common.{◌≡◌, ℕ, ◌≤◌, ◌<◌, List, true, false, Some, refl, sym, ap, ◌∙◌, arith}
 use Rattle.std.specs.Prelude.{pos, Bool}
 use Rattle.std.specs.List.{AllByRecursion, IsDistinct}

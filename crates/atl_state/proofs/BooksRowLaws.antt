@@ -54,7 +54,8 @@ one_amount books a z none some =
 
 -- ---- the amounts of rows, one after another
 
--- a row of `books` is read as an account (an entry and a thing) of the first `things` things, and its amount is not 0
+-- a row of `books` is the one written for the account that it is read as, the thing of which is one of the first
+-- `things`, and its amount is not 0
 pub record IsBooked (things : ℕ) (r : StoredBooks) : Type 0 where
   pub account : Account
   pub row : books_row account.0 account.1 r.amount ≡ r

@@ -163,7 +163,7 @@ module _ (f : Format) (w : WorldValue) (p : Parts) where
   pub countable-said : KeepsRulesBelow f w p 11 → IsCountable (campaign_of w p)
   countable-said k = let range = AreInRange-said w p (k Ranges (omega arith)) in omega (arith, range.few_units, range.few_regions)
 
-  -- if rows keep rules 1 to 10, their books have the world's things, and list amounts of these alone
+  -- if rows keep rules 1 to 10, their books have the world's things, and list only amounts of these that aren't 0
   pub books-said : KeepsRulesBelow f w p 11 → AreBooks (thing_count w) (campaign_of w p).books
   books-said k = (AreInRange-said w p (k Ranges (omega arith))).books
 

@@ -1,6 +1,6 @@
 -- Laws of reading a good campaign back: from its rows, in any order, the same campaign is assembled.
--- c is a good campaign of the world w that the format f can hold, and p are its rows, in any order. Numbers are read
--- from rows as most_u32 or most_u16 at most.
+-- c is a good campaign of the world w, which keeps the rules of worlds (`world`); the format f can hold c, and p are
+-- its rows, in any order. Numbers are read from rows as most_u32 or most_u16 at most.
 use Rattle.std.proofs.Common.{◌≡◌, ℕ, zero, suc, ◌≤◌, ◌<◌, ◌+◌, ◌*◌, List, [], ◌∷◌, Bool, true, false, length, None, refl, sym, ap, subst, ◌∙◌, arith}
 use Rattle.std.specs.Prelude.{ℤ, pos, is_some, slice_index_or}
 use Rattle.std.specs.List.{AllByRecursion, IsDistinct}
@@ -123,13 +123,14 @@ unit_back has n u few h items days =
 -- ---- a table with a key of one number
 
 -- `row` makes the row of a number and its value, which `key` and `value` read from it; `rows` are the rows of the map m
+-- in any order, and its numbers fit 32 bits
 module _ {V R : Type 0} (row : ℕ → V → R) (key : R → ℤ) (value : R → V) (keyed : (n : ℕ) (v : V) → key (row n v) ≡ pos n) (m : FinMap nat_cmp V) (few : Every (λ n v. n ≤ most_u32) m) (rows : List R) (h : IsPermutation (rows_by row (entries m)) rows) where
   apart : (n k : ℕ) (v u : V) → n < k → is_same_key (one_key (key (row n v))) (one_key (key (row k u))) ≡ false
   apart n k v u l =
       ap (λ z. is_same_key (one_key z) (one_key (key (row k u)))) (keyed n v)
       ∙ ap (λ z. is_same_key (one_key (pos n)) (one_key z)) (keyed k u) ∙ apart_numbers n k l
 
-  -- the rows of a table with a key of one number, in any order, have distinct keys
+  -- the rows of a table with a key of one number have distinct keys
   pub table_keys : HaveDistinctKeys (λ r. one_key (key r)) rows
   table_keys =
       keys_permuted (λ r. one_key (key r)) (rows_by row (entries m)) rows h

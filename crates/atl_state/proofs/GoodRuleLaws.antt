@@ -1,5 +1,6 @@
 -- Laws of checking a good campaign: its rows, in any order, keep all rules.
 -- c is a good campaign of the world w that the format f can hold, and p are its rows. In `gives_back`, p are any rows.
+-- w keeps the rules of worlds (IsWorld).
 use Rattle.std.proofs.Common.{◌≡◌, ◌≢◌, ℕ, zero, suc, ◌≤◌, ◌<◌, ◌+◌, ◌*◌, ◌&&◌, List, [], ◌∷◌, Bool, true, false, length, Some, nat_le, nat_lt, refl, sym, ap, subst, ◌∙◌, arith, inl, inr}
 use Rattle.std.specs.Prelude.{ℤ, pos, negsuc, is_some, Result, Ok, Err}
 use Rattle.std.specs.List.{list_all, AllByRecursion, IsDistinct}

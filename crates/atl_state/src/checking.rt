@@ -272,10 +272,10 @@ fn check_parts(
 }
 
 /// Checks the rows of a format by the twelve rules. Ok has the good campaign whose rows are just
-/// these, in any order, with nothing marked; Err has the first rule that they break, or Memory. The
-/// rows of a good campaign, in any order, give that campaign or Memory; in the first format this
-/// needs a campaign without stocks, and without amounts under the entries of markets. See
-/// docs/FORMATS.md, "Rules of the tables".
+/// these, in any order, with nothing marked; Err has the first rule that they break, or Memory. If
+/// the world keeps its rules, the rows of a good campaign, in any order, give that campaign or
+/// Memory. In the first format both are campaigns without stocks, and without amounts under the
+/// entries of markets. See docs/FORMATS.md, "Rules of the tables".
 pub fn check_as(
     alloc: Global,
     world: &World,
@@ -291,7 +291,8 @@ pub fn check_as(
 
 /// Checks the rows of the second format by the twelve rules. Ok has the good campaign whose rows
 /// are just these, in any order, with nothing marked; Err has the first rule that they break, or
-/// Memory. The rows of a good campaign, in any order, give that campaign or Memory.
+/// Memory. If the world keeps its rules, the rows of a good campaign, in any order, give that
+/// campaign or Memory.
 pub fn check(alloc: Global, world: &World, parts: Parts) -> Result<Campaign, CheckFault>
     ensures rules { Checks Second world.now parts result }
     ensures whole { IsWorld world.now → GivesBack Second world.now parts result }

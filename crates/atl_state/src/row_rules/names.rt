@@ -1,4 +1,6 @@
-//! Rule 3: the names and pass texts of rows. See docs/RULES.md, "Names and pass texts".
+//! Rule 3: the names and pass texts of rows. See docs/RULES.md, "Names and pass texts". It is
+//! checked where rule 1 holds: there is one campaign row. AllocError says that there was no memory
+//! to compare joined names.
 ghost use Rattle.std.specs.Prelude.{◌≡◌, IfOk, length, map, ◌↔◌, IsTrue};
 ghost use Rattle.std.specs.List.{list_all};
 ghost use Rattle.atl_world.specs.Names.{name_ok};

@@ -1,4 +1,5 @@
-//! Rule 2: keys that differ, numbers in their ranges, and not too many rows.
+//! Rule 2: keys that differ, numbers in their ranges, and not too many rows. It is checked where
+//! rule 1 holds: there is one campaign row. AllocError says that there was no memory for the keys.
 ghost use Rattle.std.specs.Prelude.{◌≡◌, IfOk, length, ◌↔◌, IsTrue};
 ghost use Rattle.std.specs.List.{list_all};
 ghost use Rattle.atl_campaign.specs.RowRules.{campaign_row_in_range, faction_in_range, region_in_range, unit_in_range, has_in_range, structure_in_range, books_bound, books_in_range, market_in_range, are_few, first_tables_in_range, numbers_in_range, AreRowsInRange};
