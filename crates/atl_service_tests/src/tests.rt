@@ -1,4 +1,4 @@
-//! Tests of a service by commands, and of the calls on campaigns that it makes.
+//! Tests of a service by commands.
 mod closing;
 mod commands;
 mod compare;
@@ -19,7 +19,6 @@ mod refusals;
 mod remade;
 mod script;
 mod serving;
-mod state;
 mod tables;
 mod unchanged;
 mod upgrading;

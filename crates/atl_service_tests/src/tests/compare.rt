@@ -14,14 +14,6 @@ pub(crate) fn assert_amount(rt: &impl Abort, actual: Option<i64>, wanted: Option
     assert_eq!(rt; actual, wanted);
 }
 
-pub(crate) fn assert_total(rt: &impl Abort, actual: Option<u64>, wanted: u64) {
-    assert_eq!(rt; actual, Some(wanted));
-}
-
 pub(crate) fn assert_text(rt: &impl Abort, actual: &str, wanted: &str) {
-    assert_eq!(rt; actual, wanted);
-}
-
-pub(crate) fn assert_numbers(rt: &impl Abort, actual: &[u32], wanted: &[u32]) {
     assert_eq!(rt; actual, wanted);
 }
