@@ -54,8 +54,6 @@ impl Drop for ItemDraft {
     }
 }
 
-/// Reads the keys `skill`, `level`, `raw` and `raw_count` of a table `[[item]]`: what making one
-/// takes.
 impl FromTable for Recipe {
     ghost conditions = { conditions_of making_at };
 
