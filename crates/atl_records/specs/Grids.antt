@@ -41,6 +41,6 @@ unfoldable pub as_books : List (List ℤ) → BooksValue
 as_books rows =
     record { things = length rows; amounts = (with_amounts (cell rows) (accounts (length rows)) (no_amounts (length rows))).amounts }
 
--- the accounts of a list (each an entry with a thing) with their amounts, without those whose amount is 0
+-- the accounts `chosen` (each an entry with a thing) with what `amount` gives for them, without those where it gives 0
 abbrev pub listed_of : (Account → ℤ) → List Account → List (Account × ℤ)
 listed_of amount chosen = filter (λ x. not (is_zero x.1)) (map (λ a. (a, amount a)) chosen)
