@@ -29,8 +29,8 @@ elements_of record_of key i (item d ds) =
     record_of (element_path key i) (element_table (element_path key i) d)
     ∷ elements_of record_of key (i + 1) ds
 
--- the conditions on an array, given the result of reading its key: the result is no fault, and then those on each
--- element; an array whose key gave a fault has no elements
+-- The conditions on an array, given the result of reading its key: the result is no fault, and then those on each
+-- element. Where the result is a fault, there are no elements.
 unfoldable pub list_conditions : (List ℕ → Members → Conditions) → List ℕ → Result Items WorldFault → Conditions
 list_conditions conditions key items = fault_of items ∷ elements_conditions conditions key 0 (value_or no_items items)
 

@@ -139,8 +139,8 @@ pub record AreOptionalTables (t : OptionalTables) : Type 0 where
   pub few_skills : length t.skills ≤ most_skills
   pub few_kinds : length t.kinds ≤ most_kinds
 
--- all tables of a world file have names that keep the rule of names, numbers in their ranges (those of neighbours left
--- out), and no more of each than a world may have
+-- All tables of a world file have names that keep the rule of names, and numbers in their ranges, except those of
+-- neighbours. There are no more of each than a world may have.
 pub record IsWorldDraft (t : WorldDraft) : Type 0 where
   pub rules : AreRulesDraft t.rules
   pub terrains : All IsTerrainDraft t.terrains

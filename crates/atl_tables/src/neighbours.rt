@@ -83,9 +83,9 @@ fn neighbours_of(
     check_neighbour(alloc, i, "west", regions, East, number, sides.west)
 }
 
-/// Checks that each neighbour of each region is among the `regions` and has the region on its
-/// opposite side, else gives the fault BadNeighbour at the first side where this fails. `drafts`
-/// are in the order of the file, the sides of each in the order north, south, east, west.
+/// Checks that each neighbour of a region is among `regions` and has that region on its opposite
+/// side, else gives the fault BadNeighbour at the first side where this fails. `drafts` are in the
+/// order of the file, the sides of each in the order north, south, east, west.
 pub(crate) fn mutual_neighbours(
     alloc: Global,
     regions: &Numbered<RegionPlan>,
