@@ -18,8 +18,8 @@ abbrev pub equals_number : ℕ → Option ℕ → Bool
 equals_number n None = false
 equals_number n (Some m) = m == n
 
--- the fault BadNeighbour at the path p, if the region `number` has a neighbour (Some) that isn't among the `regions`, or
--- doesn't have this region on its side `opposite`; else None
+-- the fault BadNeighbour at the path p, if the region `number` has a neighbour (Some) that isn't among the `regions`,
+-- or doesn't have this region on its side `opposite`; else None
 abbrev pub neighbour_fault : List ℕ → FinMap nat_cmp RegionPlan → Direction → ℕ → Option ℕ → Option WorldFault
 neighbour_fault p regions opposite number None = None
 neighbour_fault p regions opposite number (Some m) =
