@@ -242,8 +242,8 @@ module _ {V : Type 0} where
       let one : counts (is_some (slab.get s k)) ≡ counts true = ap counts h in
       omega (arith, change, one)
 
-  -- Once a new number leads to a slot that was vacant, each number still has a slot of its own, and no other slot is in
-  -- use (IsArena). One slot more than before is in use.
+  -- once a new number leads to a slot that was vacant, and one slot more than before is in use, each number still has a
+  -- slot of its own, and no other slot is in use (IsArena)
   pub IsArena-added : (i : FinMap nat_cmp ℕ) (s t : slab.Slab V) (n k : ℕ) (x : V) → slab.Updates s t k (Some x)
       → slab.get s k ≡ None → slab.slab_len t ≡ slab.slab_len s + 1 → get i n ≡ None → IsArena i s
       → IsArena (insert i n k) t
