@@ -11,7 +11,8 @@ list_after_copy xs from to at l =
     ap (drop at) (append_assoc (take at xs) (take (to - from) (drop from xs)) (drop (at + (to - from)) xs))
     ∙ drop_at (take at xs) (take (to - from) (drop from xs) ++ drop (at + (to - from)) xs) at (length-take-le at xs l)
 
--- xs has all elements of the vector: first the `free` unused ones, then the list, in which `position` is an index
+-- xs has all elements of the vector: first the `free` unused ones, then the list. `position` is an index of the list,
+-- or, except in `closed`, its length.
 module _ {A : Type 0} (xs : List A) (free position : ℕ) where
   -- for closed and opened: index `free + position` of the vector, less its `free` unused elements, is index `position`
   -- of the list that follows them

@@ -1,6 +1,7 @@
--- Laws of an arena: a map i from numbers to slots, and a slab s of values in these slots, are a map of values. t is the
--- slab after a change, k a slot, and n a number that leads to it. x (or w) is the value that the slot k gets, m the map
--- of values, o a slot or None, and q any number.
+-- Laws of an arena: a map i from numbers to slots, and a slab s of values in these slots, are a map of values. Most
+-- laws on it suppose that each number has a slot of its own (`HaveOwnSlots`). t is the slab after slot k alone changed,
+-- or with the same values. n is a number that leads to k, x (or w) the value that k gets, m the map of values, o a slot
+-- or None, and q any number.
 use Rattle.std.proofs.Common.{◌≡◌, ◌≢◌, ℕ, ◌+◌, ◌-◌, ◌<◌, Bool, true, false, cond, List, [], ◌∷◌, length, Option, Some, None, ◌⊎◌, inl, inr, refl, sym, ap, ◌∙◌, arith}
 use Rattle.std.specs.Prelude.{count_by, is_some, Result, Ok, Err, OnErr}
 use Rattle.std.proofs.lemmas.Bool.{false≢true, and_parts, cases_eq, cases_lt}
@@ -58,11 +59,11 @@ module _ {V : Type 0} where
       ∙ ap (cond (eq_by_cmp nat_cmp q e.0) (slab.get s e.1)) (find_slot_entry s q es h.1)
       ∙ value_in_slot_cond (eq_by_cmp nat_cmp q e.0) s e.1 (find nat_cmp q es)
 
-  -- each slot to which a number of the index leads has a value, if each number has a slot of its own
+  -- each slot to which a number of the index leads has a value
   pub all_in_use : (i : FinMap nat_cmp ℕ) (s : slab.Slab V) → HaveOwnSlots i s → AreInUse (entries i) s
   all_in_use i s held = each-from_every (λ n k. is_some (slab.get s k) ≡ true) i held.in_use
 
-  -- where each number has its own slot, the map of values has under a number the value in the number's slot
+  -- the map of values has under a number the value in the number's slot, and nothing where it has no slot
   pub get_values : (i : FinMap nat_cmp ℕ) (s : slab.Slab V) → HaveOwnSlots i s → (q : ℕ)
       → get (values_of i s) q ≡ value_in_slot s (get i q)
   get_values i s held q =
@@ -70,7 +71,7 @@ module _ {V : Type 0} where
       ∙ find_slot_entry s q (entries i) (all_in_use i s held)
       ∙ ap (value_in_slot s) (sym (get-entries i q))
 
-  -- what the slab has in the slot to which number n leads is what the map of values has under n
+  -- what the slab has in o, the slot to which number n leads, is what the map m of values has under n
   pub value_under : (i : FinMap nat_cmp ℕ) (s : slab.Slab V) (m : FinMap nat_cmp V) (n : ℕ) (o : Option ℕ)
       → HaveOwnSlots i s → values_of i s ≡ m → o ≡ get i n → value_in_slot s o ≡ get m n
   value_under i s m n o held is there = ap (value_in_slot s) there ∙ sym (get_values i s held n) ∙ ap (λ v. get v n) is
@@ -241,8 +242,8 @@ module _ {V : Type 0} where
       let one : counts (is_some (slab.get s k)) ≡ counts true = ap counts h in
       omega (arith, change, one)
 
-  -- once a new number leads to a slot that was vacant, each number still has a slot of its own, and no other slot is in
-  -- use (IsArena)
+  -- once a new number leads to a slot that was vacant, and one slot more than before is in use, each number still has a
+  -- slot of its own, and no other slot is in use (IsArena)
   pub IsArena-added : (i : FinMap nat_cmp ℕ) (s t : slab.Slab V) (n k : ℕ) (x : V) → slab.Updates s t k (Some x)
       → slab.get s k ≡ None → slab.slab_len t ≡ slab.slab_len s + 1 → get i n ≡ None → IsArena i s
       → IsArena (insert i n k) t
@@ -251,7 +252,7 @@ module _ {V : Type 0} where
       let size : len (insert i n k) ≡ len i + 1 = len-insert nat_cmp_total i n k ∙ ap (λ o. cond (is_some o) (len i) (len i + 1)) fresh in
       record { slots_used = HaveOwnSlots-added i s t n k x u vacant held.slots_used; none_idle = omega (arith, same, size, more) }
 
-  -- the arena's invariant still holds once number n and the value in its slot are removed
+  -- the arena's invariant still holds once number n and the value in its slot are removed, and one slot less is in use
   pub IsArena-removed : (i : FinMap nat_cmp ℕ) (s t : slab.Slab V) (n k : ℕ) → slab.Updates s t k None
       → slab.slab_len t + 1 ≡ slab.slab_len s → get i n ≡ Some k → IsArena i s → IsArena (remove i n) t
   IsArena-removed i s t n k u less is held =

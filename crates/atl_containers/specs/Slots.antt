@@ -17,7 +17,7 @@ module _ {V : Type 0} where
   slot_entries [] s = []
   slot_entries (e ∷ es) s = slot_entry_at e.0 (slab.get s e.1) (slot_entries es s)
 
-  -- the map from the numbers of index i to the values in their slots
+  -- the map from the numbers of index i to the values in their slots, without a number whose slot has no value
   abbrev pub values_of : FinMap nat_cmp ℕ → slab.Slab V → FinMap nat_cmp V
   values_of i s = from_entries (slot_entries (entries i) s)
 

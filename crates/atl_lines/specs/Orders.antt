@@ -113,7 +113,7 @@ read_order world verb ws = do
 
 -- ---- orders that the code returns, in which a name is a span of the text
 
--- the name that a span of a text means: in a span without quotes `_` is a space
+-- the name that a span of a text means, as far as the text has the span: in a span without quotes `_` is a space
 abbrev pub name_in : List ℕ → Span → List ℕ
 name_in text span = name_of (slice_range text span.start span.end) span.quoted
 

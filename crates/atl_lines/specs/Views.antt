@@ -11,7 +11,7 @@ use Rattle.atl_world.specs.Steps.{◌>>=◌}
 use Rattle.atl_lines.specs.Orders.{order_value}
 use Rattle.atl_lines.specs.Reading.{Effect, nothing, faulty, says, LineStep, step}
 
--- a result with its value mapped by the function; a fault stays
+-- a result with `view` applied to its value; a fault stays
 abbrev pub view_of_result : {X Y : Type 0} → (X → Y) → Result X LineFault → Result Y LineFault
 view_of_result view (Ok x) = Ok (view x)
 view_of_result view (Err e) = Err e

@@ -85,8 +85,8 @@ abbrev pub LinesRise : ℕ → List EntryValue → Type 0
 LinesRise n [] = Unit {0}
 LinesRise n (e ∷ es) = (n < e.line) × LinesRise e.line es
 
--- a mailing as read is in bounds: its faction is from 1 to 9,999, its orders are as `IsEntry` says, and their line
--- numbers are above 0 and strictly ascending
+-- A mailing as read is in bounds: its faction is from 1 to 9,999, and each order has operands of its verb's shape, in
+-- bounds (`IsEntry`). The line numbers of the orders are above 0 and strictly ascending.
 pub record IsReading (world : WorldValue) (r : Reading) : Type 0 where
   pub faction : IsWithin last_faction r.faction
   pub entries : All (IsEntry world) r.entries

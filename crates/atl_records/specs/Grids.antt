@@ -15,11 +15,11 @@ pub record IsGrid (rows : List (List ℤ)) : Type 0 where
 abbrev pub row_of : List (List ℤ) → Thing → List ℤ
 row_of rows t = slice_index_or rows (thing_index t) []
 
--- the amount in an account's row and column (its thing and its entry), 0 for a thing without a row
+-- the amount in an account's row and column (its thing and its entry), 0 where there is none
 abbrev pub cell : List (List ℤ) → Account → ℤ
 cell rows a = slice_index_or (row_of rows a.1) (entry_index a.0) (pos 0)
 
--- the rows with another amount in the row and column of an account (its thing and its entry)
+-- the rows with another amount in the row and column of an account (its thing and its entry), if they are there
 abbrev pub with_cell : List (List ℤ) → BooksEntry → Thing → ℤ → List (List ℤ)
 with_cell rows e t amount = slice_set rows (thing_index t) (slice_set (row_of rows t) (entry_index e) amount)
 
@@ -36,11 +36,11 @@ abbrev pub with_amounts : (Account → ℤ) → List Account → BooksValue → 
 with_amounts amount [] books = books
 with_amounts amount (a ∷ others) books = with_amount (with_amounts amount others books) a.0 a.1 (amount a)
 
--- the books that the code's rows mean: a thing for each row, and the amount of each account in its cell
+-- the books that the code's rows mean: a thing for each row, and the amount of each account in its cell, unless it is 0
 unfoldable pub as_books : List (List ℤ) → BooksValue
 as_books rows =
     record { things = length rows; amounts = (with_amounts (cell rows) (accounts (length rows)) (no_amounts (length rows))).amounts }
 
--- the accounts of a list (each an entry with a thing) with their amounts, without those whose amount is 0
+-- the accounts `chosen` (each an entry with a thing) with what `amount` gives for them, without those where it gives 0
 abbrev pub listed_of : (Account → ℤ) → List Account → List (Account × ℤ)
 listed_of amount chosen = filter (λ x. not (is_zero x.1)) (map (λ a. (a, amount a)) chosen)

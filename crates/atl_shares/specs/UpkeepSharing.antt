@@ -90,7 +90,7 @@ pub record CanSpare (upkeep_result : UpkeepResult) (men money : ℕ) : Type 0 wh
   pub paid : upkeep_result.paid ≤ money
   pub starved : upkeep_result.starved ≤ men
 
--- the law that upkeep takes no more from any unit than its money and its men
+-- the law that upkeep takes no more from any unit than its money and its men, whatever the maintenance and the `peers`
 abbrev pub EachCanSpare : Type 0
 EachCanSpare =
     (maintenance : ℕ) (peers : List UpkeepInput) (input : UpkeepInput) →

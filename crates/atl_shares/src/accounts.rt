@@ -49,7 +49,7 @@ fn put_account(
 }
 
 /// Sets the account of the faction of a unit (`input`) in the unit's region, if its units are
-/// short of money. After an AllocError the accounts are no longer valid.
+/// short of money, and else nothing. After an AllocError the accounts are no longer valid.
 pub(crate) fn put_if_short(
     alloc: Global,
     accounts: &mut Accounts,

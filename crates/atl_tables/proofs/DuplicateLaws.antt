@@ -85,7 +85,7 @@ module _ {A : Type 0} (title : A → List ℕ) where
       later_names_differ [] all
       (λ k x e. let same : 0 + k ≡ k = omega arith in no_duplicate array key all k x (rw same at (element_has_no_fault (no_duplicate_before title array key all) 0 all h k x e)))
 
--- if f keeps the name of each element, it keeps the names of a list; n gives the names before f, m those after it
+-- if f keeps the name of every x of type A, it keeps the names of a list; n gives the names before f, m those after it
 pub names_kept : {A B : Type 0} (f : A → B) (n : A → List ℕ) (m : B → List ℕ) → ((x : A) → m (f x) ≡ n x)
     → (xs : List A) → map m (map f xs) ≡ map n xs
 names_kept f n m h [] = refl

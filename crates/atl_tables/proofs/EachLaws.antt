@@ -24,7 +24,7 @@ module _ {A : Type 0} (conditions : ℕ → A → Conditions) where
         subst (IsFaultOrMemory e) so_far
         (error_of_first_list_is_of_joined e (conditions i x) (conditions_on_each conditions (i + 1) xs) one)
 
-  -- in a loop over the indices of a list: x is the i-th element, and the first fault from x on is that of all elements
+  -- in a loop over the indices of a list: x is the i-th element, and `total`, the first fault of all, is that from x on
   module _ (xs : List A) (i : ℕ) (x : A) (total : Option WorldFault) (below : i < length xs) (here : x ≡ get_or xs i x) (so_far : first_fault (conditions_on_each conditions i (drop i xs)) ≡ total) where
     fault_from_index_is_of_all : first_fault (conditions_on_each conditions i (x ∷ drop (i + 1) xs)) ≡ total
     fault_from_index_is_of_all =

@@ -31,7 +31,7 @@ seen_more m v ds i d below here seen n =
     ∙ ap (λ b. some_region_has_number n (take i ds) || b) (unsigned_tied n d.basics.number ∙ ap (λ (e : RegionDraft). n == e.basics.number) here)
     ∙ sym (list_any_more (λ e. n == e.basics.number) ds i d below)
 
--- the fault of a region's number: TwoNames if a region before it has the number, else none
+-- the fault of a region's number: TwoNames if a region before it has the number, as b says, else none
 pub duplicate_number_fault : (all : List RegionDraft) (i : ℕ) (d : RegionDraft) (b : Bool)
     → some_region_has_number d.basics.number (take i all) ≡ b
     → first_fault (duplicate_number_at all i d)

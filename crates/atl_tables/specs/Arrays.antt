@@ -1,4 +1,5 @@
--- Arrays of tables of the world file: the conditions on their elements, and the list of values that they give.
+-- Arrays of tables of the world file: the conditions on their elements, and the list of values that they give. `key` is
+-- the path of an array. `conditions` gives the conditions on a table by its path and members, `record_of` its value.
 use Rattle.std.specs.Prelude.{ℕ, ◌+◌, List, [], ◌∷◌, ◌++◌, Result}
 use Rattle.toml.specs.Data.{Data, Items, no_items, item, Members, no_members, as_table}
 use Rattle.atl_tables.specs.Faults.{Conditions, fault_of, value_or}
@@ -10,26 +11,26 @@ abbrev pub element_table : List ℕ → Data → Members
 element_table at d = value_or no_members (value_or_wrong_type at (as_table d))
 
 -- The conditions on one element of an array, where `at` is the element's path: it is a table, else the fault WrongType;
--- and then those that `conditions` gives for the path and the table (`element_table`).
+-- and then those that `conditions` gives for the table (`element_table`).
 abbrev pub element_conditions : (List ℕ → Members → Conditions) → List ℕ → Data → Conditions
 element_conditions conditions at d = fault_of (value_or_wrong_type at (as_table d)) ∷ conditions at (element_table at d)
 
--- the conditions on the elements of an array from the index i on, in their order; `key` is the path of the array
+-- the conditions on the elements of an array from the index i on, in their order (`element_conditions`)
 abbrev pub elements_conditions : (List ℕ → Members → Conditions) → List ℕ → ℕ → Items → Conditions
 elements_conditions conditions key i no_items = []
 elements_conditions conditions key i (item d ds) =
     element_conditions conditions (element_path key i) d
     ++ elements_conditions conditions key (i + 1) ds
 
--- the values that `record_of` gives for the path and the table of each element of an array, from the index i on; `key`
--- is the path of the array
+-- the values of the elements of an array from the index i on, each by its path and its table (`element_table`)
 abbrev pub elements_of : {A : Type 0} → (List ℕ → Members → A) → List ℕ → ℕ → Items → List A
 elements_of record_of key i no_items = []
 elements_of record_of key i (item d ds) =
     record_of (element_path key i) (element_table (element_path key i) d)
     ∷ elements_of record_of key (i + 1) ds
 
--- the conditions on an array, given the result of reading its key: the result is no fault, and no element has a fault
+-- The conditions on an array, given the result of reading its key: the result is no fault, and then those on each
+-- element. Where the result is a fault, there are no elements.
 unfoldable pub list_conditions : (List ℕ → Members → Conditions) → List ℕ → Result Items WorldFault → Conditions
 list_conditions conditions key items = fault_of items ∷ elements_conditions conditions key 0 (value_or no_items items)
 

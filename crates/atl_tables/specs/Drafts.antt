@@ -110,7 +110,7 @@ pub record AreRegionBasics (p : RegionBasics) : Type 0 where
   pub peasants : p.peasants ≤ most_amount
   pub money : p.money ≤ most_amount
 
--- a table `[[region]]` of the first format has its basics (number, name, peasants, money) in their ranges
+-- a region of the first format has number, peasants and money in their ranges, and a name that keeps the rule of names
 pub record IsOldRegion (r : OldRegion) : Type 0 where
   pub basics : AreRegionBasics r.basics
 
@@ -123,7 +123,8 @@ pub record IsMarketDraft (d : MarketDraft) : Type 0 where
   pub limit : d.limit ≤ most_amount
   pub restock : d.restock ≤ most_amount
 
--- a table `[[region]]` of the second format has its basics, and the numbers of its markets, in their ranges
+-- a region of the second format has its number, peasants, money and the numbers of its markets in their ranges, and a
+-- name that keeps the rule of names
 pub record IsRegionDraft (d : RegionDraft) : Type 0 where
   pub basics : AreRegionBasics d.basics
   pub markets : All IsMarketDraft d.markets
@@ -138,8 +139,8 @@ pub record AreOptionalTables (t : OptionalTables) : Type 0 where
   pub few_skills : length t.skills ≤ most_skills
   pub few_kinds : length t.kinds ≤ most_kinds
 
--- all tables of a world file have names that keep the rule of names, numbers in their ranges, and no more of each than
--- a world may have
+-- All tables of a world file have names that keep the rule of names, and numbers in their ranges, except those of
+-- neighbours. There are no more of each than a world may have.
 pub record IsWorldDraft (t : WorldDraft) : Type 0 where
   pub rules : AreRulesDraft t.rules
   pub terrains : All IsTerrainDraft t.terrains

@@ -14,7 +14,7 @@ use Rattle.atl_tables.specs.declared.world_draft.WorldDraft.{WorldDraft}
 use Rattle.atl_world.specs.declared.world.Item.{Item}
 
 -- reads the keys of a table `[[item]]` for what making an item takes: skill, level, raw item and its count. Each may be
--- missing; level and count are 1 then.
+-- missing; skill and raw item are None then, level and count 1.
 unfoldable pub making_at : TableReader Recipe
 making_at = do
   skill ← optional_text_key (codes "skill")
@@ -54,7 +54,7 @@ item_known all i d =
     (λ name. other_than i (item_number all name)) d.making.raw
     ∷ []
 
--- the item that a table `[[item]]` describes, with its skill and its raw item by number, None for an unknown name
+-- the item that a table `[[item]]` describes, with skill and raw item by number, None for a missing or an unknown name
 unfoldable pub item_of : WorldDraft → ItemDraft → Item
 item_of all d = record {
   name = d.name;

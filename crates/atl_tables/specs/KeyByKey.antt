@@ -23,7 +23,7 @@ conditions_of table at t = (table at t).conditions
 abbrev pub value_of : {A : Type 0} → TableReader A → List ℕ → Members → A
 value_of table at t = (table at t).value
 
--- reads some keys, and then further keys; how the further ones are read may depend on the value of the first
+-- reads the keys of `first`, and then those of `next`, which may depend on the value that `first` gives
 infixl 10 ◌>>=◌
 abbrev pub ◌>>=◌ : {A B : Type 0} → TableReader A → (A → TableReader B) → TableReader B
 first >>= next = λ at t. record {

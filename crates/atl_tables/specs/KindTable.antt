@@ -24,7 +24,7 @@ building_needs_at = do
   value_only (record { material = material; size = size; skill = skill; level = level })
 
 -- reads the keys of a table `[[kind]]` for what a structure is good for: capacity, crew and the skill that it helps.
--- Each may be missing; capacity and crew are 0 then.
+-- Each may be missing; capacity and crew are 0 then, and the skill is None.
 unfoldable pub purpose_at : TableReader Purpose
 purpose_at = do
   capacity ← number_or_key 0 0 most_amount (codes "capacity")
@@ -60,7 +60,7 @@ kind_known all i d =
     ∷ []
 
 -- the kind of structure that a table `[[kind]]` describes, with its material and skills by number. For an unknown name
--- `material` and `skill` are 0, and `helps` is None.
+-- `material` and `skill` are 0; `helps` is None for a missing or an unknown one.
 unfoldable pub kind_of : WorldDraft → KindDraft → Kind
 kind_of all d = record {
   name = d.name;

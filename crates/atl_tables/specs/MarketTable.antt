@@ -33,8 +33,8 @@ limit_at = number_at 0 most_amount (codes "limit")
 abbrev pub restock_at : KeyReader ℕ
 restock_at = number_at 0 most_amount (codes "restock")
 
--- the conditions on the keys `item`, `price`, `pays`, `limit` and `restock` of the table `[[region.market]]` at a path:
--- none is missing, and each has its type and keeps its range or the rule of names
+-- The conditions on the keys `item`, `price`, `pays`, `limit` and `restock` of the table `[[region.market]]` at a path.
+-- None is missing, each has its type, and the numbers are in their ranges.
 unfoldable pub market_keys : List ℕ → Members → Conditions
 market_keys at t =
     fault_of (text_at (codes "item") at t)

@@ -18,16 +18,16 @@ abbrev pub equals_number : ℕ → Option ℕ → Bool
 equals_number n None = false
 equals_number n (Some m) = m == n
 
--- the fault BadNeighbour at the path p, if the region `number` has a neighbour on one side, and that neighbour doesn't
--- have this region on its side `opposite`; else None
+-- the fault BadNeighbour at the path p, if the region `number` has a neighbour (Some) that isn't among the `regions`,
+-- or doesn't have this region on its side `opposite`; else None
 abbrev pub neighbour_fault : List ℕ → FinMap nat_cmp RegionPlan → Direction → ℕ → Option ℕ → Option WorldFault
 neighbour_fault p regions opposite number None = None
 neighbour_fault p regions opposite number (Some m) =
     if equals_number number (option_and_then (neighbour_to opposite) (get regions m)) then None
     else Some (BadNeighbour p)
 
--- the conditions that the neighbour of the i-th region in the north, south, east and west, in this order, if there is
--- one, has this region on its opposite side
+-- The conditions on the neighbour, if there is one, of the i-th region, d, in the north, south, east and west, in this
+-- order. It is among the `regions`, and has this region on its opposite side.
 unfoldable pub neighbours_at : FinMap nat_cmp RegionPlan → ℕ → RegionDraft → Conditions
 neighbours_at regions i d =
     neighbour_fault (path (element_path (codes "region") i) (codes "north")) regions South d.basics.number d.sides.north

@@ -22,7 +22,9 @@ world_parts_of all = record {
   regions = map (region_of all) all.regions;
 }
 
--- the parts of a world are in their ranges, and refer only to terrains, items and skills that the file has
+-- The parts p of a world have names that keep the rule of names, and numbers in their ranges. Each terrain has an
+-- output of every item of the tables `all`. The parts refer only to terrains, items and skills that `all` have, and no
+-- item to itself.
 pub record AreWorldPartsOf (all : WorldDraft) (p : WorldParts) : Type 0 where
   pub rules : AreRules (length all.skills) p.rules
   pub terrains : EachIndex (λ i x. IsTerrain (length all.items) x) p.terrains

@@ -28,8 +28,8 @@ peasants_at = number_at 0 most_amount (codes "peasants")
 abbrev pub money_at : KeyReader ℕ
 money_at = number_at 0 most_amount (codes "money")
 
--- the conditions on the keys `number`, `name`, `terrain`, `peasants` and `money` of the table `[[region]]` at a path:
--- none is missing, and each has its type and keeps its range or the rule of names
+-- The conditions on the keys `number`, `name`, `terrain`, `peasants` and `money` of the table `[[region]]` at a path.
+-- None is missing, each has its type, numbers are in their ranges, and `name` keeps the rule of names.
 unfoldable pub basics_keys : List ℕ → Members → Conditions
 basics_keys at t =
     fault_of (region_number_at at t)

@@ -40,7 +40,7 @@ men_rules_at = do
   man_carry ← number_key 0 most_weight (codes "man_carry")
   value_only (record { start_money = start_money; man_weight = man_weight; man_carry = man_carry })
 
--- reads the keys of the table `[rules]` that name the skills of observation, stealth and sailing; each may be missing
+-- reads the keys of the table `[rules]` that name the skills of observation, stealth and sailing; a missing one is None
 unfoldable pub skill_names_at : TableReader SkillNames
 skill_names_at = do
   observation ← optional_text_key (codes "observation")

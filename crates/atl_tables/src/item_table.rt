@@ -1,5 +1,6 @@
 //! Reads the tables `[[item]]` and looks up the skills and raw items that they name. A call that
-//! may return a fault may also return `Memory`. See docs/FORMATS.md, "The world file".
+//! may return a fault may also return `Memory`. `at` is the path of the table. See docs/FORMATS.md,
+//! "The world file".
 ghost use Rattle.std.specs.Prelude.{◌≡◌, ◌≢◌, ◌≤◌, ◌<◌, codes, length, IfOk, IfSome, Some, option_and_then};
 ghost use Rattle.atl_tables.specs.Drafts.{IsRecipe, IsItemDraft};
 ghost use Rattle.atl_tables.specs.Results.{Gives};
@@ -54,8 +55,6 @@ impl Drop for ItemDraft {
     }
 }
 
-/// Reads the keys `skill`, `level`, `raw` and `raw_count` of a table `[[item]]`: what making one
-/// takes.
 impl FromTable for Recipe {
     ghost conditions = { conditions_of making_at };
 

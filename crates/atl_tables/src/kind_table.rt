@@ -60,8 +60,6 @@ impl Drop for KindDraft {
     }
 }
 
-/// Reads the keys `material`, `size`, `skill` and `level` of a table `[[kind]]`: what building a
-/// structure takes.
 impl FromTable for BuildingNeeds {
     ghost conditions = { conditions_of building_needs_at };
 
@@ -84,8 +82,6 @@ impl FromTable for BuildingNeeds {
     }
 }
 
-/// Reads the keys `capacity`, `crew` and `helps` of a table `[[kind]]`, all of which may be
-/// missing.
 impl FromTable for Purpose {
     ghost conditions = { conditions_of purpose_at };
 

@@ -36,7 +36,7 @@ fn equals_number(number: u32, other: Option<u32>) -> bool
 }
 
 /// Checks the side `key` of the i-th region, which has the number `number`: the neighbour `other`,
-/// if there is one, must have this region on its side `opposite`.
+/// if there is one, must be among the `regions`, and have this region on its side `opposite`.
 fn check_neighbour(
     alloc: Global,
     i: usize,
@@ -83,9 +83,9 @@ fn neighbours_of(
     check_neighbour(alloc, i, "west", regions, East, number, sides.west)
 }
 
-/// Checks that each neighbour of each region has the region on its opposite side, else gives the
-/// fault BadNeighbour at the first side whose neighbour hasn't. The regions are in the order of the
-/// file, the sides of each in the order north, south, east, west.
+/// Checks that each neighbour of a region is among `regions` and has that region on its opposite
+/// side, else gives the fault BadNeighbour at the first side where this fails. `drafts` are in the
+/// order of the file, the sides of each in the order north, south, east, west.
 pub(crate) fn mutual_neighbours(
     alloc: Global,
     regions: &Numbered<RegionPlan>,

@@ -75,7 +75,6 @@ impl Drop for RegionDraft {
     }
 }
 
-/// Reads the keys of a table `[[region]]` for number, name, terrain, peasants and money.
 impl FromTable for RegionBasics {
     ghost conditions = { basics_keys };
 

@@ -76,7 +76,6 @@ pub struct RulesDraft {
     pub skills: SkillNames,
 }
 
-/// Reads the keys `maintenance`, `tax_per_man` and `recruit_price` of the table `[rules]`.
 impl FromTable for Prices {
     ghost conditions = { conditions_of prices_at };
 
@@ -97,7 +96,6 @@ impl FromTable for Prices {
     }
 }
 
-/// Reads the keys `recruit_fraction`, `growth` and `income` of the table `[rules]`.
 impl FromTable for PeasantRules {
     ghost conditions = { conditions_of peasant_rules_at };
 
@@ -125,7 +123,6 @@ impl FromTable for PeasantRules {
     }
 }
 
-/// Reads the keys `start_money`, `man_weight` and `man_carry` of the table `[rules]`.
 impl FromTable for MenRules {
     ghost conditions = { conditions_of men_rules_at };
 

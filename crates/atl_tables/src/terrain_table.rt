@@ -48,7 +48,6 @@ impl Drop for TerrainDraft {
     }
 }
 
-/// Reads the keys `wage`, `places`, `money_limit` and `peasant_limit` of a table `[[terrain]]`.
 impl FromTable for Economy {
     ghost conditions = { conditions_of economy_at };
 

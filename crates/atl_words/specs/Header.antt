@@ -24,7 +24,8 @@ abbrev pub header_line : ℕ → List (List ℕ) → Option ℕ → Result Heade
 header_line n rest None = Err BadHeader
 header_line n rest (Some faction) = Ok (record { faction = faction; next = n + 1; rest = rest })
 
--- what the first header in a list of lines gives, else NoHeader or BadHeader; the first line has the number n
+-- What the first header in a list of lines gives, BadHeader if it names no faction, and NoHeader without a header. The
+-- first line has the number n.
 unfoldable pub header_from : ℕ → List (List ℕ) → Result HeaderValue MailFault
 header_from n [] = Err NoHeader
 header_from n (line ∷ rest) =

@@ -25,7 +25,8 @@ is_quote b = b == quote
 abbrev pub ends_word : ℕ → Bool
 ends_word b = is_blank b || is_quote b || b == semicolon
 
--- the words of a part of a line after its first `skip` bytes, which belong to the word before
+-- The words of a part of a line after its first `skip` bytes, which belong to the word before. A word in quotes ends at
+-- the next quote, or with the line.
 unfoldable pub words_after : ℕ → List ℕ → List WordText
 words_after skip [] = []
 words_after (suc skip) (b ∷ bs) = words_after skip bs

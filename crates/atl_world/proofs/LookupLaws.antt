@@ -1,6 +1,6 @@
 -- Laws of the test whether a word means a name, byte by byte and ignoring ASCII case. In a word without quotes (the
 -- flag `quoted` is false) `_` means a space. `name` and `word` are the bytes of the name and of the word, and i is an
--- index of a byte in both.
+-- index of a byte in both, or in `end_of_both` past both ends.
 use Rattle.std.proofs.Common.{◌≡◌, ◌≢◌, ℕ, suc, ◌+◌, ◌<◌, ◌≤◌, Bool, true, false, ◌&&◌, eqb, List, [], ◌∷◌, length, get_or, drop, map, refl, sym, ap, ◌∙◌}
 use Rattle.std.specs.Str.{str_eq_ignore_ascii_case}
 use Rattle.std.specs.Char.{to_ascii_lowercase, eq_ignore_ascii_case}

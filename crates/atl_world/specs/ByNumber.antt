@@ -17,7 +17,7 @@ terrain_of w region = option_and_then (λ p. slice_get w.terrains p.terrain) (ge
 abbrev pub is_land_at : WorldValue → (region : ℕ) → Bool
 is_land_at w region = option_map_or (is_land w.terrains) (get w.regions region) false
 
--- the number of the region next to a region in a direction, None if there is none
+-- the number of the region next to a region in a direction; None if there is no such region, or none next to it there
 abbrev pub neighbour : WorldValue → (region : ℕ) → Direction → Option ℕ
 neighbour w region direction = option_and_then (neighbour_to direction) (get w.regions region)
 

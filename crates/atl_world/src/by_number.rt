@@ -32,14 +32,15 @@ impl World {
         }
     }
 
-    /// The number of the region next to a region in a direction, `None` if there is none.
+    /// The number of the region next to a region in a direction; `None` if there is no such region,
+    /// or none next to it there.
     pub fn neighbour(&self, region: u32, direction: Direction) -> Option<u32>
         ensures { result ≡ neighbour self.now region direction }
     {
         self.region(region)?.neighbour_to(direction)
     }
 
-    /// The market of an item in a region, both by number; `None` if the region has no such market.
+    /// The market of an item in a region, both by number; `None` without such a region or market.
     pub fn market(&self, region: u32, item: u16) -> Option<&Market>
         ensures value { option_copied result ≡ market_of self.now region item }
         ensures bounds { IfSome result

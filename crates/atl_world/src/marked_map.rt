@@ -63,8 +63,8 @@ impl<V: Drop> MarkedMap<V> {
         self.values.get(number)
     }
 
-    /// Marks a number that has a value, and lends the value to be changed; `None` without one. It
-    /// takes no memory.
+    /// Marks a number that has a value, and lends the value to be changed; `None` without one, and
+    /// nothing changes. It takes no memory.
     pub fn get_mut(&mut self, number: u32) -> Option<&mut V>
         ensures* writes_back { sem 𝓛 (WritesBackMarked V.row self.entry number result) }
         ensures value { option_copied_mut result ≡ map.get self.old.values number }
