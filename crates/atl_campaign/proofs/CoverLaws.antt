@@ -108,7 +108,6 @@ unmarked_differs_from_put marks n k free same = absurd (true≢false (sym (put_t
 
 -- ---- things of units and regions: `goods` has those all of whose things are marked, `things` has the single marks
 
--- for whole_stays and thing_stays: if a implies b, and c implies d, `a || c` implies `b || d`
 both_stay : (a b c d : Bool) → (a ≡ true → b ≡ true) → (c ≡ true → d ≡ true) → (a || c) ≡ true → (b || d) ≡ true
 both_stay true b c d one two h = ap (λ x. x || d) (one refl)
 both_stay false b c d one two h = ap (λ x. b || x) (two h) ∙ or-true b
@@ -391,7 +390,6 @@ module _ (of : Region → ℕ) (f : Region → Region) (x : ℕ) (same : (r : Re
   marks-region : MarksChanges c (record { value = region_changed f c.value n; marks = mark_region of c n x })
   marks-region = by_number (option_map_or of (get c.value.regions n) 0 == x) refl
     where
-      -- for marks-region: all that changes is marked, whether the region has the number x already (b) or not
       by_number : (b : Bool) → (option_map_or of (get c.value.regions n) 0 == x) ≡ b
           → MarksChanges c (record { value = region_changed f c.value n; marks = record c.marks { regions = marked_with c.marks.regions n (if b then None else get c.value.regions n) } })
       by_number true was =

@@ -23,12 +23,10 @@ use Rattle.atl_campaign.specs.Roster.{Roster, unit_if_other_amount, with_item_at
 
 -- ---- what is marked
 
--- for within_both: if c implies d, `b || c` implies `b || d`
 or_keeps_implication : (b c d : Bool) → (c ≡ true → d ≡ true) → (b || c) ≡ true → (b || d) ≡ true
 or_keeps_implication true c d h e = refl
 or_keeps_implication false c d h e = h e
 
--- for within_things: if o being Some implies d, `cond b (Some v) o` being Some implies `b || d`
 either_there : {V : Type 0} (b : Bool) (v : V) (o : Option V) (d : Bool) → (is_some o ≡ true → d ≡ true)
     → is_some (cond b (Some v) o) ≡ true → (b || d) ≡ true
 either_there true v o d h e = refl
