@@ -25,8 +25,8 @@ fn first_other(numbers: &[u32], leaving: u32) -> u32
 
 impl Campaign {
     /// The owner of a structure once a unit has left it; 0 where there is no such structure. If the
-    /// unit didn't own it, the owner stays; else it is the next one. It takes no memory. See
-    /// docs/RULES.md, "Owners".
+    /// unit didn't own it, the owner stays; else it is the lowest-numbered other unit inside, or 0
+    /// where there is none. It takes no memory. See docs/RULES.md, "Owners".
     pub fn owner_after(&self, structure: u32, leaving: u32) -> u32
         ensures { result ≡ owner_after self.now.value structure leaving }
     {
