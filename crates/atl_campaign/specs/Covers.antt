@@ -106,7 +106,8 @@ pub record StayMarked (before after : Marks) : Type 0 where
   pub books : StaysMarked before.books after.books
   pub row : before.row ≡ true → after.row ≡ true
 
--- from one marked campaign to another no mark is lost, and all that changed is marked
+-- from one marked campaign to another no mark is lost, and all that changed is marked. How many things the books have,
+-- and whether a 0 is listed as a stock or an amount of the books, needs no mark.
 pub record MarksChanges (before after : MarkedCampaign) : Type 0 where
   pub stay : StayMarked before.marks after.marks
   pub covers : Covers after.marks before.value after.value
