@@ -1,7 +1,7 @@
 -- Laws of change marks: each change of a campaign marks all that it changes, and so do several changes in turn.
 -- `MarksChanges c d` says that from the marked campaign c to d no mark is lost, and all that changed is marked, though
--- not whether a stock of 0 is listed. In a law of one change, c is the campaign before it, the record that after it, and
--- n the number of what changes. Where c has no faction or region n, nothing changes and nothing is marked.
+-- not whether a 0 is listed. In a law of one change, c is the campaign before it, the record that after it, and n the
+-- number of what changes. Where c has no faction or region n, nothing changes and nothing is marked.
 -- In laws of several changes, a, b and c are the campaign, or its marks, at moments in turn. A unit's goods are its
 -- items and days of study. A thing of a unit or region is an item, a skill, or an item in stock, by its number.
 use Rattle.std.proofs.Common.{◌≡◌, ◌≢◌, ◌==◌, ◌||◌, ℕ, Bool, true, false, if◌then◌else◌, Option, Some, None, refl, sym, ap, ◌∙◌, subst, inl, inr, arith, true≢false}
@@ -321,7 +321,7 @@ pub marks-refl : (a : MarkedCampaign) → MarksChanges a a
 marks-refl a = part_by_part a a (λ p k h. h) (λ p k free. refl)
 
 -- P holds of the map after f changed the value under n, if any, and of that value before. This supposes that P holds of
--- the map as it is with None, and of the map with `f v` under n with `Some v`, where v is n's value.
+-- the map as it is and None, and of the map with `f v` under n and `Some v`, where v is n's value.
 pub holds_of_changed : {V : Type 0} (P : FinMap nat_cmp V → Option V → Type 0) (f : V → V) (values : FinMap nat_cmp V) (n : ℕ)
     → P values None → ((v : V) → get values n ≡ Some v → P (map.insert values n (f v)) (Some v))
     → P (with_changed_value f values n) (get values n)

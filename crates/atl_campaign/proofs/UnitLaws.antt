@@ -210,8 +210,8 @@ HasRoom-added : (units : FinMap nat_cmp Unit) (marks more : RoomySet) (n : ℕ) 
 HasRoom-added units marks more n w h =
     Room-inserted units more.numbers more.room n w (room_inserted units marks more n w h)
 
--- the units' invariant (AreUnits) still holds once unit w is put under n, which may be new or not, and n is marked in
--- the dirty sets marks2, rows2 and goods2, which have room for one unit more (IsWider)
+-- The units' invariant (AreUnits) still holds once unit w is put under n, new or not, and n is marked. The dirty sets
+-- are then marks2, rows2 and goods2, which have room for one unit more than before (IsWider).
 pub AreUnits-added : (units : FinMap nat_cmp Unit) (marks rows goods marks2 rows2 goods2 : RoomySet) (items skills : MarkedThings) (n : ℕ) (w : Unit)
     → IsWider units marks marks2 → IsWider units rows rows2 → IsWider units goods goods2
     → AreUnits units marks rows goods items skills

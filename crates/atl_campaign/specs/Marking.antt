@@ -126,7 +126,7 @@ mark_all_stocks c n item amount =
     record c.marks { markets = marked_with c.marks.markets n region; stocks = marked_with c.marks.stocks n region }
 
 -- m has the marks after the stock of an item in a region was set to `amount`. If the region is there and had another
--- amount, the stock alone is marked too (`mark_stock`), or all stocks of the region are (`mark_all_stocks`).
+-- amount, the stock alone is marked too (`mark_stock`), or all stocks of the region are (`mark_all_stocks`); else none.
 abbrev pub MarksStock : MarkedCampaign → (region item : ℕ) → ℕ → Marks → Type 0
 MarksStock c n item amount m = (m ≡ mark_stock c n item amount) ⊎ (m ≡ mark_all_stocks c n item amount)
 

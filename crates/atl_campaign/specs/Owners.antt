@@ -34,7 +34,7 @@ abbrev pub is_owned_by : Option Structure → ℕ → Bool
 is_owned_by None n = false
 is_owned_by (Some x) n = x.owner == n
 
--- the campaign with structure s, if it is there and its owner is `from`, given the owner `to`; both may be 0
+-- the campaign with structure s, if it is there and its owner is `from`, given the owner `to`; 0 is nobody
 abbrev pub after_handover : CampaignValue → ℕ → ℕ → ℕ → CampaignValue
 after_handover c s from to = if is_owned_by (get c.structures s) from then with_owner c s to else c
 
