@@ -1,7 +1,8 @@
 -- Laws of change marks: each change of a campaign marks all that it changes, and so do several changes in turn.
--- `MarksChanges c d` says that from the marked campaign c to d no mark is lost, and all that changed is marked, though
--- not whether a 0 is listed. In a law of one change, c is the campaign before it, the record that after it, and n the
--- number of what changes. Where c has no faction or region n, nothing changes and nothing is marked.
+-- `MarksChanges c d` says that from the marked campaign c to d no mark is lost, and all that changed is marked. Whether
+-- a 0 is listed as a stock or in the books needs no mark. In a law of one change, c is the campaign before it, the
+-- record that after it, and n the number of what changes. Where c has no faction or region n, nothing changes and
+-- nothing is marked.
 -- In laws of several changes, a, b and c are the campaign, or its marks, at moments in turn. A unit's goods are its
 -- items and days of study. A thing of a unit or region is an item, a skill, or an item in stock, by its number.
 use Rattle.std.proofs.Common.{◌≡◌, ◌≢◌, ◌==◌, ◌||◌, ℕ, Bool, true, false, if◌then◌else◌, Option, Some, None, refl, sym, ap, ◌∙◌, subst, inl, inr, arith, true≢false}
