@@ -17,8 +17,6 @@ use Rattle.atl_records.specs.declared.books.BooksEntry.{BooksEntry}
 use Rattle.atl_records.specs.declared.books.Thing.{Thing}
 use Rattle.atl_records.proofs.EveryEntryLaws.{entry_small}
 
--- for more_of_things: P holds for a number k that is n or was there before (`there`), if it holds for n, and for k if k
--- was there
 or_there : (n k : ℕ) (there : Bool) (P : ℕ → Type 0) → (eq_by_cmp nat_cmp k n || there) ≡ true → P n
     → (there ≡ true → P k) → P k
 or_there n k there P h itself others = elim (nat_cmp k n) as (λ r. nat_cmp k n ≡ r → (is_eq r || there) ≡ true → P k) [

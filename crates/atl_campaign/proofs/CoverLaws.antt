@@ -1,6 +1,8 @@
 -- Laws of change marks: each change of a campaign marks all that it changes, and so do several changes in turn.
--- `MarksChanges c d` says that from the marked campaign c to d no mark is lost, and all that changed is marked. In a
--- law of one change, c is the campaign before it, the record the campaign after it, and n the number of what changes.
+-- `MarksChanges c d` says that from the marked campaign c to d no mark is lost, and all that changed is marked. Whether
+-- a 0 is listed as a stock or in the books needs no mark. In a law of one change, c is the campaign before it, the
+-- record that after it, and n the number of what changes. Where c has no faction or region n, nothing changes and
+-- nothing is marked.
 -- In laws of several changes, a, b and c are the campaign, or its marks, at moments in turn. A unit's goods are its
 -- items and days of study. A thing of a unit or region is an item, a skill, or an item in stock, by its number.
 use Rattle.std.proofs.Common.{◌≡◌, ◌≢◌, ◌==◌, ◌||◌, ℕ, Bool, true, false, if◌then◌else◌, Option, Some, None, refl, sym, ap, ◌∙◌, subst, inl, inr, arith, true≢false}
@@ -107,7 +109,6 @@ unmarked_differs_from_put marks n k free same = absurd (true≢false (sym (put_t
 
 -- ---- things of units and regions: `goods` has those all of whose things are marked, `things` has the single marks
 
--- for whole_stays and thing_stays: if a implies b, and c implies d, `a || c` implies `b || d`
 both_stay : (a b c d : Bool) → (a ≡ true → b ≡ true) → (c ≡ true → d ≡ true) → (a || c) ≡ true → (b || d) ≡ true
 both_stay true b c d one two h = ap (λ x. x || d) (one refl)
 both_stay false b c d one two h = ap (λ x. b || x) (two h) ∙ or-true b
@@ -320,8 +321,8 @@ part_by_part a b stays says = record {
 pub marks-refl : (a : MarkedCampaign) → MarksChanges a a
 marks-refl a = part_by_part a a (λ p k h. h) (λ p k free. refl)
 
--- P holds of the map after f changed the value under n, and of that value before (None: there was none), if it does
--- where there is no value under n, and where there is one
+-- P holds of the map after f changed the value under n, if any, and of that value before. This supposes that P holds of
+-- the map as it is and None, and of the map with `f v` under n and `Some v`, where v is n's value.
 pub holds_of_changed : {V : Type 0} (P : FinMap nat_cmp V → Option V → Type 0) (f : V → V) (values : FinMap nat_cmp V) (n : ℕ)
     → P values None → ((v : V) → get values n ≡ Some v → P (map.insert values n (f v)) (Some v))
     → P (with_changed_value f values n) (get values n)
@@ -390,7 +391,6 @@ module _ (of : Region → ℕ) (f : Region → Region) (x : ℕ) (same : (r : Re
   marks-region : MarksChanges c (record { value = region_changed f c.value n; marks = mark_region of c n x })
   marks-region = by_number (option_map_or of (get c.value.regions n) 0 == x) refl
     where
-      -- for marks-region: all that changes is marked, whether the region has the number x already (b) or not
       by_number : (b : Bool) → (option_map_or of (get c.value.regions n) 0 == x) ≡ b
           → MarksChanges c (record { value = region_changed f c.value n; marks = record c.marks { regions = marked_with c.marks.regions n (if b then None else get c.value.regions n) } })
       by_number true was =

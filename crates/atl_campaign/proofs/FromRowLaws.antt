@@ -97,8 +97,6 @@ from_le m n h = grind (arith, nat_tests)
 
 -- ---- the books
 
--- books of `things` things (AreBooks) stay such books, whether a row's amount is put in (b is true) or left out because
--- the row's thing is none of theirs
 row_put : (things : ℕ) (books : BooksValue) (e : BooksEntry) (r : StoredBooks) (b : Bool)
     → nat_lt (as_u32 r.thing) books.things ≡ b → AreBooks things books
     → AreBooks things (cond b (with_amount books e (thing_at (as_u32 r.thing)) r.amount) books)

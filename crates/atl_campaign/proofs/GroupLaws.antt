@@ -16,7 +16,6 @@ use Rattle.atl_world.proofs.GeneralLaws.{each_follows}
 -- ---- rows that pass a test
 
 module _ {R : Type 0} (test : R → Bool) where
-  -- if P holds of rows, and of r if r passes the test, it holds of the rows with r in front where r passes (b)
   first_kept : (P : R → Type 0) (r : R) (rows : List R) (b : Bool) → test r ≡ b → (test r ≡ true → P r)
       → AllByRecursion P rows → AllByRecursion P (cond b (r ∷ rows) rows)
   first_kept P r rows true e one all = (one e, all)
@@ -63,8 +62,6 @@ module _ {R : Type 0} (test : R → Bool) where
       either rest true = ap (λ rs. cond (other r) (r ∷ rs) rs) rest
       either rest false = rest
 
--- for filter_lines: the list of r alone where b is true, or else the empty list, followed by rows is the rows, with r
--- in front where b is true
 one_or_none_in_front : {R : Type 0} (b : Bool) (r : R) (rows : List R)
     → cond b (r ∷ []) [] ++ rows ≡ cond b (r ∷ rows) rows
 one_or_none_in_front true r rows = refl

@@ -130,7 +130,8 @@ abbrev unit_lines : ℕ × Unit → List StoredHas
 unit_lines e = held_rows e.0 e.1.holding
 
 -- units assembled from rows are written as the same rows of `has`, in some order. The units have to have different
--- numbers, and each row of `has` has to be exact (IsExactGoods), of one of the units, and of a key of its own.
+-- numbers. Each row of `has` has to be exact (IsExactGoods), of one of the units, of sort 0 or 1, and of a key of its
+-- own.
 pub has_rows_are_rewritten : (has : List StoredHas) (units : List StoredUnit)
     → HaveDistinctNumbers (λ r. as_u32 r.number) units → AllByRecursion (IsOfUnits units) has
     → AllByRecursion IsExactGoods has → IsDistinct is_same_key (map has_key has)

@@ -1,5 +1,6 @@
--- Laws of a unit that gets another holding and may begin to guard: the campaign stays steady and early. A unit may have
--- a holding (MayHave) with a valid name, numbers within their limits, and only items and skills of the world.
+-- Laws of a unit that gets another holding (what it has) and may begin to guard: the campaign stays steady and early.
+-- A unit may have a holding (MayHave) with a valid name, numbers within their limits, and only items and skills of the
+-- world.
 use Rattle.std.proofs.Common.{◌≡◌, ◌==◌, ℕ, ◌*◌, ◌≤◌, ◌<◌, true, length, Some, refl, ◌∙◌}
 use Rattle.std.specs.Prelude.{IsTrue, nat_lt}
 use Rattle.std.proofs.lemmas.Bool.{and_parts}

@@ -1,6 +1,7 @@
--- Laws of a unit that gets another holding and does not begin to guard: steadiness, totals and marks. A unit may have a
--- holding with a valid name, numbers within their limits, and only items and skills of the world. c is the campaign
--- before the change, and n the unit's number. `MarksChanges` also says that no mark is lost.
+-- Laws of a unit that gets another holding (what it has) and does not begin to guard: steadiness, totals and marks. A
+-- unit may have a holding with a valid name, numbers within their limits, and only items and skills of the world. c is
+-- the campaign before the change, and n the unit's number; in laws on marks, where n isn't there, nothing changes and
+-- nothing is marked. `MarksChanges` also says that no mark is lost.
 use Rattle.std.proofs.Common.{◌≡◌, ◌≢◌, ◌==◌, ℕ, ◌+◌, ◌*◌, ◌≤◌, ◌<◌, Bool, true, false, Option, Some, None, length, refl, sym, ap, subst, ◌∙◌, arith}
 use Rattle.std.specs.Prelude.{IsTrue, option_map, if◌then◌else◌}
 use Rattle.std.specs.Ordering.{nat_cmp}
@@ -62,7 +63,8 @@ abbrev pub structure_in : Option Unit → Unit → ℕ
 structure_in (Some y) z = y.structure
 structure_in None z = z.structure
 
--- Unit n of the campaign c is u, and gets the holding h. A law named `.._kept` says that one rule still holds then.
+-- Unit n of the campaign c is u, and gets the holding h. A law named `.._kept` says that one rule still holds then, if
+-- h is what that rule asks of holdings.
 module _ (w : WorldValue) (c : CampaignValue) (n : ℕ) (u : Unit) (h : HoldingValue) (is : get c.units n ≡ Some u) where
   abbrev new_unit : Unit
   new_unit = record u { holding = h }
@@ -186,7 +188,8 @@ module _ (w : WorldValue) (c : CampaignValue) (n : ℕ) (u : Unit) (h : HoldingV
 abbrev goods_of : Unit → FinMap nat_cmp ℕ × FinMap nat_cmp ℕ
 goods_of u = (u.holding.items, u.holding.days)
 
--- changing a unit by a function that leaves its items and days as they are, with its row marked, marks all that changes
+-- changing unit n by a function f, with it and its row marked, marks all that changes, if f leaves the items and days
+-- of every unit as they are
 pub marks-unit_row : (f : Unit → Unit) → ((u : Unit) → goods_of (f u) ≡ goods_of u) → (c : MarkedCampaign) (n : ℕ)
     → MarksChanges c (record { value = unit_changed f c.value n; marks = mark_unit_row c n })
 marks-unit_row f same c n =
@@ -224,7 +227,7 @@ module _ (c : MarkedCampaign) (n item amount : ℕ) where
         | _ ↦ λ k free. refl
       ])
 
-  -- setting a unit's amount of an item, with that item marked if the amount is another, marks all that changes
+  -- setting a unit's amount of an item, with it and that item marked if the amount is another, marks all that changes
   pub marks-item : MarksChanges c (record { value = with_item c.value n item amount; marks = mark_item c n item amount })
   marks-item =
       holds_of_changed (λ units o. MarksChanges c (after_item units (unit_if_other_amount item amount o))) with_other
@@ -237,7 +240,7 @@ module _ (c : MarkedCampaign) (n item amount : ℕ) where
           subst (λ units. MarksChanges c (after_item units None)) (sym (put_same c.value.units n u (with_other u) is same)) (marks-refl c)
       by_amount u is false other = other_amount u is
 
--- setting a unit's days of a skill, with that skill marked, marks all that changes
+-- setting a unit's days of a skill, with the unit and that skill marked, marks all that changes
 pub marks-skill : (c : MarkedCampaign) (n skill days : ℕ)
     → MarksChanges c (record { value = with_skill c.value n skill days; marks = mark_skill c n skill })
 marks-skill c n skill days =

@@ -90,8 +90,6 @@ joining_small w c sound =
 pub len_new : {V : Type 0} (m : FinMap nat_cmp V) (k : ℕ) (v : V) → get m k ≡ None → len (insert m k v) ≡ len m + 1
 len_new m k v h = len-insert nat_cmp_total m k v ∙ ap (λ o. cond (is_some o) (len m) (len m + 1)) h
 
--- for room_to_join: f factions and u units are below their limits, and the next unit number n is at most last_unit, if
--- the test for a full campaign fails
 counts_below_limits : (f u n : ℕ) → ((nat_le last_faction f || nat_le most_units u) || nat_lt last_unit n) ≡ false
     → (f < last_faction) × (u < most_units) × (n ≤ last_unit)
 counts_below_limits f u n h = (grind (arith, nat_tests), grind (arith, nat_tests), grind (arith, nat_tests))

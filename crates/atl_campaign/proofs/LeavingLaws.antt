@@ -1,7 +1,8 @@
 -- Laws of removing a unit: the campaign stays steady, totals lose what the unit held, and what changed is marked.
 -- Unit n of the campaign c of the world w is u, and `without_unit c n` is the campaign without it. There a structure
 -- that n was inside and owned has its next owner: the lowest-numbered other unit inside, or 0 for nobody.
--- `MarksChanges` also says that no mark is lost.
+-- `MarksChanges` also says that no mark is lost. Where the unit or structure of a law on marks isn't there, nothing
+-- changes and nothing is marked.
 use Rattle.std.proofs.Common.{◌≡◌, ◌≢◌, ◌==◌, ℕ, ◌+◌, ◌≤◌, ◌<◌, Bool, true, false, length, not, List, Option, Some, None, refl, sym, ap, subst, ◌∙◌, arith, true≢false}
 use Rattle.std.specs.Prelude.{option_map, if◌then◌else◌}
 use Rattle.std.proofs.lemmas.Bool.{not-false}

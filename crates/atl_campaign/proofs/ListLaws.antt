@@ -312,8 +312,8 @@ AreInsideLists-relisted units old new n from to u v is own goes same lists =
           (AreLists-relisted (λ w. w.structure) units all put taken n from to u v is own goes (rw (other_number to from (λ e. apart (sym e))) refl) (λ r. rw (other_number from to apart) refl) (whole_listed units old lists)) k)
     ]
 
--- all lists stay those of the units when f changes unit n, if f leaves every unit's region, faction and structure as
--- they are
+-- all lists stay those of the units when f changes unit n, if it is there, and f leaves every unit's region, faction
+-- and structure as they are
 pub AreUnitLists-changed : (f : Unit → Unit) → ((u : Unit) → list_keys_of u ≡ list_keys_of (f u))
     → (units : FinMap nat_cmp Unit) (lists : UnitLists) (n : ℕ) → AreUnitLists units lists
     → AreUnitLists (with_changed_value f units n) lists
@@ -324,7 +324,8 @@ AreUnitLists-changed f stays units lists n is = by_unit (get units n) refl
     by_unit (Some u) e = AreUnitLists-kept units lists n u (f u) e (stays u) is
 
 -- The lists by region, faction and structure still have just the units of each (AreUnitLists) after a call with the
--- result r. If r is Ok, f changed unit n, but none of these three; if r is Err, nothing changed.
+-- result r. f leaves these three as they are, of every unit. If r is Ok, f changed unit n, if it is there; if r is Err,
+-- nothing changed.
 pub AreUnitLists-set : {A E : Type 0} (r : Result A E) (f : Unit → Unit)
     → ((u : Unit) → list_keys_of u ≡ list_keys_of (f u)) → (old new : FinMap nat_cmp Unit) (lists : UnitLists) (n : ℕ)
     → OnOk r (new ≡ with_changed_value f old n) → OnErr r (new ≡ old)

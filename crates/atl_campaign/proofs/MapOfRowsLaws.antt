@@ -114,8 +114,6 @@ module _ {R V : Type 0} (number : R → ℕ) (value : R → V) where
 
 -- ---- rows with keys
 
--- for HaveDistinctNumbers-keys: rows of which P holds, and whose keys differ from r's, have other numbers than r, if P
--- and another key mean another number
 each_apart : {R K : Type 0} (key : R → K) (number : R → ℕ) (same : K → K → Bool) (P : R → Type 0) (r : R)
     → ((s : R) → P s → same (key r) (key s) ≡ false → number s ≢ number r)
     → (rows : List R) → AllByRecursion P rows → AllByRecursion (λ y. same (key r) y ≡ false) (map key rows)

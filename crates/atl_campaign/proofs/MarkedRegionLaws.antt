@@ -60,7 +60,7 @@ module _ (regions : FinMap nat_cmp Region) (rows markets stocks : RoomySet) (ite
       record { within = h.within; rows_fit = Room-put regions rows.numbers rows.room n (get regions n) refl h.rows_fit; markets_fit = h.markets_fit; stocks_fit = h.stocks_fit }
 
   module _ (n : ℕ) (r : Region) (is : get regions n ≡ Some r) where
-    -- the invariant still holds once the stocks of region n of the items in `group` are marked, and the region is put
+    -- the invariant still holds once the single marks on stocks of region n are those in `group`, and the region is put
     -- into `markets`
     pub AreRegions-item : (group : FinMap nat_cmp (Prim.Unit {0}))
         → AreRegions regions rows (with_region_marked regions markets n) stocks (insert items n group)

@@ -146,7 +146,7 @@ pub steady-amount : (w : WorldValue) (c : CampaignValue) (e : BooksEntry) (t : T
 steady-amount w c e t n there old =
     stocked-steady w c c.regions (after_booking c.books e t n) refl (λ k. (λ h. h, λ h. h)) old.numbers.regions old.known.markets (AreBooks-after_booking (thing_count w) c.books e t n old.numbers.books there) old
 
--- booking changes no total: units and regions stay as they are
+-- booking of a thing u changes the total of no thing t: units and regions stay as they are
 pub total-booking : (c : CampaignValue) (e : BooksEntry) (u t : Thing) (n : ℤ)
     → total (with_booking c e u n) t ≡ total c t
 unfolding total

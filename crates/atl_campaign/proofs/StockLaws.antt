@@ -20,7 +20,7 @@ abbrev pub restocked : Region → (item amount : ℕ) → Region
 restocked r item amount = record r { stocks = with_amount_of r.stocks item amount }
 
 module _ (w : WorldValue) (n : ℕ) (r : Region) (item amount : ℕ) where
-  -- a region stays in range (IsRegion) with another stock of an item, up to its market's limit
+  -- a region stays in range (IsRegion) with another stock of an item, up to its market's limit, or else 999,999,999
   pub IsRegion-stock : amount ≤ stock_limit w n item → IsRegion w n r → IsRegion w n (restocked r item amount)
   IsRegion-stock few old = record {
     peasants = old.peasants;

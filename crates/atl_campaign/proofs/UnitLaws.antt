@@ -23,12 +23,10 @@ use Rattle.atl_campaign.specs.Roster.{Roster, unit_if_other_amount, with_item_at
 
 -- ---- what is marked
 
--- for within_both: if c implies d, `b || c` implies `b || d`
 or_keeps_implication : (b c d : Bool) → (c ≡ true → d ≡ true) → (b || c) ≡ true → (b || d) ≡ true
 or_keeps_implication true c d h e = refl
 or_keeps_implication false c d h e = h e
 
--- for within_things: if o being Some implies d, `cond b (Some v) o` being Some implies `b || d`
 either_there : {V : Type 0} (b : Bool) (v : V) (o : Option V) (d : Bool) → (is_some o ≡ true → d ≡ true)
     → is_some (cond b (Some v) o) ≡ true → (b || d) ≡ true
 either_there true v o d h e = refl
@@ -136,7 +134,7 @@ module _ (units : FinMap nat_cmp Unit) (marks rows goods : RoomySet) (items skil
     goods_fit = Room-unmarked units goods.numbers goods.room h.goods_fit;
   }
 
-  -- the invariant still holds once a unit is replaced, as through `get_mut`, and it, its row and its goods are marked
+  -- the invariant still holds once a unit is replaced, as through `get_mut`, and it, its row and all goods are marked
   pub AreUnits-lent : (n : ℕ) (u w : Unit) → get units n ≡ Some u → Before
       → AreUnits (insert units n w) (with_number_marked marks n) (with_number_marked rows n) (with_number_marked goods n) items skills
   AreUnits-lent n u w is h = record {
@@ -156,7 +154,7 @@ module _ (units : FinMap nat_cmp Unit) (marks rows goods : RoomySet) (items skil
     goods_fit = Room-over units goods.numbers goods.room n w (ap is_some is) h.goods_fit;
   }
 
-  -- the invariant still holds once unit n is replaced, and it and its items in `group` are marked
+  -- the invariant still holds once unit n is replaced and marked, and its items with single marks are those in `group`
   pub AreUnits-item : (n : ℕ) (u w : Unit) (group : FinMap nat_cmp (Prim.Unit {0})) → get units n ≡ Some u → Before
       → AreUnits (insert units n w) (with_number_marked marks n) rows goods (insert items n group) skills
   AreUnits-item n u w group is h = record {
@@ -166,7 +164,7 @@ module _ (units : FinMap nat_cmp Unit) (marks rows goods : RoomySet) (items skil
     goods_fit = Room-over units goods.numbers goods.room n w (ap is_some is) h.goods_fit;
   }
 
-  -- the invariant still holds once unit n is replaced, and it and its skills in `group` are marked
+  -- the invariant still holds once unit n is replaced and marked, and its skills with single marks are those in `group`
   pub AreUnits-skill : (n : ℕ) (u w : Unit) (group : FinMap nat_cmp (Prim.Unit {0})) → get units n ≡ Some u → Before
       → AreUnits (insert units n w) (with_number_marked marks n) rows goods items (insert skills n group)
   AreUnits-skill n u w group is h = record {
@@ -186,7 +184,7 @@ module _ (units : FinMap nat_cmp Unit) (marks rows goods : RoomySet) (items skil
     goods_fit = Room-without units goods.numbers goods.room n (Some u) is h.goods_fit;
   }
 
-  -- the invariant still holds once a unit is removed, and it, its row and its goods are marked
+  -- the invariant still holds once a unit that is there is removed, and it, its row and all its goods are marked
   pub AreUnits-gone : (n : ℕ) → is_some (get units n) ≡ true → Before
       → AreUnits (remove units n) (with_number_marked marks n) (with_number_marked rows n) (with_number_marked goods n) items skills
   AreUnits-gone n there h = gone_at n (get units n) refl there h
@@ -202,7 +200,7 @@ room_inserted : (units : FinMap nat_cmp Unit) (marks more : RoomySet) (n : ℕ) 
     → set.len more.numbers + len (insert units n w) ≤ more.room
 room_inserted units marks more n w h = let l = insert_adds_at_most_one units n w in let as_many = ap set.len h.same in omega (arith, h.room, l, as_many)
 
--- a dirty set that has room for one unit more (IsWider) has room for the mark of a new unit
+-- a dirty set that has room for one unit more (IsWider) has room for the mark of any unit, new or not
 pub fits-new : (units : FinMap nat_cmp Unit) (marks more : RoomySet) (n : ℕ) (w : Unit) → IsWider units marks more
     → set.len (set.insert more.numbers n) ≤ more.room
 fits-new units marks more n w h = fits-inserted units more.numbers more.room n w (room_inserted units marks more n w h)
@@ -212,8 +210,8 @@ HasRoom-added : (units : FinMap nat_cmp Unit) (marks more : RoomySet) (n : ℕ) 
 HasRoom-added units marks more n w h =
     Room-inserted units more.numbers more.room n w (room_inserted units marks more n w h)
 
--- the units' invariant (AreUnits) still holds once a new unit w is added under the number n, and marked in the dirty
--- sets marks2, rows2 and goods2, which have room for one unit more (IsWider)
+-- The units' invariant (AreUnits) still holds once unit w is put under n, new or not, and n is marked. The dirty sets
+-- are then marks2, rows2 and goods2, which have room for one unit more than before (IsWider).
 pub AreUnits-added : (units : FinMap nat_cmp Unit) (marks rows goods marks2 rows2 goods2 : RoomySet) (items skills : MarkedThings) (n : ℕ) (w : Unit)
     → IsWider units marks marks2 → IsWider units rows rows2 → IsWider units goods goods2
     → AreUnits units marks rows goods items skills

@@ -235,10 +235,10 @@ with_unit c n u = record c { units = insert c.units n u }
 abbrev pub with_unit_begun : CampaignValue → Unit → CampaignValue
 with_unit_begun c u = record c { next_unit = c.next_unit + 1; units = insert c.units c.next_unit u }
 
--- the campaign with a report stored for faction n, instead of an older one
+-- the campaign with the given text stored as the report of faction n, instead of an older one, if any
 abbrev pub with_report : CampaignValue → ℕ → List ℕ → CampaignValue
 with_report c n text = record c { reports = insert c.reports n text }
 
--- the campaign with a mailing kept for faction n, instead of an older one
+-- the campaign with the given text kept as the mailing of faction n, instead of an older one, if any
 abbrev pub with_mail : CampaignValue → ℕ → List ℕ → CampaignValue
 with_mail c n text = record c { mail = insert c.mail n text }

@@ -49,7 +49,7 @@ abbrev pub said_by_campaign_row : CampaignValue → ℕ × (List ℕ × (ℕ × 
 said_by_campaign_row c = (c.month, (c.pass, (c.next_faction, (c.next_unit, c.next_structure))))
 
 -- All that is not marked in the marks m is the same in the campaigns `before` and `after`. Nothing is said of how many
--- things the books have, nor of whether a stock of 0 is listed.
+-- things the books have, nor of whether a stock of 0, or an amount of 0 of the books, is listed.
 pub record Covers (m : Marks) (before after : CampaignValue) : Type 0 where
   pub factions : SameBut m.factions before.factions after.factions
   -- A region whose row is not marked is the same in the campaigns before and after but for its stocks, or is in
@@ -57,7 +57,7 @@ pub record Covers (m : Marks) (before after : CampaignValue) : Type 0 where
   pub regions :
       (n : ℕ) → contains m.regions n ≡ false
       → option_map unstocked (get after.regions n) ≡ option_map unstocked (get before.regions n)
-  -- A stock that is not marked is the same in the campaigns before and after.
+  -- A stock that is not marked is the same in both campaigns; one that isn't listed, or of no region, counts as 0.
   pub stocks :
       (n item : ℕ) → is_thing_marked m.stocks m.stock_items n item ≡ false → stock_of after n item ≡ stock_of before n item
   pub structures : SameBut m.structures before.structures after.structures
@@ -70,11 +70,11 @@ pub record Covers (m : Marks) (before after : CampaignValue) : Type 0 where
   -- the days that a unit has of a skill that is not marked are the same in the campaigns before and after, or listed in
   -- neither
   pub days : SameThings m.goods m.skills days_under before.units after.units
+  -- An amount of the books that is not marked is the same in both; one that isn't listed counts as 0.
   pub books :
       (e : BooksEntry) (t : Thing) → contains m.books (amount_number e t) ≡ false
       → amount_in after.books e t ≡ amount_in before.books e t
-  -- the month, the pass text and the next numbers are the same in the campaigns before and after if the campaign row is
-  -- not marked
+  -- the month, the pass text and the next numbers are the same in both if the campaign row is not marked
   pub row : m.row ≡ false → said_by_campaign_row after ≡ said_by_campaign_row before
 
 -- each number in the first dirty set is in the second: what was marked before some changes is marked after them
@@ -106,7 +106,8 @@ pub record StayMarked (before after : Marks) : Type 0 where
   pub books : StaysMarked before.books after.books
   pub row : before.row ≡ true → after.row ≡ true
 
--- from one marked campaign to another no mark is lost, and all that changed is marked
+-- from one marked campaign to another no mark is lost, and all that changed is marked. How many things the books have,
+-- and whether a 0 is listed as a stock or an amount of the books, needs no mark.
 pub record MarksChanges (before after : MarkedCampaign) : Type 0 where
   pub stay : StayMarked before.marks after.marks
   pub covers : Covers after.marks before.value after.value

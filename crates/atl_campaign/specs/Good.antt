@@ -218,7 +218,7 @@ AreOwned c = Every (λ n s. IsOwned c n s) c.structures
 
 -- ---- of water: a unit is inside a ship there, and a structure is a complete ship
 
--- whether the kind of a structure is a ship
+-- whether the kind of a structure is a ship; false where the world has no such kind
 abbrev pub is_ship : WorldValue → Structure → Bool
 is_ship w s = of_world.is_ship w s.kind
 

@@ -54,7 +54,7 @@ first_unit w word c = record {
 }
 
 -- the campaign with a faction of the given name and pass text, and its unit, put under the next numbers, which rise by
--- one, and what they bring booked under Joining. The word of the dice, a number, picks where the unit is.
+-- one. The start money and one man are booked under Joining. The word of the dice, a number, picks where the unit is.
 unfoldable pub after_join : WorldValue → List ℕ → List ℕ → ℕ → CampaignValue → CampaignValue
 after_join w name pass word c = record c {
   next_faction = c.next_faction + 1;

@@ -78,8 +78,8 @@ UnlistsUnit n l old new =
 abbrev pub KeepsAll : UnitLists → UnitLists → Type 0
 KeepsAll old new = (units : FinMap nat_cmp Unit) → AreUnitLists units old → AreUnitLists units new
 
--- `new` lists unit n under the keys `to`, and `old` under `from`: if `old` has the lists of units with n, `new` has
--- those of the same units, but for n's keys
+-- `new` lists unit n under the keys `to`, and `old` under `from`. If `old` has the lists of units in which n has the
+-- keys `from`, `new` has those of the same units with any unit with the keys `to` in n's place.
 abbrev pub RelistsUnit : ℕ → ListKeys → ListKeys → UnitLists → UnitLists → Type 0
 RelistsUnit n from to old new =
     (units : FinMap nat_cmp Unit) (u v : Unit) → list_keys_of u ≡ from → list_keys_of v ≡ to → get units n ≡ Some u

@@ -126,7 +126,7 @@ mark_all_stocks c n item amount =
     record c.marks { markets = marked_with c.marks.markets n region; stocks = marked_with c.marks.stocks n region }
 
 -- m has the marks after the stock of an item in a region was set to `amount`. If the region is there and had another
--- amount, the stock alone is marked too (`mark_stock`), or all stocks of the region are (`mark_all_stocks`).
+-- amount, the stock alone is marked too (`mark_stock`), or all stocks of the region are (`mark_all_stocks`); else none.
 abbrev pub MarksStock : MarkedCampaign → (region item : ℕ) → ℕ → Marks → Type 0
 MarksStock c n item amount m = (m ≡ mark_stock c n item amount) ⊎ (m ≡ mark_all_stocks c n item amount)
 
@@ -150,7 +150,8 @@ mark_amount c e t = record c.marks { books = amount_marked c.marks.books e t }
 abbrev pub mark_all_mail : MarkedCampaign → Marks
 mark_all_mail c = record c.marks { mail = union c.marks.mail (from_list (keys c.value.mail)) }
 
--- the campaign with structure s handed from `from` to `to` (0: nobody) and marked; unchanged unless `from` owns it
+-- the campaign with structure s, if it is there and its owner is `from`, given the owner `to`, and marked; else
+-- unchanged. `from` and `to` may be 0, nobody.
 abbrev pub handed_marked : MarkedCampaign → ℕ → ℕ → ℕ → MarkedCampaign
 handed_marked c s from to =
     if is_owned_by (get c.value.structures s) from
@@ -171,8 +172,9 @@ place_marked_at c n r s (Some u) =
     if u.structure == s then put_marked c n r s
     else handed_marked (handed_marked (put_marked c n r s) u.structure n (heir c.value u.structure n)) s 0 n
 
--- the campaign with unit n, if it is there, put in region r and structure s (0: in none), and owners changed as
--- `place_marked_at` says; the unit, its row, and structures that get another owner are marked
+-- the campaign with unit n, if it is there, put in region r and structure s (0: in none). A structure that n owned and
+-- leaves goes to the lowest-numbered other unit inside, or to nobody; one that n enters and nobody owns becomes n's.
+-- The unit, its row, and each structure that is handed over are marked.
 unfoldable pub place_marked : MarkedCampaign → ℕ → ℕ → ℕ → MarkedCampaign
 place_marked c n r s = place_marked_at c n r s (get c.value.units n)
 
@@ -180,14 +182,15 @@ place_marked c n r s = place_marked_at c n r s (get c.value.units n)
 abbrev pub taken_marked : MarkedCampaign → ℕ → MarkedCampaign
 taken_marked c n = record { value = record c.value { units = remove c.value.units n }; marks = mark_unit c n }
 
--- `gone_marked` once unit n is looked up: n is removed, the structure that it was inside gets its next owner if n owned
--- it, and changes are marked. Where n isn't there (None), nothing changes.
+-- `gone_marked` once unit n is looked up: n is removed, and it, its row and all its goods are marked. The structure
+-- that it was inside, if n owned it, gets its next owner (`heir`) and a mark. Where n isn't there (None), nothing
+-- changes.
 abbrev pub gone_marked_at : MarkedCampaign → ℕ → Option Unit → MarkedCampaign
 gone_marked_at c n None = c
 gone_marked_at c n (Some u) = handed_marked (taken_marked c n) u.structure n (heir c.value u.structure n)
 
--- the campaign without unit n, whose structure gets its next owner if n owned it; if n was there, it, its row and goods
--- are marked, and its structure where that gets another owner
+-- the campaign without unit n, if n is there, with n, its row and all its goods marked. The structure that n was
+-- inside, if n owned it, goes to the lowest-numbered other unit inside, or to nobody, and is marked.
 unfoldable pub gone_marked : MarkedCampaign → ℕ → MarkedCampaign
 gone_marked c n = gone_marked_at c n (get c.value.units n)
 

@@ -116,7 +116,8 @@ marks_code =
 abbrev pub is_thing_marked : FinSet nat_cmp → MarkedThings → ℕ → ℕ → Bool
 is_thing_marked goods things n thing = contains goods n || is_some (map.get (group_of things n) thing)
 
--- a unit is in `units` if its row is marked (in `rows`), or all its items and days (in `goods`), or single ones of them
+-- a unit is in `units` if its row is marked (in `rows`), or all its items and days are (in `goods`), or single ones of
+-- them (in `items` or `skills`)
 pub record AreUnitPartsWithin (units rows goods : FinSet nat_cmp) (items skills : MarkedThings) : Type 0 where
   pub rows_within : (n : ℕ) → contains rows n ≡ true → contains units n ≡ true
   pub goods_within : (n : ℕ) → contains goods n ≡ true → contains units n ≡ true

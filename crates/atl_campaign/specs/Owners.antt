@@ -34,7 +34,7 @@ abbrev pub is_owned_by : Option Structure → ℕ → Bool
 is_owned_by None n = false
 is_owned_by (Some x) n = x.owner == n
 
--- the campaign with structure s handed from `from` to `to` (0: nobody); unchanged unless `from` owns it
+-- the campaign with structure s, if it is there and its owner is `from`, given the owner `to`; 0 is nobody
 abbrev pub after_handover : CampaignValue → ℕ → ℕ → ℕ → CampaignValue
 after_handover c s from to = if is_owned_by (get c.structures s) from then with_owner c s to else c
 
@@ -43,7 +43,8 @@ abbrev pub with_position : CampaignValue → ℕ → ℕ → ℕ → CampaignVal
 with_position c n r s = unit_changed (λ u. record u { region = r; structure = s }) c n
 
 -- `with_place` once unit n is looked up (the last argument; None: it isn't there, and nothing changes). n is put in
--- region r and structure s, and where that changes its structure, owners change as `with_place` says.
+-- region r and structure s. Where that changes its structure, one that n owned gets its next owner (`heir`), and n owns
+-- s if s is there and has no owner.
 abbrev pub with_place_at : CampaignValue → ℕ → ℕ → ℕ → Option Unit → CampaignValue
 with_place_at c n r s None = c
 with_place_at c n r s (Some u) =
@@ -51,7 +52,8 @@ with_place_at c n r s (Some u) =
     else after_handover (after_handover (with_position c n r s) u.structure n (heir c u.structure n)) s 0 n
 
 -- the campaign with unit n, if it is there, put in region r and structure s, or in no structure where s is 0. A
--- structure that n owned and leaves gets its next owner. Where n enters a structure without an owner, n owns that.
+-- structure that n owned and leaves goes to the lowest-numbered other unit inside, or to nobody. Where n enters a
+-- structure without an owner, n owns that.
 unfoldable pub with_place : CampaignValue → ℕ → ℕ → ℕ → CampaignValue
 with_place c n r s = with_place_at c n r s (get c.units n)
 
@@ -61,6 +63,7 @@ abbrev pub without_unit_at : CampaignValue → ℕ → Option Unit → CampaignV
 without_unit_at c n None = c
 without_unit_at c n (Some u) = after_handover (record c { units = remove c.units n }) u.structure n (heir c u.structure n)
 
--- the campaign without unit n; the structure that n was inside gets its next owner if n owned it
+-- the campaign without unit n; unchanged where n isn't there. The structure that n was inside, if n owned it, goes to
+-- the lowest-numbered other unit inside, or to nobody.
 unfoldable pub without_unit : CampaignValue → ℕ → CampaignValue
 without_unit c n = without_unit_at c n (get c.units n)

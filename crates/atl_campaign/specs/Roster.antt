@@ -57,8 +57,8 @@ with_unit_marked r n = record r { marks = set.insert r.marks n; rows = set.inser
 abbrev pub with_unit_at : Roster → ℕ → Unit → Roster
 with_unit_at r n u = record (with_unit_marked r n) { values = map.insert r.values n u }
 
--- the roster with unit n, if there is one, changed by the function f, and the unit and its row marked, none of its
--- goods
+-- the roster with unit n, if there is one, changed by the function f, and with a mark on the unit and on its row; its
+-- goods get no mark
 abbrev pub with_unit_row : (Unit → Unit) → Roster → ℕ → Roster
 with_unit_row f r n = record r {
   values = with_changed_value f r.values n;
@@ -84,12 +84,12 @@ item_marked_at r n item amount =
     record r { marks = marked_with r.marks n unit; items = thing_marked r.items n item unit }
 
 -- The roster with unit n, if there is one, changed by the function f. If the unit had another amount of an item than
--- `amount`, it and that item are marked, but not its row.
+-- `amount`, it and that item get a mark. Its row gets none.
 abbrev pub with_item_at : (Unit → Unit) → Roster → (unit item : ℕ) → ℕ → Roster
 with_item_at f r n item amount = record (item_marked_at r n item amount) { values = with_changed_value f r.values n }
 
--- The roster with unit n, if there is one, changed by the function f. It and one of its skills are marked, but not its
--- row.
+-- The roster with unit n, if there is one, changed by the function f, and with a mark on it and on one of its skills.
+-- Its row gets no mark.
 abbrev pub with_skill_at : (Unit → Unit) → Roster → ℕ → ℕ → Roster
 with_skill_at f r n skill = record r {
   values = with_changed_value f r.values n;

@@ -139,7 +139,7 @@ abbrev pub market_rows : Format → List (ℕ × Region) → List StoredMarket
 market_rows First es = []
 market_rows Second es = flat_map (λ e. stock_rows e.0 (entries e.1.stocks)) es
 
--- the rows of a campaign in each table of a format
+-- the rows of a campaign in each table of a format; in the first format there are none of stocks
 unfoldable pub rows_of : Format → CampaignValue → Parts
 rows_of f c = record {
   campaign = campaign_row f c ∷ [];

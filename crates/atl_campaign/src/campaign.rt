@@ -327,8 +327,9 @@ impl Campaign {
         numbers_under(&self.lists.by_structure, structure)
     }
 
-    /// Lends a unit's holding, and marks the unit, its row and all its goods. None, and no mark,
-    /// where no unit has the number. Nothing else changes. It takes no memory.
+    /// Lends a unit's holding, and marks the unit, its row and all its goods. A write through the
+    /// loan changes that holding alone. None, and no mark, where no unit has the number. It takes
+    /// no memory.
     pub fn unit_mut(&mut self, number: u32) -> Option<&mut Holding>
         ensures* writes_back { sem 𝓛 (LendsHolding self.entry number result) }
         ensures value { option_copied_mut result

@@ -1,6 +1,6 @@
 -- Laws of the campaign assembled from rows: names keep their rule if they do in the rows, and amounts their bound.
--- w is the world, f the format of the tables, and p are the rows. `RowsKeep f w p` says that they keep the rules by
--- which they are just the rows of this campaign.
+-- w is the world, f the format of the tables, and p are the rows. The laws suppose `RowsKeep f w p`: the world keeps
+-- its rules, and the rows those by which they are just the rows of this campaign.
 use Rattle.std.proofs.Common.{◌≡◌, ℕ, suc, ◌≤◌, ◌+◌, ◌*◌, ◌&&◌, List, [], ◌∷◌, Bool, true, false, cond, not, map, Some, sym, ap, subst, ◌∙◌, arith, inl, inr}
 use Rattle.std.specs.Prelude.{ℤ, pos, negsuc}
 use Rattle.std.specs.List.{list_all, AllByRecursion, IsDistinct}
@@ -118,7 +118,8 @@ module _ (f : Format) (w : WorldValue) (p : Parts) (k : RowsKeep f w p) where
   factions : FinMap nat_cmp Faction
   factions = by_number (λ r. as_u32 r.number) faction_of p.factions
 
-  -- in the campaign assembled from rows, names and pass texts keep their rules (AreNamed), if they do in the rows
+  -- in the campaign assembled from rows, names and pass texts keep their rules, and no two factions joined under one
+  -- name (AreNamed), if that is so in the rows
   pub AreNamed-said : AreRowsNamed p → AreNamed (campaign_of w p)
   unfolding campaign_of
   AreNamed-said h =

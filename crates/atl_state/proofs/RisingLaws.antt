@@ -19,7 +19,7 @@ less_left Greater Equal flips order apart = absurd (cc)
 less_left Greater Greater flips order apart = absurd (cc)
 
 module _ {K : Type 0} {R : K → K → Ordering} (o : IsTotalOrder R) where
-  -- keys that are sorted, no two of which are equal, rise strictly
+  -- keys that are sorted by a total order R, no two of which are equal, rise strictly
   pub rise_if_distinct : (ks : List K) → IsSorted R ks → IsDistinct (eq_by_cmp R) ks → IsStrictlySortedBy R ks
   unfolding IsStrictlySortedBy
   rise_if_distinct [] order apart = tt

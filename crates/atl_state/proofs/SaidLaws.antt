@@ -90,7 +90,7 @@ none_or_below m (suc n) most every there = there_below m (suc n) most every (the
 
 -- ---- the rules that are needed
 
--- rows keep the rules by which they are just the rows of the campaign assembled from them (`campaign_of`)
+-- the world keeps its rules, and rows those by which they are just the rows of the campaign read from them
 pub record RowsKeep (f : Format) (w : WorldValue) (p : Parts) : Type 0 where
   pub world : IsWorld w
   -- rule 1: there is exactly one campaign row, with the id 1 and the number of the format
@@ -166,7 +166,7 @@ size_small : (o : Option Kind) → ((x : Kind) → o ≡ Some x → x.size ≤ m
 size_small None h = omega arith
 size_small (Some x) h = h x refl
 
--- the size of each kind of the world is at most most_size, which is also given for a kind that the world doesn't have
+-- if w keeps the rules of worlds, the size of each kind is at most most_size, which is also given for a kind it lacks
 pub small_size : (w : WorldValue) → IsWorld w → (kind : ℕ) → size_of w kind ≤ most_size
 small_size w world kind = size_small (slice_get w.kinds kind) (λ x is. (world.kinds kind x is).size)
 
@@ -183,7 +183,7 @@ limit_small : (o : Option Market) → ((m : Market) → o ≡ Some m → m.limit
 limit_small None h = omega arith
 limit_small (Some m) h = h m refl
 
--- the largest stock of an item in a region is at most most_amount, with a market or without
+-- if w keeps the rules of worlds, each region's largest stock of an item is at most most_amount, also without a market
 pub small_limit : (w : WorldValue) → IsWorld w → (n i : ℕ) → stock_limit w n i ≤ most_amount
 small_limit w world n i =
     limit_small (market_of w n i)

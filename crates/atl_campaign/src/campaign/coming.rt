@@ -37,8 +37,7 @@ impl Campaign {
     /// Adds a unit under the next unit number, which no unit may have yet, and which has to be at
     /// most LAST_UNIT. Returns that number; the next unit number rises by one. The unit, its row,
     /// its goods and the campaign row are marked. AllocError without memory, and then nothing
-    /// changes.
-    /// See docs/RULES.md, "Limits".
+    /// changes. See docs/RULES.md, "Limits".
     pub fn begin_unit(&mut self, unit: Unit) -> Result<u32, AllocError>
         requires fresh { map.get self.old.value.units self.old.value.next_unit ≡ None }
         requires room { self.old.value.next_unit ≤ last_unit }
@@ -57,8 +56,7 @@ impl Campaign {
     /// Adds a structure under the next structure number, which no structure may have yet, and which
     /// has to be at most MOST_STRUCTURES. Returns that number; the next structure number rises by
     /// one. The structure and the campaign row are marked. AllocError without memory, and then
-    /// nothing changes.
-    /// See docs/RULES.md, "Limits".
+    /// nothing changes. See docs/RULES.md, "Limits".
     pub fn begin_structure(&mut self, structure: Structure) -> Result<u32, AllocError>
         requires fresh { map.get self.old.value.structures self.old.value.next_structure ≡ None }
         requires room { self.old.value.next_structure ≤ most_structures }

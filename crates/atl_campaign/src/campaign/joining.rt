@@ -154,7 +154,8 @@ impl Campaign {
         }
     }
 
-    /// What `join` does once the name is free and the campaign isn't full. AllocError: no change.
+    /// Adds the faction and its unit, booked and marked, and returns their numbers, once `join` has
+    /// found the name free and the campaign not full. With AllocError nothing has changed.
     fn enroll(
         &mut self,
         world: &World,

@@ -1,7 +1,7 @@
 //! Moves and removes units, and finds the next owners of the structures that they leave and enter.
-//! See docs/RULES.md, "Owners". A unit's goods are its items and days of study. After AllocError
-//! nothing has changed. Nor does a call that moves or removes a unit that isn't there change
-//! anything.
+//! See docs/RULES.md, "Owners". The next owner is the lowest-numbered other unit inside, or 0 for
+//! nobody. A unit's goods are its items and days of study. After AllocError nothing has changed.
+//! Moving or removing a unit that isn't there changes nothing.
 ghost use Rattle.std.specs.Prelude.{◌≡◌, OnOk, OnErr};
 ghost use Rattle.std.specs.FinMap as map;
 ghost use Rattle.atl_campaign.specs.Marking.{handed_marked, put_marked, place_marked, taken_marked, gone_marked};
@@ -37,14 +37,13 @@ impl Campaign {
         }
     }
 
-    /// 0, for nobody, where no other unit is inside.
     fn heir(&self, structure: u32, leaving: u32) -> u32
         ensures { result ≡ heir self.now.value structure leaving }
     {
         first_other(self.inside(structure), leaving)
     }
 
-    /// A `unit` of 0 stands for nobody.
+    /// A `unit` of 0 stands for nobody; false where there is no such structure.
     fn is_owned_by(&self, structure: u32, unit: u32) -> bool
         ensures { result ≡ is_owned_by (map.get self.now.value.structures structure) unit }
     {
@@ -54,7 +53,7 @@ impl Campaign {
         }
     }
 
-    /// Does nothing unless `from` owns the structure.
+    /// Does nothing unless the structure is there, and `from` owns it; 0 stands for nobody.
     fn hand_over(&mut self, structure: u32, from: u32, to: u32)
         ensures { self.new ≡ handed_marked self.old structure from to }
     {

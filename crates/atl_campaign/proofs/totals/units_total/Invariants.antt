@@ -5,8 +5,7 @@ use Rattle.atl_records.specs.Limits.{most_u32}
 use Rattle.atl_records.specs.Amounts.{unit_amount}
 use Rattle.atl_campaign.proofs.totals.units_total.Given as goal
 
--- the sum so far and what the units left hold of the thing is what all units hold of it. The sum so far is at most
--- most_u32 times the number of units counted.
+-- the sum so far and what the units left hold of the thing is what all units hold of it
 abbrev pub invariant-loop-unit : goal.invariant-loop-unit
 invariant-loop-unit l = record {
   so_far : l.sum + sum_by (λ e. unit_amount l.thing e.1.holding) l.unit-iterator
