@@ -127,8 +127,8 @@ module _ (c : CampaignValue) (from to : ℕ) (u v : Unit) (h k : HoldingValue) (
   receiver_still : get between.units to ≡ Some v
   receiver_still = get-insert_other c.units from to (record u { holding = h }) apart ∙ receiver
 
-  -- d is campaign c with x, which is h, as what the giver holds; e is d with y, which is k, as what the receiver holds;
-  -- then e is the campaign `moved`
+  -- Campaign d is c with x, which is h, as what the giver holds. Campaign e is d with y, which is k, as what the
+  -- receiver holds. Then e is the campaign `moved`.
   pub moved_is : (d e : CampaignValue) (x y : HoldingValue) → x ≡ h → y ≡ k → d ≡ with_holding_at c from x (Some u)
       → (get d.units to ≡ Some v → e ≡ with_holding_at d to y (Some v)) → e ≡ (if to == from then c else moved)
   moved_is d e x y x_is y_is first second =

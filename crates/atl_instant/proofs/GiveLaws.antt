@@ -174,7 +174,7 @@ module _ {fit : Type 0} (w : WorldValue) (c : CampaignValue) (from to : ℕ) (gi
 -- ---- the phase
 
 -- Each order of GIVE or PAY for a unit of its writer's faction leaves no other unit worse off. If it can be read with
--- the world, it keeps an early campaign early, its month and its balance, and books nothing (`StepKeeps`)
+-- the world, it keeps an early campaign early, its month and its balance, and books nothing (`StepKeeps`).
 pub give_keeps : StepKeeps IsEarly give_step
 give_keeps w a c t x own = by_operands t.order_value.operands
   where

@@ -160,7 +160,7 @@ guard_kept w c n u is =
 -- ---- the phase
 
 -- Each order of GUARD 1 for a unit of its writer's faction leaves no other unit worse off. If it can be read with the
--- world, it keeps a steady campaign steady, its month and its balance, and books nothing (`StepKeeps`)
+-- world, it keeps a steady campaign steady, its month and its balance, and books nothing (`StepKeeps`).
 pub guard_keeps : StepKeeps IsSteady guard_step
 guard_keeps w a c t x own = by_operands t.order_value.operands
   where

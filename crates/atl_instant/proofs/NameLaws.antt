@@ -106,7 +106,7 @@ module _ (fit : Type 0) (w : WorldValue) (c : CampaignValue) (n : ℕ) (u : Unit
   named kinds.Ship name ok = structure_named u.structure true name ok
 
 -- Each order of NAME or GUARD 0 for a unit of its writer's faction leaves no other unit worse off. If it can be read
--- with the world, it keeps an early campaign early, its month and its balance, and books nothing (`StepKeeps`)
+-- with the world, it keeps an early campaign early, its month and its balance, and books nothing (`StepKeeps`).
 pub name_keeps : StepKeeps IsEarly name_step
 name_keeps w a c t x own = by_operands t.order_value.operands
   where

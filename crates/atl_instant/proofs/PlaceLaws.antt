@@ -117,7 +117,7 @@ module _ (fit : Type 0) (w : WorldValue) (c : CampaignValue) (n : ℕ) (u : Unit
 -- ---- the phase
 
 -- Each order of LEAVE, ENTER or PROMOTE for a unit of its writer's faction leaves no other unit worse off. If it can be
--- read with the world, it keeps an early campaign early, its month and its balance, and books nothing (`StepKeeps`)
+-- read with the world, it keeps an early campaign early, its month and its balance, and books nothing (`StepKeeps`).
 pub place_keeps : StepKeeps IsEarly place_step
 place_keeps w a c t x own = by_operands t.order_value.operands
   where

@@ -227,7 +227,7 @@ module _ {fit : Type 0} (w : WorldValue) (c : CampaignValue) (from to n : ℕ) (
 -- ---- the phase
 
 -- Each order of TRANSFER for a unit of its writer's faction leaves no other unit worse off. If it can be read with the
--- world, it keeps an early campaign early, its month and its balance, and books nothing (`StepKeeps`)
+-- world, it keeps an early campaign early, its month and its balance, and books nothing (`StepKeeps`).
 pub transfer_keeps : StepKeeps IsEarly transfer_step
 transfer_keeps w a c t x own = by_operands t.order_value.operands
   where
