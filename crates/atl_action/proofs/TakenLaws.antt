@@ -1,7 +1,7 @@
 -- Laws of the events of MOVE, SAIL, TEACH and STUDY: each phase gives an event to each of its orders. `Gives` says
--- which reports a phase adds for order t, where `counts` says whether t counts in its mailing. For this the mailings
--- can be read with the world; the phase keeps mailings and aliases. A report is what an event says of its order.
--- Operands have the shape of a verb (`Fits`) if they are of the form that the verb takes.
+-- which reports a phase adds for order t, where `counts` says whether t counts in its mailing. It supposes that the
+-- mailings can be read with the world, and says that the phase keeps mailings and aliases. A report is what an event
+-- says of its order. Operands have the shape of a verb (`Fits`) if they are of the form that the verb takes.
 use Rattle.std.proofs.Common.{◌≡◌, ◌&&◌, ◌++◌, true, map, filter, is_some, refl, ap, ◌∙◌, append_assoc}
 use Rattle.std.proofs.lemmas.List.{map-append}
 use Rattle.std.proofs.lemmas.List.Elements.{filter-append}

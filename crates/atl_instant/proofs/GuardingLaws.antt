@@ -133,7 +133,7 @@ module _ (c : CampaignValue) (n : ℕ) (u : Unit) (is : get c.units n ≡ Some u
   pub flagged_is : with_guard c n true ≡ flagged
   flagged_is = changed_held (λ h. record h { guard = true }) c (with_guard c n true) n refl u is
 
-  -- setting the guard flag keeps a steady campaign steady, in its month and with balanced books (`StepsWell`),
+  -- setting the guard flag keeps a steady campaign steady, its month and its balance, and books nothing (`StepsWell`),
   -- if no other faction guards the region
   flag_steps_well : (w : WorldValue) → is_guarded_against c u.region u.faction ≡ false → IsSteady w c
       → StepsWell IsSteady nothing_remaining w c (with_guard c n true)

@@ -234,8 +234,9 @@ books_twice {o} {p} {i} {j} w a b c one two = record {
     grouped : (x y z : ℤ) (m n : ℕ) → x ≡ y +ℤ pos m → y ≡ z +ℤ pos n → x ≡ z +ℤ pos (m + n)
     grouped x y z m n e f = omega (arith, ints, e, f)
 
--- Booking an amount of a thing as gone lowers what the books have of it by that amount, and changes nothing else
--- (`BooksAsGone`). For this the thing is of the world, and the campaign is steady. It stays steady.
+-- Booking an amount of a thing as gone lowers what the books have of it by that amount, under the entry of its loss
+-- alone, and changes nothing else (`BooksAsGone`). For this the thing is of the world, and the campaign is steady. It
+-- stays steady.
 pub books_one : (w : WorldValue) (c : CampaignValue) (t : Thing) (amount : ℕ) → thing_index t < thing_count w
     → IsSteady w c
     → BooksAsGone w (λ s. amount_as_thing s t amount) (moves_only amount (loss_entry t) t) c (with_loss c t amount)
@@ -264,8 +265,9 @@ books_items w c ((i, a) ∷ es) known steady =
     let one = books_one w c (Item i) a (omega (arith, known.0)) steady in
     books_twice w c (with_item_loss c (i, a)) (fold with_item_loss (with_item_loss c (i, a)) es) one (books_items w (with_item_loss c (i, a)) es known.1 one.steady)
 
--- Booking all that a unit has as gone lowers what the books have of each thing by what the unit has of it, and changes
--- nothing else (`BooksAsGone`). For this its items are of the world, and the campaign is steady. It stays steady.
+-- Booking all that a unit has as gone lowers what the books have of each thing by what the unit has of it, within the
+-- bound `held_moves`, and changes nothing else (`BooksAsGone`). For this its items are of the world, and the campaign
+-- is steady. It stays steady.
 pub books_all : (w : WorldValue) (c : CampaignValue) (h : HoldingValue) → Every (λ i a. i < length w.items) h.items
     → IsSteady w c → BooksAsGone w (held_of_thing h) (held_moves h) c (with_all_losses c h)
 books_all w c h known steady =

@@ -100,6 +100,7 @@ fn amounts_of(alloc: Global, wants: &Numbered<u32>) -> Result<Vec<u64>, AllocErr
     Ok(amounts)
 }
 
+/// Puts the shares into `given`, by unit. They are those of the units in `wants`, in unit order.
 fn put_shares(
     wants: &Numbered<u32>,
     shares: &[u64],
