@@ -76,7 +76,7 @@ module _ (structure to : ℕ) where
   abbrev pub put_elsewhere_if : Bool → Unit → Unit
   put_elsewhere_if b x = if b then put_elsewhere x else x
 
-  -- the units, of which unit n is in region `to`, inside structure `structure`, and has its guard flag cleared
+  -- the units, of which unit n, if it is there, is in region `to`, inside structure `structure`, its guard flag cleared
   abbrev pub elsewhere : FinMap nat_cmp Unit → ℕ → FinMap nat_cmp Unit
   elsewhere m n = with_changed_value put_elsewhere m n
 

@@ -283,7 +283,7 @@ module _ (w : WorldValue) (c : CampaignValue) (ship to : ℕ) (steady : IsSteady
     }
 
     -- If a complete ship sails to a region that is there, a steady campaign stays steady, with the same month, reports
-    -- and set of factions, and with balanced books still balanced (`StepsWell`).
+    -- and set of factions. The books stay in balance, and nothing is booked (`StepsWell`).
     pub sailed_well : StepsWell IsSteady nothing_remaining w c (after_sailing c ship to)
     sailed_well =
         subst (StepsWell IsSteady nothing_remaining w c) (sym sailed_is)

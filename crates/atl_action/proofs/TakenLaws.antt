@@ -1,6 +1,7 @@
 -- Laws of the events of MOVE, SAIL, TEACH and STUDY: each phase gives an event to each of its orders. `Gives` says
--- which reports a phase adds for order t, where `counts` says whether t counts in its mailing. A report is what an
--- event says of its order. Operands have the shape of a verb (`Fits`) if they are of the form that the verb takes.
+-- which reports a phase adds for order t, where `counts` says whether t counts in its mailing. It supposes that the
+-- mailings can be read with the world, and says that the phase keeps mailings and aliases. A report is what an event
+-- says of its order. Operands have the shape of a verb (`Fits`) if they are of the form that the verb takes.
 use Rattle.std.proofs.Common.{◌≡◌, ◌&&◌, ◌++◌, true, map, filter, is_some, refl, ap, ◌∙◌, append_assoc}
 use Rattle.std.proofs.lemmas.List.{map-append}
 use Rattle.std.proofs.lemmas.List.Elements.{filter-append}
@@ -27,7 +28,6 @@ use Rattle.atl_action.specs.Walk.{by_direction, is_walking, walk, walk_spec, wal
 walk_takes : TakesThose walk_step is_walking all_orders
 walk_takes w a t of_phase fit = by_verb t.order_value.verb t.order_value.operands of_phase fit.shape
   where
-    -- operands of the shape of the verb have an effect
     by_verb : (v : Verb) (o : OperandsValue) → is_walking v ≡ true → Fits v o
         → is_some (by_direction (walk w t.unit) o) ≡ true
     by_verb verbs.Move (operands.Direction d) of_phase fits = refl
@@ -42,7 +42,6 @@ walk_gives = gives_by_orders walk_step is_walking all_orders walk_takes
 sail_takes : TakesThose sail_step is_sailing all_orders
 sail_takes w a t of_phase fit = by_verb t.order_value.verb t.order_value.operands of_phase fit.shape
   where
-    -- operands of the shape of the verb have an effect
     by_verb : (v : Verb) (o : OperandsValue) → is_sailing v ≡ true → Fits v o
         → is_some (by_direction (sail w t.unit) o) ≡ true
     by_verb verbs.Sail (operands.Direction d) of_phase fits = refl
@@ -64,7 +63,6 @@ study_shape v o of_phase fits = cc
 study_takes : (taught : TaughtMen) → TakesThose (study_step taught) is_studying all_orders
 study_takes taught w a t of_phase fit = by_verb t.order_value.verb t.order_value.operands of_phase fit.shape
   where
-    -- operands of the shape of the verb have an effect
     by_verb : (v : Verb) (o : OperandsValue) → is_studying v ≡ true → Fits v o
         → is_some (study_effect w taught t.unit o) ≡ true
     by_verb verbs.Study (operands.Skill s) of_phase fits = refl

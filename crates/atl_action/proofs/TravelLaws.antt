@@ -43,9 +43,10 @@ module _ (w : WorldValue) (c : CampaignValue) (units : FinMap nat_cmp Unit) (str
     pub region : HasValue c.regions u.region
     pub structure : u.structure ≢ 0 → (s : Structure) × (get structures u.structure ≡ Some s) × (s.region ≡ u.region)
 
-  -- The units and structures are what f and g make of those of c, and keep all that a steady campaign needs of them.
-  -- Each unit is in a region that is there, and inside a structure of this region or none. Each structure has its right
-  -- owner, and units that still guard are as they were.
+  -- The units and structures are as many as in c, and what f and g make of those of c: other at most in region,
+  -- structure, guard flag and owner. Each is in a region that is there, and a unit inside a structure of this region or
+  -- none. Each structure has its right owner, and units that still guard are as they were. On water units are inside
+  -- ships, and structures are complete ships. Each faction has the same unit numbers.
   pub record AreTravelled : Type 0 where
     pub units_at : (k : ℕ) → get units k ≡ option_map (f k) (get c.units k)
     pub structures_at : (k : ℕ) → get structures k ≡ option_map (g k) (get c.structures k)

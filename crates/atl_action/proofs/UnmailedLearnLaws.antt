@@ -1,5 +1,6 @@
--- Laws of TEACH and STUDY: the units of a faction that sent no mailing keep their men, names and items.
--- `LeavesUnmailed` counts as starved the men whom the phase's Starved events report; this phase reports none.
+-- Laws of the phase of TEACH and STUDY, which keeps the mailings. If it keeps what `learn_keeps` says, each unit of a
+-- faction without a mailing is still there after it (`LeavesUnmailed`). It has its faction and name, no less of any
+-- item, and its men less the starved. These are the men whom the phase's Starved events report; it reports none.
 use Rattle.std.proofs.Common.{◌≡◌, ◌∷◌, [], List, ◌-◌, ◌*◌, ℕ, Some, None, refl, ap, subst, ◌∙◌, arith}
 use Rattle.std.specs.Prelude.{fold}
 use Rattle.std.specs.FinMap.{get}
@@ -80,8 +81,7 @@ all_study taught =
 
 -- ---- both
 
--- TEACH and STUDY leave units of factions without a mailing their items, and their men less the starved
--- (`LeavesUnmailed`)
+-- TEACH and STUDY leave units of factions without a mailing their names and items, and their men less the starved
 pub learn_leaves : LeavesUnmailed learn_meaning learn_keeps
 learn_leaves = record {
   readings = λ w c m. let lessons = after_lessons c (learners w c m) m in (all_study lessons.0).readings w c lessons.1 ∙ (all_lessons_add_no_starved c (learners w c m) m).readings;

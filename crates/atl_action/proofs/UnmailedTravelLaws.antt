@@ -1,5 +1,6 @@
--- Laws of MOVE and SAIL: the units of a faction that sent no mailing keep their men, names and items.
--- `PhaseLeavesUnmailed` counts as starved the men whom a phase's Starved events report; these phases report none.
+-- Laws of MOVE and SAIL, which keep the mailings. If a phase keeps what its specification says, each unit of a faction
+-- without a mailing is still there after it (`PhaseLeavesUnmailed`). It has its faction and name, no less of any item,
+-- and its men less the starved. These are the men whom the phase's Starved events report; both phases report none.
 use Rattle.std.proofs.Common.{ℕ, false, refl}
 use Rattle.std.specs.Prelude.{fold, unwrap_or}
 use Rattle.std.specs.FinMap.{get}
@@ -32,7 +33,7 @@ walk_leaves_men : LeavesOthersMen walk_step
 walk_leaves_men w a c t x own =
     in_each_direction (λ effect. OthersHaveMen t.faction c (effect c x).0) (walk w t.unit) t.order_value.operands (λ direction. others_men t.faction c (walk w t.unit direction c x).0 (walk_men w c t.unit x direction))
 
--- MOVE leaves units of factions without a mailing their items, and their men less the starved (`PhaseLeavesUnmailed`)
+-- MOVE leaves units of factions without a mailing their names and items, and their men less the starved
 pub walk_leaves : PhaseLeavesUnmailed walk_spec
 walk_leaves =
     carried_leaves walk_step is_walking walk_leaves_men (unmailed_keep_items is_walking own_faction items_of_no_worse)
@@ -60,7 +61,7 @@ sail_leaves_men w a c t x own =
 items_of_carried : (u v : Unit) → IsAtMostMoved u v → HasItsItems u v
 items_of_carried u v h = record { name = h.name; items = h.items }
 
--- SAIL leaves units of factions without a mailing their items, and their men less the starved (`PhaseLeavesUnmailed`)
+-- SAIL leaves units of factions without a mailing their names and items, and their men less the starved
 pub sail_leaves : PhaseLeavesUnmailed sail_spec
 sail_leaves =
     carried_leaves sail_step is_sailing sail_leaves_men

@@ -242,7 +242,7 @@ module _ (w : WorldValue) (c : CampaignValue) (n : ℕ) (u : Unit) (to : ℕ) (i
       (subst (λ (d : CampaignValue). StepsWell IsSteady nothing_remaining w c (record d { structures = gone_off.structures })) (sym (elsewhere_is 0 to c n)) (inside_well (is_unequal old_place 0 t)))
 
   -- If unit `n` walks to region `to`, which is land, a steady campaign stays steady, with the same month, reports and
-  -- set of factions, and with balanced books still balanced (`StepsWell`).
+  -- set of factions. The books stay in balance, and nothing is booked (`StepsWell`).
   pub walked_well : StepsWell IsSteady nothing_remaining w c (with_unit_moved 0 to c n)
   unfolding with_place
   walked_well =

@@ -51,7 +51,7 @@ days_after men old taught helped =
 abbrev pub study_fault : HoldingValue → (cost : ℕ) → Option EventFault
 study_fault h cost = first_fault ((h.men == 0, NoMen) ∷ (nat_lt h.money cost, NoFee) ∷ [])
 
--- what a unit holds after it paid `cost` and has `days` of the skill
+-- what a unit holds after it paid `cost` and has `days` of the skill; a skill with 0 days isn't listed
 abbrev pub with_study : HoldingValue → (skill cost days : ℕ) → HoldingValue
 with_study h s cost days = record h { money = h.money - cost; days = with_amount_of h.days s days }
 

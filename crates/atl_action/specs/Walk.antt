@@ -66,6 +66,6 @@ walk_step w aliases t = by_direction (walk w t.unit) t.order_value.operands
 -- ---- the phase
 
 -- The specification of the phase of MOVE, which books nothing. A unit for which no MOVE of its own faction counts keeps
--- its place, name and guard flag, and loses nothing (`IsNoWorse`).
+-- its faction, place, name and guard flag, and loses nothing (`IsNoWorse`).
 abbrev pub walk_spec : PhaseSpec
 walk_spec = goes_by_orders walk_step is_walking IsOwnOrder IsNoWorse

@@ -127,8 +127,8 @@ module _ (c : CampaignValue) (from to : ℕ) (u v : Unit) (h k : HoldingValue) (
   receiver_still : get between.units to ≡ Some v
   receiver_still = get-insert_other c.units from to (record u { holding = h }) apart ∙ receiver
 
-  -- setting first what the giver holds (x, which is h) and then what the receiver holds (y, which is k) makes the
-  -- campaign `moved`
+  -- Campaign d is c with x, which is h, as what the giver holds. Campaign e is d with y, which is k, as what the
+  -- receiver holds. Then e is the campaign `moved`.
   pub moved_is : (d e : CampaignValue) (x y : HoldingValue) → x ≡ h → y ≡ k → d ≡ with_holding_at c from x (Some u)
       → (get d.units to ≡ Some v → e ≡ with_holding_at d to y (Some v)) → e ≡ (if to == from then c else moved)
   moved_is d e x y x_is y_is first second =
@@ -144,13 +144,12 @@ module _ (c : CampaignValue) (from to : ℕ) (u v : Unit) (h k : HoldingValue) (
   total-moved w both t =
       sum (total moved t) (total between t) (total c t) (unit_amount t u.holding) (unit_amount t v.holding) (unit_amount t h) (unit_amount t k) (total-new_holding w between to v k receiver_still t) (total-new_holding w c from u h giver t) (both t)
     where
-      -- For `total-moved`: the total a after both changes is x, that before them; b is the total between the changes.
-      -- Giver and receiver held p and q of the thing, and hold r and s after, with the same sum.
       sum : (a b x p q r s : ℕ) → a + q ≡ b + s → b + p ≡ x + r → r + s ≡ p + q → a ≡ x
       sum a b x p q r s e f g = omega arith
 
-  -- A move from giver to receiver keeps the campaign early, its month and its balance (`StepsWell`). For this both may
-  -- hold what they then hold, and neither has its guard flag newly set. Together they must hold as much as before.
+  -- A move from giver to receiver keeps an early campaign early, its month and its balance, and books nothing
+  -- (`StepsWell`). For this both may have what they then hold (`MayHave`), and together they hold as much as before.
+  -- Neither has its guard flag newly set.
   pub steps-moved : (w : WorldValue) → MayHave w h → (h.guard ≡ true → u.holding.guard ≡ true) → MayHave w k
       → (k.guard ≡ true → v.holding.guard ≡ true) → BothHold → IsEarly w c
       → StepsWell IsEarly nothing_remaining w c moved

@@ -176,7 +176,6 @@ module _ (w : WorldValue) (c : CampaignValue) (p : ℕ) (u : Unit) (is : get c.u
   nothing_held People = refl
   nothing_held (Item i) = ap (λ o. unwrap_or o 0) (get-empty nat_cmp i)
 
-  -- for `same_total`: the total a after a unit was formed is b, that before, since the new unit holds h, which is 0
   none_more : (a b h : ℕ) → a ≡ b + h → h ≡ 0 → a ≡ b
   none_more a b h e none = omega arith
 
@@ -186,8 +185,8 @@ module _ (w : WorldValue) (c : CampaignValue) (p : ℕ) (u : Unit) (is : get c.u
       none_more (total begun t) (total c t) (unit_amount t child.holding) (total-with_unit c c.next_unit child t free)
       (nothing_held t)
 
-  -- if the unit limit isn't reached, forming a unit keeps an early campaign early,
-  -- in its month and with balanced books (`StepsWell`)
+  -- if the unit limit isn't reached, forming a unit keeps an early campaign early, its month and its balance, and books
+  -- nothing (`StepsWell`)
   pub begun_well : is_unit_limit c ≡ false → StepsWell IsEarly nothing_remaining w c begun
   begun_well limit = unbooked_well w c begun (early_begun limit) (same_month_by refl) refl same_total
 
@@ -254,7 +253,8 @@ module _ (w : WorldValue) (c : CampaignValue) (early : IsEarly w c) where
     form_fine : IsEarlyAndKeepsUnits (form_by c f n).0
     form_fine = by_unit (get c.units n) refl
 
-  -- an order of FORM, by its copy o, keeps an early campaign early, in its month and with balanced books (`StepsWell`)
+  -- an order of FORM, by its copy o, keeps an early campaign early, its month and its balance, and books nothing
+  -- (`StepsWell`)
   pub order_well : (m : MonthValue) (o : Forming) → StepsWell IsEarly nothing_remaining w c (form_by_copy (c, m) o).0
   order_well m o = (form_fine o.faction o.unit).0
 

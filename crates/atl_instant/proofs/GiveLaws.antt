@@ -173,8 +173,8 @@ module _ {fit : Type 0} (w : WorldValue) (c : CampaignValue) (from to : ℕ) (gi
 
 -- ---- the phase
 
--- each order of GIVE or PAY keeps an early campaign early and books nothing, and no unit but the giver is worse off
--- (`StepKeeps`)
+-- Each order of GIVE or PAY for a unit of its writer's faction leaves no other unit worse off. If it can be read with
+-- the world, it keeps an early campaign early, its month and its balance, and books nothing (`StepKeeps`).
 pub give_keeps : StepKeeps IsEarly give_step
 give_keeps w a c t x own = by_operands t.order_value.operands
   where

@@ -133,7 +133,7 @@ module _ (c : CampaignValue) (n : ℕ) (u : Unit) (is : get c.units n ≡ Some u
   pub flagged_is : with_guard c n true ≡ flagged
   flagged_is = changed_held (λ h. record h { guard = true }) c (with_guard c n true) n refl u is
 
-  -- setting the guard flag keeps a steady campaign steady, in its month and with balanced books (`StepsWell`),
+  -- setting the guard flag keeps a steady campaign steady, its month and its balance, and books nothing (`StepsWell`),
   -- if no other faction guards the region
   flag_steps_well : (w : WorldValue) → is_guarded_against c u.region u.faction ≡ false → IsSteady w c
       → StepsWell IsSteady nothing_remaining w c (with_guard c n true)
@@ -159,8 +159,8 @@ guard_kept w c n u is =
 
 -- ---- the phase
 
--- each order of GUARD 1 keeps a steady campaign steady and books nothing, and no unit but the one that it is for is
--- worse off (`StepKeeps`)
+-- Each order of GUARD 1 for a unit of its writer's faction leaves no other unit worse off. If it can be read with the
+-- world, it keeps a steady campaign steady, its month and its balance, and books nothing (`StepKeeps`).
 pub guard_keeps : StepKeeps IsSteady guard_step
 guard_keeps w a c t x own = by_operands t.order_value.operands
   where

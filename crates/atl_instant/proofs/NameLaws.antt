@@ -34,8 +34,6 @@ use Rattle.atl_instant.proofs.FactionLaws.{count-faction_name, known-faction_nam
 
 -- what an order of NAME or GUARD 0 for unit n (u) of campaign c keeps (`OrderKeeps`), if it fits the world (`fit`)
 module _ (fit : Type 0) (w : WorldValue) (c : CampaignValue) (n : ℕ) (u : Unit) (is : get c.units n ≡ Some u) where
-  -- Campaign d, which an order for unit n makes of c, is early and in balance, if c is and the order fits the world
-  -- (`fit`). No unit but n is worse off in d (`OrderKeeps`).
   abbrev KeepsOthersByName : CampaignValue → Type 0
   KeepsOthersByName d = OrderKeeps IsEarly fit w c n u.faction d
 
@@ -107,8 +105,8 @@ module _ (fit : Type 0) (w : WorldValue) (c : CampaignValue) (n : ℕ) (u : Unit
   named kinds.Building name ok = structure_named u.structure false name ok
   named kinds.Ship name ok = structure_named u.structure true name ok
 
--- each order of NAME or GUARD 0 keeps an early campaign early and books nothing, and no unit but the one that it is for
--- is worse off (`StepKeeps`)
+-- Each order of NAME or GUARD 0 for a unit of its writer's faction leaves no other unit worse off. If it can be read
+-- with the world, it keeps an early campaign early, its month and its balance, and books nothing (`StepKeeps`).
 pub name_keeps : StepKeeps IsEarly name_step
 name_keeps w a c t x own = by_operands t.order_value.operands
   where

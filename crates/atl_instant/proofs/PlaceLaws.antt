@@ -38,8 +38,6 @@ use Rattle.atl_instant.proofs.EffectLaws.{OrderKeeps, StepKeeps, keeps_all, keep
 -- what an order of LEAVE, ENTER or PROMOTE for unit n (u) of campaign c keeps (`OrderKeeps`), if it fits the world
 -- (`fit`)
 module _ (fit : Type 0) (w : WorldValue) (c : CampaignValue) (n : ℕ) (u : Unit) (is : get c.units n ≡ Some u) where
-  -- Campaign d, which an order for unit n makes of c, is early and in balance, if c is and the order fits the world
-  -- (`fit`). No unit but n is worse off in d (`OrderKeeps`).
   abbrev KeepsOthersByPlace : CampaignValue → Type 0
   KeepsOthersByPlace d = OrderKeeps IsEarly fit w c n u.faction d
 
@@ -118,8 +116,8 @@ module _ (fit : Type 0) (w : WorldValue) (c : CampaignValue) (n : ℕ) (u : Unit
 
 -- ---- the phase
 
--- each order of LEAVE, ENTER or PROMOTE keeps an early campaign early and books nothing, and no unit but the one that
--- it is for is worse off (`StepKeeps`)
+-- Each order of LEAVE, ENTER or PROMOTE for a unit of its writer's faction leaves no other unit worse off. If it can be
+-- read with the world, it keeps an early campaign early, its month and its balance, and books nothing (`StepKeeps`).
 pub place_keeps : StepKeeps IsEarly place_step
 place_keeps w a c t x own = by_operands t.order_value.operands
   where

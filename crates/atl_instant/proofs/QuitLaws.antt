@@ -234,8 +234,9 @@ books_twice {o} {p} {i} {j} w a b c one two = record {
     grouped : (x y z : ℤ) (m n : ℕ) → x ≡ y +ℤ pos m → y ≡ z +ℤ pos n → x ≡ z +ℤ pos (m + n)
     grouped x y z m n e f = omega (arith, ints, e, f)
 
--- Booking an amount of a thing as gone lowers what the books have of it by that amount, and changes nothing else
--- (`BooksAsGone`). For this the thing is of the world, and the campaign is steady. It stays steady.
+-- Booking an amount of a thing as gone lowers what the books have of it by that amount, under the entry of its loss
+-- alone, and changes nothing else (`BooksAsGone`). For this the thing is of the world, and the campaign is steady. It
+-- stays steady.
 pub books_one : (w : WorldValue) (c : CampaignValue) (t : Thing) (amount : ℕ) → thing_index t < thing_count w
     → IsSteady w c
     → BooksAsGone w (λ s. amount_as_thing s t amount) (moves_only amount (loss_entry t) t) c (with_loss c t amount)
@@ -264,8 +265,9 @@ books_items w c ((i, a) ∷ es) known steady =
     let one = books_one w c (Item i) a (omega (arith, known.0)) steady in
     books_twice w c (with_item_loss c (i, a)) (fold with_item_loss (with_item_loss c (i, a)) es) one (books_items w (with_item_loss c (i, a)) es known.1 one.steady)
 
--- Booking all that a unit has as gone lowers what the books have of each thing by what the unit has of it, and changes
--- nothing else (`BooksAsGone`). For this its items are of the world, and the campaign is steady. It stays steady.
+-- Booking all that a unit has as gone lowers what the books have of each thing by what the unit has of it, within the
+-- bound `held_moves`, and changes nothing else (`BooksAsGone`). For this its items are of the world, and the campaign
+-- is steady. It stays steady.
 pub books_all : (w : WorldValue) (c : CampaignValue) (h : HoldingValue) → Every (λ i a. i < length w.items) h.items
     → IsSteady w c → BooksAsGone w (held_of_thing h) (held_moves h) c (with_all_losses c h)
 books_all w c h known steady =
@@ -376,8 +378,6 @@ module _ (w : WorldValue) (c : CampaignValue) (n : ℕ) (u : Unit) (is : get c.u
       total_stays_booked (total after_leave t) (unit_amount t u.holding) (total booked_off t) (total c t) (held_of_thing u.holding t) (booked c.books t) (booked booked_off.books t) (total-without w booked_off n u there t) totals (held_is_unit_amount u.holding t) (old t) (all_is_booked.sum_falls t)
       ∙ ap (λ (books : BooksValue). booked books t) (sym only.books)
     where
-      -- For `balanced`: the total a after the unit left is the books' sum y of the thing. Before, the total (b, d) and
-      -- the books (z) were equal, and both fell by what the unit held (h, o).
       total_stays_booked : (a h b d o : ℕ) (z y : ℤ) → a + h ≡ b → b ≡ d → o ≡ h → pos d ≡ z → z ≡ y +ℤ pos o
           → pos a ≡ y
       total_stays_booked a h b d o z y e f g k l = omega (arith, ints, e, f, g, k, l)
@@ -408,8 +408,8 @@ module _ (w : WorldValue) (c : CampaignValue) (n : ℕ) (u : Unit) (is : get c.u
         uses_bound = uses_bound;
       }
 
--- after unit n left with all that it has, a steady campaign stays steady,
--- in its month and with balanced books (`StepsWell`)
+-- Once unit n, if it is there, left with all that it has, a steady campaign is still steady, in its month and in
+-- balance. No amount of the books moved further than what may still be booked (`quit_remaining`) fell (`StepsWell`).
 pub left_well : (w : WorldValue) (c : CampaignValue) (n : ℕ) → IsSteady w c
     → StepsWell IsSteady quit_remaining w c (after_leaving c n)
 unfolding after_leaving
@@ -443,8 +443,8 @@ leaving_keeps_others c n k apart = by_unit (get c.units n)
 
 -- ---- all units of a faction
 
--- after the units of a list left one by one, a steady campaign is steady, in its month and with balanced books
--- (`StepsWell`)
+-- Once the units of a list, those that are there, left one by one, a steady campaign is still steady, in its month and
+-- in balance. No amount of the books moved further than what may still be booked (`quit_remaining`) fell (`StepsWell`).
 pub all_left_well : (w : WorldValue) (c : CampaignValue) (ns : List ℕ) → IsSteady w c
     → StepsWell IsSteady quit_remaining w c (fold after_leaving c ns)
 all_left_well w c [] steady = well_same w c steady
@@ -474,8 +474,8 @@ quit_cases P c number u same leave = by_fault (quit_fault number u) refl
     by_fault (Some fault) e = same
     by_fault None e = leave (not_apart number u.faction (none_fits (not (number == u.faction)) WrongNumber [] e).0)
 
--- an order of QUIT, with a fault or without, keeps a steady campaign steady, in its month and with balanced books
--- (`StepsWell`)
+-- An order of QUIT, with a fault or without, keeps a steady campaign steady, its month and its balance. No amount of
+-- the books moves further than what may still be booked (`quit_remaining`) falls (`StepsWell`).
 pub quit_well : (w : WorldValue) (c : CampaignValue) (number : ℕ) (u : Unit) → IsSteady w c
     → StepsWell IsSteady quit_remaining w c (quit number c u).0
 quit_well w c number u steady =
@@ -607,8 +607,8 @@ module _ (begun : CampaignValue) where
     bounded = λ w c since. quit_orderly.bounded w c since.0;
   }
 
--- a unit is no worse off after the phase, unless its faction quits (`quit_keeps`), if the campaign is steady before,
--- and the mailings can be read with the world
+-- If the campaign is steady before the phase, and the mailings can be read with the world, each unit is there after it,
+-- and no worse off. Excepted are units whose faction quits by an order for a unit that was its own as the phase began.
 pub quit_leaves_others : (w : WorldValue) (c : CampaignValue) (m : MonthValue) → IsSteady w c → AreFit w m.readings
     → quit_keeps w m c (quit_meaning w c m).0
 unfolding meaning_by_orders

@@ -1,7 +1,8 @@
 -- Laws of the events of the phases from FORM to TRANSFER, of GUARD 1 and of QUIT: each gives an event to each of its
 -- orders. The phases of NAME and of GUARD 1 both get the orders of GUARD, and each passes over those of the other.
--- `Gives` says which reports a phase adds for order t, where `counts` says whether t counts in its mailing. A report is
--- what an event says of its order. Operands have the shape of a verb (`Fits`) if they are of the form that it takes.
+-- `Gives` says which reports a phase adds for order t, where `counts` says whether t counts in its mailing. It supposes
+-- that the mailings can be read with the world, and says that the phase keeps mailings and aliases. A report is what an
+-- event says of its order. Operands have the shape of a verb (`Fits`) if they are of the form that it takes.
 use Rattle.std.proofs.Common.{◌≡◌, ◌&&◌, ◌++◌, Bool, true, false, not, map, filter, is_some, refl, ap, ◌∙◌}
 use Rattle.std.proofs.lemmas.List.{map-append}
 use Rattle.std.proofs.lemmas.List.Elements.{filter-append}
@@ -34,7 +35,6 @@ use Rattle.atl_instant.specs.Transfer.{is_transferring, transfer_effect, transfe
 place_takes : TakesThose place_step is_placing all_orders
 place_takes w a t of_phase fit = by_verb t.order_value.verb t.order_value.operands of_phase fit.shape
   where
-    -- operands of the shape of the verb have an effect
     by_verb : (v : Verb) (o : OperandsValue) → is_placing v ≡ true → Fits v o
         → is_some (place_effect w a t.faction t.unit o) ≡ true
     by_verb verbs.Leave operands.Nothing of_phase fits = refl
@@ -55,7 +55,6 @@ place_gives = gives_by_orders place_step is_placing all_orders place_takes
 give_takes : TakesThose give_step is_giving all_orders
 give_takes w a t of_phase fit = by_verb t.order_value.verb t.order_value.operands of_phase fit.shape
   where
-    -- operands of the shape of the verb have an effect
     by_verb : (v : Verb) (o : OperandsValue) → is_giving v ≡ true → Fits v o
         → is_some (give_effect a t.faction t.unit o) ≡ true
     by_verb verbs.Give (operands.UnitAndGoods to n item) of_phase fits = refl
@@ -74,7 +73,6 @@ give_gives = gives_by_orders give_step is_giving all_orders give_takes
 transfer_takes : TakesThose transfer_step is_transferring all_orders
 transfer_takes w a t of_phase fit = by_verb t.order_value.verb t.order_value.operands of_phase fit.shape
   where
-    -- operands of the shape of the verb have an effect
     by_verb : (v : Verb) (o : OperandsValue) → is_transferring v ≡ true → Fits v o
         → is_some (transfer_effect a t.faction t.unit o) ≡ true
     by_verb verbs.Transfer (operands.UnitAndNumber to n) of_phase fits = refl
@@ -91,7 +89,6 @@ transfer_gives = gives_by_orders transfer_step is_transferring all_orders transf
 quit_takes : TakesThose quit_step is_quitting all_orders
 quit_takes w a t of_phase fit = by_verb t.order_value.verb t.order_value.operands of_phase fit.shape
   where
-    -- operands of the shape of the verb have an effect
     by_verb : (v : Verb) (o : OperandsValue) → is_quitting v ≡ true → Fits v o → is_some (quit_effect o) ≡ true
     by_verb verbs.Quit (operands.Number n) of_phase fits = refl
     by_verb verbs.Quit o of_phase fits = cc

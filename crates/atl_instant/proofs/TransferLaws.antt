@@ -226,8 +226,8 @@ module _ {fit : Type 0} (w : WorldValue) (c : CampaignValue) (from to n : ℕ) (
 
 -- ---- the phase
 
--- each order of TRANSFER keeps an early campaign early and books nothing, and no unit but the sender is worse off
--- (`StepKeeps`)
+-- Each order of TRANSFER for a unit of its writer's faction leaves no other unit worse off. If it can be read with the
+-- world, it keeps an early campaign early, its month and its balance, and books nothing (`StepKeeps`).
 pub transfer_keeps : StepKeeps IsEarly transfer_step
 transfer_keeps w a c t x own = by_operands t.order_value.operands
   where

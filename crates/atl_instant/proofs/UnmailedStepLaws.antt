@@ -1,6 +1,7 @@
--- Laws of the phases from FORM to QUIT: in each, units of a faction that sent no mailing keep their men and no
--- less of any item. `LeavesUnmailed` says this of a phase's effect, if the phase keeps what its specification says, and `PhaseLeavesUnmailed` of its specification. Both count as starved
--- the men whom the phase's Starved events report; these phases report none.
+-- Laws of the phases from FORM to QUIT, each of which keeps the mailings. If a phase keeps what its specification says,
+-- each unit of a faction without a mailing is still there after it. It has its faction and name, no less of any item,
+-- and its men less the starved. `LeavesUnmailed` says this of a phase's effect, and `PhaseLeavesUnmailed` of its
+-- specification. The starved are the men whom the phase's Starved events report; these phases report none.
 use Rattle.std.proofs.Common.{◌≡◌, ℕ, List, [], ◌∷◌, refl, sym, ◌∙◌, arith}
 use Rattle.std.specs.Prelude.{IfSome, fold}
 use Rattle.atl_lines.specs.declared.order.Operands.TheVariants as operands
@@ -40,7 +41,7 @@ form_starves_none p [] n = refl
 form_starves_none p (t ∷ ts) n =
     form_starves_none (form_order p t) ts n ∙ order_event_starves_none p.1.events t (form_by p.0 t.faction t.unit).1 n
 
--- FORM leaves units of factions without a mailing their items, and their men less those who starve (`LeavesUnmailed`)
+-- FORM leaves units of factions without a mailing their names and items, and their men less the starved
 pub form_leaves : LeavesUnmailed form_meaning form_keeps
 unfolding form_meaning
 form_leaves =
@@ -52,36 +53,32 @@ form_leaves =
 
 -- ---- the phases that book nothing
 
--- NAME and GUARD 0 leave units of factions without a mailing their items, and their men less those who starve
--- (`PhaseLeavesUnmailed`)
+-- NAME and GUARD 0 leave units of factions without a mailing their names and items, and their men less the starved
 pub name_leaves : PhaseLeavesUnmailed name_spec
 name_leaves =
     carried_leaves name_step is_naming (leaves_men IsEarly name_step name_keeps)
     (unmailed_keep_items {affects = name_affects} is_naming (λ t n f h. own_faction t n f h.0) items_of_no_worse)
 
--- LEAVE, ENTER and PROMOTE leave units of factions without a mailing their items, and their men less those who starve
--- (`PhaseLeavesUnmailed`)
+-- LEAVE, ENTER and PROMOTE leave units of factions without a mailing their names and items, and their men less the
+-- starved
 pub place_leaves : PhaseLeavesUnmailed place_spec
 place_leaves =
     carried_leaves place_step is_placing (leaves_men IsEarly place_step place_keeps)
     (unmailed_keep_items is_placing own_faction items_of_no_worse)
 
--- GIVE and PAY leave units of factions without a mailing their items, and their men less those who starve
--- (`PhaseLeavesUnmailed`)
+-- GIVE and PAY leave units of factions without a mailing their names and items, and their men less the starved
 pub give_leaves : PhaseLeavesUnmailed give_spec
 give_leaves =
     carried_leaves give_step is_giving (leaves_men IsEarly give_step give_keeps)
     (unmailed_keep_items is_giving own_faction items_of_no_worse)
 
--- TRANSFER leaves units of factions without a mailing their items, and their men less those who starve
--- (`PhaseLeavesUnmailed`)
+-- TRANSFER leaves units of factions without a mailing their names and items, and their men less the starved
 pub transfer_leaves : PhaseLeavesUnmailed transfer_spec
 transfer_leaves =
     carried_leaves transfer_step is_transferring (leaves_men IsEarly transfer_step transfer_keeps)
     (unmailed_keep_items is_transferring own_faction items_of_no_worse)
 
--- GUARD 1 leaves units of factions without a mailing their items, and their men less those who starve
--- (`PhaseLeavesUnmailed`)
+-- GUARD 1 leaves units of factions without a mailing their names and items, and their men less the starved
 pub guard_leaves : PhaseLeavesUnmailed guard_spec
 guard_leaves =
     carried_leaves guard_step is_guarding (leaves_men IsSteady guard_step guard_keeps)
@@ -100,7 +97,7 @@ quit_leaves_men w a c t x own = by_operands t.order_value.operands
     }
     by_operands o = tt
 
--- QUIT leaves units of factions without a mailing their items, and their men less those who starve (`LeavesUnmailed`)
+-- QUIT leaves units of factions without a mailing their names and items, and their men less the starved
 pub quit_leaves : LeavesUnmailed quit_meaning quit_keeps
 quit_leaves =
     carried_leaves quit_step is_quitting quit_leaves_men

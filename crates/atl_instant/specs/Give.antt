@@ -36,7 +36,7 @@ abbrev pub held_of : Gift → HoldingValue → ℕ
 held_of Money h = h.money
 held_of (Item i) h = amount_of h.items i
 
--- what a unit holds once its money, or its amount of the item that is given, is n
+-- what a unit holds once its money, or its amount of the item that is given, is n; 0 of an item isn't listed
 abbrev pub with_held_of : Gift → HoldingValue → ℕ → HoldingValue
 with_held_of Money h n = record h { money = n }
 with_held_of (Item i) h n = record h { items = with_amount_of h.items i n }

@@ -48,7 +48,7 @@ abbrev pub guard_effect : (n : ℕ) → OperandsValue → Option OrderEffect
 guard_effect n (operands.Flag true) = Some (guard n)
 guard_effect n other = None
 
--- what the phase does at one order: the effect of an order of GUARD; None for GUARD 0
+-- what the phase does at one order: the effect of GUARD 1; None for operands of any other form, as those of GUARD 0
 abbrev pub guard_step : OrderMeaning
 guard_step w aliases t = guard_effect t.unit t.order_value.operands
 

@@ -67,7 +67,7 @@ name_effect w n (operands.Name what name) = Some (naming w n what name)
 name_effect w n (operands.Flag false) = Some (leave_guard n)
 name_effect w n other = None
 
--- what the phase does at one order: the effect of NAME or GUARD 0; None for GUARD 1
+-- what the phase does at one order: the effect of NAME or GUARD 0; None for any other operands, as those of GUARD 1
 abbrev pub name_step : OrderMeaning
 name_step w a t = name_effect w t.unit t.order_value.operands
 

@@ -95,8 +95,8 @@ pub record QuitsByOwnUnit (begun : CampaignValue) (t : Task) (n f : ℕ) : Type 
   pub faction : t.faction ≡ f
   pub names_own_number : t.order_value.operands ≡ operands.Number f
 
--- what the phase keeps: a unit is no worse off, unless its faction quits by an
--- order for a unit that was its own as the phase began
+-- what the phase keeps: each unit is still there and no worse off, unless its faction quits by an order for a unit that
+-- was its own as the phase began
 abbrev pub quit_keeps : Frame
 quit_keeps w m before after = others_unaffected (QuitsByOwnUnit before) IsNoWorse is_quitting w m before after
 

@@ -15,11 +15,13 @@ GuardMap = FinMap nat_cmp ℕ
 abbrev pub with_guard_of : GuardMap → Unit → GuardMap
 with_guard_of m u = if guards u then insert m u.region u.faction else m
 
--- the map after some units are noted one after another: the faction of each that guards is entered under its region
+-- the map after some units are noted in turn: the faction of each that guards is entered under its region, in place of
+-- one that is there
 abbrev pub with_guards_of : GuardMap → List (ℕ × Unit) → GuardMap
 with_guards_of m es = fold (λ held e. with_guard_of held e.1) m es
 
--- the map of which faction guards each region of a campaign
+-- The map of which faction guards each region of a campaign. If several do, the map has the faction of that guarding
+-- unit which has the highest number.
 abbrev pub guard_map_of : CampaignValue → GuardMap
 guard_map_of c = with_guards_of empty (entries c.units)
 

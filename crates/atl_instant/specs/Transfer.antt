@@ -29,7 +29,7 @@ abbrev pub is_transferring : Verb → Bool
 is_transferring verbs.Transfer = true
 is_transferring verb = false
 
--- the days of a skill that go with n of `men` men who have `days` together: their part, rounded down
+-- the days of a skill that go with n of `men` men who have `days` together: their part, rounded down; 0 for no men
 abbrev pub days_going : (n men days : ℕ) → ℕ
 days_going n men days = days * n / men
 
@@ -45,7 +45,7 @@ staying_of n h s = amount_of h.days s - going_of n h s
 abbrev pub raised_of : (n : ℕ) → (other h : HoldingValue) → (skill : ℕ) → ℕ
 raised_of n other h s = amount_of h.days s + going_of n other s
 
--- what a unit holds after n of its men went, with their part of the days
+-- what a unit holds after n of its men went, with their part of the days; a skill of which 0 days stay isn't listed
 abbrev pub after_sending : (n : ℕ) → HoldingValue → HoldingValue
 after_sending n h = record h { men = h.men - n; days = amounts_for (staying_of n h) (keys h.days) }
 

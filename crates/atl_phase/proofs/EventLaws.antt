@@ -36,17 +36,15 @@ reports_at faction line m = filter (is_from faction line) (map report_of m.event
 
 -- ---- what a phase adds
 
--- What a phase adds to the events of an order's faction and line: the reports `added`, given whether the order counts
--- in its mailing, and the order. The phase keeps the mailings and the aliases.
+-- What a phase adds to the events of an order's faction and line: events with the reports `added`, given whether the
+-- order counts in its mailing, and the order. This supposes that the mailings can be read with the world. The phase
+-- keeps the mailings and the aliases.
 pub record Gives (added : Bool → Task → List Report) (meaning : Meaning) : Type 0 where
-  -- if the mailings can be read with the world, the phase adds the reports to those of the order's faction and line
   pub events : (w : WorldValue) (c : CampaignValue) (m : MonthValue) (aliases : Aliases) (readings : FinMap nat_cmp Reading)
       → m.aliases ≡ aliases → m.readings ≡ readings → AreFit w readings
       → (t : Task) (there : IsInMailing aliases readings t)
       → reports_at t.faction t.line (meaning w c m).1 ≡ reports_at t.faction t.line m ++ added (order_counts (tasks_of aliases t.faction there.reading) t) t
-  -- the phase keeps the mailings
   pub readings : (w : WorldValue) (c : CampaignValue) (m : MonthValue) → (meaning w c m).1.readings ≡ m.readings
-  -- the phase keeps the aliases
   pub aliases : (w : WorldValue) (c : CampaignValue) (m : MonthValue) → (meaning w c m).1.aliases ≡ m.aliases
 
 -- the report of an order, if the test holds
@@ -195,8 +193,8 @@ module _ (step : OrderMeaning) (is_of : Verb → Bool) (takes : Task → Bool) (
       both [] verbs says = tt
       both (t ∷ ts) verbs says = (takes_those w m.aliases t verbs.0 says.0, both ts verbs.1 says.1)
 
-  -- a phase that carries its orders out one by one gives one event to each order that has a verb of the phase, counts
-  -- and isn't passed over, and none to any other order (`Gives`)
+  -- If the mailings can be read with the world, a phase that carries its orders out one by one gives one event to each
+  -- order that has a verb of the phase, counts and isn't passed over. It gives none to any other order (`Gives`).
   pub gives_by_orders : Gives (λ counts t. report_if (is_of t.order_value.verb && counts && takes t) t) (meaning_by_orders step is_of)
   unfolding meaning_by_orders
   gives_by_orders = record {

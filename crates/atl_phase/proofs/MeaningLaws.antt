@@ -105,8 +105,8 @@ same_month_twice a b c one two = record {
   factions = λ n there. one.factions n (two.factions n there);
 }
 
--- Two phases in turn, from campaign a to b and from b to c, keep books balanced and amounts within the sum of their
--- bounds, if each does so (`LeavesWell`). After them holds what the second one leaves.
+-- Two phases in turn, from campaign a to b and from b to c, keep the month, the books' balance, and amounts within the
+-- sum of their bounds, if each does so (`LeavesWell`). After them holds what the second one leaves.
 pub both_leave_well : {between leaves : Condition} (j k : BookBound) (w : WorldValue) (a b c : CampaignValue)
     → LeavesWell between j w a b → LeavesWell leaves k w b c → LeavesWell leaves (both_move j k) w a c
 both_leave_well j k w a b c one two = record {
@@ -135,13 +135,14 @@ well_unchanged book_bound w c h =
     record { leaves_it = h; same_month = same_month c; balances = λ b. b; near = λ e t. near_same (book_bound e t) (amount_in c.books e t) }
 
 -- steps of one kind in turn, one for each element of a list of A. Each is taken where `leaves` is true, and keeps it
--- true, the books in balance, and each amount within `book_bound` (`LeavesWell`).
+-- true, the month, the books' balance, and each amount within `book_bound` (`LeavesWell`).
 module _ {A : Type 0} {leaves : Condition} (book_bound : BookBound) (w : WorldValue) (step : CampaignValue → A → CampaignValue) (each : (c : CampaignValue) (x : A) → leaves w c → LeavesWell leaves book_bound w c (step c x)) where
   more : {B : Type 0} (x : B) (xs : List B)
       → IsBoundWithin (both_move book_bound (moved_times (length xs) book_bound)) (moved_times (length (x ∷ xs)) book_bound)
   more x xs e t = let one : length (x ∷ xs) * book_bound e t ≡ length xs * book_bound e t + book_bound e t = suc-mul (length xs) (book_bound e t) in omega arith
 
-  -- steps in turn keep books balanced and within their number times one step's bound, if each does so (`LeavesWell`)
+  -- where `leaves` is true, steps in turn keep it true, the month, the books' balance, and each amount within one
+  -- step's bound times their number (`LeavesWell`)
   pub fold_leaves_well : (c : CampaignValue) (xs : List A) → leaves w c
       → LeavesWell leaves (moved_times (length xs) book_bound) w c (fold step c xs)
   fold_leaves_well c [] h = well_unchanged (moved_times 0 book_bound) w c h
@@ -156,7 +157,8 @@ module _ {A : Type 0} {leaves : Condition} (book_bound : BookBound) (w : WorldVa
   room_for_one c y ys room =
       room_less book_bound (moved_times (length (y ∷ ys)) book_bound) c (λ e t. omega (arith, more y ys e t)) room
 
-  -- books with room for a step for each element of a list have, after the first step, room for the steps of the others
+  -- where `leaves` is true, books with room for a step for each element of a list have, after the first step, room for
+  -- the steps of the others
   pub room_after_one : {B : Type 0} (c : CampaignValue) (x : A) (y : B) (ys : List B) → leaves w c
       → HaveRoom (moved_times (length (y ∷ ys)) book_bound) c → HaveRoom (moved_times (length ys) book_bound) (step c x)
   room_after_one c x y ys h room =

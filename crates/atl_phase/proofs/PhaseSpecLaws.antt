@@ -1,5 +1,6 @@
 -- Laws of several phases in turn: what holds of all together, if it holds of each. `phases` has the specification of
--- each phase, in turn. The starved are the men whom Starved events report.
+-- each phase, in turn. The starved are the men whom Starved events report. What a phase leaves to units, it leaves if
+-- it keeps what its specification says.
 use Rattle.std.proofs.Common.{◌≡◌, ◌-◌, ◌+◌, ◌*◌, ◌≤◌, ℕ, Bool, true, false, List, [], ◌∷◌, refl, arith}
 use Rattle.std.specs.Prelude.{if◌then◌else◌}
 use Rattle.atl_records.specs.declared.books.BooksEntry.{BooksEntry}
@@ -32,8 +33,6 @@ pub moved_within : (phases : List PhaseSpec) → EachPhase MovesItsOwn phases �
 moved_within [] each e t = omega arith
 moved_within (phase ∷ []) each e t = alone (may_move phase.moved e t) (each.0 e t)
   where
-    -- what one phase alone moves of an amount is at most `most_moved` times the number of phases that may move it,
-    -- which is 1 if the phase may (`b`), and else 0
     alone : (b : Bool) → phase.book_bound e t ≤ (if b then most_moved else 0)
         → phase.book_bound e t ≤ ((if b then 1 else 0) + 0) * most_moved
     alone true one = omega (arith, one)
@@ -44,7 +43,8 @@ moved_within (phase ∷ next ∷ rest) each e t =
 
 -- ---- a faction without a mailing
 
--- the phase leaves units of factions without a mailing their items, and their men less the starved (`LeavesUnmailed`)
+-- The phase keeps the mailings, and takes back no Starved event. If it keeps what its specification says, it leaves
+-- units of factions without a mailing their name and items, and their men less the starved (`LeavesUnmailed`).
 abbrev pub PhaseLeavesUnmailed : PhaseSpec → Type 0
 PhaseLeavesUnmailed phase = LeavesUnmailed phase.meaning phase.keeps
 
@@ -55,8 +55,9 @@ CloseTogether [] = ⊥
 CloseTogether (phase ∷ []) = ClosesUnmailed phase.meaning phase.keeps
 CloseTogether (phase ∷ next ∷ rest) = PhaseLeavesUnmailed phase × CloseTogether (next ∷ rest)
 
--- Phases in turn leave units of factions without a mailing their items, and their men less the starved, if each phase
--- does (`CloseTogether`). After the last phase, a unit all of whose men starved is removed (`ClosesUnmailed`).
+-- Phases in turn leave units of factions without a mailing their names and items, and their men less the starved, if
+-- each phase does (`CloseTogether`). After the last phase, a unit all of whose men starved is removed
+-- (`ClosesUnmailed`).
 pub closed_together : (phases : List PhaseSpec) → CloseTogether phases
     → ClosesUnmailed (meaning_of phases) (keeps_of phases)
 closed_together [] none = absurd none

@@ -86,8 +86,8 @@ module _ (wide is_of : Verb → Bool) (within : (v : Verb) → is_of v ≡ (wide
       (λ list is. is ∙ (λ i. tasks_picked is_of (same_mailings i) (same_places i)) ∙ picked_orders a (by_faction (map reading_of ms)) _ all.tasks)
 
 -- The new list has the orders that are picked from the indices up to and with index i, if the old list has those picked
--- from the indices before i. The new list is the old one and the order at i, if its verb is the phase's (`b`), and else
--- the old one.
+-- from the indices before i. The new list is the old one and order o, which the index at i (p) names, if the verb of o
+-- is the phase's (`b`), and else the old one.
 pub picked_more : (is_of : Verb → Bool) (ms : List Mailing) (places : List OrderIndex) (i : ℕ) (p : OrderIndex) (o : PhaseOrder) (list new : List PhaseOrder) (b : Bool)
     → i < length places → p ≡ get_or places i p → task_of o ≡ task_at ms p
     → map task_of list ≡ tasks_picked is_of ms (take i places) → is_of o.order.now.verb ≡ b

@@ -192,8 +192,8 @@ module _ (w : WorldValue) (c : CampaignValue) (n : ℕ) (u : Unit) (s : ℕ) (is
 
 -- in the early campaign c unit n (u) goes from the structure that it is inside to another one, s; 0 is none
 module _ (w : WorldValue) (c : CampaignValue) (n : ℕ) (u : Unit) (s : ℕ) (is : get c.units n ≡ Some u) (early : IsEarly w c) (apart : u.structure ≢ s) where
-  -- A move to another structure of the region, or on land to none (0), keeps an early campaign early, in its month and
-  -- with balanced books (`StepsWell`). On water the structure must be a ship.
+  -- A move to another structure of the region, or on land to none (0), keeps an early campaign early, its month and its
+  -- balance, and books nothing (`StepsWell`). On water the structure must be a ship.
   pub place_well : (s ≢ 0 → (x : Structure) × (get c.structures s ≡ Some x) × (x.region ≡ u.region))
       → (is_land_at w u.region ≡ false → (x : Structure) × (get c.structures s ≡ Some x) × (is_ship w x ≡ true))
       → StepsWell IsEarly nothing_remaining w c (with_place c n u.region s)

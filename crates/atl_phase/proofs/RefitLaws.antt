@@ -43,8 +43,8 @@ module _ (c : CampaignValue) (units : FinMap nat_cmp Unit) (structures : FinMap 
   abbrev pub replaced : CampaignValue
   replaced = record c { units = units; structures = structures }
 
-  -- campaign c keeps its limits (`AreInRange`) with other units and structures, if there are as many of them, and each
-  -- is within its limits
+  -- Campaign c keeps its limits (`AreInRange`) with as many other units and structures. For this the units have numbers
+  -- from 1 on and hold what is within the limits, and what is done of each structure is from 1 to its size.
   pub in_range_replaced : (w : WorldValue) → len units ≡ len c.units → len structures ≡ len c.structures
       → Every (λ k x. (1 ≤ k) × IsHolding x.holding) units
       → Every (λ k x. (1 ≤ x.done) × (x.done ≤ size_of w x.kind)) structures → AreInRange w c → AreInRange w replaced

@@ -7,7 +7,6 @@ use Rattle.atl_phase.specs.Meaning.{most_moved}
 use Rattle.atl_phase.specs.Bounds.{HasRoom}
 use Rattle.atl_phase.specs.Room.{OnePhaseHasRoom, roomy_amount}
 
--- an amount of at most 9*10^18 in size has room for a move of less than 10^14
 roomy_has_room : (moved : ℕ) (amount : ℤ) → moved ≤ most_moved → IsWithin roomy_amount amount → HasRoom moved amount
 roomy_has_room moved amount little within =
     record { above = omega (arith, ints, within.most); below = omega (arith, ints, within.least) }

@@ -1,6 +1,6 @@
--- Laws of phases and the units of a faction that sent no mailing:
--- these keep their names, items and men, less those who starve. The starved are the men whom the month's Starved events
--- report (`starved_in`). In the laws a change or a phase makes campaign d of c.
+-- Laws of phases and the units of a faction that sent no mailing: these keep their names, items and men, less those who
+-- starve. The starved are the men whom the month's Starved events report (`starved_in`). What a phase leaves to units,
+-- it leaves if it keeps what `keeps` says. In the laws a change or a phase makes campaign d of c.
 use Rattle.std.proofs.Common.{◌≡◌, ◌≢◌, ◌==◌, ℕ, ◌+◌, ◌-◌, ◌≤◌, ◌<◌, Bool, true, false, List, [], ◌∷◌, ◌++◌, Option, Some, None, refl, sym, ap, subst, ◌∙◌, inl, inr, arith}
 use Rattle.std.proofs.lemmas.Option.{same_Some}
 use Rattle.std.specs.Prelude.{IfSome, fold, option_map, if◌then◌else◌}
@@ -50,13 +50,12 @@ pub record LeavesUnmailed (meaning : Meaning) (keeps : Frame) : Type 0 where
   pub left : (w : WorldValue) (c : CampaignValue) (m : MonthValue) → keeps w m c (meaning w c m).0 →
       Every (λ n u. get m.readings u.faction ≡ None → IsStillThere (IsLessBy (starved_in (meaning w c m).1.events n - starved_in m.events n)) (meaning w c m).0 n u) c.units
 
--- After the phase each unit of a faction without a mailing is there, or removed if all its men starve (`IsLeft`). The
--- phase takes back no Starved event, and may change the mailings.
+-- After the phase, if it keeps what `keeps` says, each unit of a faction without a mailing is there. It has its faction
+-- and name, no less of any item, and its men less exactly those who starve. It is removed if all its men starve, and no
+-- more starve than it has (`IsLeft`). The phase takes back no Starved event, and may change the mailings.
 pub record ClosesUnmailed (meaning : Meaning) (keeps : Frame) : Type 0 where
   pub starved_reported : (w : WorldValue) (c : CampaignValue) (m : MonthValue) (n : ℕ)
       → starved_in m.events n ≤ starved_in (meaning w c m).1.events n
-  -- if the phase keeps what `keeps` says, each unit of a faction without a mailing is left with those men whom the new
-  -- events don't report as starved
   pub left : (w : WorldValue) (c : CampaignValue) (m : MonthValue) → keeps w m c (meaning w c m).0 →
       Every (λ n u. get m.readings u.faction ≡ None → IsLeft (starved_in (meaning w c m).1.events n - starved_in m.events n) (meaning w c m).0 n u) c.units
 
@@ -105,8 +104,7 @@ module _ {first second : Meaning} {early late : Frame} where
         record { unit = b.unit; there = b.there; is_unaffected = less_twice _ _ _ u a.unit b.unit (one.starved_reported w c m n) (two.starved_reported w between.0 between.1 n) a.is_unaffected b.is_unaffected };
   }
 
-  -- A phase of `LeavesUnmailed` and then one of `ClosesUnmailed` together do as `ClosesUnmailed` says. They leave units
-  -- of factions without a mailing their items, and their men less the starved.
+  -- a phase of `LeavesUnmailed` and then one of `ClosesUnmailed` together do as `ClosesUnmailed` says
   pub then_closes : LeavesUnmailed first early → ClosesUnmailed second late
       → ClosesUnmailed (then_also first second) (both_keep first early late)
   then_closes one two = record {
@@ -151,7 +149,8 @@ pub men_same : (c d : CampaignValue) → d.units ≡ c.units → HaveTheirMen c 
 men_same c d same n u there =
     record { unit = u; there = ap (λ (m : FinMap nat_cmp Unit). get m n) same ∙ there; is_unaffected = record { faction = refl; men = refl } }
 
--- a change of unit k that keeps its faction and its men leaves all units their men (`HaveTheirMen`)
+-- if f keeps the faction and the men of every unit, to change unit k by f leaves all units their men (`HaveTheirMen`);
+-- where there is no unit k, nothing changes
 pub men_changed : (f : Unit → Unit) → ((u : Unit) → HasItsMen u (f u)) → (c d : CampaignValue) (k : ℕ)
     → d.units ≡ with_changed_value f c.units k → HaveTheirMen c d
 men_changed f stay c d k same n u there =
@@ -161,7 +160,7 @@ men_changed f stay c d k same n u there =
     by_number true = stay u
     by_number false = record { faction = refl; men = refl }
 
--- x in place of unit k, with its faction and as many men, leaves all units their men (`HaveTheirMen`)
+-- x in place of v, which is unit k, leaves all units their men (`HaveTheirMen`), if x has v's faction and as many men
 pub men_put : (c d : CampaignValue) (k : ℕ) (v x : Unit) → get c.units k ≡ Some v → HasItsMen v x
     → d.units ≡ insert c.units k x → HaveTheirMen c d
 men_put c d k v x here stay same n u there = elim (cases_eq n k) [
@@ -172,7 +171,7 @@ men_put c d k v x here stay same n u there = elim (cases_eq n k) [
       record { unit = u; there = ap (λ (m : FinMap nat_cmp Unit). get m n) same ∙ get-insert_other c.units k n x apart ∙ there; is_unaffected = record { faction = refl; men = refl } }
 ]
 
--- steps in turn leave all units their men (`HaveTheirMen`), if each step does
+-- steps in turn leave all units their men (`HaveTheirMen`), if each step does so in every campaign
 pub men_in_turn : {X : Type 0} (step : CampaignValue → X → CampaignValue)
     → ((c : CampaignValue) (x : X) → HaveTheirMen c (step c x)) → (c : CampaignValue) (xs : List X)
     → HaveTheirMen c (fold step c xs)
@@ -225,13 +224,12 @@ none_less x y u v same men items =
     nobody a b e = omega (arith, same)
 
 -- A phase that keeps the mailings (`readings`), and reports no man as starved (`nobody`). If it keeps what `keeps`
--- says, units of factions without a mailing have their men (`men`) and items (`items`) after it.
+-- says, units of factions without a mailing are there after it, with faction and men (`men`), name and items (`items`).
 module _ {meaning : Meaning} {keeps : Frame} (readings : (w : WorldValue) (c : CampaignValue) (m : MonthValue) → (meaning w c m).1.readings ≡ m.readings)
     (nobody : (w : WorldValue) (c : CampaignValue) (m : MonthValue) (n : ℕ) → starved_in (meaning w c m).1.events n ≡ starved_in m.events n)
     (men : (w : WorldValue) (c : CampaignValue) (m : MonthValue) → keeps w m c (meaning w c m).0 → UnmailedAre HasItsMen m c (meaning w c m).0)
     (items : (w : WorldValue) (c : CampaignValue) (m : MonthValue) → keeps w m c (meaning w c m).0 → UnmailedAre HasItsItems m c (meaning w c m).0) where
-  -- A phase in which nobody starves leaves units of factions without a mailing their items, and their men less the
-  -- starved (`LeavesUnmailed`), if it keeps the mailings, and these units keep their men and items.
+  -- such a phase leaves units of factions without a mailing their names, items and men (`LeavesUnmailed`)
   pub whole_leaves : LeavesUnmailed meaning keeps
   whole_leaves = record {
     readings = readings;
@@ -272,7 +270,8 @@ OthersHaveMen f c d = Every (λ n u. f ≢ u.faction → IsStillThere HasItsMen 
 pub others_men : (f : ℕ) (c d : CampaignValue) → HaveTheirMen c d → OthersHaveMen f c d
 others_men f c d men n u there other = men n u there
 
--- the effect of each order leaves every unit of another faction than the order's writer its men (`OthersHaveMen`)
+-- the effect of each order, for a unit of its writer's faction, leaves every unit of another faction its men
+-- (`OthersHaveMen`)
 abbrev pub LeavesOthersMen : OrderMeaning → Type 0
 LeavesOthersMen step =
     (w : WorldValue) (a : Aliases) (c : CampaignValue) (t : Task) (x : Unit) → IsUnitOf c t x → IfSome (step w a t)
@@ -328,8 +327,8 @@ module _ (step : OrderMeaning) where
     unfolding meaning_by_orders
     carried_starve_none w c m n = orders_starve_none w (c, m) (orders_of is_of ByUnit m.aliases m.readings) n
 
-    -- Units of factions without a mailing keep their men in a phase that carries its orders out one by one. For this
-    -- each order must leave the units of all factions but its writer's their men.
+    -- Units of factions without a mailing are there, with faction and men, after a phase that carries its orders out
+    -- one by one. For this each order must leave the units of all factions but its writer's their men.
     pub carried_men : LeavesOthersMen step → (w : WorldValue) (c : CampaignValue) (m : MonthValue)
         → UnmailedAre HasItsMen m c (meaning_by_orders step is_of w c m).0
     unfolding meaning_by_orders
@@ -337,9 +336,9 @@ module _ (step : OrderMeaning) where
         let ts = orders_of is_of ByUnit m.aliases m.readings in
         orders_leave_men unaffected w c m ts n u there (recursion_from_All (λ t. t.faction ≢ u.faction) ts (none_ordered is_of ByUnit m u.faction none))
 
-    -- A phase that carries out its orders one by one leaves units of factions without a mailing their items, and their
-    -- men less the starved (`LeavesUnmailed`). For this each order must leave units of other factions their men
-    -- (`LeavesOthersMen`), and units of factions without a mailing must keep their names and items (`HasItsItems`).
+    -- A phase that carries out its orders one by one does as `LeavesUnmailed` says. For this each order must leave
+    -- units of other factions their men (`LeavesOthersMen`). Where `keeps` is so of a change from c to d, units of
+    -- factions without a mailing must keep their names and items (`HasItsItems`).
     pub carried_leaves : {keeps : Frame} → LeavesOthersMen step
         → ((w : WorldValue) (c d : CampaignValue) (m : MonthValue) → keeps w m c d → UnmailedAre HasItsItems m c d)
         → LeavesUnmailed (meaning_by_orders step is_of) keeps
@@ -351,8 +350,9 @@ module _ (step : OrderMeaning) where
 pub own_faction : (t : Task) (n f : ℕ) → IsOwnOrder t n f → t.faction ≡ f
 own_faction t n f h = h.faction
 
--- A phase that leaves alone the units which no order affects leaves units of factions without a mailing their names and
--- items (`HasItsItems`). For this only orders of its own faction may affect a unit, and an unaffected unit keeps these.
+-- If units that no order of the phase affects change from c to d at most as `unaffected` allows, units of factions
+-- without a mailing keep their names and items (`HasItsItems`). For this only orders of its own faction may affect a
+-- unit, and `unaffected` must keep name and items.
 pub unmailed_keep_items : {affects : Affects} {unaffected : Unaffected} (is_of : Verb → Bool)
     → ((t : Task) (n f : ℕ) → affects t n f → t.faction ≡ f) → ((u v : Unit) → unaffected u v → HasItsItems u v)
     → (w : WorldValue) (c d : CampaignValue) (m : MonthValue) → others_unaffected affects unaffected is_of w m c d

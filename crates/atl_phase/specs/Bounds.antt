@@ -74,14 +74,15 @@ pub record IsUnitOf (c : CampaignValue) (t : Task) (u : Unit) : Type 0 where
   pub there : get c.units t.unit ≡ Some u
   pub faction : u.faction ≡ t.faction
 
--- The conditions on a phase that carries its orders out one by one. An order that can be read with the world, for a
--- unit of its writer's faction, keeps `holds`, month and balance, and moves no amount further than its remaining bound
--- falls (`StepsWell`). Each unit that an order doesn't affect is there after it, and has changed at most as
--- `unaffected` allows. No remaining bound is above the bound of the phase.
+-- The conditions on a phase that carries its orders out one by one. They are on orders for units of their writer's
+-- faction, each in a campaign of which `holds` is true. An order that can be read with the world keeps `holds`, month
+-- and balance, and moves no amount further than its remaining bound falls (`StepsWell`). Each unit that an order
+-- doesn't affect is there after it, and has changed at most as `unaffected` allows. No remaining bound is above
+-- `book_bound`.
 pub record IsOrderly (step : OrderMeaning) (holds : Condition) (remaining : RemainingBound) (book_bound : BookBound)
     (affects : Affects) (unaffected : Unaffected) : Type 0 where
-  -- Each order that can be read with the world, for a unit of its writer's faction, keeps `holds` true, the month and
-  -- the books' balance. It moves no amount further than its remaining bound falls (`StepsWell`).
+  -- each order that can be read with the world, for a unit of its writer's faction, does as `StepsWell` says, if
+  -- `holds` is true before
   pub well : (w : WorldValue) (a : Aliases) (c : CampaignValue) (t : Task) (x : Unit) →
       holds w c → IsOrderOf w t.order_value → IsUnitOf c t x →
       IfSome (step w a t) (λ effect. StepsWell holds remaining w c (effect c x).0)
@@ -92,7 +93,7 @@ pub record IsOrderly (step : OrderMeaning) (holds : Condition) (remaining : Rema
   pub is_unaffected : (w : WorldValue) (a : Aliases) (c : CampaignValue) (t : Task) (x : Unit) → holds w c → IsUnitOf c t x →
       (n : ℕ) (u : Unit) → get c.units n ≡ Some u → (affects t n u.faction → ⊥) →
       IfSome (step w a t) (λ effect. IsStillThere unaffected (effect c x).0 n u)
-  -- for no amount of the books is the remaining bound above the bound of the phase
+  -- where `holds` is true, no amount of the books has a remaining bound above the bound of the phase
   pub bounded : (w : WorldValue) (c : CampaignValue) → holds w c → (e : BooksEntry) (t : Thing) → remaining c e t ≤ book_bound e t
 
 -- ---- what is left of the bounds of single phases

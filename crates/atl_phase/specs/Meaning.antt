@@ -72,9 +72,7 @@ pub record IsNear (most : ℕ) (before after : ℤ) : Type 0 where
 
 -- The number of the month last closed, the reports and the set of factions (gone ones too) stay the same.
 pub record IsSameMonth (before after : CampaignValue) : Type 0 where
-  -- the number of the month last closed stays the same
   pub month : after.month ≡ before.month
-  -- the phase leaves the factions' reports as they are
   pub reports : after.reports ≡ before.reports
   -- there are as many factions as before
   pub count : len after.factions ≡ len before.factions
@@ -84,11 +82,7 @@ pub record IsSameMonth (before after : CampaignValue) : Type 0 where
 -- After a phase `leaves` is true of the campaign, month, reports and set of factions are the same (`IsSameMonth`), and
 -- the books balance if they did before. No amount of the books moves further than its bound (`book_bound`).
 pub record LeavesWell (leaves : Condition) (book_bound : BookBound) (w : WorldValue) (before after : CampaignValue) : Type 0 where
-  -- the condition `leaves` is true of the campaign after the phase
   pub leaves_it : leaves w after
-  -- the phase keeps the number of the month last closed, the reports and the set of factions
   pub same_month : IsSameMonth before after
-  -- the books balance after the phase if they did before
   pub balances : Balances before → Balances after
-  -- no amount of the books moves further than its bound
   pub near : (e : BooksEntry) (t : Thing) → IsNear (book_bound e t) (amount_in before.books e t) (amount_in after.books e t)

@@ -123,7 +123,7 @@ key_of ByFaction t = t.faction ∷ t.line ∷ t.unit ∷ t.index ∷ []
 abbrev pub under_keys : (key : Task → List ℕ) → List Task → FinMap (slice_cmp nat_cmp) Task
 under_keys key ts = from_entries (map (λ t. (key t, t)) ts)
 
--- some orders, no two of which have the same key, sorted by key, since a map lists its values by rising key
+-- some orders sorted by key, since a map lists its values by rising key; of two with one key it has the first alone
 abbrev pub sorted_by : (key : Task → List ℕ) → List Task → List Task
 sorted_by key ts = values (under_keys key ts)
 

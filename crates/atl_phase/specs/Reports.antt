@@ -10,18 +10,18 @@ use Rattle.atl_records.specs.declared.event.EventVerb.TheVariants.{Order}
 use Rattle.atl_phase.specs.Month.{Aliases}
 use Rattle.atl_phase.specs.PhaseOrders.{IsInMailing, Task, order_counts, tasks_of}
 
--- what an event says of its order, beside what came of it
+-- what an event says of its order, or of work without an order or upkeep, beside what came of it
 pub record Report : Type 0 where
-  -- the number of the faction that wrote the order
+  -- the number of the faction that wrote the order, or whose unit it is
   pub faction : ℕ
-  -- the number of the unit that the order is for
+  -- the number of the unit that the order is for, or that the event is of
   pub unit : ℕ
   -- the line of the order in its mailing, from 1 on; 0 if the event is of no order
   pub line : ℕ
-  -- the verb of the order
+  -- the verb of the order, WORK for work without an order, or upkeep
   pub verb : EventVerb
 
--- what an event says of its order
+-- what an event says beside its outcome
 abbrev pub report_of : Event → Report
 report_of e = record { faction = e.faction; unit = e.unit; line = e.line; verb = e.verb }
 

@@ -22,13 +22,9 @@ starved_in events number = sum_by (λ e. if e.unit == number then men_starved_by
 
 -- the unit has the same faction and name, `fewer` men less, and no less of any item
 pub record IsLessBy (fewer : ℕ) (before after : Unit) : Type 0 where
-  -- the unit keeps its faction
   pub faction : after.faction ≡ before.faction
-  -- the unit keeps its name
   pub name : after.holding.name ≡ before.holding.name
-  -- the unit has `fewer` men less than before
   pub men : after.holding.men + fewer ≡ before.holding.men
-  -- the unit has no less of any item than before
   pub items : (i : ℕ) → amount_of before.holding.items i ≤ amount_of after.holding.items i
 
 -- what is left in the campaign `after` of unit u, given with its number, once `starved` of its men starved

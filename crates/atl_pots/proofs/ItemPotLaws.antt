@@ -76,7 +76,6 @@ module _ (asked_item : ℕ → Option ℕ) (pot_of : (item region : ℕ) → ℕ
       get-from_entries nat_cmp_total (of_wants (entries wants)) n ∙ found_listed (entries wants) n
       ∙ by_share (gets n) refl
     where
-      -- a unit's share `o` is in the map, since a unit with a share has a want
       by_share : (o : Option ℕ) → gets n ≡ o → cond (is_some (find nat_cmp n (entries wants))) o None ≡ o
       by_share None is = choice_of_equals (is_some (find nat_cmp n (entries wants))) None
       by_share (Some s) is =

@@ -204,7 +204,7 @@ put_in_turn {V} es = same_map nat_cmp_total nat_cmp-IsAntisymmetric _ _ (λ n.
 
 -- ---- entries that regions give, where a number gets one share at most
 
--- a number that has an entry in the list made of some `x` has one in the lists of all `xs` together
+-- a number that has an entry in the list `f x`, for an x of `xs`, has one in the lists of all `xs` together
 pub found_among : (f : ℕ → Entries) (n : ℕ) (xs : List ℕ) (x : ℕ) → list_any (eq_by_cmp nat_cmp x) xs ≡ true
     → is_some (find nat_cmp n (f x)) ≡ true → is_some (find nat_cmp n (flat_map f xs)) ≡ true
 found_among f n [] x among some = absurd (false≢true among)
@@ -241,8 +241,6 @@ module _ (f : ℕ → Entries) where
         | Some t ↦ λ e. (r, or_left (eq_by_cmp nat_cmp r r) _ (sym (unsigned_ties r r) ∙ same_number r), e ∙ sym (found_first n (f r) (from_all rs) t e) ∙ h)
       ] refl
 
-  -- a number found among the entries of one region is found, with that value, among those of all, if no two regions
-  -- have different values for it
   there : (n r s : ℕ) → ((q t : ℕ) → find nat_cmp n (f q) ≡ Some t → t ≡ s) → find nat_cmp n (f r) ≡ Some s
       → (rs : List ℕ) → list_any (eq_by_cmp nat_cmp r) rs ≡ true → find nat_cmp n (from_all rs) ≡ Some s
   there n r s one here rs among =
@@ -311,7 +309,7 @@ found_listed (e ∷ es) n v is = elim (cases_eq n e.0) [
   | inr apart ↦ inr (found_listed es n v (sym (found_other e es n apart) ∙ is))
 ]
 
--- each of the amounts of wants is at most 999,999,999
+-- if each want is at most 999,999,999 (`AreWants`), so is each of their amounts
 pub amounts_are_low : (wants : FinMap nat_cmp ℕ) → AreWants wants → All (λ want. want ≤ most_amount) (amounts_of wants)
 amounts_are_low wants low =
     All-from_recursion (λ want. want ≤ most_amount) (amounts_of wants)
@@ -505,7 +503,8 @@ gives_each_pot pot_of wants c r region =
     ap sum (mapped_with_default (share_of pot_of wants c) (takers_in wants c.units r) (shares (pot_of r) (wants_in wants c.units r)) (shares_each_pot pot_of wants c r region))
     ∙ all_is_given (pot_of r) (wants_in wants c.units r)
 
--- the shares in a region of two campaigns follow from its pot, its units with a want and their wants alone
+-- where two campaigns have a region with the same pot, the same units with a want and the same wants, the shares there
+-- are equal
 pub other_regions_do_not_count : OtherRegionsDoNotCount
 other_regions_do_not_count pot_of other_pots wants other_wants c other r here there pots takers wanted =
     shares_each_pot pot_of wants c r here

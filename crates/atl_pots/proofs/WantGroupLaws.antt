@@ -44,7 +44,6 @@ module _ (asked_by : ℕ → Option ℕ) where
       ≡ with_entries (group_of groups pot) (cond (asks_for pot (asked_by e.0)) (e ∷ rest) rest)
   one_put groups e rest pot = by_pot (asked_by e.0)
     where
-      -- for `one_put`: where the unit asks for this pot its want is put into the group, and else the group stays
       by_pot : (o : Option ℕ)
           → with_entries (group_of (option_map_or (λ j. insert groups j (insert (group_of groups j) e.0 e.1)) o groups) pot) rest
           ≡ with_entries (group_of groups pot) (cond (asks_for pot o) (e ∷ rest) rest)

@@ -10,12 +10,13 @@ use Rattle.atl_pots.specs.Pots.{share_of, wants_for}
 -- `asked_item` gives, by a unit's number, the number of the item that it asks for, if any. `pot_of` gives how much of
 -- an item a region has to share. `wants` has how much each unit wants of its item, by unit.
 module _ (asked_item : ℕ → Option ℕ) (pot_of : (item region : ℕ) → ℕ) (wants : FinMap nat_cmp ℕ) (c : CampaignValue) where
-  -- the share that a unit, by its number, gets of what its region has of an item; None where no item is given
+  -- the share that a unit, by its number, gets of what its region has of an item; None where no item is given, or the
+  -- unit doesn't ask for this item, has no want, or is in no region of the campaign
   abbrev pub share_for : ℕ → Option ℕ → Option ℕ
   share_for number None = None
   share_for number (Some item) = share_of (pot_of item) (wants_for asked_item wants item) c number
 
-  -- the share that a unit, by its number, gets of the item that it asks for; None where it asks for none, or gets none
+  -- a unit's share, by its number, of the item that it asks for; None where it asks for none, or has no share
   abbrev pub item_share : ℕ → Option ℕ
   item_share number = share_for number (asked_item number)
 

@@ -50,8 +50,9 @@ with_learner w c learning t =
 abbrev pub study_tasks : MonthValue → List Task
 study_tasks = orders_by_unit is_studying
 
--- The units that are learning as the phase begins, each with its skill: by all orders of STUDY that count.
--- At most one order of STUDY counts for a unit in the mailing of its own faction.
+-- The units that are learning as the phase begins, each with its skill: by all orders of STUDY that count. A unit that
+-- learns by several has the skill of the last one; if the mailings can be read with the world, it learns by one at
+-- most.
 unfoldable pub learners : WorldValue → CampaignValue → MonthValue → Learning
 learners w c m = fold (with_learner w c) empty (study_tasks m)
 

@@ -73,8 +73,8 @@ abbrev pub untaught_men : CampaignValue → TaughtMen → (n : ℕ) → ℕ
 untaught_men c taught n = men_at c n - taught n
 
 -- How many men of unit n are taught in a lesson for `places` men.
--- The listed units take turns: each gets the places that the units before it leave, up to its untaught men. It is 0
--- where n isn't listed.
+-- The units, each listed once, take turns: each gets the places that the units before it leave, up to its untaught men.
+-- It is 0 where n isn't listed.
 abbrev pub taught_in_lesson : CampaignValue → TaughtMen → (places : ℕ) → List ℕ → (n : ℕ) → ℕ
 taught_in_lesson c taught places [] n = 0
 taught_in_lesson c taught places (k ∷ ns) n =

@@ -41,7 +41,6 @@ fn listed_units<'m>(order: PhaseOrder<'m>) -> &'m [UnitRef]
     }
 }
 
-/// 0 where the unit isn't there.
 fn level_at(campaign: &Campaign, unit: u32, skill: u32) -> u32
     ensures { result ≡ level_at campaign.now.value unit skill }
 {
@@ -130,7 +129,6 @@ pub fn taught_at(taught: &Numbered<u32>, unit: u32) -> u32
     taught.get(unit).copied().unwrap_or(0)
 }
 
-/// 0 where the unit isn't there.
 fn men_at(campaign: &Campaign, unit: u32) -> u32
     ensures value { result ≡ men_at campaign.now.value unit }
     ensures few { result ≤ men_limit }
@@ -235,7 +233,8 @@ fn teach(
 }
 
 /// Carries out all orders of TEACH, which are such as can be read with some world, and adds their
-/// events to the month. Returns how many men of each unit were taught.
+/// events to the month. Returns how many men of each unit were taught. AllocError without memory;
+/// the month may then have some of the events.
 pub fn teach_all(
     alloc: Global,
     campaign: &Campaign,
