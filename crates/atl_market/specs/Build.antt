@@ -38,8 +38,8 @@ is_building verb = false
 
 -- ---- what a unit adds
 
--- How much a unit adds to a structure of kind `k`: the least of men times level, the material held, and what is missing
--- to the kind's size, where `done` of the structure is done already.
+-- How much a unit adds to a structure of kind `k`: the least of its men times their level in the kind's skill, the
+-- material held, and what is missing to the kind's size, where `done` of the structure is done already.
 abbrev pub size_added : Kind → HoldingValue → (done : ℕ) → ℕ
 size_added k h done = min (min (h.men * level_in h k.skill) (amount_of h.items k.material)) (k.size - done)
 
@@ -63,8 +63,8 @@ begin_fault w c u k = first_fault (
 abbrev pub name_prefix : Kind → List ℕ
 name_prefix k = if k.ship then codes "Ship " else codes "Building "
 
--- A structure as it is begun: of the kind `k`, which has the number `kind`, in a region, with `size` of it done. It is
--- named by its number and has no owner.
+-- A structure as it is begun: of the kind `k`, which has the number `kind`, in a region, with `size` of it done. It has
+-- no owner, and its name is `Ship ` or `Building ` and its number.
 abbrev pub new_structure : (number kind : ℕ) → Kind → (region size : ℕ) → Structure
 new_structure number kind k region size = record {
   kind = kind;
@@ -78,8 +78,8 @@ new_structure number kind k region size = record {
 abbrev pub with_new_structure : CampaignValue → (kind : ℕ) → Kind → (region size : ℕ) → CampaignValue
 with_new_structure c kind k region size = with_structure_begun c (new_structure c.next_structure kind k region size)
 
--- A campaign after unit `n` used `size` of the material, a structure was begun with it in its region, and the unit left
--- its old one and entered the new one. Without unit `n` it is only begun. `kind` is the number of the kind `k`.
+-- A campaign after unit `n` used `size` of the material, a structure was begun with it in `region`, and the unit left
+-- its old one and entered the new one as owner. Without unit `n` it is only begun. `kind` is the number of the kind `k`.
 abbrev pub after_start : CampaignValue → (n kind : ℕ) → Kind → (region size : ℕ) → CampaignValue
 after_start c n kind k region size =
     with_place (with_new_structure (with_used c n k.material size) kind k region size) n region c.next_structure
