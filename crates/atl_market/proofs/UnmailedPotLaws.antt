@@ -71,8 +71,8 @@ module _ (p : PotMeaning) (orders : CampaignValue → MonthValue → List Task) 
   abbrev pub shared : Meaning
   shared = pots_meaning p orders
 
-  -- `LeavesUnmailed` holds of a phase with pots if units of factions without a mailing have as many men after it, and,
-  -- where it keeps what `keeps` says, their names and no less of any item
+  -- `LeavesUnmailed` holds of a phase with pots if units of factions without a mailing are there after it with as many
+  -- men, and, where it keeps what `keeps` says, with their names and no less of any item
   pub shared_leave : {keeps : Frame}
       → ((w : WorldValue) (c : CampaignValue) (m : MonthValue) → UnmailedAre HasItsMen m c (shared w c m).0)
       → ((w : WorldValue) (c d : CampaignValue) (m : MonthValue) → keeps w m c d → UnmailedAre HasItsItems m c d)

@@ -79,7 +79,7 @@ abbrev pub with_new_structure : CampaignValue → (kind : ℕ) → Kind → (reg
 with_new_structure c kind k region size = with_structure_begun c (new_structure c.next_structure kind k region size)
 
 -- A campaign after unit `n` used `size` of the material, a structure was begun with it in `region`, and the unit left
--- its old one and entered the new one as owner. Without unit `n` it is only begun. `kind` is the number of the kind `k`.
+-- its old one and entered the new one as owner. Without unit `n` it is only begun. `kind` is the number of `k`.
 abbrev pub after_start : CampaignValue → (n kind : ℕ) → Kind → (region size : ℕ) → CampaignValue
 after_start c n kind k region size =
     with_place (with_new_structure (with_used c n k.material size) kind k region size) n region c.next_structure
@@ -106,7 +106,7 @@ inside_fault u s k = first_fault (
     ∷ (amount_of u.holding.items k.material == 0, NoMaterial)
     ∷ [])
 
--- a campaign after unit `n` used `size` of a material, and with `done` of a structure done; each only if it is there
+-- a campaign after unit `n`, if it is there, used `size` of a material, and `done` of a structure, if there, is done
 abbrev pub after_building_on : CampaignValue → (n material size structure done : ℕ) → CampaignValue
 after_building_on c n material size structure done = with_done (with_used c n material size) structure done
 
@@ -133,13 +133,13 @@ go_on w n c u = go_on_at c n u (structure_and_kind_at w c u.structure)
 -- ---- the effect of an order
 
 -- The effect of an order of unit `n` by its operands: a kind of the world begins a structure (`begin`), no kind
--- continues one (`go_on`). Other operands have none (None), as a kind that the world hasn't.
+-- continues one (`go_on`). Other operands, also a kind that isn't the world's, have no effect (None).
 abbrev pub build_effect : WorldValue → (n : ℕ) → OperandsValue → Option OrderEffect
 build_effect w n (operands.Kind (Some kind)) = option_map (begin w n kind) (slice_get w.kinds kind)
 build_effect w n (operands.Kind None) = Some (go_on w n)
 build_effect w n other = None
 
--- the effect of each order of BUILD, by its unit and operands; `aliases`, the numbers of new units, doesn't count
+-- the effect of each order of BUILD, by its unit and operands alone; `aliases`, the numbers of new units, don't count
 abbrev pub build_step : OrderMeaning
 build_step w aliases t = build_effect w t.unit t.order_value.operands
 

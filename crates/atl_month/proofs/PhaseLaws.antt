@@ -86,7 +86,6 @@ produce_alone entries.Made (Item i) = omega arith
 produce_alone entries.Used (Item i) = omega arith
 produce_alone e t = omega arith
 
--- these four phases move the amounts of their own entries of the books alone, each by less than 10^14
 pub work_alone : MovesItsOwn work_spec
 work_alone = money_alone entries.Wages
 

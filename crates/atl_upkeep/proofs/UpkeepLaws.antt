@@ -248,7 +248,7 @@ other_unit c s n apart = by_unit (get c.units s.unit)
     by_unit None = refl
     by_unit (Some u) = get-insert_other c.units s.unit n (record u { holding = after_upkeep s u.holding }) apart
 
--- listed units (`es`) whose numbers are all greater, and which are there as listed, are so after the upkeep of a unit
+-- if units are there as listed, and all have greater numbers than another one, they are still so after its upkeep
 pub each_still : (c : CampaignValue) (s : UpkeepResult) (es : List (ℕ × Unit)) → AllByRecursion (λ e. s.unit < e.0) es
     → EachEntry (λ n u. get c.units n ≡ Some u) es → EachEntry (λ n u. get (upkeep_at c s).units n ≡ Some u) es
 each_still c s [] above there = tt
