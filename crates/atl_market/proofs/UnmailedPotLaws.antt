@@ -1,7 +1,7 @@
 -- Laws that TAX, RECRUIT, WORK, SELL and BUY leave units of a faction without a mailing their items, and their men less
 -- the starved. They suppose that the phase keeps what its specification says: no unit is worse off (TAX, WORK), or none
 -- without an order of its own faction. Then such a unit is there, with its faction and name, no less of any item, and
--- its men less those whom the phase's Starved events report; these phases report none. In any case they keep the
+-- its men less those whom the phase's Starved events report. These phases report none. In any case they keep the
 -- mailings (`LeavesUnmailed`). `p` is the phase, `m` the month as it gets it, `c` and `d` the campaigns around it.
 use Rattle.std.proofs.Common.{◌≡◌, ◌≢◌, ◌==◌, ◌&&◌, ◌||◌, ◌+◌, ◌-◌, ℕ, Bool, true, false, List, [], ◌∷◌, ◌++◌, map, None, refl, ap, ◌∙◌}
 use Rattle.std.specs.Prelude.{if◌then◌else◌, pos}
@@ -71,8 +71,8 @@ module _ (p : PotMeaning) (orders : CampaignValue → MonthValue → List Task) 
   abbrev pub shared : Meaning
   shared = pots_meaning p orders
 
-  -- `LeavesUnmailed` holds of a phase with pots if units of factions without a mailing are there after it with as many
-  -- men, and, where it keeps what `keeps` says, with their names and no less of any item
+  -- `LeavesUnmailed` holds of a phase with pots, if units of factions without a mailing are there after it with as many
+  -- men. Where it keeps what `keeps` says, they must also have their names, and no less of any item.
   pub shared_leave : {keeps : Frame}
       → ((w : WorldValue) (c : CampaignValue) (m : MonthValue) → UnmailedAre HasItsMen m c (shared w c m).0)
       → ((w : WorldValue) (c d : CampaignValue) (m : MonthValue) → keeps w m c d → UnmailedAre HasItsItems m c d)

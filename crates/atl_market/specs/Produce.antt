@@ -78,8 +78,8 @@ output_share w asked c wants n = item_share (output_item w asked) (output_at w) 
 
 -- ---- who makes how much
 
--- how much a unit makes, by its number and its want: all that it wants where `takes_raw` holds for it, else its share
--- of what its region gives of its item, or 0 without a share
+-- How much a unit makes, by its number and its want: all that it wants where `takes_raw` holds for it. Else it is the
+-- unit's share of what its region gives of its item, or 0 without a share.
 abbrev pub amount_made : WorldValue → FinMap nat_cmp ℕ → CampaignValue → FinMap nat_cmp ℕ → ℕ × ℕ → ℕ
 amount_made w asked c wants (n, want) =
     if takes_raw w (get asked n) then want else unwrap_or (output_share w asked c wants n) 0
@@ -98,8 +98,8 @@ with_raw_used c n amount raw = option_map_or (λ r. with_used c n r amount) raw 
 abbrev pub with_item_made : CampaignValue → ℕ → (made item : ℕ) → Item → CampaignValue
 with_item_made c n made i x = with_made (with_raw_used c n (made * x.raw_count) x.raw) n i made
 
--- a campaign after a unit, by its number, made `made` pieces of the item that its order names; unchanged where it names
--- no item, or none of the world, or the unit isn't there
+-- A campaign after a unit, by its number, made `made` pieces of the item that its order names. It is unchanged where
+-- the order names no item, or none of the world, or the unit isn't there.
 unfoldable pub after_production : FinMap nat_cmp ℕ → WorldValue → CampaignValue → ℕ × ℕ → CampaignValue
 after_production asked w c (n, made) =
     option_map_or (λ e. with_item_made c n made e.0 e.1) (numbered_item w (get asked n)) c

@@ -163,7 +163,7 @@ IsMarketOf w n i m = (market_of w n i ≡ Some m) × IsMarket (length w.items) i
 -- `n` is the number of a region of the world
 module _ (w : WorldValue) (n : ℕ) (there : HasValue w.regions n) where
   -- New goods of a market of the region (`IsMarketOf`), given as `x.1` with its item `x.0`, keep a steady campaign
-  -- steady and its books balanced, and book at most 999,999,999 of the item.
+  -- steady and its books balanced. They book at most 999,999,999 of the item, and nothing else.
   pub one_leaves_well : (c : CampaignValue) (x : ℕ × Market) → IsMarketOf w n x.0 x.1 → IsSteady w c
       → LeavesWell IsSteady (moves_only most_amount Stocked (Item x.0)) w c (after_market_restock n c x)
   one_leaves_well c x of steady = let (r, here) = (steady.known.regions n).1 there in market_leaves_well w c n x.0 x.1 r here of.0 of.1 steady
