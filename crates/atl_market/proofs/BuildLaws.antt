@@ -439,8 +439,8 @@ begun_outcome c n kind k region size = (after_start c n kind k region size, Done
 abbrev continued_outcome : CampaignValue → (n material size structure done : ℕ) → CampaignValue × Outcome
 continued_outcome c n material size structure done = (after_building_on c n material size structure done, Done size)
 
--- Where `BUILD kind` of faction `f` for unit `n` has no fault, the campaign `d` and the outcome `Done says` that the
--- code makes are those of the order's definition (`begin`). `size` is how much the unit adds.
+-- Where `BUILD kind` of faction `f` for its unit `n` has no fault, the campaign `d` and the outcome `Done says` that
+-- the code makes are those of the order's definition (`begin`). `size` is how much the unit adds.
 pub begin_done : (w : WorldValue) (c d : CampaignValue) (f n kind : ℕ) (u : Unit) (k : Kind) (size says : ℕ)
     → of_faction f (get c.units n) ≡ Some u → begin_fault w c u k ≡ None
     → d ≡ after_start c n kind k u.region size → says ≡ size → size ≡ size_added k u.holding 0
@@ -451,7 +451,7 @@ begin_done w c d f n kind u k size says is none first asked_is size_is =
     let chain : faction_effect (begin w n kind k) c f n ≡ whole = ap (effect_on (begin w n kind k) c) is ∙ ap (λ o. fault_or c o whole) none in
     rw (first, asked_is, size_is) (sym chain)
 
--- Where `BUILD` of faction `f` for unit `n` inside structure `s` has no fault, the campaign `d` and the outcome
+-- Where `BUILD` of faction `f` for its unit `n` inside structure `s` has no fault, the campaign `d` and the outcome
 -- `Done says` that the code makes are those of the order's definition (`go_on`). `size` is how much the unit adds.
 pub go_on_done : (w : WorldValue) (c d : CampaignValue) (f n : ℕ) (u : Unit) (s : Structure) (k : Kind) (size says : ℕ)
     → of_faction f (get c.units n) ≡ Some u → get c.structures u.structure ≡ Some s → slice_get w.kinds s.kind ≡ Some k

@@ -210,7 +210,7 @@ module _ (units : FinMap nat_cmp Unit) (left : Region → ℕ) where
 
   -- `e` is the number of unit `u` with its share, and `q` is the unit's region as it is in `d`
   module _ (d : CampaignValue) (e : ℕ × ℕ) (u : Unit) (q : Region) (there : get units e.0 ≡ Some u) (around : get d.regions u.region ≡ Some q) where
-    -- a change of the unit's region that takes the unit's share off its pot is a draw of the share (`Drains`)
+    -- a change `f` of the unit's region alone that takes the unit's share off its pot is a draw of the share (`Drains`)
     pub one_drains : (after : CampaignValue) (f : Region → Region)
         → after.regions ≡ (region_changed f d u.region).regions → left (f q) + e.1 ≡ left q
         → Drains region_pots d e after

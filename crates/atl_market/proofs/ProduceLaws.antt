@@ -228,7 +228,7 @@ module _ (asked : FinMap nat_cmp ℕ) (w : WorldValue) (c : CampaignValue) (e : 
       made_others w (with_raw_used c e.0 amount x.raw) e.0 i e.1 k apart
       ∙ by_option (IsStill k) (λ r. with_used c e.0 r amount) x.raw c refl (λ r raw. used_others w c e.0 r amount k apart))
 
--- PRODUCE leaves units for which their own faction wrote no order of it no worse off
+-- PRODUCE leaves units for which their own faction wrote none of its orders `os` no worse off
 pub produce_keeps_others : (w : WorldValue) (c : CampaignValue) (os : List Task)
     → OthersAreNoWorse os c (after_sharing produce_pots w c os)
 produce_keeps_others w c os =

@@ -149,7 +149,7 @@ module _ (w : WorldValue) (c : CampaignValue) (e : ℕ × ℕ) where
       ap (λ o. get (with_holding_at c e.0 (with_paid_recruits u.holding e.1 price) o).units k) is
       ∙ get-insert_other c.units e.0 k (record u { holding = with_paid_recruits u.holding e.1 price }) apart))
 
--- RECRUIT leaves units for which their own faction wrote no order of it no worse off
+-- RECRUIT leaves units for which their own faction wrote none of its orders `os` no worse off
 pub recruit_keeps_others : (w : WorldValue) (c : CampaignValue) (os : List Task)
     → OthersAreNoWorse os c (after_sharing recruit_pots w c os)
 recruit_keeps_others w c os =

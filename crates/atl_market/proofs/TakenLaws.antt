@@ -2,7 +2,7 @@
 -- (`Gives`) says what the phase adds to the events of the faction and line of an order `t` of a mailing. It adds one
 -- event, that of `t`, if `t` is an order of the phase and counts in its mailing (`counts`), and else none. This
 -- supposes that the mailings can be read with the world (`AreFit`). It says nothing of outcomes. The phase keeps the
--- mailings and the aliases.
+-- mailings and the aliases, which are mailings' numbers for units that FORM makes.
 use Rattle.std.proofs.Common.{◌≡◌, ◌==◌, ◌&&◌, ◌++◌, ◌<◌, ℕ, zero, suc, Bool, true, false, cond, List, [], ◌∷◌, length, map, filter, is_some, Some, None, refl, sym, ap, ap₂, subst, ◌∙◌, arith}
 use Rattle.std.specs.Cmp.Lexicographic.{slice_cmp}
 use Rattle.std.specs.FinMap.{entries, from_entries, values}

@@ -175,8 +175,8 @@ market_is w world u (Some i) m is = by_plan (get w.regions u.region) refl is
 
 -- ---- the result of a trade is within all limits
 
--- Unit `u` trades `share` pieces with market `m` of its region, which has `stock` pieces of the item, at most the
--- market's limit (`low`).
+-- Unit `u`, whose holding is within its limits (`holds`), trades `share` pieces with market `m` of its region. The
+-- market has `stock` pieces of the item, at most its limit (`low`).
 module _ (w : WorldValue) (u : Unit) (m : Market) (stock share : ℕ) (there : market_of w u.region m.item ≡ Some m) (holds : IsHolding u.holding) (low : stock ≤ m.limit) where
   limit_is : stock_limit w u.region m.item ≡ m.limit
   limit_is = ap (λ o. option_map_or (λ (x : Market). x.limit) o most_amount) there
@@ -582,8 +582,8 @@ stock_most w c r i world early = by_region (get c.regions r) refl
         let limit = by_market q low (get w.regions r) refl in
         omega (arith, low, limit)
 
--- A trade in two steps. In `d` unit `n` has what `f` makes of its holding in `c`; `e` is `d` with `stock` pieces of the
--- item in the stock of the region.
+-- A trade in two steps. In `d` unit `n`, if it is there, has what `f` makes of its holding in `c`; `e` is `d` with
+-- `stock` pieces of the item in the stock of the region.
 module _ (c d e : MarkedCampaign) (n region item stock : ℕ) (f : HoldingValue → HoldingValue) (set : ChangesHolding c d n f) (put : e.value ≡ with_stock d.value region item stock) where
   -- the two steps leave the books as they are
   pub traded_books : e.value.books ≡ c.value.books

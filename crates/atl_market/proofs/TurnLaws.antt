@@ -37,7 +37,7 @@ first_room book_bound c x xs room =
     room_less book_bound (moved_times (length (x ∷ xs)) book_bound) c
     (λ e t. omega (arith, one_more book_bound x xs e t)) room
 
--- after the first step the books have room for the others, if they had room for all
+-- after a first step within the bound (`LeavesWell`) the books have room for the others, if they had room for all
 pub later_room : {B : Type 0} {leaves : Condition} (book_bound : BookBound) (w : WorldValue) (c d : CampaignValue) (x : B) (xs : List B)
     → LeavesWell leaves book_bound w c d → HaveRoom (moved_times (length (x ∷ xs)) book_bound) c
     → HaveRoom (moved_times (length xs) book_bound) d

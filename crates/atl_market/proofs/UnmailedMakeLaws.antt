@@ -1,6 +1,7 @@
--- What BUILD and PRODUCE leave to the units of a faction that sent no mailing. Such a unit is there after the phase,
--- with its faction and name, no less of any item, and all its men, since nobody starves in these phases
--- (`LeavesUnmailed`).
+-- Laws that BUILD and PRODUCE leave units of a faction without a mailing their items, and their men less the starved.
+-- They suppose that the phase keeps what its specification says: no unit without an order of its own faction is worse
+-- off. Then such a unit is there, with its faction and name, no less of any item, and its men less those whom the
+-- phase's Starved events report. These phases report none. In any case they keep the mailings (`LeavesUnmailed`).
 use Rattle.std.proofs.Common.{◌+◌, ◌-◌, ◌*◌, ℕ, Option, Some, None, refl}
 use Rattle.std.specs.Prelude.{IfSome, neg_ℤ, option_and_then, option_map, pos}
 use Rattle.std.specs.List.{slice_get}
@@ -83,7 +84,7 @@ built_men w c f n x other = tt
 build_leaves_men : LeavesOthersMen build_step
 build_leaves_men w a c t x own = built_men w c t.faction t.unit x t.order_value.operands
 
--- BUILD leaves units of factions without a mailing their men and items (`PhaseLeavesUnmailed`)
+-- BUILD leaves units of factions without a mailing their items, and their men less the starved (`PhaseLeavesUnmailed`)
 pub build_leaves : PhaseLeavesUnmailed build_spec
 build_leaves =
     carried_leaves build_step is_building build_leaves_men
@@ -107,7 +108,7 @@ produced_men asked w c e =
     (by_option (HaveTheirMen c) (λ r. with_used c e.0 r (e.1 * x.raw_count)) x.raw c (men_stay c) (λ r raw. used_men c e.0 r (e.1 * x.raw_count)))
     (made_men used e.0 i e.1))
 
--- PRODUCE leaves units of factions without a mailing their men and items (`PhaseLeavesUnmailed`)
+-- PRODUCE leaves units of factions without a mailing their items, and their men less the starved
 pub produce_leaves : PhaseLeavesUnmailed produce.produce_spec
 produce_leaves =
     shared_leave produce.produce_pots (orders_with_verbs produce.is_produce)

@@ -1,7 +1,8 @@
--- What TAX, RECRUIT, WORK, SELL and BUY leave to the units of a faction that sent no mailing. Such a unit is there
--- after the phase, with its faction and name, no less of any item, and all its men, since nobody starves in these
--- phases (`LeavesUnmailed`). `p` is the phase, `m` the month as it gets it, and `c` and `d` are the campaigns before
--- and after it.
+-- Laws that TAX, RECRUIT, WORK, SELL and BUY leave units of a faction without a mailing their items, and their men less
+-- the starved. They suppose that the phase keeps what its specification says: no unit is worse off (TAX, WORK), or none
+-- without an order of its own faction. Then such a unit is there, with its faction and name, no less of any item, and
+-- its men less those whom the phase's Starved events report. These phases report none. In any case they keep the
+-- mailings (`LeavesUnmailed`). `p` is the phase, `m` the month as it gets it, `c` and `d` the campaigns around it.
 use Rattle.std.proofs.Common.{◌≡◌, ◌≢◌, ◌==◌, ◌&&◌, ◌||◌, ◌+◌, ◌-◌, ℕ, Bool, true, false, List, [], ◌∷◌, ◌++◌, map, None, refl, ap, ◌∙◌}
 use Rattle.std.specs.Prelude.{if◌then◌else◌, pos}
 use Rattle.std.specs.List.{AllByRecursion, list_any}
@@ -70,8 +71,8 @@ module _ (p : PotMeaning) (orders : CampaignValue → MonthValue → List Task) 
   abbrev pub shared : Meaning
   shared = pots_meaning p orders
 
-  -- a phase with pots leaves units of factions without a mailing their men and items (`LeavesUnmailed`), if its meaning
-  -- keeps these men and its frame `keeps` these items
+  -- `LeavesUnmailed` holds of a phase with pots, if units of factions without a mailing are there after it with as many
+  -- men. Where it keeps what `keeps` says, they must also have their names, and no less of any item.
   pub shared_leave : {keeps : Frame}
       → ((w : WorldValue) (c : CampaignValue) (m : MonthValue) → UnmailedAre HasItsMen m c (shared w c m).0)
       → ((w : WorldValue) (c d : CampaignValue) (m : MonthValue) → keeps w m c d → UnmailedAre HasItsItems m c d)
@@ -85,7 +86,7 @@ module _ (p : PotMeaning) (orders : CampaignValue → MonthValue → List Task) 
   unfolding after_sharing
   paid_men paid w c m n u there none = let items = items_by p w c (orders c m) in men_in_turn (p.paid items w) (paid w items) c (entries (given_by p w c (orders c m))) n u there
 
--- where no unit is worse off, units of factions without a mailing have no less of any item
+-- where no unit is worse off, units of factions without a mailing have their names, and no less of any item
 pub none_worse : (w : WorldValue) (c d : CampaignValue) (m : MonthValue) → AreNoWorse c d
     → UnmailedAre HasItsItems m c d
 none_worse w c d m h n u there none = let (v, after, better) = h n u there in record { unit = v; there = after; is_unaffected = items_of_no_worse u v better }
@@ -100,7 +101,7 @@ tax_men w c e =
     men_changed (λ v. record v { holding = record v.holding { money = u.holding.money + e.1 } }) (λ v. record { faction = refl; men = refl })
     c (with_region_money (with_money c e.0 (u.holding.money + e.1)) u.region (q.money - e.1)) e.0 refl))
 
--- TAX leaves units of factions without a mailing their men and items (`PhaseLeavesUnmailed`)
+-- TAX leaves units of factions without a mailing their items, and their men less the starved (`PhaseLeavesUnmailed`)
 pub tax_leaves : PhaseLeavesUnmailed tax_spec
 tax_leaves =
     shared_leave tax_pots (orders_with_verbs is_tax)
@@ -116,7 +117,7 @@ work_men w c e =
     men_changed (λ v. record v { holding = record v.holding { money = u.holding.money + wages } }) (λ v. record { faction = refl; men = refl })
     c (with_booking (with_money c e.0 (u.holding.money + wages)) Wages Money (pos wages)) e.0 refl)
 
--- WORK leaves units of factions without a mailing their men and items (`PhaseLeavesUnmailed`)
+-- WORK leaves units of factions without a mailing their items, and their men less the starved (`PhaseLeavesUnmailed`)
 pub work_leaves : PhaseLeavesUnmailed work_spec
 work_leaves = shared_leave work_pots work_orders (paid_men work_pots work_orders (λ w items. work_men w)) none_worse
 
@@ -141,13 +142,13 @@ module _ (is_of : Verb → Bool) (m : MonthValue) where
       let ts = orders_by_unit is_of m in
       none_listed n u.faction ts (recursion_from_All (λ t. t.faction ≢ u.faction) ts (none_ordered is_of ByUnit m u.faction none))
 
-  -- where units without an order of their own faction are no worse off, units of factions without a mailing have no
-  -- less of any item
+  -- where units without an order of their own faction are no worse off, units of factions without a mailing have their
+  -- names, and no less of any item
   pub others_items : (c d : CampaignValue) → OthersAreNoWorse (orders_by_unit is_of m) c d
       → UnmailedAre HasItsItems m c d
   others_items c d h n u there none = let (v, after, better) = h n u there (unordered n u none) in record { unit = v; there = after; is_unaffected = items_of_no_worse u v better }
 
--- RECRUIT leaves units of factions without a mailing their men and items (`PhaseLeavesUnmailed`)
+-- RECRUIT leaves units of factions without a mailing their items, and their men less the starved
 pub recruit_leaves : PhaseLeavesUnmailed recruit_spec
 recruit_leaves =
     shared_leave recruit_pots (orders_with_verbs is_recruit)
@@ -173,10 +174,10 @@ module _ (trade : Trade) where
       })
       (λ w c d m. others_items (is_trade trade) m c d)
 
--- SELL leaves units of factions without a mailing their men and items (`PhaseLeavesUnmailed`)
+-- SELL leaves units of factions without a mailing their items, and their men less the starved (`PhaseLeavesUnmailed`)
 pub sell_leaves : PhaseLeavesUnmailed sell_spec
 sell_leaves = trade_leaves Sell
 
--- BUY leaves units of factions without a mailing their men and items (`PhaseLeavesUnmailed`)
+-- BUY leaves units of factions without a mailing their items, and their men less the starved (`PhaseLeavesUnmailed`)
 pub buy_leaves : PhaseLeavesUnmailed buy_spec
 buy_leaves = trade_leaves Buy

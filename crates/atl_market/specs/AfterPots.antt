@@ -42,9 +42,9 @@ abbrev pub stock_after : Trade → (stock traded : ℕ) → ℕ
 stock_after Sell stock traded = stock + traded
 stock_after Buy stock traded = stock - traded
 
--- The law that in a world (`IsWorld`) all units trade at once by SELL or BUY, whatever the orders `os`. By SELL each
--- gives its share of the item and gets the money for it, and a region's stock of an item grows by all that its units
--- sold of it. By BUY it is the reverse.
+-- The law that in a world (`IsWorld`) all units trade at once by SELL or BUY, whatever the orders `os`. By SELL a unit
+-- with a share and a market gives its share of the item and gets the money for it; others stay as they are. A region's
+-- stock of an item grows by all that its units sold of it. By BUY it is the reverse.
 abbrev pub TradesAtOnce : Type 0
 TradesAtOnce =
     (trade : Trade) (w : WorldValue) (c : CampaignValue) (os : List Task) → IsWorld w →
@@ -97,7 +97,8 @@ abbrev pub maker_of : Unit → (made item : ℕ) → Item → Unit
 maker_of u made item x =
     record u { holding = with_pieces_added (with_raw_taken u.holding x.raw (made * x.raw_count)) item made }
 
--- a unit that made `made` pieces of the item that its order names (`asked`); as it was where the world has no such item
+-- a unit that made `made` pieces of the item that its order names (`asked`); as it was where `asked` is no item of the
+-- world, or None
 abbrev pub unit_after_production : WorldValue → Unit → (made : ℕ) → Option ℕ → Unit
 unit_after_production w u made asked = option_map_or (λ e. maker_of u made e.0 e.1) (numbered_item w asked) u
 

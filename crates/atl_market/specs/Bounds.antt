@@ -24,7 +24,6 @@ CanInTurn can step c (x ∷ xs) = can c x × CanInTurn can step (step c x) xs
 
 -- what BUILD needs: the campaign is steady, and each kind of the world names a material and a skill of the world
 pub record CanBuild (w : WorldValue) (c : CampaignValue) : Type 0 where
-  -- the campaign is steady
   pub steady : IsSteady w c
   -- each kind of the world keeps the rules of kinds: its material and its skill are of the world
   pub kinds : (i : ℕ) (k : Kind) → slice_get w.kinds i ≡ Some k → IsKind (length w.items) (length w.skills) k

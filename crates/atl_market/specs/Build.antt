@@ -38,8 +38,8 @@ is_building verb = false
 
 -- ---- what a unit adds
 
--- How much a unit adds to a structure of kind `k`: the least of men times level, the material held, and what is missing
--- to the kind's size, where `done` of the structure is done already.
+-- How much a unit adds to a structure of kind `k`: the least of its men times their level in the kind's skill, the
+-- material held, and what is missing to the kind's size, where `done` of the structure is done already.
 abbrev pub size_added : Kind → HoldingValue → (done : ℕ) → ℕ
 size_added k h done = min (min (h.men * level_in h k.skill) (amount_of h.items k.material)) (k.size - done)
 
@@ -63,8 +63,8 @@ begin_fault w c u k = first_fault (
 abbrev pub name_prefix : Kind → List ℕ
 name_prefix k = if k.ship then codes "Ship " else codes "Building "
 
--- A structure as it is begun: of the kind `k`, which has the number `kind`, in a region, with `size` of it done. It is
--- named by its number and has no owner.
+-- A structure as it is begun: of the kind `k`, which has the number `kind`, in a region, with `size` of it done. It has
+-- no owner, and its name is `Ship ` or `Building ` and its number.
 abbrev pub new_structure : (number kind : ℕ) → Kind → (region size : ℕ) → Structure
 new_structure number kind k region size = record {
   kind = kind;
@@ -78,8 +78,8 @@ new_structure number kind k region size = record {
 abbrev pub with_new_structure : CampaignValue → (kind : ℕ) → Kind → (region size : ℕ) → CampaignValue
 with_new_structure c kind k region size = with_structure_begun c (new_structure c.next_structure kind k region size)
 
--- A campaign after unit `n` used `size` of the material, began a structure with it in its region, left its old one and
--- entered the new one. `kind` is the number of the kind `k`.
+-- A campaign after unit `n` used `size` of the material, a structure was begun with it in `region`, and the unit moved
+-- from its old one into it, as owner. Without unit `n` it is only begun. `kind` is the number of the kind `k`.
 abbrev pub after_start : CampaignValue → (n kind : ℕ) → Kind → (region size : ℕ) → CampaignValue
 after_start c n kind k region size =
     with_place (with_new_structure (with_used c n k.material size) kind k region size) n region c.next_structure
@@ -106,7 +106,7 @@ inside_fault u s k = first_fault (
     ∷ (amount_of u.holding.items k.material == 0, NoMaterial)
     ∷ [])
 
--- a campaign after unit `n` used `size` of a material for a structure, by its number, of which `done` is done then
+-- a campaign after unit `n`, if it is there, used `size` of a material, and `done` of a structure, if there, is done
 abbrev pub after_building_on : CampaignValue → (n material size structure done : ℕ) → CampaignValue
 after_building_on c n material size structure done = with_done (with_used c n material size) structure done
 
@@ -118,8 +118,8 @@ with_kind w s = option_map (λ k. (s, k)) (slice_get w.kinds s.kind)
 abbrev pub structure_and_kind_at : WorldValue → CampaignValue → (structure : ℕ) → Option (Structure × Kind)
 structure_and_kind_at w c structure = option_and_then (with_kind w) (get c.structures structure)
 
--- The campaign and outcome after `BUILD` by unit `n`, which is inside a structure of the given kind, or inside none.
--- `Done 0` never comes out, as `outside_fault` always finds a fault.
+-- The campaign and outcome after `BUILD` by unit `n`, inside the given structure of the given kind, or inside none.
+-- With a fault nothing changes. `Done 0` never comes out, as `outside_fault` always finds a fault.
 abbrev pub go_on_at : CampaignValue → (n : ℕ) → Unit → Option (Structure × Kind) → CampaignValue × Outcome
 go_on_at c n u None = fault_or c (outside_fault u) (c, Done 0)
 go_on_at c n u (Some (s, k)) =
@@ -133,13 +133,13 @@ go_on w n c u = go_on_at c n u (structure_and_kind_at w c u.structure)
 -- ---- the effect of an order
 
 -- The effect of an order of unit `n` by its operands: a kind of the world begins a structure (`begin`), no kind
--- continues one (`go_on`). Other operands have no effect.
+-- continues one (`go_on`). Other operands, also a kind that isn't the world's, have no effect (None).
 abbrev pub build_effect : WorldValue → (n : ℕ) → OperandsValue → Option OrderEffect
 build_effect w n (operands.Kind (Some kind)) = option_map (begin w n kind) (slice_get w.kinds kind)
 build_effect w n (operands.Kind None) = Some (go_on w n)
 build_effect w n other = None
 
--- the effect of each order of BUILD, by its unit and operands; `aliases` doesn't count, as BUILD names no other unit
+-- the effect of each order of BUILD, by its unit and operands alone; `aliases`, the numbers of new units, don't count
 abbrev pub build_step : OrderMeaning
 build_step w aliases t = build_effect w t.unit t.order_value.operands
 
@@ -153,7 +153,7 @@ build_moves e t = 0
 -- ---- the phase
 
 -- The specification of the phase BUILD: it carries out orders one by one, and books Used of items (`moved`). A unit for
--- which its own faction wrote no order of BUILD is no worse off (`IsOwnOrder`, `IsNoWorse`).
+-- which its own faction wrote no order of BUILD is there and no worse off (`IsOwnOrder`, `IsNoWorse`).
 abbrev pub build_spec : PhaseSpec
 build_spec = record (goes_by_orders build_step is_building IsOwnOrder IsNoWorse) {
   book_bound = build_moves;

@@ -24,7 +24,6 @@ pub record CanUse (w : WorldValue) (c : CampaignValue) (n i amount : ℕ) : Type
   pub known : i < length w.items
   pub enough : amount ≤ amount_of unit.holding.items i
   pub steady : IsSteady w c
-  -- the books have room for a use of `amount` of the item
   pub room : HasRoom amount (amount_in c.books Used (things.Item i))
 
 -- unit `n` can make `amount` of item `i`: it is there and has room for it, and so have the books; the world has the
@@ -35,7 +34,6 @@ pub record CanMake (w : WorldValue) (c : CampaignValue) (n i amount : ℕ) : Typ
   pub known : i < length w.items
   pub fits : amount_of unit.holding.items i + amount ≤ holding_limit
   pub steady : IsSteady w c
-  -- the books have room for `amount` more of the item made
   pub room : HasRoom amount (amount_in c.books Made (things.Item i))
 
 -- unit `n` can use the raw items for `made` pieces of the item `x`, which has the number `i`, and then make the pieces

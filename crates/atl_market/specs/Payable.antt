@@ -18,8 +18,8 @@ pub record IsSomewhere (c : CampaignValue) (n : ℕ) : Type 0 where
   pub region : Region
   pub around : get c.regions unit.region ≡ Some region
 
--- The unit of a pair (unit, share) can take its share of tax: it has room for the money, and its region has it. The
--- campaign is early.
+-- The unit of a pair (unit, share) can take its share of tax: it and its region are there, it has room for the money,
+-- and its region has it. The campaign is early.
 pub record CanTax (w : WorldValue) (c : CampaignValue) (e : ℕ × ℕ) : Type 0 where
   pub at : IsSomewhere c e.0
   -- the unit has at most 999,999,999 money with its share added
@@ -28,8 +28,8 @@ pub record CanTax (w : WorldValue) (c : CampaignValue) (e : ℕ × ℕ) : Type 0
   pub enough : e.1 ≤ at.region.money
   pub early : IsEarly w c
 
--- The unit of a pair (unit, share) can get its share of recruits. It has the money and room for the men, its region has
--- the peasants, and the books have room. The campaign is early.
+-- The unit of a pair (unit, share) can get its share of recruits: it and its region are there. It has the money and
+-- room for the men, the region has the peasants, and the books have room. The campaign is early.
 pub record CanRecruit (w : WorldValue) (c : CampaignValue) (e : ℕ × ℕ) : Type 0 where
   pub at : IsSomewhere c e.0
   -- the unit has at most 999,999 men with its recruits added

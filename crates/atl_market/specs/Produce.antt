@@ -46,19 +46,19 @@ numbered_item w asked = option_and_then (λ i. option_map (λ x. (i, x)) (slice_
 abbrev pub up_to_raw : HoldingValue → (count : ℕ) → (raw : Option ℕ) → (most : ℕ) → ℕ
 up_to_raw h count raw most = option_map_or (λ r. min (amount_of h.items r / count) most) raw most
 
--- The most of an item that a unit can make: the least of its men times level, its room for the item, and what its raw
--- items allow.
+-- The most of an item that a unit can make: the least of its men times their level in the item's skill, its room for
+-- the item, and what its raw items allow.
 abbrev pub most_makeable_of : HoldingValue → (item : ℕ) → Item → ℕ
 most_makeable_of h i x =
     up_to_raw h x.raw_count x.raw (min (h.men * level_in_any h x.skill) (holding_limit - amount_of h.items i))
 
--- the most that a unit can make of the item that its order names; 0 where that is no item of the world
+-- the most that a unit can make of the item that its order names; 0 where it names no item, or none of the world
 abbrev pub most_makeable : WorldValue → HoldingValue → Option ℕ → ℕ
 most_makeable w h asked = option_map_or (λ e. most_makeable_of h e.0 e.1) (numbered_item w asked) 0
 
 -- ---- what the terrains give
 
--- whether a raw item goes into the item that an order names; true where that is no item of the world
+-- whether a raw item goes into the item that an order names; true where it names no item, or none of the world
 abbrev pub takes_raw : WorldValue → Option ℕ → Bool
 takes_raw w asked = option_map_or (λ x. is_some x.raw) (item_of w asked) true
 
@@ -78,8 +78,8 @@ output_share w asked c wants n = item_share (output_item w asked) (output_at w) 
 
 -- ---- who makes how much
 
--- how much a unit makes, by its number and its want: all that it wants of an item that `takes_raw`, else its share of
--- what its region gives of the item, or 0 without a share
+-- How much a unit makes, by its number and its want: all that it wants where `takes_raw` holds for it. Else it is the
+-- unit's share of what its region gives of its item, or 0 without a share.
 abbrev pub amount_made : WorldValue → FinMap nat_cmp ℕ → CampaignValue → FinMap nat_cmp ℕ → ℕ × ℕ → ℕ
 amount_made w asked c wants (n, want) =
     if takes_raw w (get asked n) then want else unwrap_or (output_share w asked c wants n) 0
@@ -98,8 +98,8 @@ with_raw_used c n amount raw = option_map_or (λ r. with_used c n r amount) raw 
 abbrev pub with_item_made : CampaignValue → ℕ → (made item : ℕ) → Item → CampaignValue
 with_item_made c n made i x = with_made (with_raw_used c n (made * x.raw_count) x.raw) n i made
 
--- a campaign after a unit, by its number, made `made` pieces of the item that its order names; unchanged where that is
--- no item of the world, or the unit isn't there
+-- A campaign after a unit, by its number, made `made` pieces of the item that its order names. It is unchanged where
+-- the order names no item, or none of the world, or the unit isn't there.
 unfoldable pub after_production : FinMap nat_cmp ℕ → WorldValue → CampaignValue → ℕ × ℕ → CampaignValue
 after_production asked w c (n, made) =
     option_map_or (λ e. with_item_made c n made e.0 e.1) (numbered_item w (get asked n)) c
@@ -115,8 +115,8 @@ is_unskilled h x = if is_some x.skill then nat_lt (level_in_any h x.skill) x.lev
 abbrev pub is_raw_missing : HoldingValue → (count : ℕ) → (raw : Option ℕ) → Bool
 is_raw_missing h count raw = option_map_or (λ r. amount_of h.items r / count == 0) raw false
 
--- The first fault of PRODUCE after NotYours, if there is one: NoMen, NoSkill, NoMaterial; without an item of the world
--- NoMen, else NoSkill.
+-- The first fault of PRODUCE after NotYours, if there is one: NoMen, NoSkill, NoMaterial. Without an item of the world
+-- (None) it is NoMen, else NoSkill.
 abbrev pub produce_fault : HoldingValue → Option Item → Option EventFault
 produce_fault h None = first_fault ((h.men == 0, NoMen) ∷ (true, NoSkill) ∷ [])
 produce_fault h (Some x) =

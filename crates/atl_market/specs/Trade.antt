@@ -52,7 +52,7 @@ abbrev pub has_too_little : Trade → HoldingValue → Market → Bool
 has_too_little Sell h m = amount_of h.items m.item == 0
 has_too_little Buy h m = nat_lt h.money m.price
 
--- the first fault of SELL or BUY after NotYours, if there is one: NoMarket, NotEnough
+-- the first fault of SELL or BUY after NotYours, if there is one: NoMarket without a market (None), NotEnough
 abbrev pub trade_fault : Trade → HoldingValue → Option Market → Option EventFault
 trade_fault trade h None = Some NoMarket
 trade_fault trade h (Some m) = first_fault ((has_too_little trade h m, NotEnough) ∷ [])
@@ -109,15 +109,15 @@ trade_entry Buy = Bought
 abbrev pub with_trade_result : HoldingValue → (item : ℕ) → TradeResult → HoldingValue
 with_trade_result h item d = record h { money = d.money; items = with_amount_of h.items item d.amount }
 
--- a campaign with unit `n`, which is `u`, the stock of its region and the books (under `entry`) as the result `d` of a
--- trade says
+-- a campaign with unit `n`, which is `u`, its region's stock of `item` and the books (under `entry`) as the result `d`
+-- of a trade says
 abbrev pub with_trade_booked : CampaignValue → ℕ → Unit → (item : ℕ) → BooksEntry → TradeResult → CampaignValue
 with_trade_booked c n u item entry d =
     let paid = with_holding c n (with_trade_result u.holding item d) in
     with_booking (with_stock paid u.region item d.stock) entry Money d.booked
 
 -- A campaign after a unit, by its number, traded `share` pieces of its order's item, which `items` has by unit. It is
--- unchanged where the unit isn't there, or its region has no market for the item.
+-- unchanged where the unit isn't there, `items` has no item for it, or its region has no market for the item.
 unfoldable pub after_trade : Trade → FinMap nat_cmp ℕ → WorldValue → CampaignValue → ℕ × ℕ → CampaignValue
 after_trade trade items w c (n, share) =
     at_unit c n (λ u.

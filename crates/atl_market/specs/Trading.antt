@@ -39,8 +39,9 @@ pub record IsPriced (m : Market) : Type 0 where
   pub pays : 1 ≤ m.pays
   pub limit : m.limit ≤ most_amount
 
--- The unit of a pair (unit, share) can trade its share of its order's item, which `items` has by unit. It can afford
--- the share, and the market's pot and the books allow it. The world keeps its rules, and the campaign is early.
+-- The unit of a pair (unit, share) can trade its share of its order's item, which `items` has by unit. It and its
+-- region are there, it can afford the share, and the market's pot and the books allow it. The world keeps its rules,
+-- and the campaign is early.
 pub record CanTrade (trade : Trade) (items : FinMap nat_cmp ℕ) (w : WorldValue) (c : CampaignValue) (e : ℕ × ℕ) : Type 0 where
   pub at : IsSomewhere c e.0
   -- the unit can trade its share with the market of its order's item; without a market the share is 0

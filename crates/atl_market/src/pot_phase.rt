@@ -133,7 +133,7 @@ fn unit_for<'c, P: PotPhase>(
     }
 }
 
-/// Puts nothing into the maps where the order has a fault.
+/// Puts nothing into the maps where the order has a fault, and no item where it names none.
 #[tactic(auto, using(crate::proofs::WantLaws::one_want))]
 fn note_order<P: PotPhase>(
     phase: &P,

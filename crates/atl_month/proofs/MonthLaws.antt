@@ -172,9 +172,9 @@ phases_leave_unmailed phases keeps closes w c d m events begins is kept n u ther
     subst (λ k. IsLeft k d n u) so_many (subst (λ s. IsLeft (starved_in (phases w c m).1.events n - starved_in m.events n) s n u) (sym state)
     (closes.left w c m (subst (keeps w m c) state kept) n u there none))
 
--- After a month each unit of a faction without a mailing has its name, no less of any item, and all men who didn't
--- starve, or is removed where all its men starved (`UnmailedAreLeft`). For this the phases keep what `month_keeps` says
--- from campaign c, before the phases, to d, after them.
+-- After a month each unit of a faction without a mailing has its faction and name, no less of any item, and all men who
+-- didn't starve. It is removed where all its men starved (`UnmailedAreLeft`). For this the phases keep what
+-- `month_keeps` says from campaign c, before the phases, to d, after them.
 pub unmailed_left : (w : WorldValue) (c d : CampaignValue) (ms : List Mailing) (words : List ℕ) (events : List Event)
     → (d, events) ≡ month_of w c (by_faction (map reading_of ms)) words
     → month_keeps w (new_month (by_faction (map reading_of ms)) words) c d → UnmailedAreLeft ms events c d

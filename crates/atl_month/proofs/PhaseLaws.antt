@@ -1,5 +1,7 @@
--- Laws of each phase of a month: which entries of the books it moves, and what it leaves to a faction without a
--- mailing. A phase's own entries are those that its specification lists for money, people and items (`moved`).
+-- Laws of each phase of a month: which entries of the books it moves, and what it leaves to units of a faction without
+-- a mailing, if it keeps what its specification says. A phase's own entries are those that its specification lists
+-- (`moved`). Such a unit also keeps its faction and name, and the starved are those whom the phase's Starved events
+-- report. All phases but the sweep keep the mailings.
 use Rattle.std.proofs.Common.{◌≤◌, [], ◌∷◌, arith}
 use Rattle.std.specs.Prelude.{if◌then◌else◌}
 use Rattle.std.proofs.lemmas.Bool.Decides.{nat_tests}
@@ -84,21 +86,17 @@ produce_alone entries.Made (Item i) = omega arith
 produce_alone entries.Used (Item i) = omega arith
 produce_alone e t = omega arith
 
--- WORK moves the amounts of its own entries of the books alone, each by less than 10^14
 pub work_alone : MovesItsOwn work_spec
 work_alone = money_alone entries.Wages
 
--- upkeep moves the amounts of its own entries of the books alone, each by less than 10^14
 pub upkeep_alone : MovesItsOwn upkeep_spec
 upkeep_alone = money_and_people entries.Upkeep entries.Starved
 
--- the season moves the amounts of its own entries of the books alone, each by less than 10^14
 pub season_alone : MovesItsOwn season_spec
 season_alone e Money = grind (arith, money_and_people entries.Income entries.Births e Money)
 season_alone e People = grind (arith, money_and_people entries.Income entries.Births e People)
 season_alone e (Item i) = grind (arith, money_and_people entries.Income entries.Births e (Item i))
 
--- the sweep moves the amounts of its own entries of the books alone, each by less than 10^14
 pub sweep_alone : MovesItsOwn sweep_spec
 sweep_alone e Money = grind arith
 sweep_alone e People = grind arith

@@ -1,6 +1,6 @@
--- Laws of what upkeep, season and sweep leave to units of a faction that sent no mailing. Such a unit keeps its faction
--- and name, has no less of any item, and has its men less those who starve in upkeep, as its event reports. The sweep
--- removes it if it has no men.
+-- Laws of what upkeep, season and sweep leave to units of a faction that sent no mailing, if the phase keeps what its
+-- specification says. Such a unit keeps its faction and name, has no less of any item, and has its men less those who
+-- starve in upkeep, as its event reports. The sweep removes it if it has no men. The other two keep the mailings.
 use Rattle.std.proofs.Common.{◌≡◌, ◌≢◌, ◌==◌, ◌+◌, ◌-◌, ◌≤◌, ◌<◌, ℕ, Bool, true, false, not, cond, List, [], ◌∷◌, map, filter, sum_by, Some, refl, sym, ap, subst, ◌∙◌, inl, inr, arith}
 use Rattle.std.specs.Prelude.{if◌then◌else◌}
 use Rattle.std.specs.Ordering.{nat_cmp}
@@ -123,7 +123,7 @@ upkeep_leaves = record {
 
 -- ---- season and sweep
 
--- the season leaves units of factions without a mailing their items and their men (`LeavesUnmailed`)
+-- the season leaves units of factions without a mailing their items and all their men (`LeavesUnmailed`)
 pub season_leaves : LeavesUnmailed season_meaning season_keeps
 season_leaves =
     whole_leaves {meaning = season_meaning} {keeps = season_keeps} (λ w c m. refl) (λ w c m n. refl)

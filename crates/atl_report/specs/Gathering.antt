@@ -12,7 +12,7 @@ use Rattle.atl_sight.specs.Watching.{is_watching}
 use Rattle.atl_report.specs.Sites.{with_listed}
 
 -- `with_region seen n region`: the set `seen` of region numbers with `n` added, if the campaign has a region of number
--- `n`, which is `region`; None where it has none
+-- `n`, which is `region`; `seen` itself where it has none (None)
 abbrev pub with_region : FinMap nat_cmp (Prim.Unit {0}) → ℕ → Option Region → FinMap nat_cmp (Prim.Unit {0})
 with_region seen n None = seen
 with_region seen n (Some r) = insert seen n tt

@@ -85,7 +85,8 @@ stocks_little (x ∷ xs) rising e t =
 
 -- ---- a market that gets new goods
 
--- `m` is the market of region `n` for item `i`; `r` is that region in campaign `c`, before the new goods
+-- `m` is the market of region `n` for item `i`, by the rules of markets (`known`); `r` is that region in the steady
+-- campaign `c`, before the new goods
 module _ (w : WorldValue) (c : CampaignValue) (n i : ℕ) (m : Market) (r : Region) (here : get c.regions n ≡ Some r) (market : market_of w n i ≡ Some m) (known : IsMarket (length w.items) i m) (steady : IsSteady w c) where
   abbrev stock : ℕ
   stock = amount_of r.stocks i
@@ -161,8 +162,8 @@ IsMarketOf w n i m = (market_of w n i ≡ Some m) × IsMarket (length w.items) i
 
 -- `n` is the number of a region of the world
 module _ (w : WorldValue) (n : ℕ) (there : HasValue w.regions n) where
-  -- New goods of a market, given as `x.1` with its item `x.0`, keep a steady campaign steady and its books balanced,
-  -- and book at most 999,999,999 of the item.
+  -- New goods of a market of the region (`IsMarketOf`), given as `x.1` with its item `x.0`, keep a steady campaign
+  -- steady and its books balanced. They book at most 999,999,999 of the item, and nothing else.
   pub one_leaves_well : (c : CampaignValue) (x : ℕ × Market) → IsMarketOf w n x.0 x.1 → IsSteady w c
       → LeavesWell IsSteady (moves_only most_amount Stocked (Item x.0)) w c (after_market_restock n c x)
   one_leaves_well c x of steady = let (r, here) = (steady.known.regions n).1 there in market_leaves_well w c n x.0 x.1 r here of.0 of.1 steady

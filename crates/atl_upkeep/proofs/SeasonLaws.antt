@@ -184,8 +184,8 @@ region_grows_well w world c n word t r here is steady =
     (births_fit w.rules.growth t.peasant_limit word r.peasants peasant_limit within.peasants)
     (income_fits w.rules.income t.money_limit (r.peasants + born) r.money money_limit within.money) steady
 
--- the season of one region, with births, income and new goods, keeps a steady campaign steady and its books balanced,
--- and moves each amount by at most 999,999,999
+-- the season of one region keeps a steady campaign steady and its books balanced, and moves only births, income, and
+-- Stocked of each item, each by at most 999,999,999
 pub season_at_leaves_well : (w : WorldValue) → IsWorld w → (c : CampaignValue) (x : ℕ × ℕ) → IsSteady w c
     → LeavesWell IsSteady (season_moves most_amount) w c (season_at w c x)
 unfolding season_at
@@ -210,13 +210,13 @@ season_at_leaves_well w world c (n, word) steady = by_terrain (terrain_of w n) r
     by_terrain None is = same
     by_terrain (Some t) is = by_region t is (get c.regions n) refl
 
--- the season of as many regions as there may be moves each amount by less than 10^14
+-- the seasons of at most as many regions as there may be move only births, income and Stocked, each by less than 10^14
 pub season_little : (k : ℕ) → k ≤ most_regions → (e : BooksEntry) (t : Thing)
     → moved_times k (season_moves most_amount) e t ≤ season_moves most_moved e t
 season_little k few e t = grind (arith, few)
 
--- The season of all regions keeps a steady campaign steady and its books balanced, and moves each amount by less than
--- 10^14.
+-- The season of all regions keeps a steady campaign steady and its books balanced, and moves only births, income, and
+-- Stocked of each item, each by less than 10^14.
 pub season_leaves_well : (w : WorldValue) → IsWorld w → (c : CampaignValue) (words : List ℕ) → IsSteady w c
     → LeavesWell IsSteady (season_moves most_moved) w c (season w c words)
 season_leaves_well w world c words steady =

@@ -105,7 +105,7 @@ listed_later m n ns apart (inr rest) = rest
 
 -- below, `ns` are the numbers of the units that are swept, in turn, and `c` is the campaign before that
 module _ (w : WorldValue) where
-  -- once the listed units were swept, among them all units without men, each unit has men
+  -- in a steady campaign, once the listed units were swept, among them all units without men, each unit has men
   pub all_have_men : (ns : List ℕ) (c : CampaignValue) → IsSteady w c → AreMenlessListed ns c
       → HaveMen (fold after_sweeping_unit c ns)
   all_have_men [] c steady listed = λ m v there. let some : v.holding.men ≢ 0 = listed m v there in omega arith
@@ -204,7 +204,7 @@ units_stay (n ∷ ns) c = units_stay ns (after_sweeping_faction c n) ∙ gone_at
 
 -- ---- the phase
 
--- the sweeps of at most 100,000 units together lose less than 10^14 of money and of each item
+-- the sweeps of at most 100,000 units together lose less than 10^14 of money and of each item, and book nothing else
 pub loses_little : (k : ℕ) → k ≤ most_units → (e : BooksEntry) (t : Thing)
     → moved_times k (loses_by most_amount) e t ≤ loses_by most_moved e t
 loses_little k few e t = grind arith

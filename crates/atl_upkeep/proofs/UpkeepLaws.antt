@@ -215,8 +215,6 @@ module _ (w : WorldValue) (c : CampaignValue) (s : UpkeepResult) (u : Unit) (is 
       (booked-near one_booked Starved People (neg_ℤ (pos s.starved)) most_amount
       (within-neg s.starved most_amount few_starved) e t)
 
-  -- The upkeep of a unit that can pay keeps the campaign steady and its books balanced. The upkeep moves Upkeep of
-  -- money and Starved of people by at most 999,999,999 each (`takes_up_to`).
   unit_leaves_well : LeavesWell IsSteady (takes_up_to most_amount) w c after
   unit_leaves_well = record {
     leaves_it = after_steady;
@@ -233,8 +231,8 @@ pub upkeep_at_is : (c : CampaignValue) (s : UpkeepResult) (u : Unit) → get c.u
 unfolding upkeep_at
 upkeep_at_is c s u is = ap (upkeep_in c s) is
 
--- the upkeep of a unit that can pay keeps the campaign steady and its books balanced, and moves Upkeep of money and
--- Starved of people by at most 999,999,999 each
+-- the upkeep of a unit that can pay keeps the campaign steady and its books balanced, and moves only Upkeep of money
+-- and Starved of people, each by at most 999,999,999
 pub upkeep_at_leaves_well : (w : WorldValue) (c : CampaignValue) (s : UpkeepResult) → CanPayUpkeep w c s
     → LeavesWell IsSteady (takes_up_to most_amount) w c (upkeep_at c s)
 upkeep_at_leaves_well w c s can =
@@ -250,7 +248,7 @@ other_unit c s n apart = by_unit (get c.units s.unit)
     by_unit None = refl
     by_unit (Some u) = get-insert_other c.units s.unit n (record u { holding = after_upkeep s u.holding }) apart
 
--- after the upkeep of a unit, listed units with greater numbers are there as they were
+-- if units are there as listed, and all have greater numbers than another one, they are still so after its upkeep
 pub each_still : (c : CampaignValue) (s : UpkeepResult) (es : List (ℕ × Unit)) → AllByRecursion (λ e. s.unit < e.0) es
     → EachEntry (λ n u. get c.units n ≡ Some u) es → EachEntry (λ n u. get (upkeep_at c s).units n ≡ Some u) es
 each_still c s [] above there = tt
@@ -329,8 +327,8 @@ module _ (w : WorldValue) (c : CampaignValue) (steady : IsSteady w c) (room : Ha
       (each-from_every (λ n u. get c.units n ≡ Some u) c.units (λ n u is. is)) steady
       (room_less (moved_times (length list) (takes_up_to most_amount)) (takes_up_to most_moved) c little room)
 
-  -- The upkeep of all units keeps a steady campaign steady and its books balanced, and moves each amount by less than
-  -- 10^14.
+  -- The upkeep of all units keeps a steady campaign steady and its books balanced, and moves only Upkeep of money and
+  -- Starved of people, each by less than 10^14.
   pub upkeep_leaves_well : LeavesWell IsSteady (takes_up_to most_moved) w c (upkeep c list)
   upkeep_leaves_well =
       well_within (moved_times (length list) (takes_up_to most_amount)) (takes_up_to most_moved) w c (upkeep c list) little
@@ -349,7 +347,7 @@ paid_alone s h fed =
     ap (λ (k : HoldingValue). record k { money = h.money - s.paid })
     (men_stay h (h.men - s.starved) (omega (arith, fed)))
 
--- if a unit pays nothing and nobody starves, its upkeep leaves the campaign as it was
+-- if a unit pays nothing and nobody starves, setting its holding to what upkeep leaves it changes nothing
 pub pays_nothing : (c : CampaignValue) (s : UpkeepResult) (u : Unit) → get c.units s.unit ≡ Some u → s.starved ≡ 0
     → s.paid ≡ 0
     → c ≡ with_holding_at c s.unit (after_upkeep s u.holding) (Some u)

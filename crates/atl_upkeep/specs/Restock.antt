@@ -22,7 +22,8 @@ markets_of w region = option_map_or (λ p. p.markets) (get w.regions region) emp
 abbrev pub restock : Market → (stock : ℕ) → ℕ
 restock m stock = min m.restock (m.limit - stock)
 
--- a campaign after a market of a region, given with its item, got its `restock`, which is booked as stocked
+-- a campaign after a market of a region, given with its item, got its `restock`, which is booked as stocked; where the
+-- region isn't there, it is only booked
 unfoldable pub after_market_restock : (region : ℕ) → CampaignValue → ℕ × Market → CampaignValue
 after_market_restock region c (item, m) =
     let stock = stock_of c region item in
