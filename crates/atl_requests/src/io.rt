@@ -71,7 +71,8 @@ impl From<AllocError> for HttpFault {
     }
 }
 
-/// Returns 0 if the read was interrupted.
+/// Returns 0 if the read was interrupted. Once `MOST_READS` reads are counted, none is done, and
+/// the fault is ReadFault.
 fn read_more<R: Read>(
     reader: &mut R,
     reads: &mut ReadCalls,

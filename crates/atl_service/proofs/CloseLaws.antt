@@ -211,8 +211,8 @@ pub turned_marked : (a b c d : MarkedCampaign) (n : ℕ) → MarksChanges a b �
 turned_marked a b c d n run is m taken t =
     marks-trans a b d run (marks-trans b c d (month_marked b c n is m) (mail_marked c d taken t))
 
--- if the result `r` of a call is Ok, and the call then has stored a faction's report and marked it, it has marked all
--- that changed and lost no mark (`MarksChanges`)
+-- if a call with the result `r` stores a faction's report and marks it where `r` is Ok, it then has marked all that
+-- changed and lost no mark (`MarksChanges`)
 pub stored_marked : {A E : Type 0} (w : WorldValue) (c d : MarkedCampaign) (n : ℕ) (faults : List FaultyLine) (events : List Event) (r : Result A E)
     → OnOk r (d.value ≡ reported_with w c.value n faults events) → OnOk r (d.marks ≡ mark_report c n)
     → OnOk r (MarksChanges c d)

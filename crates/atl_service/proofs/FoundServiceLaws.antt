@@ -86,7 +86,7 @@ module _ {S : Type 0} (g : Ghosts S) where
     later = later;
   }
 
-  -- ---- a founding whose tables could not be created, after what `made` says was prepared; `new` is later than `old`
+  -- ---- a founding that was prepared (`made`), but whose tables could not be created; `new` is later than `old`
   module _ (old new : Held S) (w : WorldValue) (c : CampaignValue) (text pass : List ℕ) (made : Prepares text pass w c) (later : IsLater (state g old) (state g new)) where
     -- If the tables could not be created, founding leaves what a failed one may leave (`FailsToFound`). On a clean disk
     -- the tables are as before while the connection is open, and a crash leaves what it could have left before, or the

@@ -176,8 +176,8 @@ module _ {S : Type 0} (g : Ghosts S) where
 
   -- If the answers before command `i`, with any that the commands from `i` on may get, are answers to the whole list
   -- (`RunsAll`), so are they with the answer to command `i` added. This command is `c` and its answer `a`; the commands
-  -- after it are answered with `rs`, and leave the service `new`. It must have run as promised (`Runs`, `IsLater`), in
-  -- a service whose tables hold its campaign.
+  -- after it are answered with `rs`, and leave the service `new`. Command `i` must have run as promised (`Runs`,
+  -- `IsLater`), in a service whose tables hold its campaign.
   pub one_more : (e mid now new : ServiceValue S) (cs : List Command) (i : ℕ) (c : Command) (a : Answer) (sofar rs : List Answer)
       → i < length cs → c ≡ get_or cs i c
       → ((ts : List Answer) (n : ServiceValue S) → RunsAll g mid (drop i cs) ts n → RunsAll g e cs (sofar ++ ts) n)

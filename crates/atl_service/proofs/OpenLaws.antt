@@ -39,7 +39,8 @@ module _ {S : Type 0} (g : Ghosts S) where
       record { fault = Store; why_is = refl; cause = λ clean. inl busy; alone = alone_itself conn; later = survives_is_later _ _ _ (alone_itself conn).survives }
 
   module _ (old new : Held S) (alone : LeavesAlone g old new) where
-    -- if loading may fail with a fault, refusing to open with the cause of the same name is right (`RefusesOpening`)
+    -- if, on a clean disk, loading may fail with a fault, refusing to open with the cause of the same name is right
+    -- (`RefusesOpening`)
     pub refused_by_load : (fault : StoreFault) → (HasCleanDisk (state g new) → RefusesToLoad g old fault)
         → RefusesOpening g old (cause_of_loading_fault fault) new
     refused_by_load fault cause =

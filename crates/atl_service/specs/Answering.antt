@@ -63,8 +63,8 @@ CommandLeavesAfterFault g w before old command new =
 
 -- After any command, answered or failed, the connection is in no transaction. A disk that isn't clean stays so, no
 -- failure of it is forgotten, and reads that are compared with digests stay so (`IsLater`). If the disk is clean and
--- the connection is open, tables that aren't the campaign's hold what they held (`LeavesOthersAlone`). The connection
--- must have had the tables of a campaign and nothing uncommitted for that.
+-- the connection is open, tables that aren't the campaign's hold what they held (`LeavesOthersAlone`). For that the
+-- connection must have had, before the command, the tables of a campaign and nothing uncommitted.
 pub record LeavesIdle {S : Type 0} (g : Ghosts S) (old new : Held S) : Type 0 where
   pub idle : new.in_transaction ≡ false
   pub later : IsLater (state g old) (state g new)

@@ -34,7 +34,7 @@ last_text n other (Mail faction _ text ∷ more) = last_text n (if faction == n 
 last_text n other (Close _ _ _ ∷ more) = last_text n other more
 last_text n other (Report _ _ ∷ more) = last_text n other more
 
--- Two lists of mailings, all stored from one campaign on, give the same campaign and answer when a month is closed, if
+-- Two lists of mailings, stored from one campaign on, give the same campaign and answer when a month is closed, if
 -- each faction's last text is the same in both.
 abbrev pub OnlyTheLastMailCounts : Type 0
 OnlyTheLastMailCounts =
