@@ -171,9 +171,9 @@ fn receive_in<R: Read>(
 }
 
 /// Reads until the request is whole or refused, and leaves in `seen`, which must be empty, all
-/// that was read. `reads` must be `none()`. Cut where the input ends before the request is whole,
-/// ReadFault where a read fails or 1,000,000 reads haven't brought all of it, Memory without memory
-/// for the bytes, the routes or the request.
+/// that was read. `reads` must be `none()`. Cut: the input ends before the request is whole.
+/// ReadFault: a read fails, or 1,000,000 reads haven't brought all of it. Memory: there is none for
+/// the bytes, the routes or the request.
 pub fn receive<R: Read>(
     alloc: Global,
     reader: &mut R,

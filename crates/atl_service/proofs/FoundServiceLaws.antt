@@ -59,8 +59,8 @@ module _ {S : Type 0} (g : Ghosts S) where
       leaves none.Store is = absurd (false≢true (sym (is true).2))
       leaves none.Memory is = (nothing_done conn text pass, inl refl)
 
-  -- an open service is consistent if its connection is in no transaction, its campaign is good, and on a clean disk the
-  -- tables hold the campaign and a text of its world
+  -- an open service is consistent if its connection is in no transaction, its campaign is good, `text` is of its world,
+  -- and on a clean disk the tables hold both
   pub founded_consistent : (conn : Held S) (w : WorldValue) (c : CampaignValue) (text : List ℕ)
       → conn.in_transaction ≡ false → IsGood w c → world_of text ≡ Ok w → HoldsCampaign g conn text c
       → IsConsistent g conn w c true

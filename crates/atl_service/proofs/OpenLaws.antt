@@ -52,8 +52,8 @@ module _ {S : Type 0} (g : Ghosts S) where
       opens =
           record { campaign = c; is_open = refl; loads = loads; alone = alone; later = survives_is_later _ _ _ alone.survives }
 
-      -- on a clean disk, the service of a loaded campaign has the text, world and campaign that the tables held, if
-      -- these were a good campaign and a text of its world (`ComesBack`)
+      -- if the tables held a good campaign and a text of its world, the service of a loaded campaign has this text,
+      -- world and campaign, on a clean disk (`ComesBack`)
       pub comes_back : ComesBack g old (record { conn = new; world = w; campaign = Some c.value })
       comes_back clean text v d reads good held =
           let kept = loads.tables clean in

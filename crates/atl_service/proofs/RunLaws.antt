@@ -101,8 +101,8 @@ module _ {S : Type 0} (g : Ghosts S) where
     closes_open before leaves gave_up =
         record { same = refl; tables = λ clean. gave_up clean (text_in g conn) (before.tables refl (leaves.later.clean clean)) }
 
-    -- if a command of a consistent open service ended in a fault of a write (`EndedInFault`) that has its cause
-    -- (`HasCause`), `run` may answer the service's fault for it (`says`) and close (`Runs`)
+    -- If a command of a consistent open service ended in a fault of a write (`EndedInFault`), `run` may answer the
+    -- service's fault for it (`says`) and close (`Runs`). The fault must have its cause (`HasCause`).
     pub closes_for : (old : ServiceValue S) (fault : WriteFault) (says : Failure) (is_open : Bool)
         → says ≡ fault_of_write fault → service_value conn w c is_open ≡ old → is_open ≡ true
         → IsConsistent g conn w c is_open → LeavesIdle g conn conn' → EndedInFault

@@ -15,8 +15,8 @@ use Rattle.atl_service.specs.Upgraded.{UpgradesTo}
 use Rattle.atl_service.proofs.FoundServiceLaws.{founded_consistent}
 
 module _ {S : Type 0} (g : Ghosts S) (text : List ℕ) (old new : Held S) (w : WorldValue) (c : MarkedCampaign) (upgrades : Upgrades g text old new w c) where
-  -- if `new` is later than `old` (`IsLater`), the service is open as promised, with the new text's world and the
-  -- upgraded campaign, which on a clean disk the tables hold (`UpgradesTo`)
+  -- If `new` is later than `old` (`IsLater`), the service is open as promised (`UpgradesTo`), with the new text's world
+  -- and the upgraded campaign. On a clean disk the tables hold this campaign.
   pub upgrades_to : IsLater (state g old) (state g new)
       → UpgradesTo g old text (record { conn = new; world = w; campaign = Some c.value })
   upgrades_to later =
