@@ -148,8 +148,8 @@ module _ {S : Type 0} (g : Ghosts S) where
   later_on old mid new a b =
       record { clean = λ h. a.clean (b.clean h); counts = omega (arith, a.counts, b.counts); shield = λ s. b.shield (a.shield s) }
 
-  -- In a service whose tables hold its campaign a command runs as `run` promises (`Runs`, `IsLater`). If a list after it
-  -- runs as `run_all` promises (`RunsAll`), so does the list with the command in front.
+  -- In a service whose tables hold its campaign a command runs as `run` promises (`Runs`, `IsLater`). If a list after
+  -- it runs as `run_all` promises (`RunsAll`), so does the list with the command in front.
   pub run_first : (old mid new : ServiceValue S) (x : Command) (a : Answer) (cs : List Command) (rs : List Answer)
       → IfSome old.campaign (λ c. HoldsCampaign g old.conn (text_in g old.conn) c) → Runs g old x a mid
       → IsLater (state g old.conn) (state g mid.conn)
@@ -175,9 +175,9 @@ module _ {S : Type 0} (g : Ghosts S) where
   -- after it; `sofar` are the answers before it
 
   -- The answers before command `i`, with any that the commands from `i` on may get, are answers to the whole list
-  -- (`RunsAll`). Then so are they with the answer to command `i` added. This command is `c` and its answer `a`; the commands
-  -- after it are answered with `rs`, and leave the service `new`. Command `i` must have run as promised (`Runs`,
-  -- `IsLater`), in a service whose tables hold its campaign.
+  -- (`RunsAll`). Then so are they with the answer to command `i` added. This command is `c` and its answer `a`; the
+  -- commands after it are answered with `rs`, and leave the service `new`. Command `i` must have run as promised
+  -- (`Runs`, `IsLater`), in a service whose tables hold its campaign.
   pub one_more : (e mid now new : ServiceValue S) (cs : List Command) (i : ℕ) (c : Command) (a : Answer) (sofar rs : List Answer)
       → i < length cs → c ≡ get_or cs i c
       → ((ts : List Answer) (n : ServiceValue S) → RunsAll g mid (drop i cs) ts n → RunsAll g e cs (sofar ++ ts) n)

@@ -198,9 +198,9 @@ impl<S: Alter> Service<S> {
 /// index or a view, the connection is in a transaction, or a call of the write gave another error
 /// than out of memory. After World, BadPassText and NotEmpty nothing is changed, nor after Memory
 /// if the text is no world or the pass text breaks its rule. After Store and Memory, if the disk is
-/// clean, the tables are as they were while the connection is open. A crash then leaves what it left
-/// before or the founded campaign. See docs/RULES.md, "Founding", and docs/FORMATS.md, "Faults of a
-/// world file" and "Tables".
+/// clean, the tables are as they were while the connection is open. A crash then leaves what it
+/// left before or the founded campaign. See docs/RULES.md, "Founding", and docs/FORMATS.md, "Faults
+/// of a world file" and "Tables".
 pub fn found<S: Alter>(
     alloc: Global,
     mut conn: Connection<S>,
