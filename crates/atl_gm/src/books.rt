@@ -23,7 +23,6 @@ impl Work for MakeBooksText {
     }
 }
 
-/// The subcommand `books`, which prints the books of a campaign.
 pub struct ShowBooks;
 
 impl Subcommand for ShowBooks {

@@ -19,7 +19,6 @@ fn report_command(
     })
 }
 
-/// The subcommand `report`, which prints the stored report of a faction.
 pub struct Report;
 
 impl Subcommand for Report {

@@ -65,11 +65,9 @@ abbrev pub RepliesTo : {S : Type 0} → Ghosts S → Dice → (old : ServiceValu
 RepliesTo g dice old seen reply new =
     (outcome : FinalVerdict) × ReadsNoFurther seen × Judges seen (as_verdict outcome) × IsReply g dice old outcome reply new
 
--- the bytes that a reader has left and those that a writer holds, as far as they are known
+-- the bytes that a reader has left (`left`) and those that a writer holds (`held`); None where they aren't known
 pub record IoBytes : Type 0 where
-  -- the bytes that the reader has left; None if they aren't known
   pub left : Option (List ℕ)
-  -- the bytes that the writer holds; None if they aren't known
   pub held : Option (List ℕ)
 
 -- What serving one request does, by its result. With Ok the whole reply to the bytes seen (`RepliesTo`) was written,

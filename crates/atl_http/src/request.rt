@@ -11,7 +11,7 @@ use std::alloc::{AllocError, Global};
 /// A request whose command can be made.
 pub trait IntoCommand {
     /// Makes the command of the request. A join gets the word of the dice for the faction that
-    /// joins, whose number is `next`, and a close the words of its month, one for each of the
+    /// joins, whose number is `next`. A close gets the words of its month, one for each of the
     /// `regions` regions. AllocError without memory for these words.
     fn into_command(
         self,

@@ -57,8 +57,9 @@ fn reply_to<S: Alter>(
     }
 }
 
-/// Reads one request, runs its command and writes the reply, as `serve_one` does, and counts the
-/// reads and the interrupted writes. `reads` and `writes` must be `none()`.
+/// Reads one request, runs its command, writes the reply and returns its status, and counts the
+/// reads and the interrupted writes. `reads` and `writes` must be `none()`. A fault says why there
+/// is no reply, or only a part.
 pub fn serve_counted<R: Read, W: Write, S: Alter>(
     alloc: Global,
     reader: &mut R,
@@ -119,8 +120,9 @@ pub fn serve_one<R: Read, W: Write, S: Alter>(
     )
 }
 
-/// Serves one request of a peer, which is the reader as well as the writer, as `serve_one` does.
-/// The contract doesn't say which bytes are read and written, since those of a socket aren't known.
+/// Reads one request of a peer, runs its command, writes the reply to the peer and returns its
+/// status. A fault says why there is no reply, or only a part. The contract doesn't say which bytes
+/// are read and written, since those of a socket aren't known.
 pub fn serve_peer<P: Read + Write, S: Alter>(
     alloc: Global,
     peer: &mut P,

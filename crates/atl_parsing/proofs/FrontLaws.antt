@@ -74,7 +74,7 @@ lookup_after_prefix (x ∷ w) t (y ∷ p) h =
 
 -- ---- a number after a prefix
 
--- the row of a parameter alone, which matches a text without a slash
+-- the row of a parameter alone, which matches a text that isn't empty and has no slash
 abbrev pub number_row : ℕ → Rows
 number_row key = (param_token ∷ [], key) ∷ []
 

@@ -86,7 +86,7 @@ overflows_stays : (input more : List ℕ) → RequestOverflows most_fields input
 overflows_stays input more over again head rest reads =
     over (more ++ again) head rest (subst (λ l. ReadsRequest l head rest) (append_assoc input more again) reads)
 
--- an input without a good head, whatever bytes follow (`IsRefused`), stays so with more bytes after it
+-- an input that is refused, whatever bytes follow (`IsRefused`), stays so with more bytes after it
 pub refused_stays : (input more : List ℕ) → IsRefused input → IsRefused (input ++ more)
 refused_stays input more (inl never) =
     inl (λ again. subst HasNoRequest (sym (append_assoc input more again)) (never (more ++ again)))
@@ -116,8 +116,8 @@ LeadsToVerdict input rest checks =
     (head : RequestHead) × HasHead input head rest ×
     ((after : List ℕ) → verdict_with_body checks after ≡ verdict_of head after)
 
--- the checks of the head at the spans that the parser found in the front lead to the verdict on the input
--- (`LeadsToVerdict`). `method` and `target` are the bytes at these spans, and `fields` the spans of the head's fields.
+-- If the parser found a head in the front, with room for 32 fields, the checks of this head lead to the verdict on the
+-- input (`LeadsToVerdict`). `method` and `target` are the bytes at its spans, and `fields` the spans of its fields.
 pub finds_head : (input front method target rest : List ℕ) (headers fields : List HeaderSpan) (spans : RequestSpans)
     → front ≡ take most_head input → IsRequestWithin front headers spans × IsRequestOf front headers spans
     → length headers ≡ most_fields → method ≡ span_bytes front spans.method → target ≡ span_bytes front spans.path

@@ -40,7 +40,7 @@ abbrev pub with_method : (method : List ℕ) → Option Route → Result Route P
 with_method method None = Err NoRoute
 with_method method (Some route) = if bytes_eq method (method_of route) then Ok route else Err (BadMethod route)
 
--- the route of a request by the first two checks, or BadRequest, NoRoute or BadMethod
+-- the route of a request, or the problem of the first check that fails: BadRequest (`has_host`), NoRoute or BadMethod
 unfoldable pub requested_route : (minor : ℕ) → (method target : List ℕ) → List Pair → Result Route Problem
 requested_route minor method target fields =
     if has_host minor fields

@@ -57,7 +57,7 @@ EndsAs checks rest (Ends outcome) = as_verdict outcome ≡ verdict_with_body che
 
 -- The result of parsing `front` as a head is right. Whole: it has a whole head, with its parts at `spans`, and its
 -- fields at the first of `fields`. Partial: it has none, but further bytes may make it one, or it ends inside a target
--- (`MayBecomeRequest`). Refused: no good head can come of it (`IsRefused`).
+-- (`MayBecomeRequest`). Refused: no head of at most 32 fields can come of it (`IsRefused`).
 abbrev pub ParsesHead : List ℕ → List HeaderSpan → HeadParse → Type 0
 ParsesHead front fields (Whole spans) = IsRequestWithin front fields spans × IsRequestOf front fields spans
 ParsesHead front fields Partial = HasNoRequest front × MayBecomeRequest front

@@ -29,8 +29,8 @@ pub record HasHead (input : List ℕ) (head : RequestHead) (rest : List ℕ) : T
   -- the head has at most 32 fields
   pub fields : length head.fields ≤ most_fields
 
--- Whatever bytes follow, the input has no good head: it never begins with a head; or each head that it then may begin
--- with has more than 32 fields, and bytes at its front, with an empty line after them, already are such a head.
+-- Whatever bytes follow, the input has no head of at most 32 fields. It never begins with a head; or each head that it
+-- may begin with then has more fields, and bytes at its front, with an empty line after them, already are such a head.
 abbrev pub IsRefused : List ℕ → Type 0
 IsRefused input = NeverHasRequest input ⊎ (RequestExceeds most_fields input × RequestOverflows most_fields input)
 
@@ -55,7 +55,7 @@ pub data Judges (input : List ℕ) (verdict : Verdict) : Type 0 where
   whole : (head : RequestHead) → (rest : List ℕ) → HasHead input head rest → verdict ≡ verdict_of head rest → Judges input verdict
   -- the first 8,192 bytes hold no whole head: BadRequest
   too_long : IsTooLong input → verdict ≡ Refused BadRequest → Judges input verdict
-  -- whatever bytes follow, the input has no good head: BadRequest
+  -- whatever bytes follow, the input has no head of at most 32 fields: BadRequest
   refused : IsRefused input → verdict ≡ Refused BadRequest → Judges input verdict
   -- the head may become whole with further bytes, or the input ends inside the target: More
   unfinished : IsUnfinished input → verdict ≡ More → Judges input verdict

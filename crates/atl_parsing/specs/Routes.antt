@@ -32,11 +32,11 @@ numbered route (Some parameter) other = option_map route (number_of parameter)
 abbrev pub is_question : ℕ → Bool
 is_question b = b == 63
 
--- the path of a target: its bytes before the first question mark
+-- the path of a target: its bytes before the first question mark, or all of them if there is none
 abbrev pub path_of : List ℕ → List ℕ
 path_of target = before_first is_question target
 
--- the route of a path: /join, /orders/F, /close/M or /report/F; None for any other
+-- the route of a path: /join, /orders/F, /close/M or /report/F, where F and M have 1 to 9 digits; None for any other
 unfoldable pub route_of : List ℕ → Option Route
 route_of path =
     if bytes_eq path (codes "/join") then Some Join

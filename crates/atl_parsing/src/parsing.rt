@@ -134,8 +134,8 @@ fn progress_in(
     }
 }
 
-/// The verdict on the bytes received so far, or how many more are missing: 1 while the head isn't
-/// whole, and then as many as the body lacks. AllocError as of `verdict_on`.
+/// The verdict on the bytes so far, or how many are missing: 1 while the head isn't whole, then as
+/// many as the body lacks. AllocError without memory for the routes or the request.
 pub fn progress_of(alloc: Global, seen: &[u8]) -> Result<Progress, AllocError>
     ensures { IfOk result (ComesTo seen.now) }
 {

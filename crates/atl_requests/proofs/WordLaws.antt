@@ -12,8 +12,8 @@ words_step : (n : ℕ) (g : Lcg) (w : ℕ) (next : Lcg) → (w, next) ≡ pcg32 
 unfolding first_words word_of next_generator
 words_step n g w next e = ap (λ (q : ℕ × Lcg). q.0 ∷ first_words n q.1) (sym e)
 
--- For the loop of `month_words`, which has found `counter` words of `count`: the next word `w` of the generator moves
--- from the words still to come to the end of those found. The list of both stays the same.
+-- For the loop of `month_words`, which has found `counter` words, fewer than `count`: the next word `w` of the
+-- generator moves from the words still to come to the end of those found. The list of both stays the same.
 pub word_more : (found : List ℕ) (count counter : ℕ) (g : Lcg) (w : ℕ) (next : Lcg) → (w, next) ≡ pcg32 g
     → counter < count
     → (found ++ w ∷ []) ++ first_words (count - (counter + 1)) next ≡ found ++ first_words (count - counter) g

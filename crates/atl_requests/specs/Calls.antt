@@ -26,8 +26,8 @@ most_interrupted = 1000000
 
 -- ---- one read
 
--- The outcome that one read has by what it returned. For Ok it is a piece, or the end of the input if it gave no bytes;
--- for an error it is an interruption or a failure.
+-- The outcome that one read has by what it returned. For Ok it is a piece of this many bytes, or the end of the input
+-- for 0. For an error it is an interruption if the error's kind is Interrupted, else a failure.
 abbrev pub IsReadOutcome : Result ℕ Error → ReadOutcome → Type 0
 IsReadOutcome (Ok count) (came.Piece n) = (n ≡ count) × (0 < count)
 IsReadOutcome (Ok count) came.End = count ≡ 0
@@ -38,8 +38,8 @@ IsReadOutcome (Err e) came.End = ⊥
 IsReadOutcome (Err e) came.Interrupted = error_kind e ≡ kind.Interrupted
 IsReadOutcome (Err e) came.Failed = error_kind e ≢ kind.Interrupted
 
--- What one read does, by its outcome: a piece is taken from the remaining bytes, and is now at the front of the buffer
--- `room`. Any other outcome takes no bytes, and End comes only at the end of the input.
+-- What one read does, by its outcome: a piece of one byte or more is taken from the remaining bytes, and is now at the
+-- front of the buffer `room`. Any other outcome takes no bytes, and End comes only at the end of the input.
 abbrev pub GivesBytes : (before after : Option (List ℕ)) → (room : List ℕ) → ReadOutcome → Type 0
 GivesBytes before after room (came.Piece count) = (0 < count) × (count ≤ length room) × Consumes before after (take count room)
 GivesBytes before after room came.End = Keeps before after × IsAtEnd after
@@ -62,8 +62,9 @@ GoesOn came.Interrupted = ⊤
 GoesOn came.End = ⊥
 GoesOn came.Failed = ⊥
 
--- The reads explain the fault: the input ended (Cut), or a read failed or was the last one allowed (ReadFault). Memory
--- may come before the first read, or after one that gave a piece or was interrupted; WriteFault is never explained.
+-- The reads explain the fault. Cut: the input ended. ReadFault: a read failed, or the last one allowed gave a piece or
+-- was interrupted. Memory may come before the first read, or after one that gave a piece or was interrupted. WriteFault
+-- is never explained.
 abbrev pub ReadFaultOf : ReadCalls → HttpFault → Type 0
 ReadFaultOf reads Cut = reads.last ≡ came.End
 ReadFaultOf reads ReadFault = (reads.last ≡ came.Failed) ⊎ (GoesOn reads.last × (reads.count ≡ most_reads))
@@ -79,7 +80,7 @@ EndsReading reads (Err fault) = (reads.count ≤ most_reads) × ReadFaultOf read
 -- ---- one write
 
 -- The outcome that one write has by what it returned. For Ok it is the number of bytes taken, or a failure if that is
--- 0; for an error it is an interruption or a failure.
+-- 0. For an error it is an interruption if the error's kind is Interrupted, else a failure.
 abbrev pub IsWriteOutcome : Result ℕ Error → WriteOutcome → Type 0
 IsWriteOutcome (Ok count) (written.Taken n) = (n ≡ count) × (0 < count)
 IsWriteOutcome (Ok count) written.Interrupted = ⊥
@@ -89,7 +90,7 @@ IsWriteOutcome (Err e) written.Interrupted = error_kind e ≡ kind.Interrupted
 IsWriteOutcome (Err e) written.Failed = error_kind e ≢ kind.Interrupted
 
 -- What one write does, by its outcome: of the bytes `rest`, which are still to be written, it has appended the first
--- `count`, or none if interrupted or failed.
+-- `count`, one or more, or none if interrupted or failed.
 abbrev pub Takes : (before after : Option (List ℕ)) → (rest : List ℕ) → WriteOutcome → Type 0
 Takes before after rest (written.Taken count) = (0 < count) × (count ≤ length rest) × Appends before after (take count rest)
 Takes before after rest written.Interrupted = Appends before after []
@@ -125,9 +126,9 @@ EndsWriting writes (Err fault) = (writes.interrupted ≤ most_interrupted) × Wr
 
 -- ---- the whole
 
--- How reads and writes ended, by the result of serving a request. The reads explain Cut and ReadFault, and then nothing
--- was written; the writes explain WriteFault. Memory runs out only before the first write, and not after a read that
--- failed or found the end.
+-- How reads and writes ended, by the result of serving a request. With Ok, the status of the reply, both ended with Ok.
+-- The reads explain Cut and ReadFault, and then nothing was written. With WriteFault the reads ended with Ok, and the
+-- writes explain it. Memory runs out only before the first write, and not after a read that failed or found the end.
 abbrev pub EndsBy : ReadCalls → WriteCalls → Result ℕ HttpFault → Type 0
 EndsBy reads writes (Ok status) = EndsReading reads (Ok status) × EndsWriting writes (Ok tt)
 EndsBy reads writes (Err Cut) = EndsReading {X = ℕ} reads (Err Cut) × (writes ≡ no_writes)

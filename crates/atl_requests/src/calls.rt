@@ -12,7 +12,6 @@ pub const MOST_READS: u32 = 1_000_000;
 /// The number of interrupted writes after which the reply is given up.
 pub const MOST_INTERRUPTED: u32 = 1_000_000;
 
-/// The outcome of one read: a piece, the end of the input, an interruption, or a failure.
 #[derive(Drop, Clone, Copy)]
 pub enum ReadOutcome {
     /// The number of bytes read, at least one.
@@ -25,7 +24,6 @@ pub enum ReadOutcome {
     Failed,
 }
 
-/// The outcome of one write: some bytes taken, an interruption, or a failure.
 #[derive(Drop, Clone, Copy)]
 pub enum WriteOutcome {
     /// The number of bytes written, at least one.

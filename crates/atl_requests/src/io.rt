@@ -71,7 +71,8 @@ impl From<AllocError> for HttpFault {
     }
 }
 
-/// Returns 0 if the read was interrupted.
+/// Returns 0 if the read was interrupted. Once `MOST_READS` reads are counted, none is done, and
+/// the fault is ReadFault.
 fn read_more<R: Read>(
     reader: &mut R,
     reads: &mut ReadCalls,
@@ -170,9 +171,9 @@ fn receive_in<R: Read>(
 }
 
 /// Reads until the request is whole or refused, and leaves in `seen`, which must be empty, all
-/// that was read. `reads` must be `none()`. Cut where the input ends before the request is whole,
-/// ReadFault where a read fails or 1,000,000 reads haven't brought all of it, Memory without memory
-/// for the bytes or the request.
+/// that was read. `reads` must be `none()`. Cut: the input ends before the request is whole.
+/// ReadFault: a read fails, or 1,000,000 reads haven't brought all of it. Memory: there is none for
+/// the bytes, the routes or the request.
 pub fn receive<R: Read>(
     alloc: Global,
     reader: &mut R,

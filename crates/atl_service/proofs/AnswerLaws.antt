@@ -30,8 +30,8 @@ is_refused g w c conn command why is good = record {
   tables = λ clean text keeps. keeps;
 }
 
--- if the campaign `before` a write that ended in a fault is good, and so is the one that it was to store (`after`), the
--- one that a crash leaves is good too (`LeavesGood`)
+-- If a write ended in a fault (`LeavesAfterFault`), the campaign that a crash leaves is good (`LeavesGood`). Premises:
+-- the campaign `before` the write is good, and so is the one that it was to store (`after`).
 pub leaves_good : (w : WorldValue) (faults : ℕ) (s : State) (text : List ℕ) (before after : CampaignValue)
     → IsGood w before → IsGood w after → LeavesAfterFault faults s text before after
     → LeavesGood w faults s text before after

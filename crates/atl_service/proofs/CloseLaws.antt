@@ -169,8 +169,8 @@ active_there before after stay =
 
 -- ---- the month
 
--- storing the reports after the month's phases, with the month counted and the mail removed, gives the campaign of
--- `closed`. The phases make `after` and `events` of the campaign `c` and its mail.
+-- Storing the reports after the month's phases, with the month counted and the mail removed, gives the campaign of
+-- `closed`. The phases make `after` and `events` of `c` and its mail; `faults` has each stored mailing's faulty lines.
 pub closed_is : (w : WorldValue) (c after : CampaignValue) (events : List Event) (words : List ℕ) (faults : FinMap nat_cmp (List FaultyLine))
     → (after, events) ≡ month_of w c (by_faction (readings w c)) words
     → faults ≡ map_values (λ text. faults_of (reading w text)) c.mail
@@ -211,7 +211,8 @@ pub turned_marked : (a b c d : MarkedCampaign) (n : ℕ) → MarksChanges a b �
 turned_marked a b c d n run is m taken t =
     marks-trans a b d run (marks-trans b c d (month_marked b c n is m) (mail_marked c d taken t))
 
--- if the result `r` of storing a report is Ok, no mark is lost, and all that changed is marked (`report_marked`)
+-- if a call with the result `r` stores a faction's report and marks it where `r` is Ok, it then has marked all that
+-- changed and lost no mark (`MarksChanges`)
 pub stored_marked : {A E : Type 0} (w : WorldValue) (c d : MarkedCampaign) (n : ℕ) (faults : List FaultyLine) (events : List Event) (r : Result A E)
     → OnOk r (d.value ≡ reported_with w c.value n faults events) → OnOk r (d.marks ≡ mark_report c n)
     → OnOk r (MarksChanges c d)

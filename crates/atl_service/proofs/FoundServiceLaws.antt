@@ -59,8 +59,8 @@ module _ {S : Type 0} (g : Ghosts S) where
       leaves none.Store is = absurd (false≢true (sym (is true).2))
       leaves none.Memory is = (nothing_done conn text pass, inl refl)
 
-  -- an open service is consistent if its connection is in no transaction, its campaign is good, and on a clean disk the
-  -- tables hold the campaign and a text of its world
+  -- an open service is consistent if its connection is in no transaction, its campaign is good, `text` is of its world,
+  -- and on a clean disk the tables hold both
   pub founded_consistent : (conn : Held S) (w : WorldValue) (c : CampaignValue) (text : List ℕ)
       → conn.in_transaction ≡ false → IsGood w c → world_of text ≡ Ok w → HoldsCampaign g conn text c
       → IsConsistent g conn w c true
@@ -71,8 +71,8 @@ module _ {S : Type 0} (g : Ghosts S) where
     text = λ up clean. ap world_of (world_text_is (state g conn) text c (holds clean)) ∙ is;
   }
 
-  -- if the founded campaign was prepared (`Prepares`) and its tables were created (`Creates`), the service with it is
-  -- founded as promised (`Founds`)
+  -- if the founded campaign was prepared (`Prepares`), its tables were created (`Creates`), and `conn` is later than
+  -- `old` (`IsLater`), the service with it is founded as promised (`Founds`)
   pub founds_on : (old conn : Held S) (w : WorldValue) (c : CampaignValue) (text pass : List ℕ) → Prepares text pass w c
       → Creates g text c old conn → IsLater (state g old) (state g conn)
       → Founds g old text pass (record { conn = conn; world = w; campaign = Some c })
@@ -86,7 +86,7 @@ module _ {S : Type 0} (g : Ghosts S) where
     later = later;
   }
 
-  -- ---- a founding whose tables could not be created
+  -- ---- a founding that was prepared (`made`), but whose tables could not be created; `new` is later than `old`
   module _ (old new : Held S) (w : WorldValue) (c : CampaignValue) (text pass : List ℕ) (made : Prepares text pass w c) (later : IsLater (state g old) (state g new)) where
     -- If the tables could not be created, founding leaves what a failed one may leave (`FailsToFound`). On a clean disk
     -- the tables are as before while the connection is open, and a crash leaves what it could have left before, or the

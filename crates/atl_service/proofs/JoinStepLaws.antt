@@ -25,25 +25,26 @@ module _ (w : WorldValue) (c : CampaignValue) (name pass : List ℕ) (word : ℕ
   unfolding step
   bad_name e = rw e refl
 
-  -- `step` refuses a join with a good name, whose pass text breaks the rule of pass texts, with BadPassText
+  -- `step` refuses a join whose name keeps its rule, and whose pass text breaks its own, with BadPassText
   pub bad_pass : name_ok name ≡ true → not (pass_ok pass) ≡ true
       → step w c (Join name pass word) ≡ (c, Refused why.BadPassText)
   unfolding step
   bad_pass a e = rw (a, e) refl
 
-  -- `step` refuses a join with a good name and pass text with NameTaken, if `join_of` does
+  -- if name and pass text keep their rules, `step` refuses a join with NameTaken where `join_of` does
   pub is_taken : name_ok name ≡ true → pass_ok pass ≡ true → join_of w name pass word c ≡ Err NameTaken
       → step w c (Join name pass word) ≡ (c, Refused why.NameTaken)
   unfolding step
   is_taken a b e = rw (a, b, e) refl
 
-  -- `step` refuses a join with a good name and pass text with Full, if `join_of` does
+  -- if name and pass text keep their rules, `step` refuses a join with Full where `join_of` does
   pub is_too_full : name_ok name ≡ true → pass_ok pass ≡ true → join_of w name pass word c ≡ Err Full
       → step w c (Join name pass word) ≡ (c, Refused why.Full)
   unfolding step
   is_too_full a b e = rw (a, b, e) refl
 
-  -- if `join_of` lets faction `n` join with unit `m`, `step` stores its first report and answers Joined
+  -- if name and pass text keep their rules, and `join_of` lets faction `n` join with unit `m`, `step` stores its first
+  -- report and answers Joined
   pub steps_on : (d : CampaignValue) (n m : ℕ) → name_ok name ≡ true → pass_ok pass ≡ true
       → join_of w name pass word c ≡ Ok (d, (n, m)) → step w c (Join name pass word) ≡ (reported w d n, Joined n m)
   unfolding step

@@ -4,7 +4,8 @@
 -- `g` is the kind of store, in memory or in files. `old`, `mid` and `new` are the service before a list, after its
 -- first command, and after all of it. The first command is `x` and its answer `a`; `cs` and `rs` are the other commands
 -- and answers, or all of them where there is no `x`. `c` is the campaign before the list, `text` the world text in the
--- tables, and `faults` how often the disk had failed before the list.
+-- tables, and `faults` how often the disk had failed before the list. Where a law requires that the tables of a service
+-- hold its campaign, this need only be so if the service is open and the disk is clean.
 use Rattle.std.proofs.Common.{◌≡◌, ◌⊎◌, ◌≤◌, ◌<◌, ◌+◌, ◌++◌, ◌∷◌, [], ℕ, List, map, drop, length, get_or, Option, Some, None, IfSome, refl, sym, ap, ap₂, ◌∙◌, subst, inl, inr, append_assoc, append-nil, arith}
 use native.Mathlib.Numerals.{unary_clauses}
 use Rattle.std.proofs.lemmas.List.{drop_more, drop_all}
@@ -147,8 +148,8 @@ module _ {S : Type 0} (g : Ghosts S) where
   later_on old mid new a b =
       record { clean = λ h. a.clean (b.clean h); counts = omega (arith, a.counts, b.counts); shield = λ s. b.shield (a.shield s) }
 
-  -- if, in a service whose tables hold its campaign, a command runs as `run` promises (`Runs`, `IsLater`), and a list
-  -- after it as `run_all` does (`RunsAll`), so does the list with the command in front
+  -- In a service whose tables hold its campaign a command runs as `run` promises (`Runs`, `IsLater`). If a list after
+  -- it runs as `run_all` promises (`RunsAll`), so does the list with the command in front.
   pub run_first : (old mid new : ServiceValue S) (x : Command) (a : Answer) (cs : List Command) (rs : List Answer)
       → IfSome old.campaign (λ c. HoldsCampaign g old.conn (text_in g old.conn) c) → Runs g old x a mid
       → IsLater (state g old.conn) (state g mid.conn)
@@ -164,8 +165,7 @@ module _ {S : Type 0} (g : Ghosts S) where
   none_left now (Some c) is holds = ((is, holds), refl)
   none_left now None is holds = (tt, refl)
 
-  -- an empty list, answered with no answers, runs as promised (`RunsAll`) and changes nothing, if the tables hold the
-  -- campaign
+  -- if the tables hold the campaign, an empty list, without answers, runs as promised and changes nothing (`RunsAll`)
   pub run_none : (now : ServiceValue S) → IfSome now.campaign (λ c. HoldsCampaign g now.conn (text_in g now.conn) c)
       → RunsAll g now [] [] now
   run_none now holds =
@@ -174,9 +174,10 @@ module _ {S : Type 0} (g : Ghosts S) where
   -- ---- the loop of `run_all`: `e` is the service before the list `cs`, `mid` that before command `i`, and `now` that
   -- after it; `sofar` are the answers before it
 
-  -- If the answers before command `i`, with any that the commands from `i` on may get, are answers to the whole list
-  -- (`RunsAll`), so are they with the answer to command `i` added. This command is `c` and its answer `a`; the commands
-  -- after it are answered with `rs`, and leave the service `new`.
+  -- The answers before command `i`, with any that the commands from `i` on may get, are answers to the whole list
+  -- (`RunsAll`). Then so are they with the answer to command `i` added. This command is `c` and its answer `a`; the
+  -- commands after it are answered with `rs`, and leave the service `new`. Command `i` must have run as promised
+  -- (`Runs`, `IsLater`), in a service whose tables hold its campaign.
   pub one_more : (e mid now new : ServiceValue S) (cs : List Command) (i : ℕ) (c : Command) (a : Answer) (sofar rs : List Answer)
       → i < length cs → c ≡ get_or cs i c
       → ((ts : List Answer) (n : ServiceValue S) → RunsAll g mid (drop i cs) ts n → RunsAll g e cs (sofar ++ ts) n)
@@ -187,8 +188,8 @@ module _ {S : Type 0} (g : Ghosts S) where
       let next : drop i cs ≡ c ∷ drop (i + 1) cs = drop_more cs i c h ∙ ap (λ x. x ∷ drop (i + 1) cs) (sym is) in
       subst (λ ts. RunsAll g e cs ts new) (sym (append_assoc sofar (a ∷ []) rs)) (whole (a ∷ rs) new (subst (λ ds. RunsAll g mid ds (a ∷ rs) new) (sym next) (run_first mid now new c a (drop (i + 1) cs) rs holds ran later rest)))
 
-  -- once all commands are done (`i` is at least their number), the answers so far are those to the whole list
-  -- (`RunsAll`)
+  -- All commands are done (`i` is at least their number), and the tables hold the campaign. If the answers so far, with
+  -- any that the commands from `i` on may get, are answers to the whole list, so are they alone (`RunsAll`).
   pub all_done : (e now : ServiceValue S) (cs : List Command) (i : ℕ) (sofar : List Answer) → length cs ≤ i
       → ((ts : List Answer) (n : ServiceValue S) → RunsAll g now (drop i cs) ts n → RunsAll g e cs (sofar ++ ts) n)
       → IfSome now.campaign (λ c. HoldsCampaign g now.conn (text_in g now.conn) c) → RunsAll g e cs sofar now

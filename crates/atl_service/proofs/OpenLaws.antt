@@ -1,7 +1,8 @@
 -- Laws on `open`: on a clean disk it returns what was stored, or refuses and leaves the tables unchanged; the opened
 -- service is consistent. A disk is clean if each read has returned what was written (docs/PROVED.md, "Premises").
--- `g` is the kind of store, in memory or in files. `old` and `new` are the connection before and after loading, and
--- `conn` is one that isn't touched. `w` and `c` are the world and the campaign that were loaded.
+-- `g` is the kind of store, in memory or in files. `old` and `new` are the connection before and after loading, which
+-- leaves it alone (`alone`), and `conn` is one that isn't touched. `w` and `c` are the world and the campaign that were
+-- loaded.
 use Rattle.std.proofs.Common.{◌≡◌, false, true, Some, refl, ap, ◌∙◌, subst, inl, arith}
 use Rattle.sqlite_trees.specs.declared.store.Store.{Ghosts}
 use Rattle.sqlite.specs.Effect.{Database}
@@ -38,7 +39,8 @@ module _ {S : Type 0} (g : Ghosts S) where
       record { fault = Store; why_is = refl; cause = λ clean. inl busy; alone = alone_itself conn; later = survives_is_later _ _ _ (alone_itself conn).survives }
 
   module _ (old new : Held S) (alone : LeavesAlone g old new) where
-    -- if loading may fail with a fault, refusing to open with the cause of the same name is right (`RefusesOpening`)
+    -- if, on a clean disk, loading may fail with a fault, refusing to open with the cause of the same name is right
+    -- (`RefusesOpening`)
     pub refused_by_load : (fault : StoreFault) → (HasCleanDisk (state g new) → RefusesToLoad g old fault)
         → RefusesOpening g old (cause_of_loading_fault fault) new
     refused_by_load fault cause =
@@ -50,8 +52,8 @@ module _ {S : Type 0} (g : Ghosts S) where
       opens =
           record { campaign = c; is_open = refl; loads = loads; alone = alone; later = survives_is_later _ _ _ alone.survives }
 
-      -- on a clean disk, the service of a loaded campaign has the text, world and campaign that the tables held
-      -- (`ComesBack`)
+      -- if the tables held a good campaign and a text of its world, the service of a loaded campaign has this text,
+      -- world and campaign, on a clean disk (`ComesBack`)
       pub comes_back : ComesBack g old (record { conn = new; world = w; campaign = Some c.value })
       comes_back clean text v d reads good held =
           let kept = loads.tables clean in
@@ -63,8 +65,8 @@ module _ {S : Type 0} (g : Ghosts S) where
           let worlds : w ≡ v = holds_one_world w v db there text c.value d (loads.world clean) reads rows were.rows in
           (texts, worlds, ap Some (holds_one v db there text c.value d (subst (λ p. IsGood p c.value) worlds loads.good) good rows were.rows).1)
 
-      -- the service of a loaded campaign is consistent if the connection was in no transaction, and nothing of the
-      -- campaign is marked
+      -- if the connection was in no transaction, the service of a loaded campaign is consistent, and nothing of the
+      -- campaign is marked (`IsService`)
       pub opened_consistent : old.in_transaction ≡ false → IsService g new w c true
       opened_consistent idle = record {
         consistent = record { idle = alone.mode ∙ idle; good = λ up. loads.good; tables = λ up. loads.tables; text = λ up. loads.world };

@@ -1,6 +1,6 @@
 -- Laws on `run`: what `answer_to` promises (`Answers`, `CommandLeavesAfterFault`) implies what `run` promises (`Runs`).
--- An answered command keeps the service consistent. A disk is clean if each read has returned what was written
--- (docs/PROVED.md, "Premises").
+-- An answered command keeps the service consistent. Each law requires what any command leaves (`LeavesIdle`). A disk is
+-- clean if each read has returned what was written (docs/PROVED.md, "Premises").
 -- `g` is the kind of store, in memory or in files, and `w` the world. `is_open` is the service's field before the
 -- command, and `old` all of the service then.
 use Rattle.std.proofs.Common.{◌≡◌, Bool, true, false, cond, Some, None, IfSome, refl, sym, ap, ap₂, ◌∙◌, subst}
@@ -58,7 +58,8 @@ module _ {S : Type 0} (g : Ghosts S) where
     consistent_after answer true up before leaves done = consistent_open answer before leaves done
     consistent_after answer false up before leaves done = absurd (false≢true up)
 
-    -- after a command that ended without a fault, on a clean disk, the tables hold the campaign of the open service
+    -- after a command of a consistent open service that ended without a fault (`Answered`), on a clean disk, the tables
+    -- hold its campaign
     pub tables_after : (answer : Answer) (is_open : Bool) → is_open ≡ true → IsConsistent g conn w c is_open
         → LeavesIdle g conn conn' → Answered answer
         → IfSome (service_value conn' w c' is_open).campaign (λ d. HoldsCampaign g conn' (text_in g conn') d)
@@ -89,8 +90,8 @@ module _ {S : Type 0} (g : Ghosts S) where
         subst (λ e. Runs g e command answer (service_value conn' w c' true)) seen (runs_open answer before leaves done)
     runs_on old answer false seen up before leaves done = absurd (false≢true up)
 
-    -- The command ended in a fault. On a clean disk the tables keep the campaign before the command, and a crash leaves
-    -- this campaign or the one after the command (`CommandLeavesAfterFault`).
+    -- The command ended in a fault. On a clean disk the tables keep the campaign before the command, while the
+    -- connection is open. A crash leaves this campaign or the one after the command (`CommandLeavesAfterFault`).
     abbrev pub EndedInFault : Type 0
     EndedInFault = CommandLeavesAfterFault g w c conn command conn'
 
@@ -100,8 +101,8 @@ module _ {S : Type 0} (g : Ghosts S) where
     closes_open before leaves gave_up =
         record { same = refl; tables = λ clean. gave_up clean (text_in g conn) (before.tables refl (leaves.later.clean clean)) }
 
-    -- if a command of a consistent open service ended in a fault of a write that has its cause (`HasCause`), `run` may
-    -- answer the service's fault for it (`says`) and close (`Runs`)
+    -- If a command of a consistent open service ended in a fault of a write (`EndedInFault`), `run` may answer the
+    -- service's fault for it (`says`) and close (`Runs`). The fault must have its cause (`HasCause`).
     pub closes_for : (old : ServiceValue S) (fault : WriteFault) (says : Failure) (is_open : Bool)
         → says ≡ fault_of_write fault → service_value conn w c is_open ≡ old → is_open ≡ true
         → IsConsistent g conn w c is_open → LeavesIdle g conn conn' → EndedInFault

@@ -37,7 +37,7 @@ event_goes_on sorted e es n =
     ∙ by_faction (e.faction == n) (get sorted n) (events_of sorted e.faction) (own_events n es) e (same_list sorted n e.faction)
 
 -- the list of faction `n` followed by this faction's unsorted events stays the same when event `i` is added to the list
--- of its own faction. This list is `whole`; before that the events from event `i` on are unsorted.
+-- of its own faction. This list is `whole`; before that the events from event `i` on are unsorted. `d` is any event.
 pub sorted_on : (sorted new : FinMap nat_cmp (List Event)) (events : List Event) (i : ℕ) (d : Event) (whole : List Event) (n : ℕ)
     → i < length events → new ≡ with_event sorted (get_or events i d)
     → events_of sorted n ++ own_events n (drop i events) ≡ whole

@@ -1,7 +1,7 @@
--- Laws on `upgrade`: an upgraded file is as `upgrade` promises (`UpgradesTo`), and its service is consistent.
--- `g` is the kind of store, in memory or in files, and `text` the new world text. `old` and `new` are the connection
--- before and after the upgrade, `w` is the world of the text, and `c` the upgraded campaign. A disk is clean if each
--- read has returned what was written (docs/PROVED.md, "Premises").
+-- Laws on `upgrade`: if the store upgraded a file (`Upgrades`), the file is as `upgrade` promises (`UpgradesTo`), and
+-- its service is consistent. `g` is the kind of store, in memory or in files, and `text` the new world text. `old` and
+-- `new` are the connection before and after the upgrade, `w` is the world of the text, and `c` the upgraded campaign. A
+-- disk is clean if each read has returned what was written (docs/PROVED.md, "Premises").
 use Rattle.std.proofs.Common.{List, ℕ, true, Some, refl}
 use Rattle.sqlite_trees.specs.declared.store.Store.{Ghosts}
 use Rattle.sqlite.specs.Held.{Held, state}
@@ -15,8 +15,8 @@ use Rattle.atl_service.specs.Upgraded.{UpgradesTo}
 use Rattle.atl_service.proofs.FoundServiceLaws.{founded_consistent}
 
 module _ {S : Type 0} (g : Ghosts S) (text : List ℕ) (old new : Held S) (w : WorldValue) (c : MarkedCampaign) (upgrades : Upgrades g text old new w c) where
-  -- if the store upgraded a file (`Upgrades`), the service is open with the new text's world and the upgraded campaign,
-  -- which on a clean disk the tables hold (`UpgradesTo`)
+  -- If `new` is later than `old` (`IsLater`), the service is open as promised (`UpgradesTo`), with the new text's world
+  -- and the upgraded campaign. On a clean disk the tables hold this campaign.
   pub upgrades_to : IsLater (state g old) (state g new)
       → UpgradesTo g old text (record { conn = new; world = w; campaign = Some c.value })
   upgrades_to later =

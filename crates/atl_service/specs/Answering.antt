@@ -62,14 +62,12 @@ CommandLeavesAfterFault g w before old command new =
     → LeavesGood w (state g old).faults (state g new) text before (step w before command).0
 
 -- After any command, answered or failed, the connection is in no transaction. A disk that isn't clean stays so, no
--- failure of it is forgotten, and reads that are compared with digests stay so (`IsLater`). If the disk is clean,
--- tables that aren't the campaign's are left alone (`LeavesOthersAlone`).
+-- failure of it is forgotten, and reads that are compared with digests stay so (`IsLater`). If the disk is clean and
+-- the connection is open, tables that aren't the campaign's hold what they held (`LeavesOthersAlone`). For that the
+-- connection must have had, before the command, the tables of a campaign and nothing uncommitted.
 pub record LeavesIdle {S : Type 0} (g : Ghosts S) (old new : Held S) : Type 0 where
   pub idle : new.in_transaction ≡ false
-  -- a disk that isn't clean stays so, no failure of it is forgotten, and reads that are compared with digests stay so
-  -- (`IsLater`)
   pub later : IsLater (state g old) (state g new)
-  -- if the disk is clean, tables that aren't the campaign's hold what they held (`LeavesOthersAlone`)
   pub others : HasCleanDisk (state g new) → LeavesOthersAlone (state g old) (state g new)
 
 -- the service's fault for a fault of a write to the store: Memory for Memory, Store for Store
@@ -79,9 +77,7 @@ fault_of_write write.Store = fault.Store
 
 -- What must hold before a command is answered: the campaign is good, and the connection is in no transaction.
 pub record IsReadyToAnswer {S : Type 0} (w : WorldValue) (c : CampaignValue) (conn : Held S) : Type 0 where
-  -- the campaign is good (`IsGood`)
   pub good : IsGood w c
-  -- the connection is in no transaction
   pub idle : conn.in_transaction ≡ false
 
 -- What `answer_to` promises: a command was answered, or failed with a fault that has its cause. Either way the
@@ -90,11 +86,12 @@ pub record AnswersOrFails {S : Type 0} (g : Ghosts S) (w : WorldValue) (before :
     (command : Command) (result : Result Answer WriteFault) (after : MarkedCampaign) (new : Held S) : Type 0 where
   -- an answer and what it leaves are those of `step` (`Answers`)
   pub ok : IfOk result (Answers g w before.value old command after.value new)
-  -- after a fault, on a clean disk, the tables still hold the campaign before the command (`CommandLeavesAfterFault`)
+  -- after a fault, on a clean disk, tables that held the campaign before the command still do, while the connection is
+  -- open (`CommandLeavesAfterFault`)
   pub err : OnErr result (CommandLeavesAfterFault g w before.value old command new)
   -- a fault has its cause (`HasCause`)
   pub cause : IfErr result (λ fault. HasCause g (OfCommand w before.value command) old new (fault_of_write fault))
-  -- the connection is in no transaction, and tables that aren't the campaign's are left alone (`LeavesIdle`)
+  -- what any command leaves of the connection, the disk and other tables (`LeavesIdle`)
   pub leaves : LeavesIdle g old new
   -- if nothing of the campaign was marked before, nothing is after an answer
   pub unmarked : before.marks ≡ no_marks → OnOk result (after.marks ≡ no_marks)

@@ -62,11 +62,10 @@ MayBeCause text pass is_there Memory = ⊤
 
 -- What founding leaves after Store or Memory: tables as before while the connection is open; a crash leaves what it
 -- left before, or the founded campaign. The facts about tables and crash need a clean disk. If the text is no world, or
--- the pass text isn't good, nothing is changed at all.
+-- the pass text breaks its rule (`pass_ok`), the connection is unchanged.
 pub record FailsToFound {S : Type 0} (g : Ghosts S) (old : Held S) (text pass : List ℕ) (new : Held S) : Type 0 where
   -- if the disk is clean, the tables are as before while the connection is open (`ChangesNothing`)
   pub tables : HasCleanDisk (state g new) → ChangesNothing (state g old) (state g new)
-  -- if the text is no world, or the pass text isn't good, the connection is unchanged
   pub unfounded : (¬ IsWorldText text) ⊎ (pass_ok pass ≡ false) → new ≡ old
   -- if the disk is clean and the text is a world, a crash leaves what it could have left before, or the founded
   -- campaign (`MayLeaveCampaign`)
@@ -82,9 +81,9 @@ RefusesToWrite g own old new =
     ⊎ (IsReadyToCreate (state g old) × GivesOtherError g own old new)
 
 -- What a refused founding by a world text and a pass text leaves, by its cause. After a failed check nothing is
--- changed. After Store and Memory, if the disk is clean, the tables are as before, and a crash may leave the founded
--- campaign (`FailsToFound`). Store comes of a connection that isn't ready, or of an error of the write
--- (`RefusesToWrite`). With Memory the connection is unchanged, or a call of the write ran out of memory
+-- changed. After Store and Memory, if the disk is clean, the tables are as before while the connection is open, and a
+-- crash may leave the founded campaign (`FailsToFound`). Store comes of a connection that isn't ready, or of an error
+-- of the write (`RefusesToWrite`). With Memory the connection is unchanged, or a call of the write ran out of memory
 -- (`LacksMemory`). Causes of opening and upgrading never apply.
 abbrev pub LeavesByCause : {S : Type 0} → Ghosts S → Held S → List ℕ → List ℕ → Held S → Cause → Type 0
 LeavesByCause g old text pass new (BadWorld fault) = new ≡ old
@@ -110,14 +109,11 @@ pub record RefusesFounding {S : Type 0} (g : Ghosts S) (old : Held S) (text pass
   -- (`IsLater`)
   pub later : IsLater (state g old) (state g new)
 
--- What founding builds before it writes: `w` is the world of the text and `c` the campaign founded in it; the pass text
--- is good.
+-- What founding builds before it writes: `w` is the world of the text, and `c` the campaign founded in it with the pass
+-- text, which keeps its rule (`pass_ok`).
 pub record Prepares (text pass : List ℕ) (w : WorldValue) (c : CampaignValue) : Type 0 where
-  -- the text reads as the world `w`
   pub world : world_of text ≡ Ok w
-  -- the pass text keeps the rule of pass texts (`pass_ok`)
   pub pass_is_good : pass_ok pass ≡ true
-  -- `c` is the campaign founded in `w` with the pass text
   pub campaign : c ≡ founded_of w pass
 
 -- ---- the cause for a fault of the world text, or of creating the tables

@@ -44,7 +44,7 @@ abbrev pub AreFactions : CampaignValue → List ℕ → Type 0
 AreFactions c factions = AllByRecursion (λ n. HasValue c.factions n) factions
 
 -- The campaign with a new report for each faction that the month's result lists, in the list's order. Each report has
--- the faulty lines and the events that the result has of its faction.
+-- the faction's events in the result, and its faulty lines there, none if the result has none under its number.
 abbrev pub reported_to_all : WorldValue → CampaignValue → MonthResult → CampaignValue
 reported_to_all w c outcome =
     fold (reported_to w (λ n. unwrap_or (get outcome.faults n) []) outcome.events.items) c outcome.factions.items

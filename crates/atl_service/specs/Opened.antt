@@ -26,8 +26,8 @@ pub record Opens {S : Type 0} (g : Ghosts S) (old : Held S) (made : ServiceValue
   pub is_open : made.campaign ≡ Some campaign.value
   -- the loaded campaign is good, and, if the disk is clean, the tables hold it and a text of the world (`Loads`)
   pub loads : Loads g old made.conn made.world campaign
-  -- If the disk is clean, nothing is changed, and a crash leaves what it could have left before (`Survives`); the
-  -- connection is in a transaction exactly if it was in one (`LeavesAlone`).
+  -- If the disk is clean, nothing is changed while the connection is open, and a crash leaves what it could have left
+  -- before (`Survives`). The connection is in a transaction exactly if it was in one (`LeavesAlone`).
   pub alone : LeavesAlone g old made.conn
   -- a disk that isn't clean stays so, no failure of it is forgotten, and reads that are compared with digests stay so
   -- (`IsLater`)
@@ -51,8 +51,8 @@ cause_of_loading_fault (load.Damaged rule) = Damaged rule
 cause_of_loading_fault load.Store = Store
 cause_of_loading_fault load.Memory = Memory
 
--- Opening was refused for a fault of loading: if the disk is clean, loading gives this fault, and the tables are
--- unchanged.
+-- Opening was refused for a fault of loading. If the disk is clean, loading may give this fault, and the tables are
+-- unchanged while the connection is open.
 pub record RefusesOpening {S : Type 0} (g : Ghosts S) (old : Held S) (why : Cause) (new : Held S) : Type 0 where
   -- the fault with which loading the campaign failed
   pub fault : StoreFault
@@ -60,8 +60,8 @@ pub record RefusesOpening {S : Type 0} (g : Ghosts S) (old : Held S) (why : Caus
   pub why_is : why ≡ cause_of_loading_fault fault
   -- if the disk is clean, loading may return this fault (`RefusesToLoad`)
   pub cause : HasCleanDisk (state g new) → RefusesToLoad g old fault
-  -- If the disk is clean, nothing is changed, and a crash leaves what it could have left before (`Survives`); the
-  -- connection is in a transaction exactly if it was in one (`LeavesAlone`).
+  -- If the disk is clean, nothing is changed while the connection is open, and a crash leaves what it could have left
+  -- before (`Survives`). The connection is in a transaction exactly if it was in one (`LeavesAlone`).
   pub alone : LeavesAlone g old new
   -- a disk that isn't clean stays so, no failure of it is forgotten, and reads that are compared with digests stay so
   -- (`IsLater`)

@@ -34,8 +34,8 @@ last_text n other (Mail faction _ text ∷ more) = last_text n (if faction == n 
 last_text n other (Close _ _ _ ∷ more) = last_text n other more
 last_text n other (Report _ _ ∷ more) = last_text n other more
 
--- Two lists of stored mailings with the same last text of each faction give the same campaign and answer when a month
--- is closed.
+-- Two lists of mailings, stored from one campaign on, give the same campaign and answer when a month is closed, if
+-- each faction's last text is the same in both.
 abbrev pub OnlyTheLastMailCounts : Type 0
 OnlyTheLastMailCounts =
     (w : WorldValue) (c : CampaignValue) (sent others : List Command) (month : ℕ) (pass words : List ℕ)

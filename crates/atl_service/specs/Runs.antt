@@ -78,8 +78,8 @@ Runs g old command answer new = RunsAt g old command answer new old.campaign
 
 -- ---- lists of commands
 
--- Each command of the list was run by itself, in the service that the one before it left (the first one in `old`), and
--- gave its answer (`Runs`, `IsLater`). The last one left service `new`.
+-- There is one answer for each command. Each command was run by itself, in the service that the one before it left (the
+-- first one in `old`), and gave its answer (`Runs`, `IsLater`). The last one left `new`; without commands it is `old`.
 abbrev pub RunOneByOne : {S : Type 0} → Ghosts S → ServiceValue S → List Command → List Answer → ServiceValue S → Type 0
 RunOneByOne g old [] [] new = new ≡ old
 RunOneByOne {S} g old (command ∷ cs) (answer ∷ rs) new =
@@ -100,8 +100,8 @@ AreClosed (c ∷ cs) [] = ⊥
 -- From campaign `c` on, the answers are those of `step` up to the first fault, and Closed after it. Without a fault the
 -- service ends with the last campaign, which on a clean disk the tables hold. After a fault the service is closed, and
 -- the fault, Memory or Store, has its cause (`IsFault`). On a clean disk the tables then stay at the campaign of the
--- commands before the fault (`LeavesGood`). `text` is the world text in the tables, and `faults` is how often the disk
--- had failed before the list.
+-- commands before the fault, while the connection is open; a crash leaves it or the next one (`LeavesGood`). `text` is
+-- the world text in the tables, and `faults` is how often the disk had failed before the list.
 abbrev pub Follows : {S : Type 0} → Ghosts S → List ℕ → ℕ → WorldValue → CampaignValue → List Command → List Answer
     → ServiceValue S → Type 0
 Follows g text faults w c [] [] new = (new.campaign ≡ Some c) × HoldsCampaign g new.conn text c
@@ -157,8 +157,8 @@ pub record Headline {S : Type 0} (g : Ghosts S) (text : List ℕ) (w : WorldValu
   pub tables : HoldsCampaign g new.conn text (run_of w c commands).0
 
 -- A command ended in a fault that has its cause: the answers before it are those of `run_of`, and all later answers are
--- Closed. If the disk is clean, the tables stay at the campaign of the commands before the fault (`LeavesGood`).
--- The list is run from campaign `c` on, and `faults` is how often the disk had failed before it.
+-- Closed. If the disk is clean, the tables stay at the campaign of the commands before the fault, while the connection
+-- is open (`LeavesGood`). The list is run from campaign `c` on; `faults` is how often the disk had failed before it.
 pub record Interrupted {S : Type 0} (g : Ghosts S) (text : List ℕ) (faults : ℕ) (w : WorldValue) (c : CampaignValue)
     (commands : List Command) (answers : List Answer) (new : ServiceValue S) : Type 0 where
   -- the number of commands before the command that failed

@@ -65,8 +65,9 @@ abbrev pub report_answer : CampaignValue → ℕ → Result Faction Refusal → 
 report_answer c faction (Err refusal) = (c, Refused refusal)
 report_answer c faction (Ok f) = (c, Text (unwrap_or (get c.reports faction) []))
 
--- The campaign and answer for closing a month with a pass text and words of the dice: closed if pass text, month and
--- number of words are right, else the first refusal.
+-- The campaign and answer for closing a month with a pass text and words of the dice. It is closed if the pass text is
+-- the campaign's, the month is the next one and at most `last_month`, and there is one word for each region. Else the
+-- answer is the refusal for the first of these that fails.
 abbrev pub closed_by : WorldValue → CampaignValue → ℕ → List ℕ → List ℕ → CampaignValue × Answer
 closed_by w c month pass words =
     if not (pointwise nat_eq c.pass pass) then (c, Refused why.WrongPass)
@@ -75,7 +76,7 @@ closed_by w c month pass words =
     else (if not (length words == len w.regions) then (c, Refused why.WrongDice)
     else (closed w c words, MonthDone month))))
 
--- the campaign after one command, and its answer; a refused command leaves the campaign as it is
+-- the campaign after one command, and its answer; a report and a refused command leave the campaign as it is
 unfoldable pub step : WorldValue → CampaignValue → Command → CampaignValue × Answer
 step w c (Join name pass word) =
     if not (name_ok name) then (c, Refused why.BadName)

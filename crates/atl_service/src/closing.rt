@@ -98,7 +98,7 @@ fn turn_month(
     })
 }
 
-/// The refusal is the first of docs/RULES.md, "Closing a month", that applies.
+/// The refusals come in this order: WrongPass, WrongMonth, MonthLimit, WrongDice.
 #[tactic(auto, unfolding(crate::specs::Step::step))]
 fn check_close(
     world: &World,

@@ -254,8 +254,8 @@ pub enum Cause {
     /// The new world differs from the old one in more than its markets.
     Differs,
     /// The database failed for another cause than memory, or the connection is in a transaction.
-    /// Founding gives it also if there is another table, an index or a view, opening if the tables
-    /// are not made as those of a campaign, and an upgrade if they are not exactly those of the
+    /// Founding gives it also if there is another table, an index or a view; opening if the tables
+    /// are not made as those of a campaign; and an upgrade if they are not exactly those of the
     /// first format.
     Store,
     /// Memory ran out.

@@ -197,10 +197,10 @@ impl<S: Alter> Service<S> {
 /// Memory at any of them. NotEmpty: there is a table `campaign`. Store: there is another table, an
 /// index or a view, the connection is in a transaction, or a call of the write gave another error
 /// than out of memory. After World, BadPassText and NotEmpty nothing is changed, nor after Memory
-/// if the text is no world or the pass text isn't good. After Store and Memory, if the disk is
-/// clean, the tables are as they were while the connection is open, and a crash leaves what it left
-/// before or the founded campaign. See docs/RULES.md, "Founding", and docs/FORMATS.md, "Faults of a
-/// world file" and "Tables".
+/// if the text is no world or the pass text breaks its rule. After Store and Memory, if the disk is
+/// clean, the tables are as they were while the connection is open. A crash then leaves what it
+/// left before or the founded campaign. See docs/RULES.md, "Founding", and docs/FORMATS.md, "Faults
+/// of a world file" and "Tables".
 pub fn found<S: Alter>(
     alloc: Global,
     mut conn: Connection<S>,
@@ -226,12 +226,12 @@ pub fn found<S: Alter>(
 }
 
 /// Opens the campaign that the tables hold, with its world. On a clean disk both are as they were
-/// stored, and the tables are unchanged, also after a refusal, which returns the connection.
+/// stored, and the tables are unchanged, also, while the connection is open, after a refusal.
 /// NotACampaign: there is no table `campaign`, or it lacks a column. OldFormat: the table
 /// `campaign` has one row, whose format is the first, whatever else it says; `upgrade` is for such
 /// tables. Damaged: this is the first rule that the rows of the tables break. Store: the connection
 /// is in a transaction, the tables are not made as those of a campaign, or the database failed for
-/// another cause than memory. See docs/FORMATS.md, "Rules of the tables".
+/// another cause than memory. Memory: it ran out. See docs/FORMATS.md, "Rules of the tables".
 pub fn open<S: Alter>(alloc: Global, mut conn: Connection<S>) -> Result<Service<S>, Refused<S>>
     ensures ok { IfOk result (Opens S.Store conn) }
     ensures back { IfOk result (ComesBack S.Store conn) }
@@ -262,8 +262,8 @@ pub fn open<S: Alter>(alloc: Global, mut conn: Connection<S>) -> Result<Service<
 /// format is the second, whatever else it says. Damaged: this is the first rule of the first format
 /// that the rows break. World: the new world text has this fault. Differs: the worlds differ in
 /// more than markets. Store: the connection is in a transaction, the tables are not exactly those
-/// of the first format, or the database failed for another cause than memory. See docs/FORMATS.md,
-/// "Upgrading a file".
+/// of the first format, or the database failed for another cause than memory. Memory: it ran out.
+/// See docs/FORMATS.md, "Upgrading a file".
 pub fn upgrade<S: Alter>(
     alloc: Global,
     mut conn: Connection<S>,

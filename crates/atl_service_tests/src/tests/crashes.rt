@@ -223,7 +223,6 @@ fn stopped<D: Crash + Drop>(
     Ok(done)
 }
 
-/// Which of the two disks stops: that of the log, or that of the database.
 #[derive(Clone, Copy)]
 enum WhichDisk {
     Log,

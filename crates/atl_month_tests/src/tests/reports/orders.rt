@@ -17,19 +17,16 @@ struct Case {
     wanted: &'static str,
 }
 
-/// A faulty line: line 5 has an unknown order.
 const UNKNOWN_ORDER: FaultyLine = FaultyLine {
     line: 5,
     fault: LineFault::UnknownOrder,
 };
 
-/// A faulty line: line 65 has a bad name.
 const BAD_NAME: FaultyLine = FaultyLine {
     line: 65,
     fault: LineFault::BadName,
 };
 
-/// An event of WORK: unit 1 earned 12.
 const WORKED: Event = Event {
     faction: 1,
     unit: 1,
@@ -47,7 +44,6 @@ const QUIT: Event = Event {
     outcome: Outcome::Fault(11),
 };
 
-/// An event of upkeep: three men of unit 2 starved.
 const STARVED: Event = Event {
     faction: 1,
     unit: 2,

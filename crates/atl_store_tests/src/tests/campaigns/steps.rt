@@ -154,7 +154,6 @@ fn got_number(actual: u32, number: u32) -> Result<(), Fail> {
     }
 }
 
-/// Makes the call that a step names.
 pub(crate) fn make_step(alloc: Global, campaign: &mut Campaign, step: Step) -> Result<(), Fail> {
     match step {
         Step::Nothing => (),

@@ -132,7 +132,6 @@ fn files_of(alloc: Global, game: &mut Game, earlier: &str) -> Result<Files<Memor
     Ok(files)
 }
 
-/// Which of the two disks stops: that of the log, or that of the database.
 #[derive(Clone, Copy, Drop)]
 enum WhichDisk {
     Log,
