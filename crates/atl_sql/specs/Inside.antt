@@ -81,10 +81,10 @@ Drops table key k old new = Alters table (drop_key key k (Has (rows_in table old
 abbrev pub PutsRows : Table → ℕ → List Row → Database → Database → Type 0
 PutsRows table key news old new = Alters table (puts key news (Has (rows_in table old.trees))) old new
 
--- A transaction that succeeded: `Does` is done, if the tables were as `Before` says, and all is committed.
--- The connection is open and in no transaction.
+-- A transaction that succeeded: `Does` is done and other tables are kept (`DoesAndKeeps`), if the tables were as
+-- `Before` says. All is committed. The connection is open and in no transaction.
 pub record Commits (Before : Database → Type 0) (Does : Database → Database → Type 0) (old new : State) : Type 0 where
-  -- `Does` is done, if the tables were as `Before` says
+  -- `Does` is done and other tables are kept (`DoesAndKeeps`), if the tables were as `Before` says
   pub does : Before old.now → DoesAndKeeps Does old.now new.now
   -- all that the tables hold is committed
   pub committed : new.committed ≡ new.now
@@ -103,7 +103,7 @@ pub record LeavesOff (old new : State) : Type 0 where
   -- afterwards the connection is in no transaction
   pub idle : new.in_transaction ≡ false
 
--- what a crash may leave besides what it could have left before: the trees of a database to which `Does` was done,
--- if the tables were as `Before` says
+-- what a crash may leave besides what it could have left before: the trees of a database to which `Does` was done, with
+-- other tables kept (`DoesAndKeeps`), if the tables were as `Before` says
 abbrev pub MayLeave : (Database → Type 0) → (Database → Database → Type 0) → State → Trees → Type 0
 MayLeave Before Does old trees = (db : Database) × (Before old.now → DoesAndKeeps Does old.now db) × (trees ≡ db.trees)

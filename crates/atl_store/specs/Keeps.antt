@@ -75,7 +75,7 @@ pub record IsLater (old new : State) : Type 0 where
   pub shield : old.IsShielded → new.IsShielded
 
 -- No table or index is gone, and tables that aren't the campaign's hold what they held.
--- The premises: the connection is open, and before it had the tables of a campaign and nothing uncommitted.
+-- The premises: the connection is open afterwards, and before it had the tables of a campaign and nothing uncommitted.
 abbrev pub LeavesOthersAlone : State → State → Type 0
 LeavesOthersAlone old new = IsTrue new.is_open → HasTables old.now → old.committed ≡ old.now → Carries old.now new.now
 
@@ -114,7 +114,7 @@ pub record FailsToCreate {S : Type 0} (g : Ghosts S) (text : List ℕ) (c : Camp
   -- a crash leaves what it could have left before, or the campaign, if the disk is clean
   pub crash : HasCleanDisk (state g new) → MayLeaveCampaign (state g old) text c (state g new)
 
--- the database has no table, index or view, and the connection is in no transaction
+-- the schema of the database has nothing (`IsBlank`), and the connection is in no transaction
 abbrev pub IsReadyToCreate : State → Type 0
 IsReadyToCreate s = IsBlank s.now × (s.in_transaction ≡ false)
 
@@ -127,9 +127,9 @@ pub record BreaksOffCreation {S : Type 0} (g : Ghosts S) (text : List ℕ) (c : 
   -- if the disk is clean, the fault is that of an error of a statement of `create`, or of its commit
   pub reports_error : HasCleanDisk (state g new) → IsFaultOfError g (OfFounding text c) create_fault old new fault
 
--- When `create` may return each fault: NotEmpty if there is a table `campaign`, and Store if the database isn't ready;
--- then nothing at all is changed. Store and Memory also come if `create` broke off: on a clean disk this changes
--- nothing, and a crash leaves what it could have left before, or the campaign (`FailsToCreate`).
+-- When `create` may return each fault: NotEmpty if there is a table `campaign`; Store if there is none, and the database
+-- isn't ready. Then nothing at all is changed. Store and Memory also come if `create` broke off: on a clean disk this
+-- changes nothing, and a crash leaves what it could have left before, or the campaign (`FailsToCreate`).
 abbrev pub RefusesToCreate : {S : Type 0} → Ghosts S → List ℕ → CampaignValue → Held S → Held S → CreateFault → Type 0
 RefusesToCreate g text c old new NotEmpty = IsTrue (has_campaign old.schema) × (new ≡ old)
 RefusesToCreate g text c old new Store =
