@@ -19,7 +19,7 @@ pub record Makes (schema : Schema) (table : Table) (old new : Database) (S : Set
   pub sound : IsSoundDatabase schema new.trees
 
 -- a CREATE TABLE turned the schema `before` into `after`, with one table more, whose tree `tree` has no rows; the other
--- tables are unchanged
+-- tables are unchanged, and the trees list the schema (`IsDatabase`)
 pub record CreatesTable (before after : Schema) (tree : ℕ) (old new : Database) : Type 0 where
   pub schema_is : new.schema ≡ after
   pub empty : new.trees tree ≡ []

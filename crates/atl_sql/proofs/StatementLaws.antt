@@ -1,7 +1,8 @@
 -- Laws on the statements of one table: which rows it has after an upsert or a DELETE, and what a text of SQL does.
 -- `old` and `new` are the states before and after a statement, and `count` is how many rows it changed. `db` are the
--- trees before it, and `out` has the database after it. `params` and `values` are the parameters of the statement, and
--- `g` is the kind of store.
+-- trees before it, and `out` has the database after it. `params` and `values` are the parameters of the statement,
+-- `limit` is its step limit, and `g` the kind of store. Before a statement the rowids in the tree are integers, no two
+-- alike (`AreKeyedByRowid`).
 use Rattle.std.proofs.Common.{IsTrue, ◌≡◌, ◌/◌, ℕ, ℤ, Bool, false, List, [], ◌∷◌, ◌++◌, length, slice_get, Option, Some, None, Result, Ok, sym, ap, ◌∙◌, subst}
 use Rattle.sqlite_value.specs.Order.{Row, column}
 use Rattle.sqlite_trees.specs.Tree.{Trees, rowid}
@@ -93,7 +94,7 @@ module _ (schema : Schema) (tree : ℕ) (name : List ℕ) (columns : List Column
   row_inserted_by db src = with_rowid Chosen (db tree) (cast_row t src)
 
   -- An upsert of the key in the columns `target`. Its UPDATE sets the terms `project` in the row whose rowid is at the
-  -- index `hole` of what it reads. `params` are the statement's parameters, and `limit` is its step limit.
+  -- index `hole` of what it reads.
   module _ (limit : Option ℕ) (params : Row) (target : List ℕ) (hole : ℕ) (project : List Term) (plain : (db : Trees) → overlay db [] tree ≡ db tree) where
     abbrev q : Program
     q = record { lets = []; body = update_query tree hole project }

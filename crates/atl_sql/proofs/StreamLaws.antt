@@ -30,7 +30,8 @@ rests_unchanged old new h = record { was_open = λ _. h.0.was_open; same = λ _.
 
 -- a query `sql` without RETURNING that doesn't read the time leads from `old` to `new`
 module _ (sql : List ℕ) (old new : State) (plain : IsPlain (understood old.now.schema sql)) where
-  -- a query without RETURNING (`what` is None) that fails as it runs changes nothing
+  -- a query without RETURNING (`what` is None) that fails as it runs changes nothing; `c` is its command, `row` has its
+  -- parameters
   pub fails_stay : (c : _) (row : Row) (e : Error) (what : Option Returning) → what ≡ None
       → FailsToShow old new sql c row e what → IsUnchanged old new
   fails_stay c row e None is h = h.3

@@ -245,7 +245,8 @@ module _ (schema : Schema) (t : Table) (unlinked : (olds news : List Row) → wo
       let hit = are.sound x (inl refl) in
       inr (hit.0, hit.1, hit.2, updates new db hit.0 x w keyed hit.1 hit.3 (aimed hit.0 hit.1) h)
 
-  -- an upsert that ran put the new row, or changed the row with its key (`Upserted`)
+  -- if the rowids in the tree are integers, no two alike, an upsert that ran put the new row, or changed the row with
+  -- its key (`Upserted`)
   pub upserts : (new : Row) (db : Trees) (w : Written) → AreKeyedByRowid (db t.tree)
       → ((r : Row) → Has (db t.tree) r → column (given new r) position ≡ rowid r)
       → Tries upsert_task Abort (conflict_clause target q ∷ []) new db (Ok w) → Upserted new db w.trees

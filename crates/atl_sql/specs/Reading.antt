@@ -19,23 +19,16 @@ use Rattle.atl_sql.specs.declared.fault.ReadFault.TheVariants.{OtherType, Memory
 
 -- Nothing is committed: an open connection was open before, and its tables are as they were or as last committed.
 pub record Rests (old new : State) : Type 0 where
-  -- a connection that is open afterwards was open before
   pub was_open : IsTrue new.is_open → IsTrue old.is_open
-  -- while the connection is open, its tables are as they were or as last committed, and nothing was committed
   pub same : IsTrue new.is_open → ((new.now ≡ old.committed) ⊎ (new.now ≡ old.now)) × (new.committed ≡ old.committed)
 
 -- `before` is the connection as the SELECT finds it: with the tables and the step limit of `old`.
 -- It is open exactly if `old` is, and its disk has failed no less often.
 pub record IsAsked (old before : State) : Type 0 where
-  -- the connection is open only if `old` is
   pub was_open : IsTrue before.is_open → IsTrue old.is_open
-  -- the connection is open if `old` is
   pub is_open : IsTrue old.is_open → IsTrue before.is_open
-  -- the connection has the tables of `old`
   pub same : before.now ≡ old.now
-  -- the connection has the step limit of `old`
   pub limit : before.step_limit ≡ old.step_limit
-  -- the connection's disk has failed at least as often as that of `old`
   pub faults : old.faults ≤ before.faults
 
 -- `sql` is the text of a SELECT

@@ -197,15 +197,12 @@ module _ {A : Type 0} {part : Part} {stored : RowWithId A → Row} {values : A �
   pub placed_apart : HaveDistinctIntegers (column_count part) (map stored placed) → HaveDistinctRowids placed
   placed_apart keys = numbers_apart stored (λ s. s.rowid) (column_count part) is.place_is placed keys.apart
 
--- a row of the table `has` is shown as its values and after them the rowid
 pub has_placed : IsPlacedAs Goods has_stored has_row_values
 has_placed = record { values_are = λ s. refl; place_is = λ s. refl }
 
--- a row of `books` is shown as its values and after them the rowid
 pub books_placed : IsPlacedAs Books books_stored books_values
 books_placed = record { values_are = λ s. refl; place_is = λ s. refl }
 
--- a row of `market` is shown as its values and after them the rowid
 pub market_placed : IsPlacedAs Markets market_stored market_values
 market_placed = record { values_are = λ s. refl; place_is = λ s. refl }
 
