@@ -49,17 +49,13 @@ DoesBoth First Second old new = (mid : Database) × First old mid × Second mid 
 
 -- afterwards the rows of this table are exactly those of this set, and each other table of a campaign is as it was
 pub record Alters (table : Table) (S : Set) (old new : Database) : Type 0 where
-  -- the rows of the table are exactly those of the set `S`
   pub rows : HasExactly (rows_in table new.trees) S
-  -- each table of a campaign but `table` holds what it held before
   pub others : (t : Table) → Has all_tables t → t.tree ≢ table.tree → new.trees t.tree ≡ old.trees t.tree
 
--- The rows of each part of the list `parts` become what `Becomes` says, and the tables of all other parts are as they
--- were.
+-- The rows of each part of the list `parts` become what `Becomes` says of the rows before and those after; the tables
+-- of all other parts are as they were.
 pub record Changes (Becomes : Part → List Row → List Row → Type 0) (parts : List Part) (old new : Database) : Type 0 where
-  -- the rows of each part of the list `parts` become what `Becomes` says
   pub done : (part : Part) → Has parts part → Becomes part (rows_in (table_of part) old.trees) (rows_in (table_of part) new.trees)
-  -- the tables of all parts that are not in the list `parts` are as they were
   pub others : (part : Part) → ¬ Has parts part → new.trees (table_of part).tree ≡ old.trees (table_of part).tree
 
 -- `Does` is done for each part of the list, one after another

@@ -64,14 +64,10 @@ pub record LeavesAfterFault (faults : ℕ) (s : State) (text : List ℕ) (before
   pub crash : (db : Trees) → s.may_leave db → Stores db text before ⊎ Stores db text after
 
 -- The same connection later: a disk that is clean now was clean before, and no failure of it is forgotten.
--- A connection whose reads are tested against digests (shielded) stays such a connection.
+-- A connection that compares its reads with digests of what was written (shielded) stays such a connection.
 pub record IsLater (old new : State) : Type 0 where
-  -- a disk that is clean now was clean before
   pub clean : HasCleanDisk new → HasCleanDisk old
-  -- no failure of the disk is forgotten
   pub counts : old.faults ≤ new.faults
-  -- a connection that compares its reads with digests of what was written (docs/PROVED.md, "Premises") stays such a
-  -- connection
   pub shield : old.IsShielded → new.IsShielded
 
 -- No table or index is gone, and tables that aren't the campaign's hold what they held.
@@ -84,10 +80,8 @@ LeavesOthersAlone old new = IsTrue new.is_open → HasTables old.now → old.com
 -- Nothing is changed: while the connection is open, its tables, its last commit and its transaction are as they were.
 -- Only a new failure of the disk shuts it.
 pub record ChangesNothing (old new : State) : Type 0 where
-  -- while the connection is open its tables, its last commit and its transaction are as they were
   pub same : IsTrue new.is_open
       → (new.now ≡ old.now) × (new.committed ≡ old.committed) × (new.in_transaction ≡ old.in_transaction)
-  -- an open connection stays open, unless the disk failed again
   pub shuts : IsTrue old.is_open → IsTrue new.is_open ⊎ MoreFaults old.faults new.faults
 
 -- a crash after the call (`new`) leaves what it could have left before it (`old`), or a file that stores this campaign
@@ -97,19 +91,14 @@ MayLeaveCampaign old text c new = (db : Trees) → new.may_leave db → old.may_
 -- With Ok of `create` there was no table `campaign`, and the connection holds the campaign, if the disk is clean.
 -- The connection is in no transaction.
 pub record Creates {S : Type 0} (g : Ghosts S) (text : List ℕ) (c : CampaignValue) (old new : Held S) : Type 0 where
-  -- before `create` there was no table `campaign`
   pub fresh : has_campaign old.schema ≡ false
-  -- after `create` the connection is in no transaction
   pub idle : new.in_transaction ≡ false
-  -- after `create` the connection holds the campaign, if the disk is clean
   pub tables : HoldsCampaign g new text c
 
 -- What Store and Memory of `create` leave: there was no table `campaign`, and nothing is changed, if the disk is clean.
--- A crash leaves what it could have left before, or the campaign.
+-- A crash then leaves what it could have left before, or the campaign.
 pub record FailsToCreate {S : Type 0} (g : Ghosts S) (text : List ℕ) (c : CampaignValue) (old new : Held S) : Type 0 where
-  -- before `create` there was no table `campaign`
   pub fresh : has_campaign old.schema ≡ false
-  -- nothing is changed, if the disk is clean
   pub tables : HasCleanDisk (state g new) → ChangesNothing (state g old) (state g new)
   -- a crash leaves what it could have left before, or the campaign, if the disk is clean
   pub crash : HasCleanDisk (state g new) → MayLeaveCampaign (state g old) text c (state g new)

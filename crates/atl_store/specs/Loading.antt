@@ -142,9 +142,7 @@ tables_with_rowids f = map table_of (filter shows_rowids (parts_in f))
 
 -- a connection that is open was open before, and its tables and its last commit are as they were
 pub record TablesStay (old new : State) : Type 0 where
-  -- if the connection is open now, it was open before
   pub was_open : IsTrue new.is_open → IsTrue old.is_open
-  -- while the connection is open its tables and its last commit are as they were before
   pub same : IsTrue new.is_open → (new.now ≡ old.now) × (new.committed ≡ old.committed)
 
 -- The connection after reads: it is in no transaction, and its tables are as they were, if the disk is clean
