@@ -65,8 +65,8 @@ pub record PutsOwn (project : List Term) (head : CampaignRowValue) (world : List
   pub tables : HasTables new
   pub carries : Carries old new
 
--- the text is plain (`IsPlain`) and means the upsert of `campaign` whose UPDATE has the terms `project`, whatever other
--- tables follow
+-- whatever other tables follow, the text means the upsert of `campaign` whose UPDATE has the terms `project`; it has no
+-- RETURNING, and doesn't read the time (`IsPlain`)
 pub record MeansOwn (sql : List ℕ) (project : List Term) : Type 1 where
   pub is : (more : List Table) (indexes : List Index)
       → command_of (understood (all_tables_and_others more indexes) sql)

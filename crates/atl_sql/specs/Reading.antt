@@ -62,8 +62,9 @@ module _ {S : Type 0} (g : Ghosts S) (sql : List ℕ) (old : Held S) where
     -- The connection is in no transaction afterwards.
     pub idle : new.in_transaction ≡ false
 
-  -- With Ok all rows that the SELECT shows are read, each value in the form of its column, if the disk is clean.
-  -- Then nothing is committed either.
+  -- With Ok all rows that the SELECT shows are read, each value in the form of its column. The fault is OtherType for a
+  -- value of another form, or that of the refused SELECT, or Memory. Nothing is committed. All this is so if the disk
+  -- is clean.
   pub record ReadsRows {A Z : Type 0} (forms : List Form) (shown : A → Row)
       (result : Result (Vec A Z) ReadFault) (new : Held S) : Type 0 where
     -- Ok has all rows that the SELECT shows, in their order, and each value is of its column's form.

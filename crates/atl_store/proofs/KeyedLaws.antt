@@ -214,7 +214,7 @@ pub record IsMadeAs (p : Parts) (read : Part × List Row) : Type 0 where
   pub rows : (text : List ℕ) → rows_read text p read.0 ≡ without_ids read.0 read.1
   pub apart : shows_rowids read.0 ≡ true → HaveDistinctIntegers (column_count read.0) read.1
 
--- a part that is shown without rowids is made of the rows that were read (`IsMadeAs`)
+-- a part that is shown without rowids is made of the rows that were read (`IsMadeAs`), if `p` has these rows of it
 pub made_whole : {p : Parts} {rows : List Row} (part : Part) → shows_rowids part ≡ false
     → ((text : List ℕ) → rows_read text p part ≡ rows) → IsMadeAs p (part, rows)
 made_whole {p} {rows} part free are = record {
@@ -222,8 +222,8 @@ made_whole {p} {rows} part free are = record {
   apart = λ placed. absurd (true≢false (sym placed ∙ free));
 }
 
--- a part that is shown with rowids is made of the rows that were read without them (`IsMadeAs`), if no two rowids are
--- alike
+-- a part that is shown with rowids is made of what was read (`IsMadeAs`), if `p` has the rows that were read, without
+-- their rowids, and no two rowids are alike
 pub made_placed : {p : Parts} {A : Type 0} {part : Part} {stored : RowWithId A → Row} {values : A → Row}
     → IsPlacedAs part stored values → shows_rowids part ≡ true → (placed : List (RowWithId A))
     → ((text : List ℕ) → rows_read text p part ≡ map values (map (λ s. s.row) placed)) → HaveDistinctRowids placed → IsMadeAs p (part, map stored placed)

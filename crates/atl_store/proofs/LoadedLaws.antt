@@ -247,8 +247,9 @@ module _ (f : Format) {S : Type 0} (g : Ghosts S) where
     unconfirmed_refuses idle typed OtherFormat fails = absurd fails
     unconfirmed_refuses idle typed Memory fails = may_return_memory old idle kept
 
--- The campaign row `own` was read between `old` and `mid`, and then the other tables between `mid` and `new`. What was
--- read of these is `o`, None if a value is of another type than its column; `rows` gives its rows by part.
+-- On a clean disk the campaign row `own` was read between `old` and `mid`, and then the other tables between `mid` and
+-- `new`. What was read of these is `o`, None if a value is of another type than its column; `rows` gives its rows by
+-- part.
 module _ (f : Format) {S : Type 0} (g : Ghosts S) {A : Type 0} (rows : A → ReadRows) (old mid new : Held S) (own : StoredCampaign) (w : WorldValue) (row : OwnRead g old f own w) (before : AfterReads g old mid) (r : Result (Option A) LoadFault)
     (reads : ReadsSome g mid (other_selects f) (λ a. AreOfFormat f (state g mid).now (rows a)) r new) (o : Option A) (was : r ≡ Ok o) (clean : HasCleanDisk (state g new)) where
   found : (says : Option A) → o ≡ says

@@ -30,7 +30,6 @@ pub record Stores (db : Trees) (text : List ℕ) (c : CampaignValue) : Type 0 wh
   pub begins : HasAll schema
   -- the file's trees list the schema and obey it, and in each of the ten tables the rowids are integers, no two alike
   pub sound : IsSoundDatabase schema db
-  -- the tables hold exactly the rows of the text and the campaign
   pub rows : Holds db text c
 
 -- The connection is open and in no transaction, and its tables hold exactly the rows of the text and the campaign.
@@ -42,7 +41,6 @@ pub record Keeps (s : State) (text : List ℕ) (c : CampaignValue) : Type 0 wher
   pub settled : s.committed ≡ s.now
   -- the database has the tables of a campaign, and its trees are sound (`HasTables`)
   pub tables : HasTables s.now
-  -- the tables hold exactly the rows of the text and the campaign
   pub rows : Holds s.now.trees text c
   -- a crash leaves a file that stores just this campaign
   pub crash : (db : Trees) → s.may_leave db → Stores db text c
@@ -56,11 +54,8 @@ HoldsCampaign g conn text c = HasCleanDisk (state g conn) → Keeps (state g con
 -- The connection is shut only if the disk failed again. A crash leaves the campaign `before` or `after`, never a part.
 -- `faults` counts the failures of the disk before the call.
 pub record LeavesAfterFault (faults : ℕ) (s : State) (text : List ℕ) (before after : CampaignValue) : Type 0 where
-  -- while the connection is open it keeps the campaign `before`
   pub still : IsTrue s.is_open → Keeps s text before
-  -- the connection is open, or the disk failed again
   pub shuts : IsTrue s.is_open ⊎ MoreFaults faults s.faults
-  -- a crash leaves a file that stores the campaign `before` or the campaign `after`
   pub crash : (db : Trees) → s.may_leave db → Stores db text before ⊎ Stores db text after
 
 -- The same connection later: a disk that is clean now was clean before, and no failure of it is forgotten.
