@@ -158,7 +158,8 @@ module _ {S : Type 0} (g : Ghosts S) (sql : List ℕ) (old : Held S) where
         idle = idle giving.idle;
       }
 
-      -- if there is no next row, and `all` was read of the rows given, the read is as promised (`Streams`)
+      -- if there is no next row, nothing changed, and `all` was read of the rows given, which are in the forms of their
+      -- columns, the read is as promised (`Streams`)
       pub ended : {Z : Type 0} (all : Vec A Z) → map shown all.items ≡ map (first_columns (length forms)) given
           → AreTyped forms given → (HasCleanDisk (state g now) → Advances g mid now None)
           → (HasCleanDisk (state g now) → IsUnchanged (state g mid) (state g now))

@@ -209,7 +209,7 @@ market_placed = record { values_are = λ s. refl; place_is = λ s. refl }
 -- ---- the rows that are to be checked
 
 -- A part is made of what was read: its rows to be checked are the rows read, without their rowids.
--- The rowids are integers, no two alike.
+-- Where it is shown with rowids, these are integers, no two alike.
 pub record IsMadeAs (p : Parts) (read : Part × List Row) : Type 0 where
   pub rows : (text : List ℕ) → rows_read text p read.0 ≡ without_ids read.0 read.1
   pub apart : shows_rowids read.0 ≡ true → HaveDistinctIntegers (column_count read.0) read.1

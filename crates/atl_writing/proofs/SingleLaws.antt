@@ -134,7 +134,7 @@ module _ (table : Table) (Wanted : Set) (finds : (ℕ → ℕ → Bool) → Row 
           one_less_amount (is_owner_and_listed x.0 x.1) (is_listed now) (is_listed rest) (is_listed all)
           (λ n t. ap (λ es. is_listed es n t) is)
 
-    -- when no owner is left to rewrite, all single marked amounts are rewritten
+    -- when no owner is left to rewrite, all single marked amounts, those in `things`, are rewritten
     pub owners_rewritten : (things : MarkedThings) (rest all : List (ℕ × FinMap nat_cmp (Unit {0}))) → rest ≡ []
         → all ≡ entries things → (old new : State)
         → DoesInside HasTables (RemainingSingles (is_listed rest) (is_listed all)) old new
