@@ -103,9 +103,9 @@ module _ (schema : Schema) (among : (u : Table) → Has all_tables u → Has sch
     listed = subst (λ s. IsSound s new.trees) is base;
   }
 
-  -- If an edit swapped the rows with the key of `v`, which the test `p` finds, for the row `n`, a sound database stays
-  -- sound and shows `v` in place of these (`Makes`). Premises: SQL shows `n` as `v`, the schema stays, and the trees
-  -- list it (`IsDatabase`).
+  -- An edit that swapped the rows with the key of `v`, which the test `p` finds, for the row `n` leaves a sound database
+  -- sound, with `v` in place of these (`Makes`). Premises: SQL shows `n` as `v`, the schema stays, and the trees list
+  -- it (`IsDatabase`).
   pub swaps_make : (p : Row → Bool) (n v : Row) (old new : Database) → Swaps schema t p n old.trees new.trees
       → visible_row t n ≡ v → Tests p (take key v) (old.trees t.tree)
       → IsSoundDatabase schema old.trees → IsDatabase new → new.schema ≡ schema
@@ -167,8 +167,8 @@ module _ (schema : Schema) (among : (u : Table) → Has all_tables u → Has sch
 
     -- An upsert whose INSERT and whose UPDATE both make rows that show `v` makes of the table its old rows with `v` in
     -- place of the row with its key (`Makes`). Premises: `hits` finds just the rows with this key, there is one row for
-    -- a key (`OneRow`), t is one of the ten tables, the database was sound before, its schema stays, and the trees list
-    -- it (`IsDatabase`).
+    -- a key (`OneRow`), and t is one of the ten tables. The database was sound before, its schema stays, and the trees
+    -- list it (`IsDatabase`).
     pub upserts_make : Upserted schema t unlinked limit params target position project plain new old.trees next.trees
         → visible_row t (cast_row t new) ≡ v → UpdateShowsValues
         → Tests (hits schema t unlinked limit params target position project plain new) (take key v) (old.trees t.tree)
@@ -182,8 +182,8 @@ module _ (schema : Schema) (among : (u : Table) → Has all_tables u → Has sch
 
     -- If a row with the key is there, an upsert whose UPDATE makes a row that shows `v` puts the row `v` (`Makes`),
     -- whatever the INSERT would have made. Premises: `hits` finds just the rows with this key, there is one row for a
-    -- key (`OneRow`), t is one of the ten tables, the database was sound before, its schema stays, and the trees list
-    -- it (`IsDatabase`).
+    -- key (`OneRow`), and t is one of the ten tables. The database was sound before, its schema stays, and the trees
+    -- list it (`IsDatabase`).
     pub updates_make : Upserted schema t unlinked limit params target position project plain new old.trees next.trees
         → (r : Row) → Has (old.trees t.tree) r → take key (visible_row t r) ≡ take key v → UpdateShowsValues
         → Tests (hits schema t unlinked limit params target position project plain new) (take key v) (old.trees t.tree)

@@ -99,7 +99,7 @@ pub record LeavesOff (old new : State) : Type 0 where
   -- afterwards the connection is in no transaction
   pub idle : new.in_transaction ≡ false
 
--- what a crash may leave besides what it could have left before: the trees of a database to which `Does` was done, with
--- other tables kept (`DoesAndKeeps`), if the tables were as `Before` says
+-- what a crash may leave besides what it could have left before: trees to which `Does` was done, with other tables kept
+-- (`DoesAndKeeps`), if the tables were as `Before` says
 abbrev pub MayLeave : (Database → Type 0) → (Database → Database → Type 0) → State → Trees → Type 0
 MayLeave Before Does old trees = (db : Database) × (Before old.now → DoesAndKeeps Does old.now db) × (trees ≡ db.trees)
