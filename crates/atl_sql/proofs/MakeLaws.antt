@@ -103,7 +103,7 @@ module _ (schema : Schema) (among : (u : Table) → Has all_tables u → Has sch
     listed = subst (λ s. IsSound s new.trees) is base;
   }
 
-  -- An edit that swapped the rows with the key of `v`, which the test `p` finds, for the row `n` leaves a sound database
+  -- An edit that swaps the rows with the key of `v`, which the test `p` finds, for the row `n` leaves a sound database
   -- sound, with `v` in place of these (`Makes`). Premises: SQL shows `n` as `v`, the schema stays, and the trees list
   -- it (`IsDatabase`).
   pub swaps_make : (p : Row → Bool) (n v : Row) (old new : Database) → Swaps schema t p n old.trees new.trees

@@ -59,8 +59,8 @@ module _ {V : Type 0} (part : Part) (line : ℕ → V → Row) (values : Campaig
       subst (λ k. OfRow c (upsert (table_of part) k) r) key (puts_row part (λ own. (are own c r).1 is))
 
   module _ (numbered : (n : ℕ) (v : V) → take 1 (line n v) ≡ int n ∷ []) where
-    -- if the key is one column, and each row begins with its number, to delete the row of a number that no value of the
-    -- campaign has is a statement of a change (`OfChange`)
+    -- if the key is one column, and rows begin with their numbers, to delete the row of a number that the campaign
+    -- lacks is a statement of a change (`OfChange`)
     pub drops_none : key_width_of part ≡ 1 → (c : CampaignValue) (n : ℕ) → get (values c) n ≡ None
         → OfChange c (deletion (table_of part) 1) (int n ∷ [])
     drops_none key c n none = subst (λ k. OfChange c (deletion (table_of part) k) (int n ∷ [])) key (drops_row part (
