@@ -30,8 +30,8 @@ module _ {X Y : Type 0} (one : X → Value) (read_one : Value → Option X) (mor
       let later = q vs (both_second _ _ x is) in
       cc
 
--- A row that reads as fields has its columns' forms, if this is so of the first value and the others; and a row that
--- doesn't read hasn't. The first field is read by `read_one`, and the others by `read_more`.
+-- A row that reads as fields has its columns' forms, and one that doesn't read hasn't, if each is so of the first value
+-- and of the others. `read_one` reads the first field, whose form is `form`; `read_more` the others, of `forms`.
 module _ {X Y : Type 0} (read_one : Value → Option X) (read_more : Row → Option Y) (form : Form) (forms : List Form) where
   pub then_typed : (row : Row) (at : ℕ) (x : X × Y) → (read_one (column row at) ≡ Some x.0 → HasForm form (column row at))
       → (read_more (columns_from (at + 1) (length forms) row) ≡ Some x.1 → IsTypedFrom (at + 1) forms row)

@@ -104,14 +104,15 @@ module _ {S : Type 0} (g : Ghosts S) (own : Statements) (e : Error) where
   as_begun : (old : Held S) → IsTrue (state g old).in_transaction → record old { in_transaction = true } ≡ old
   as_begun old inside = ap (λ b. record old { in_transaction = b }) (sym inside)
 
-  -- if one call inside a transaction gave an error, the transaction gives it (`Gives`)
+  -- if a statement of `own`, or the commit, gave an error inside a transaction, the transaction gives it (`Gives`)
   pub gives : (old new : Held S) → IsTrue (state g old).in_transaction → IsGiven own e (state g old) (state g new)
       → Gives g own e old new
   gives old new inside given =
       record { before = old; after = new; reached = (0, as_begun old inside); kept = record { was_open = λ up. up; committed = λ _. refl }; given = given; cause = call_caused (state g old) (state g new) own e given }
 
-  -- an error that a transaction gives from `mid` on is one that it gives from `old` on (`Gives`), if statements lead
-  -- from `old` to `mid` on a clean disk, and commit nothing, and the disk has failed at least as often at `new`
+  -- Inside a transaction, an error that it gives from `mid` on is one that it gives from `old` on (`Gives`). Premises:
+  -- statements of `own` lead from `old` to `mid` on a clean disk, commit nothing and forget no failure (`Survives`). At
+  -- `new` the disk has failed at least as often as at `mid`.
   pub gives_after : (old mid new : Held S) → IsTrue (state g old).in_transaction → IsTrue (state g mid).in_transaction
       → IsReached g own old mid → HasCleanDisk (state g mid) → KeepsCommit (state g old) (state g mid)
       → Survives (state g old) (state g mid) (λ _. ⊥) → (state g mid).faults ≤ (state g new).faults

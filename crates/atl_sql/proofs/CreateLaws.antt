@@ -15,8 +15,9 @@ use Rattle.sqlite.proofs.Callers.{IsPlain, command_of, statement_of, runs_as}
 use Rattle.atl_sql.proofs.Made.{CreatesTable}
 use Rattle.atl_sql.proofs.EditLaws.{ok_step_did, same_value}
 
--- If `text` is a CREATE TABLE that defines `table`, running it on a database of the schema `before` adds this table,
--- without rows (`CreatesTable`). The new schema must lack no table of sequences, which only AUTOINCREMENT needs.
+-- `text` is one CREATE TABLE that defines `table`, and doesn't read the time (`IsPlain`). Run without an error on a
+-- database of the schema `before`, it adds this table, without rows (`CreatesTable`). The new schema must lack no table
+-- of sequences, which only AUTOINCREMENT needs.
 pub creates : (before : Schema) (table : Table) (text : List ℕ) (old new : State) (count : ℕ)
     → command_of (understood before text) ≡ CreateTable → statement_of text (understood before text) ≡ text
     → table_defined_by text ≡ Ok table → IsPlain (understood before text)

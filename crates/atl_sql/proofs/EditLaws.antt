@@ -2,7 +2,8 @@
 -- `db` are the trees before, each with the rows of one table, and `next`, or those of `w`, are the trees after. `p` is
 -- the test that a row passes if it is to go, and `found` has the rowids of the rows that pass. A query reads `db'`,
 -- which has its temporary tables beside the trees of `db`. An edit takes some rows out of one tree and puts others in.
--- Before and after it the rowids in the tree are integers, no two alike (`AreKeyedByRowid`).
+-- Before and after it the rowids in the tree are integers, no two alike (`AreKeyedByRowid`). `params` are the
+-- parameters of a statement, `q` is its query, and `limit` its step limit, if it has one.
 use Rattle.std.proofs.Common.{◌≡◌, ◌≢◌, ◌⊎◌, ℕ, pos, negsuc, Bool, true, false, List, [], ◌∷◌, ◌++◌, map, flat_map, Option, Some, None, Result, Ok, Err, refl, sym, ap, ◌∙◌, subst, inl, inr}
 use Rattle.std.specs.Prelude.{cond}
 use Rattle.std.specs.List.{list_all}
@@ -87,7 +88,6 @@ module _ (schema : Schema) (table : Table) (unlinked : (olds news : List Row) �
 
   -- ---- INSERT OR REPLACE of one row
 
-  -- `params` are the parameters of the statement, and `limit` is its step limit, if it has one
   module _ (limit : Option ℕ) (params : Row) where
     abbrev task : Task
     task = record { limit = limit; keys = Enforced; schema = schema; table = table; params = params }

@@ -237,8 +237,9 @@ module _ (tree : ℕ) (name : List ℕ) (columns : List Column) (positions : Lis
           done_with t old.now new.now has key.ours _ _ (λ did. did) makes,
     )
 
-    -- The text of the DELETE removes the rows whose columns `front` are the parameters `k` (`DoneBy`). These columns,
-    -- given by index, are the first ones of the key, and `filter` tests them.
+    -- A text that means a DELETE (`MeansDelete`), and is `AlwaysPlain`, removes the rows whose columns `front` are the
+    -- parameters `k`, which are integers (`DoneBy`). These columns, given by index, are the first ones of the key, and
+    -- `filter` tests them.
     pub drops_keyed : (sql : List ℕ) (filter : List Term) → MeansDelete tree at sql filter → AlwaysPlain sql
         → (front : List ℕ)
         → ((x : Row) → AreInts positions x → AreInts front x)

@@ -19,7 +19,7 @@ pub record Makes (schema : Schema) (table : Table) (old new : Database) (S : Set
   pub sound : IsSoundDatabase schema new.trees
 
 -- a CREATE TABLE turned the schema `before` into `after`, with one table more, whose tree `tree` has no rows; the other
--- tables are unchanged
+-- tables are unchanged, and the trees list the schema (`IsDatabase`)
 pub record CreatesTable (before after : Schema) (tree : ℕ) (old new : Database) : Type 0 where
   pub schema_is : new.schema ≡ after
   pub empty : new.trees tree ≡ []
@@ -31,8 +31,8 @@ pub record AreBare (schema : Schema) (db : Database) : Type 0 where
   pub schema_is : db.schema ≡ schema
   pub empty : (t : Table) → Has schema.tables t → db.trees t.tree ≡ []
 
--- A database of the first schema, without rows, becomes a sound one of the second, without rows. The connection is in a
--- transaction afterwards exactly if it was before.
+-- A database of the first schema, without rows, becomes one of the second, without rows, whose trees list this schema
+-- (`IsDatabase`). The connection is in a transaction afterwards exactly if it was before.
 abbrev pub Extends : Schema → Schema → State → State → Type 0
 Extends before after old new =
     (new.in_transaction ≡ old.in_transaction) × (AreBare before old.now → AreBare after new.now × IsDatabase new.now)

@@ -103,8 +103,9 @@ module _ (schema : Schema) (among : (u : Table) → Has all_tables u → Has sch
     listed = subst (λ s. IsSound s new.trees) is base;
   }
 
-  -- if the schema stays and the trees list it (`IsDatabase`), the edit of `swaps_set` leaves a sound database sound,
-  -- with `v` in place of the rows with its key (`Makes`)
+  -- An edit that swaps the rows with the key of `v`, which the test `p` finds, for the row `n` leaves a sound database
+  -- sound, with `v` in place of these (`Makes`). Premises: SQL shows `n` as `v`, the schema stays, and the trees list
+  -- it (`IsDatabase`).
   pub swaps_make : (p : Row → Bool) (n v : Row) (old new : Database) → Swaps schema t p n old.trees new.trees
       → visible_row t n ≡ v → Tests p (take key v) (old.trees t.tree)
       → IsSoundDatabase schema old.trees → IsDatabase new → new.schema ≡ schema
@@ -116,8 +117,8 @@ module _ (schema : Schema) (among : (u : Table) → Has all_tables u → Has sch
     sound = stays_sound old new sound base is swap.keyed swap.others;
   }
 
-  -- if the schema stays and the trees list it (`IsDatabase`), the edit of `loses_set` leaves a sound database sound,
-  -- without the rows with the key `k` (`Makes`)
+  -- If an edit took out the rows with the key `k`, which the test `p` finds, a sound database stays sound and shows its
+  -- other rows (`Makes`). Premises: the schema stays, and the trees list it (`IsDatabase`).
   pub loses_make : (p : Row → Bool) (k : Row) (old new : Database) → Loses schema t p old.trees new.trees
       → Tests p k (old.trees t.tree)
       → IsSoundDatabase schema old.trees → IsDatabase new → new.schema ≡ schema
@@ -166,7 +167,8 @@ module _ (schema : Schema) (among : (u : Table) → Has all_tables u → Has sch
 
     -- An upsert whose INSERT and whose UPDATE both make rows that show `v` makes of the table its old rows with `v` in
     -- place of the row with its key (`Makes`). Premises: `hits` finds just the rows with this key, there is one row for
-    -- a key (`OneRow`), the database was sound before, its schema stays, and the trees list it (`IsDatabase`).
+    -- a key (`OneRow`), and t is one of the ten tables. The database was sound before, its schema stays, and the trees
+    -- list it (`IsDatabase`).
     pub upserts_make : Upserted schema t unlinked limit params target position project plain new old.trees next.trees
         → visible_row t (cast_row t new) ≡ v → UpdateShowsValues
         → Tests (hits schema t unlinked limit params target position project plain new) (take key v) (old.trees t.tree)
@@ -178,8 +180,10 @@ module _ (schema : Schema) (among : (u : Table) → Has all_tables u → Has sch
     upserts_make (inr over) shows changed tests alone listed sound base is =
         over_make over.0 over.1 over.2 over.3 changed tests alone listed sound base is
 
-    -- if a row with the key is there, an upsert whose UPDATE makes a row that shows `v` puts the row `v` (`Makes`),
-    -- whatever the INSERT would have made; the premises of `upserts_make` are needed here too
+    -- If a row with the key is there, an upsert whose UPDATE makes a row that shows `v` puts the row `v` (`Makes`),
+    -- whatever the INSERT would have made. Premises: `hits` finds just the rows with this key, there is one row for a
+    -- key (`OneRow`), and t is one of the ten tables. The database was sound before, its schema stays, and the trees
+    -- list it (`IsDatabase`).
     pub updates_make : Upserted schema t unlinked limit params target position project plain new old.trees next.trees
         → (r : Row) → Has (old.trees t.tree) r → take key (visible_row t r) ≡ take key v → UpdateShowsValues
         → Tests (hits schema t unlinked limit params target position project plain new) (take key v) (old.trees t.tree)

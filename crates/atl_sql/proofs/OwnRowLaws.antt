@@ -65,14 +65,16 @@ pub record PutsOwn (project : List Term) (head : CampaignRowValue) (world : List
   pub tables : HasTables new
   pub carries : Carries old new
 
--- the text means the upsert of `campaign` whose UPDATE has the terms `project`, whatever other tables follow
+-- whatever other tables follow, the text means the upsert of `campaign` whose UPDATE has the terms `project`; it has no
+-- RETURNING, and doesn't read the time (`IsPlain`)
 pub record MeansOwn (sql : List ℕ) (project : List Term) : Type 1 where
   pub is : (more : List Table) (indexes : List Index)
       → command_of (understood (all_tables_and_others more indexes) sql)
       ≡ InsertOr 0 Abort (Values own_terms 9) (conflict_clause (0 ∷ []) (record { lets = []; body = update_query campaign_table.tree 6 project }) ∷ [])
   pub plain : (more : List Table) (indexes : List Index) → IsPlain (understood (all_tables_and_others more indexes) sql)
 
--- a text that means an upsert of the campaign row (`MeansOwn`) inserts or changes the row (`PutsOwn`)
+-- A text that means an upsert of the campaign row (`MeansOwn`) inserts or changes the row (`PutsOwn`), if it runs
+-- without an error inside a transaction, on the tables of a campaign. `count` is how many rows it reports.
 pub puts_own : (sql : List ℕ) (project : List Term) → MeansOwn sql project
     → (old new : State) (head : CampaignRowValue) (world : List ℕ) (count : ℕ) → HasTables old.now
     → ExecutesInside 0 sql (campaign_row_values head world) old new (Ok count)

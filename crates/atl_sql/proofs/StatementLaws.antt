@@ -1,7 +1,8 @@
 -- Laws on the statements of one table: which rows it has after an upsert or a DELETE, and what a text of SQL does.
 -- `old` and `new` are the states before and after a statement, and `count` is how many rows it changed. `db` are the
--- trees before it, and `out` has the database after it. `params` and `values` are the parameters of the statement, and
--- `g` is the kind of store.
+-- trees before it, and `out` has the database after it. `params` and `values` are the parameters of the statement,
+-- `limit` is its step limit, and `g` the kind of store. Before a statement the rowids in the tree are integers, no two
+-- alike (`AreKeyedByRowid`).
 use Rattle.std.proofs.Common.{IsTrue, ◌≡◌, ◌/◌, ℕ, ℤ, Bool, false, List, [], ◌∷◌, ◌++◌, length, slice_get, Option, Some, None, Result, Ok, sym, ap, ◌∙◌, subst}
 use Rattle.sqlite_value.specs.Order.{Row, column}
 use Rattle.sqlite_trees.specs.Tree.{Trees, rowid}
@@ -93,7 +94,7 @@ module _ (schema : Schema) (tree : ℕ) (name : List ℕ) (columns : List Column
   row_inserted_by db src = with_rowid Chosen (db tree) (cast_row t src)
 
   -- An upsert of the key in the columns `target`. Its UPDATE sets the terms `project` in the row whose rowid is at the
-  -- index `hole` of what it reads. `params` are the statement's parameters, and `limit` is its step limit.
+  -- index `hole` of what it reads. The tree is one of the file, not that of a temporary table (`plain`).
   module _ (limit : Option ℕ) (params : Row) (target : List ℕ) (hole : ℕ) (project : List Term) (plain : (db : Trees) → overlay db [] tree ≡ db tree) where
     abbrev q : Program
     q = record { lets = []; body = update_query tree hole project }
@@ -124,8 +125,8 @@ module _ (schema : Schema) (tree : ℕ) (name : List ℕ) (columns : List Column
         subst (Changed (row_inserted_by db src) db) (sym (counted limit params db each.0 counter.0 w each.2))
         (each_upserts src (count_of counter.0) db each.0 keyed aimed (subst (λ l. TriesEach (task limit params t) Abort (conflict_clause target q ∷ []) l (count_of counter.0) (nothing db) (Ok each.0)) given each.1))
 
-    -- an upsert whose terms make the row `src` of the parameters inserted this row, or changed the row with its key
-    -- (`Changed`), and kept the schema
+    -- an upsert whose terms, `width` for a row, make the row `src` of the parameters inserted this row, or changed the
+    -- row with its key (`Changed`), and kept the schema
     pub upserting : (text : List ℕ) (terms : List Term) (width : ℕ) (src : Row) (db : Trees) (out : Tally × Database)
         → AreKeyedByRowid (db tree)
         → ((r : Row) → Has (db tree) r → column (params ++ rowid r ∷ shown t (row_inserted_by db src)) hole ≡ rowid r)

@@ -1,7 +1,7 @@
 -- Laws on reading the rows of a query one by one as they come (`stream`).
 -- `old` is the connection before the query, `mid` once it has given the rows `given`, and `now` or `new` after a later
 -- step. `r` is the result of the read. `forms` are the forms of the columns, and `shown` gives the row that a value is
--- read of. `g` is the kind of store.
+-- read of. `g` is the kind of store. A plain query (`IsPlain`) has no RETURNING and doesn't read the time.
 use Rattle.std.proofs.Common.{◌≡◌, ℕ, false, List, [], ◌∷◌, ◌++◌, map, length, Option, Some, None, Result, Ok, Err, IsErrAnd, refl, sym, ap, ◌∙◌, subst, inl, inr, arith}
 use Rattle.std.specs.declared.vec.Vec.{Vec}
 use Rattle.sqlite_schema.specs.declared.command.Returning.{Returning}
@@ -30,7 +30,8 @@ rests_unchanged old new h = record { was_open = λ _. h.0.was_open; same = λ _.
 
 -- a query `sql` without RETURNING that doesn't read the time leads from `old` to `new`
 module _ (sql : List ℕ) (old new : State) (plain : IsPlain (understood old.now.schema sql)) where
-  -- a query without RETURNING (`what` is None) that fails as it runs changes nothing
+  -- a query without RETURNING (`what` is None) that fails as it runs changes nothing; `c` is its command, `row` has its
+  -- parameters
   pub fails_stay : (c : _) (row : Row) (e : Error) (what : Option Returning) → what ≡ None
       → FailsToShow old new sql c row e what → IsUnchanged old new
   fails_stay c row e None is h = h.3
@@ -100,8 +101,8 @@ pub record IsGiving {S : Type 0} (g : Ghosts S) (sql : List ℕ) (old : Held S) 
 -- the query `sql` is asked on the connection `old`
 module _ {S : Type 0} (g : Ghosts S) (sql : List ℕ) (old : Held S) where
   module _ {A : Type 0} (forms : List Form) (shown : A → Row) where
-    -- if the query, which is plain (`IsPlain`), is refused at the start with `e`, and `r` is the fault of `e`, the read
-    -- is as promised (`Streams`)
+    -- if the query, which is plain, is refused at the start with `e`, outside a transaction, and `r` is the fault of
+    -- `e`, the read is as promised (`Streams`)
     pub not_begun : {Z : Type 0} (now : Held S) (e : Error) (r : Result (Option (Vec A Z)) ReadFault)
         → IsPlain (understood old.schema sql) → IsErrAnd r (λ fault. fault ≡ read_fault e)
         → (HasCleanDisk (state g now) → FailsToQuery sql [] (state g old) (state g now) e)
@@ -157,7 +158,8 @@ module _ {S : Type 0} (g : Ghosts S) (sql : List ℕ) (old : Held S) where
         idle = idle giving.idle;
       }
 
-      -- if there is no next row, and `all` was read of the rows given, the read is as promised (`Streams`)
+      -- if there is no next row, nothing changed, and `all` was read of the rows given, which are in the forms of their
+      -- columns, the read is as promised (`Streams`)
       pub ended : {Z : Type 0} (all : Vec A Z) → map shown all.items ≡ map (first_columns (length forms)) given
           → AreTyped forms given → (HasCleanDisk (state g now) → Advances g mid now None)
           → (HasCleanDisk (state g now) → IsUnchanged (state g mid) (state g now))

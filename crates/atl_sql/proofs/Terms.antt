@@ -36,8 +36,8 @@ and_true_or_false false rest none = none
 pub head_is : (a b : Value) (xs ys : Row) → ◌≡◌ {A = Row} (a ∷ xs) (b ∷ ys) → a ≡ b
 head_is a b xs ys e = cc
 
--- the test of an upsert finds a row, whose rowid is `a`, exactly if its number is `n`; `rest` is the test by further
--- indexes, which find nothing
+-- the test of an upsert finds a row, whose rowid is the integer `a`, exactly if its number is `n`; `rest` is the test
+-- by further indexes, which find nothing
 pub upsert_finds_number : (a : Value) (n : ℕ) (rest : Bool) → rest ≡ false → is_int a ≡ true
     → (((equal Binary a (int n) && true) || rest) ≡ true → ◌≡◌ {A = Row} (a ∷ []) (int n ∷ []))
     × (◌≡◌ {A = Row} (a ∷ []) (int n ∷ []) → ((equal Binary a (int n) && true) || rest) ≡ true)
@@ -46,7 +46,7 @@ upsert_finds_number a n rest none integer = (
   λ same. and_true_or_false _ rest none ∙ ap (λ v. equal Binary v (int n)) (head_is _ _ _ _ same) ∙ is_equal (int n) refl,
 )
 
--- the test of a DELETE finds a row, whose rowid is `a`, exactly if its number is `n`
+-- the test of a DELETE finds a row, whose rowid is the integer `a`, exactly if its number is `n`
 pub delete_finds_number : (a : Value) (n : ℕ) → is_int a ≡ true
     → ((equal Binary a (int n) && true) ≡ true → ◌≡◌ {A = Row} (a ∷ []) (int n ∷ []))
     × (◌≡◌ {A = Row} (a ∷ []) (int n ∷ []) → (equal Binary a (int n) && true) ≡ true)

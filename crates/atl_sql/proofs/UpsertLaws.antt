@@ -1,6 +1,6 @@
 -- Laws on INSERT .. ON CONFLICT (key) DO UPDATE of one row: which rows the table has afterwards.
 -- `new` is the row to insert, and `r` a row of the table. `db` are the trees before, and `next`, or those of `w`, the
--- trees after.
+-- trees after. A query reads `db'`, which has its temporary tables beside the trees of `db`.
 use Rattle.std.proofs.Common.{◌≡◌, ◌⊎◌, ℕ, ℤ, Bool, true, false, List, [], ◌∷◌, ◌++◌, map, flat_map, Option, Some, None, Ok, Ordering, Less, Equal, Greater, refl, sym, ap, ◌∙◌, subst, inl, inr, true≢false, arith}
 use Rattle.std.specs.Prelude.{cond}
 use Rattle.std.specs.List.{list_all}
@@ -135,7 +135,8 @@ module _ (p : Row → Bool) (f : Row → Env) where
   one_chosen (x ∷ rows) apart r (inr h) is =
       rw (is x (inl refl) ∙ all_has _ rows r apart.0 h, one_chosen rows apart.1 r h (λ y k. is y (inr k)))
 
--- the query of the UPDATE has one answer: the row with the given rowid, and the values to set
+-- The rowids in the tree are integers, no two alike, and a row `r` has the one in column `position` of `given`. Then
+-- the query of the UPDATE has one answer: this rowid, and the values to set.
 pub update_finds_its_row : (tree position : ℕ) (project : List Term) (db db' : Trees) (given : Row) (rows : List Row) (r : Row)
     → AreKeyedByRowid (db tree) → Has (db tree) r → column given position ≡ rowid r → db' tree ≡ db tree
     → IsAnswer (update_query tree position project) db' given rows
@@ -245,7 +246,8 @@ module _ (schema : Schema) (t : Table) (unlinked : (olds news : List Row) → wo
       let hit = are.sound x (inl refl) in
       inr (hit.0, hit.1, hit.2, updates new db hit.0 x w keyed hit.1 hit.3 (aimed hit.0 hit.1) h)
 
-  -- an upsert that ran put the new row, or changed the row with its key (`Upserted`)
+  -- if the rowids in the tree are integers, no two alike, an upsert that ran put the new row, or changed the row with
+  -- its key (`Upserted`)
   pub upserts : (new : Row) (db : Trees) (w : Written) → AreKeyedByRowid (db t.tree)
       → ((r : Row) → Has (db t.tree) r → column (given new r) position ≡ rowid r)
       → Tries upsert_task Abort (conflict_clause target q ∷ []) new db (Ok w) → Upserted new db w.trees

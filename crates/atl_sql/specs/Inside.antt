@@ -49,17 +49,13 @@ DoesBoth First Second old new = (mid : Database) × First old mid × Second mid 
 
 -- afterwards the rows of this table are exactly those of this set, and each other table of a campaign is as it was
 pub record Alters (table : Table) (S : Set) (old new : Database) : Type 0 where
-  -- the rows of the table are exactly those of the set `S`
   pub rows : HasExactly (rows_in table new.trees) S
-  -- each table of a campaign but `table` holds what it held before
   pub others : (t : Table) → Has all_tables t → t.tree ≢ table.tree → new.trees t.tree ≡ old.trees t.tree
 
--- The rows of each part of the list `parts` become what `Becomes` says, and the tables of all other parts are as they
--- were.
+-- The rows of each part of the list `parts` become what `Becomes` says of the rows before and those after; the tables
+-- of all other parts are as they were.
 pub record Changes (Becomes : Part → List Row → List Row → Type 0) (parts : List Part) (old new : Database) : Type 0 where
-  -- the rows of each part of the list `parts` become what `Becomes` says
   pub done : (part : Part) → Has parts part → Becomes part (rows_in (table_of part) old.trees) (rows_in (table_of part) new.trees)
-  -- the tables of all parts that are not in the list `parts` are as they were
   pub others : (part : Part) → ¬ Has parts part → new.trees (table_of part).tree ≡ old.trees (table_of part).tree
 
 -- `Does` is done for each part of the list, one after another
@@ -81,10 +77,10 @@ Drops table key k old new = Alters table (drop_key key k (Has (rows_in table old
 abbrev pub PutsRows : Table → ℕ → List Row → Database → Database → Type 0
 PutsRows table key news old new = Alters table (puts key news (Has (rows_in table old.trees))) old new
 
--- A transaction that succeeded: `Does` is done, if the tables were as `Before` says, and all is committed.
--- The connection is open and in no transaction.
+-- A transaction that succeeded: `Does` is done and other tables are kept (`DoesAndKeeps`), if the tables were as
+-- `Before` says. All is committed. The connection is open and in no transaction.
 pub record Commits (Before : Database → Type 0) (Does : Database → Database → Type 0) (old new : State) : Type 0 where
-  -- `Does` is done, if the tables were as `Before` says
+  -- `Does` is done and other tables are kept (`DoesAndKeeps`), if the tables were as `Before` says
   pub does : Before old.now → DoesAndKeeps Does old.now new.now
   -- all that the tables hold is committed
   pub committed : new.committed ≡ new.now
@@ -103,7 +99,7 @@ pub record LeavesOff (old new : State) : Type 0 where
   -- afterwards the connection is in no transaction
   pub idle : new.in_transaction ≡ false
 
--- what a crash may leave besides what it could have left before: the trees of a database to which `Does` was done,
--- if the tables were as `Before` says
+-- what a crash may leave besides what it could have left before: trees to which `Does` was done, with other tables kept
+-- (`DoesAndKeeps`), if the tables were as `Before` says
 abbrev pub MayLeave : (Database → Type 0) → (Database → Database → Type 0) → State → Trees → Type 0
 MayLeave Before Does old trees = (db : Database) × (Before old.now → DoesAndKeeps Does old.now db) × (trees ≡ db.trees)

@@ -10,9 +10,7 @@ use Rattle.atl_sql.specs.Inside.{Puts}
 -- What the upsert of the campaign row does: into the empty table it inserts one of the values `head` with this world
 -- text. A row of the second format, if it is the only one, gets these values, and keeps its own world text.
 pub record PutsCampaignRow (head : CampaignRowValue) (world : List ℕ) (old new : Database) : Type 0 where
-  -- if the table has no row, the row of the values `head` and the world text `world` is inserted
   pub first : rows_in campaign_table old.trees ≡ [] → Puts campaign_table 1 (campaign_row head world) old new
-  -- a row of the second format, if it is the only one, becomes the row of the values `head`, with its own world text
   pub again : (before : CampaignRowValue) (text : List ℕ)
       → HasExactly (rows_in campaign_table old.trees) (λ r. r ≡ campaign_row before text)
       → Puts campaign_table 1 (campaign_row head text) old new

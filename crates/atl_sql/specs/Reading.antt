@@ -19,23 +19,16 @@ use Rattle.atl_sql.specs.declared.fault.ReadFault.TheVariants.{OtherType, Memory
 
 -- Nothing is committed: an open connection was open before, and its tables are as they were or as last committed.
 pub record Rests (old new : State) : Type 0 where
-  -- a connection that is open afterwards was open before
   pub was_open : IsTrue new.is_open → IsTrue old.is_open
-  -- while the connection is open, its tables are as they were or as last committed, and nothing was committed
   pub same : IsTrue new.is_open → ((new.now ≡ old.committed) ⊎ (new.now ≡ old.now)) × (new.committed ≡ old.committed)
 
 -- `before` is the connection as the SELECT finds it: with the tables and the step limit of `old`.
 -- It is open exactly if `old` is, and its disk has failed no less often.
 pub record IsAsked (old before : State) : Type 0 where
-  -- the connection is open only if `old` is
   pub was_open : IsTrue before.is_open → IsTrue old.is_open
-  -- the connection is open if `old` is
   pub is_open : IsTrue old.is_open → IsTrue before.is_open
-  -- the connection has the tables of `old`
   pub same : before.now ≡ old.now
-  -- the connection has the step limit of `old`
   pub limit : before.step_limit ≡ old.step_limit
-  -- the connection's disk has failed at least as often as that of `old`
   pub faults : old.faults ≤ before.faults
 
 -- `sql` is the text of a SELECT
@@ -53,8 +46,8 @@ module _ {S : Type 0} (g : Ghosts S) (sql : List ℕ) (old : Held S) where
       × FailsToQuery sql [] (state g before) (state g during) e
       × (fault ≡ read_fault e)
 
-  -- The SELECT is asked, whatever the schema is: Ok has the rows that it shows, Err the fault of its refusal.
-  -- This is so if the disk is clean. Nothing is changed.
+  -- The SELECT is asked, whatever the schema is: Ok has the rows that it shows, Err the fault of its refusal, and
+  -- nothing is committed. All this is so if the disk is clean.
   pub record Asks {Z : Type 0} (result : Result (Vec Row Z) ReadFault) (new : Held S) : Type 0 where
     -- Ok has the rows that the SELECT shows.
     pub rows : HasCleanDisk (state g new) → IfOk result (λ rows. Selects rows.items)
@@ -69,8 +62,9 @@ module _ {S : Type 0} (g : Ghosts S) (sql : List ℕ) (old : Held S) where
     -- The connection is in no transaction afterwards.
     pub idle : new.in_transaction ≡ false
 
-  -- All rows that the SELECT shows are read, each value in the form of its column, if the disk is clean.
-  -- Nothing is changed.
+  -- With Ok all rows that the SELECT shows are read, each value in the form of its column. The fault is OtherType for a
+  -- value of another form, or that of the refused SELECT, or Memory. Nothing is committed. All this is so if the disk
+  -- is clean.
   pub record ReadsRows {A Z : Type 0} (forms : List Form) (shown : A → Row)
       (result : Result (Vec A Z) ReadFault) (new : Held S) : Type 0 where
     -- Ok has all rows that the SELECT shows, in their order, and each value is of its column's form.
@@ -95,8 +89,8 @@ module _ {S : Type 0} (g : Ghosts S) (sql : List ℕ) (old : Held S) where
     -- The connection is in no transaction afterwards.
     pub idle : new.in_transaction ≡ false
 
-  -- The rows of a query are read one by one: Ok has all of them, or None; Err has the fault of the refusal.
-  -- When it is None isn't said. Nothing is changed.
+  -- The rows of a query are read one by one: Ok has all of them, or None; Err has the fault of the refusal. Nothing is
+  -- committed. All this is so if the disk is clean. When it is None isn't said.
   pub record Streams {A Z : Type 0} (forms : List Form) (shown : A → Row)
       (result : Result (Option (Vec A Z)) ReadFault) (new : Held S) : Type 0 where
     -- With Ok of a list, it has all rows that the SELECT shows, and each value is of its column's form.
@@ -117,7 +111,7 @@ module _ {S : Type 0} (g : Ghosts S) (sql : List ℕ) (old : Held S) where
     -- The connection is in no transaction afterwards.
     pub idle : new.in_transaction ≡ false
 
--- the list `new` is `old` and then one element read from this row, and the values of the row are of these forms
+-- the list `new` is `old` and then one element read from this row, whose first values are of these forms
 abbrev pub AddsRow : {A : Type 0} → List Form → (A → Row) → List A → Row → List A → Type 0
 AddsRow forms shown old row new =
     (one : _) × (new ≡ old ++ one ∷ []) × (shown one ≡ first_columns (length forms) row) × IsTyped forms row

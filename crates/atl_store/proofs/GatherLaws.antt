@@ -107,7 +107,8 @@ module _ {S : Type 0} (g : Ghosts S) where
   -- ---- one table
 
   -- `sql` is the SELECT of the table of `part`, `forms` are the forms of its columns, and `shown` gives the row as SQL
-  -- shows it of one that was read
+  -- shows it of one that was read. Before the read the connection is in no transaction (`idle`) and, on a clean disk,
+  -- all is committed (`settled`).
   module _ {A : Type 0} (sql : List ℕ) (forms : List Form) (shown : A → Row) (part : Part) (old new : Held S) (settled : IsCommitted (state g old)) (idle : old.in_transaction ≡ false) where
     abbrev this_select : List (List ℕ × List Form)
     this_select = (sql, forms) ∷ []

@@ -198,7 +198,8 @@ module _ (n : ℕ) (f : Faction) (m : ℕ) (u : Unit) (report : List ℕ) (after
             (λ e. free (inr (inr (inr (inl (same_part part Reports e)))))) (λ e. free (inr (inr (inr (inr (inl (same_part part Books e)))))));
       }
 
-  -- tables that held the campaign before a join (`a`) hold the one after it, `after`, once the join is written (`d`)
+  -- Tables that held the campaign before a join (`a`) hold the one after it, `after`, once the join is written (`d`).
+  -- The premise `found` is that `after` has the faction, its report and its unit, which came last (`HasArrivalWith`).
   pub join_held : (a d : Database) → WritesJoin n after a d → (text : List ℕ) (before : CampaignValue)
       → IsJoining before n after → Holds a.trees text before → Holds d.trees text after
   unfolding after_join

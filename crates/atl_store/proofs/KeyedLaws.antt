@@ -197,27 +197,24 @@ module _ {A : Type 0} {part : Part} {stored : RowWithId A → Row} {values : A �
   pub placed_apart : HaveDistinctIntegers (column_count part) (map stored placed) → HaveDistinctRowids placed
   placed_apart keys = numbers_apart stored (λ s. s.rowid) (column_count part) is.place_is placed keys.apart
 
--- a row of the table `has` is shown as its values and after them the rowid
 pub has_placed : IsPlacedAs Goods has_stored has_row_values
 has_placed = record { values_are = λ s. refl; place_is = λ s. refl }
 
--- a row of `books` is shown as its values and after them the rowid
 pub books_placed : IsPlacedAs Books books_stored books_values
 books_placed = record { values_are = λ s. refl; place_is = λ s. refl }
 
--- a row of `market` is shown as its values and after them the rowid
 pub market_placed : IsPlacedAs Markets market_stored market_values
 market_placed = record { values_are = λ s. refl; place_is = λ s. refl }
 
 -- ---- the rows that are to be checked
 
 -- A part is made of what was read: its rows to be checked are the rows read, without their rowids.
--- The rowids are integers, no two alike.
+-- Where it is shown with rowids, these are integers, no two alike.
 pub record IsMadeAs (p : Parts) (read : Part × List Row) : Type 0 where
   pub rows : (text : List ℕ) → rows_read text p read.0 ≡ without_ids read.0 read.1
   pub apart : shows_rowids read.0 ≡ true → HaveDistinctIntegers (column_count read.0) read.1
 
--- a part that is shown without rowids is made of the rows that were read (`IsMadeAs`)
+-- a part that is shown without rowids is made of the rows that were read (`IsMadeAs`), if `p` has these rows of it
 pub made_whole : {p : Parts} {rows : List Row} (part : Part) → shows_rowids part ≡ false
     → ((text : List ℕ) → rows_read text p part ≡ rows) → IsMadeAs p (part, rows)
 made_whole {p} {rows} part free are = record {
@@ -225,8 +222,8 @@ made_whole {p} {rows} part free are = record {
   apart = λ placed. absurd (true≢false (sym placed ∙ free));
 }
 
--- a part that is shown with rowids is made of the rows that were read without them (`IsMadeAs`), if no two rowids are
--- alike
+-- a part that is shown with rowids is made of what was read (`IsMadeAs`), if `p` has the rows that were read, without
+-- their rowids, and no two rowids are alike
 pub made_placed : {p : Parts} {A : Type 0} {part : Part} {stored : RowWithId A → Row} {values : A → Row}
     → IsPlacedAs part stored values → shows_rowids part ≡ true → (placed : List (RowWithId A))
     → ((text : List ℕ) → rows_read text p part ≡ map values (map (λ s. s.row) placed)) → HaveDistinctRowids placed → IsMadeAs p (part, map stored placed)

@@ -192,8 +192,8 @@ module _ (f : Format) {S : Type 0} (g : Ghosts S) where
   may_return_memory : (old : Held S) → old.in_transaction ≡ false → KeepsOneRow f g old → MayReturnMemory g old
   may_return_memory old idle kept = (idle, inr (kept.rows, kept.selects))
 
-  -- outside a transaction, with the format's schema, a fault of checking the rows refuses the load: Damaged with the
-  -- first broken rule, or Memory
+  -- outside a transaction, with the format's schema, once all tables were read (`GathersAll`), a fault of checking the
+  -- rows refuses the load: Damaged with the first broken rule, or Memory
   pub judged_damaged : (old : Held S) → old.in_transaction ≡ false → (w : WorldValue) (p : Parts)
       → GathersAll f g old w p → HasTablesOf f old.schema → (fault : CheckFault) → Checks f w p (Err fault)
       → RefusesToLoadIn f g old (fault_of_check fault)
@@ -202,7 +202,8 @@ module _ (f : Format) {S : Type 0} (g : Ghosts S) where
 
   -- ---- what else refuses the load after the first rule holds
 
-  -- outside a transaction, once the campaign row was read, a fault of reading the other tables refuses the load
+  -- outside a transaction, if the campaign row keeps the first rule, a fault of reading the other tables refuses the
+  -- load
   pub unread_refuses : (old mid : Held S) → old.in_transaction ≡ false → KeepsOneRow f g old → AfterReads g old mid
       → (fault : LoadFault) → FailsToRead g mid (other_selects f) fault → RefusesToLoadIn f g old fault
   unread_refuses old mid idle kept first fault fails = refused fault (fails_then g old mid first (other_selects f) fault fails)
@@ -214,7 +215,7 @@ module _ (f : Format) {S : Type 0} (g : Ghosts S) where
       refused OtherFormat fails = absurd fails
       refused Memory fails = may_return_memory old idle kept
 
-  -- the tables are tested on a connection after reads, with a clean disk
+  -- the tables are tested on a connection after reads, with a clean disk, and the campaign row keeps the first rule
   module _ (old mid : Held S) (kept : KeepsOneRow f g old) (first : AfterReads g old mid) (clean : HasCleanDisk (state g mid)) where
     was_open : IsTrue (state g old).is_open
     was_open = kept.selects.2.was_open (shown_open (selection campaign_table 1) _ _ kept.rows kept.selects.3)
@@ -246,8 +247,9 @@ module _ (f : Format) {S : Type 0} (g : Ghosts S) where
     unconfirmed_refuses idle typed OtherFormat fails = absurd fails
     unconfirmed_refuses idle typed Memory fails = may_return_memory old idle kept
 
--- The campaign row `own` was read between `old` and `mid`, and then the other tables between `mid` and `new`. What was
--- read of these is `o`, None if a value is of another type than its column; `rows` gives its rows by part.
+-- On a clean disk the campaign row `own` was read between `old` and `mid`, and then the other tables between `mid` and
+-- `new`. What was read of these is `o`, None if a value is of another type than its column; `rows` gives its rows by
+-- part.
 module _ (f : Format) {S : Type 0} (g : Ghosts S) {A : Type 0} (rows : A → ReadRows) (old mid new : Held S) (own : StoredCampaign) (w : WorldValue) (row : OwnRead g old f own w) (before : AfterReads g old mid) (r : Result (Option A) LoadFault)
     (reads : ReadsSome g mid (other_selects f) (λ a. AreOfFormat f (state g mid).now (rows a)) r new) (o : Option A) (was : r ≡ Ok o) (clean : HasCleanDisk (state g new)) where
   found : (says : Option A) → o ≡ says
@@ -290,7 +292,7 @@ module _ {S : Type 0} (g : Ghosts S) where
   is_idle auto true is said = absurd (let k = sym is ∙ said in cc)
   is_idle auto false is said = refl
 
-  -- if the tables are confirmed after some reads, the tables before these reads are
+  -- on a clean disk, if the tables are confirmed after some reads, the tables before these reads are
   pub confirmed_before : (f : Format) (old mid new : Held S) → AfterReads g old mid → AfterReads g mid new
       → HasCleanDisk (state g mid) → HasCleanDisk (state g new) → IsConfirmed f (state g mid) (state g new)
       → IsConfirmed f (state g old) (state g new)

@@ -41,20 +41,17 @@ one_mapped f [] y is = absurd (let k = is in cc)
 one_mapped f (x ∷ []) y is = (x, refl, let k = is in cc)
 one_mapped f (x ∷ z ∷ xs) y is = absurd (let k = is in cc)
 
--- a row as it was read equals a row with this world text
+-- SQL shows the row `own` and the row `h` with this text alike: both have the same id, format and text
 module _ (own : StoredCampaign) (h : StoredCampaignRow) (text : List ℕ) (is : campaign_stored own ≡ own_stored text h) where
   same_column : (n : ℕ) → column (campaign_stored own) n ≡ column (own_stored text h) n
   same_column n = ap (λ r. column r n) is
 
-  -- if SQL shows the row `own` and the row `h` with this text alike, both have one id
   pub same_id : own.head.id ≡ h.id
   same_id = let e = same_column 0 in cc
 
-  -- if SQL shows the row `own` and the row `h` with this text alike, both have one format
   pub same_format : own.head.format ≡ h.format
   same_format = let e = same_column 1 in cc
 
-  -- if SQL shows the row `own` and the row `h` with this text alike, `own` has this text
   pub same_text : own.world ≡ text
   same_text = let e = same_column 7 in cc
 

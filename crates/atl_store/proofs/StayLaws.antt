@@ -1,8 +1,10 @@
 -- Laws on what a connection keeps after a transaction: the campaign after a commit or before a fault, and other tables.
 -- `old` is the state before the transaction, and `new` after its commit or its end by a fault. The transaction does
 -- `Does` to tables that are as `Before` says. As a parameter, `Commits` says which trees a crash may leave besides
--- those that it could have left before.
--- `text` is the world text, and `g` the kind of store, in memory or in files.
+-- those that it could have left before. `text` is the world text, and `g` the kind of store, in memory or in files.
+-- Other tables are left alone (`LeavesOthersAlone`): no table or index is gone, and tables that aren't the campaign's
+-- hold what they held. This is said only if the connection is open afterwards, and before it had the tables of a
+-- campaign and nothing uncommitted.
 use Rattle.std.proofs.Common.{◌≡◌, ◌≢◌, ℕ, Bool, true, false, cond, List, IsTrue, Result, Ok, Err, OnErr, IfErr, IsErrAnd, refl, sym, ap, ◌∙◌, subst, inl, inr, arith}
 use Rattle.sqlite_trees.specs.Tree.{Trees}
 use Rattle.sqlite_trees.specs.declared.store.Store.{Ghosts}
@@ -48,8 +50,8 @@ module _ (old new : State) (text : List ℕ) (settled : (db : Trees) → IsTrue 
         crash = λ db may. subst (λ t. Stores t text after) (sym (settled db done.is_open may ∙ ap (λ (d : Database). d.trees) done.committed)) (held_campaign_is_stored new.now text after did.tables rows);
       }
 
-  -- on a clean disk a failed transaction leaves the campaign that was kept, and a crash leaves it or the one after
-  -- (`LeavesAfterFault`)
+  -- On a clean disk a failed transaction leaves the campaign that was kept, `before`. A crash leaves this one or the
+  -- one that `Does` makes the tables hold, `after` (`LeavesAfterFault`).
   pub leaves_stops : (Does : Database → Database → Type 0) (before after : CampaignValue) → HasCleanDisk new
       → LeavesOff old new → Survives old new (MayLeave HasTables Does old) → Keeps old text before
       → ((db : Database) → Does old.now db → Holds db.trees text after)
@@ -142,13 +144,12 @@ pub survives_is_later : (old new : State) (Commits : Trees → Type 0) → Survi
 survives_is_later old new Commits survives =
     record { clean = λ clean. omega (arith, survives.clean); counts = survives.counts; shield = survives.shield }
 
--- after a commit no table or index is gone, and tables that aren't the campaign's hold what they held, if `Before`
--- holds wherever all tables of a campaign are there
+-- a commit leaves other tables alone, if `Before` holds wherever all tables of a campaign are there
 pub commit_leaves_others : (old new : State) (Before : Database → Type 0) (Does : Database → Database → Type 0)
     → Commits Before Does old new → (HasTables old.now → Before old.now) → LeavesOthersAlone old new
 commit_leaves_others old new Before Does done before up has settled = (done.does (before has)).carries
 
--- after a failed transaction no table or index is gone, and tables that aren't the campaign's hold what they held
+-- a failed transaction leaves other tables alone
 pub leaves_others : (old new : State) → LeavesOff old new → LeavesOthersAlone old new
 leaves_others old new off up has settled =
     subst (Carries old.now) (sym ((off.undone up).0 ∙ settled)) (carries_none old.now)

@@ -258,7 +258,7 @@ pub record HaveDistinctIntegers (at : ℕ) (rows : List Row) : Type 0 where
 pub record AllHaveDistinctRowids (reads : ReadRows) : Type 0 where
   pub each : (read : Part × List Row) → Has reads read → shows_rowids read.0 ≡ true → HaveDistinctIntegers (column_count read.0) read.1
 
--- the rows of a part without the rowids that they are shown with
+-- the rows of a part without the rowids that they are shown with; where they are shown without, just the rows
 abbrev pub without_ids : Part → List Row → List Row
 without_ids part rows = if shows_rowids part then map (take (column_count part)) rows else rows
 

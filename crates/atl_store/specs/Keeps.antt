@@ -30,7 +30,6 @@ pub record Stores (db : Trees) (text : List ℕ) (c : CampaignValue) : Type 0 wh
   pub begins : HasAll schema
   -- the file's trees list the schema and obey it, and in each of the ten tables the rowids are integers, no two alike
   pub sound : IsSoundDatabase schema db
-  -- the tables hold exactly the rows of the text and the campaign
   pub rows : Holds db text c
 
 -- The connection is open and in no transaction, and its tables hold exactly the rows of the text and the campaign.
@@ -42,7 +41,6 @@ pub record Keeps (s : State) (text : List ℕ) (c : CampaignValue) : Type 0 wher
   pub settled : s.committed ≡ s.now
   -- the database has the tables of a campaign, and its trees are sound (`HasTables`)
   pub tables : HasTables s.now
-  -- the tables hold exactly the rows of the text and the campaign
   pub rows : Holds s.now.trees text c
   -- a crash leaves a file that stores just this campaign
   pub crash : (db : Trees) → s.may_leave db → Stores db text c
@@ -56,26 +54,19 @@ HoldsCampaign g conn text c = HasCleanDisk (state g conn) → Keeps (state g con
 -- The connection is shut only if the disk failed again. A crash leaves the campaign `before` or `after`, never a part.
 -- `faults` counts the failures of the disk before the call.
 pub record LeavesAfterFault (faults : ℕ) (s : State) (text : List ℕ) (before after : CampaignValue) : Type 0 where
-  -- while the connection is open it keeps the campaign `before`
   pub still : IsTrue s.is_open → Keeps s text before
-  -- the connection is open, or the disk failed again
   pub shuts : IsTrue s.is_open ⊎ MoreFaults faults s.faults
-  -- a crash leaves a file that stores the campaign `before` or the campaign `after`
   pub crash : (db : Trees) → s.may_leave db → Stores db text before ⊎ Stores db text after
 
 -- The same connection later: a disk that is clean now was clean before, and no failure of it is forgotten.
--- A connection whose reads are tested against digests (shielded) stays such a connection.
+-- A connection that compares its reads with digests of what was written (shielded) stays such a connection.
 pub record IsLater (old new : State) : Type 0 where
-  -- a disk that is clean now was clean before
   pub clean : HasCleanDisk new → HasCleanDisk old
-  -- no failure of the disk is forgotten
   pub counts : old.faults ≤ new.faults
-  -- a connection that compares its reads with digests of what was written (docs/PROVED.md, "Premises") stays such a
-  -- connection
   pub shield : old.IsShielded → new.IsShielded
 
 -- No table or index is gone, and tables that aren't the campaign's hold what they held.
--- The premises: the connection is open, and before it had the tables of a campaign and nothing uncommitted.
+-- The premises: the connection is open afterwards, and before it had the tables of a campaign and nothing uncommitted.
 abbrev pub LeavesOthersAlone : State → State → Type 0
 LeavesOthersAlone old new = IsTrue new.is_open → HasTables old.now → old.committed ≡ old.now → Carries old.now new.now
 
@@ -84,10 +75,8 @@ LeavesOthersAlone old new = IsTrue new.is_open → HasTables old.now → old.com
 -- Nothing is changed: while the connection is open, its tables, its last commit and its transaction are as they were.
 -- Only a new failure of the disk shuts it.
 pub record ChangesNothing (old new : State) : Type 0 where
-  -- while the connection is open its tables, its last commit and its transaction are as they were
   pub same : IsTrue new.is_open
       → (new.now ≡ old.now) × (new.committed ≡ old.committed) × (new.in_transaction ≡ old.in_transaction)
-  -- an open connection stays open, unless the disk failed again
   pub shuts : IsTrue old.is_open → IsTrue new.is_open ⊎ MoreFaults old.faults new.faults
 
 -- a crash after the call (`new`) leaves what it could have left before it (`old`), or a file that stores this campaign
@@ -97,24 +86,19 @@ MayLeaveCampaign old text c new = (db : Trees) → new.may_leave db → old.may_
 -- With Ok of `create` there was no table `campaign`, and the connection holds the campaign, if the disk is clean.
 -- The connection is in no transaction.
 pub record Creates {S : Type 0} (g : Ghosts S) (text : List ℕ) (c : CampaignValue) (old new : Held S) : Type 0 where
-  -- before `create` there was no table `campaign`
   pub fresh : has_campaign old.schema ≡ false
-  -- after `create` the connection is in no transaction
   pub idle : new.in_transaction ≡ false
-  -- after `create` the connection holds the campaign, if the disk is clean
   pub tables : HoldsCampaign g new text c
 
 -- What Store and Memory of `create` leave: there was no table `campaign`, and nothing is changed, if the disk is clean.
--- A crash leaves what it could have left before, or the campaign.
+-- A crash then leaves what it could have left before, or the campaign.
 pub record FailsToCreate {S : Type 0} (g : Ghosts S) (text : List ℕ) (c : CampaignValue) (old new : Held S) : Type 0 where
-  -- before `create` there was no table `campaign`
   pub fresh : has_campaign old.schema ≡ false
-  -- nothing is changed, if the disk is clean
   pub tables : HasCleanDisk (state g new) → ChangesNothing (state g old) (state g new)
   -- a crash leaves what it could have left before, or the campaign, if the disk is clean
   pub crash : HasCleanDisk (state g new) → MayLeaveCampaign (state g old) text c (state g new)
 
--- the database has no table, index or view, and the connection is in no transaction
+-- the schema of the database has nothing (`IsBlank`), and the connection is in no transaction
 abbrev pub IsReadyToCreate : State → Type 0
 IsReadyToCreate s = IsBlank s.now × (s.in_transaction ≡ false)
 
@@ -127,9 +111,9 @@ pub record BreaksOffCreation {S : Type 0} (g : Ghosts S) (text : List ℕ) (c : 
   -- if the disk is clean, the fault is that of an error of a statement of `create`, or of its commit
   pub reports_error : HasCleanDisk (state g new) → IsFaultOfError g (OfFounding text c) create_fault old new fault
 
--- When `create` may return each fault: NotEmpty if there is a table `campaign`, and Store if the database isn't ready;
--- then nothing at all is changed. Store and Memory also come if `create` broke off: on a clean disk this changes
--- nothing, and a crash leaves what it could have left before, or the campaign (`FailsToCreate`).
+-- When `create` may return each fault: NotEmpty if there is a table `campaign`; Store if there is none, and the
+-- database isn't ready. Then nothing at all is changed. Store and Memory also come if `create` broke off: on a clean
+-- disk this changes nothing, and a crash leaves what it could have left before, or the campaign (`FailsToCreate`).
 abbrev pub RefusesToCreate : {S : Type 0} → Ghosts S → List ℕ → CampaignValue → Held S → Held S → CreateFault → Type 0
 RefusesToCreate g text c old new NotEmpty = IsTrue (has_campaign old.schema) × (new ≡ old)
 RefusesToCreate g text c old new Store =

@@ -142,9 +142,7 @@ tables_with_rowids f = map table_of (filter shows_rowids (parts_in f))
 
 -- a connection that is open was open before, and its tables and its last commit are as they were
 pub record TablesStay (old new : State) : Type 0 where
-  -- if the connection is open now, it was open before
   pub was_open : IsTrue new.is_open → IsTrue old.is_open
-  -- while the connection is open its tables and its last commit are as they were before
   pub same : IsTrue new.is_open → (new.now ≡ old.now) × (new.committed ≡ old.committed)
 
 -- The connection after reads: it is in no transaction, and its tables are as they were, if the disk is clean
@@ -299,8 +297,10 @@ module _ (f : Format) {S : Type 0} (g : Ghosts S) (old : Held S) where
     -- the SELECT doesn't show just one row with the number of the other format (the fault for that is OtherFormat)
     pub of_format : ¬ AreOfOtherFormat f rows
 
-  -- When Damaged may be returned with each rule: it is the first rule that the rows break.
-  -- Ranges also comes if the first rule is kept and a value of another table is of another type than its column.
+  -- When Damaged may be returned with each rule: it is the first rule that the rows break, in tables made as the format
+  -- has them. OneRow comes however the tables are made, but not for one row of the other format.
+  -- Ranges also comes, however they are made, if the first rule is kept and a value of another table is of another type
+  -- than its column.
   abbrev pub MayReturnDamaged : Rule → Type 0
   MayReturnDamaged rules.OneRow = BreaksOneRow
   MayReturnDamaged rules.Ranges = (KeepsOneRow × HasOtherType g old (other_selects f)) ⊎ BreaksRule rules.Ranges
@@ -341,7 +341,8 @@ module _ (f : Format) {S : Type 0} (g : Ghosts S) (old : Held S) where
 
   -- When loading in the format `f` may return each fault. NotACampaign: the SELECT of `campaign` is refused, but not
   -- for memory or a failure (`is_failure`). OtherFormat: this SELECT shows one row, of the other format.
-  -- Store, Damaged and Memory: as said above (`MayReturnStore`, `MayReturnDamaged`, `MayReturnMemory`).
+  -- Store: a transaction is open, or a SELECT is refused, or the tables can't be confirmed (`MayReturnStore`).
+  -- Damaged: the rows break this rule (`MayReturnDamaged`). Memory: memory runs out (`MayReturnMemory`).
   abbrev pub RefusesToLoadIn : LoadFault → Type 0
   RefusesToLoadIn Store = MayReturnStore
   RefusesToLoadIn (Damaged rule) = MayReturnDamaged rule
@@ -382,7 +383,7 @@ pub record LoadsIn (f : Format) {S : Type 0} (g : Ghosts S) (old new : Held S)
 -- ---- loading in the second format
 
 module _ {S : Type 0} (g : Ghosts S) (old : Held S) where
-  -- when `load` may return each fault: as loading in the second format does
+  -- when `load` may return each fault: as loading in the second format does, with OldFormat in place of OtherFormat
   abbrev pub RefusesToLoad : StoreFault → Type 0
   RefusesToLoad store.Store = RefusesToLoadIn Second g old Store
   RefusesToLoad (store.Damaged rule) = RefusesToLoadIn Second g old (Damaged rule)

@@ -1,7 +1,7 @@
 -- Laws on what single statements make of a table: a row put under its number, and an amount of the books written.
 -- `c` is the campaign that is written; `e` and `t` are the entry and the thing of an amount in its books. `old` is the
 -- database before a statement, and `new` after it. As lists, `rows` are the rows of a table before, and `news` those
--- after. `line` makes the row of a number and its value.
+-- after. `line` makes the row of a number and its value, which begins with the number (`numbered`).
 use Rattle.std.proofs.Common.{◌≡◌, ◌≢◌, ◌⊎◌, ◌+◌, ℕ, ℤ, pos, List, [], ◌∷◌, take, None, refl, sym, ap, ◌∙◌, subst, inl, inr, arith}
 use Rattle.std.specs.Prelude.{◌↔◌}
 use Rattle.std.specs.Ordering.{nat_cmp, int_eq}

@@ -1,7 +1,7 @@
 -- Laws on maps by number: look-ups find just the entries, and a table filled with the entries' rows has the map's rows.
--- `m` is a map, and `es` a list of numbers with values, such as its entries; `line` makes the row of a number and its
--- value. `key` says how many columns, the first ones, are the key of a row. `old` are the rows of a table before the
--- rows `news` are put into it, and `rows` those after.
+-- `m` is a map, and `es` a list of numbers with values, such as its entries. `line` makes the row of a number and its
+-- value; that the row begins with the number is `numbered`. The first `key` columns of a row are its key. `old` are the
+-- rows of a table before the rows `news` are put into it, and `rows` those after.
 use Rattle.std.proofs.Common.{◌≡◌, ◌≢◌, ◌⊎◌, ℕ, true, false, cond, List, [], ◌∷◌, ◌++◌, take, Some, Less, Equal, Greater, refl, sym, ap, ◌∙◌, subst, inl, inr, true≢false}
 use Rattle.std.specs.List.{flat_map}
 use Rattle.std.specs.Ordering.{nat_cmp, is_eq, is_lt}

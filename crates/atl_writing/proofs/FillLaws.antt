@@ -46,7 +46,8 @@ module _ (c : CampaignValue) where
       one_changed (Fills c (row_of_campaign text c)) Own _ old new (did.first none)
       (λ rows empty. empty_table_has_put_row _ _ (row_of_campaign text c) empty rows)
 
-  -- putting one row for each entry of `m` fills a part, if the rows that the part has to have are those of `m`
+  -- putting one row for each entry of `m`, which begins with the entry's number, fills a part, if the rows that the
+  -- part has to have are those of `m`
   pub numbered_filled : {V : Type 0} (part : Part) (line : ℕ → V → Row)
       → ((n : ℕ) (v : V) → take 1 (line n v) ≡ int n ∷ []) → (m : FinMap nat_cmp V)
       → ((own : Row) (rows : List Row) → HasExactly rows (RowsOf line m) → HasExactly rows (rows_for own c part))

@@ -52,14 +52,15 @@ rewritten_as one other P Q same are after before is r =
 
 -- the rows of the part are those that `line` makes of the numbers and `values` that the campaign has
 module _ {V : Type 0} (part : Part) (line : ℕ → V → Row) (values : CampaignValue → FinMap nat_cmp V) (are : (own : Row) (c : CampaignValue) (r : Row) → rows_for own c part r ↔ RowsOf line (values c) r) where
-  -- to put the row of a value of the campaign is a statement of the campaign's rows (`OfRow`)
+  -- to put the row of a value of the campaign is a statement of the campaign's rows (`OfRow`), if the key is one column
   pub puts_line : key_width_of part ≡ 1 → (c : CampaignValue) (r : Row) → RowsOf line (values c) r
       → OfRow c (upsert (table_of part) 1) r
   puts_line key c r is =
       subst (λ k. OfRow c (upsert (table_of part) k) r) key (puts_row part (λ own. (are own c r).1 is))
 
   module _ (numbered : (n : ℕ) (v : V) → take 1 (line n v) ≡ int n ∷ []) where
-    -- to delete the row of a number that no value of the campaign has is a statement of a change (`OfChange`)
+    -- if the key is one column, and rows begin with their numbers, to delete the row of a number that the campaign
+    -- lacks is a statement of a change (`OfChange`)
     pub drops_none : key_width_of part ≡ 1 → (c : CampaignValue) (n : ℕ) → get (values c) n ≡ None
         → OfChange c (deletion (table_of part) 1) (int n ∷ [])
     drops_none key c n none = subst (λ k. OfChange c (deletion (table_of part) k) (int n ∷ [])) key (drops_row part (
@@ -70,7 +71,7 @@ module _ {V : Type 0} (part : Part) (line : ℕ → V → Row) (values : Campaig
           absurd (let there = sym of.2 ∙ ap (get (values c)) number ∙ none in cc),
     ))
 
-    -- putting the rows of all entries fills the part's table, if it was empty (`FillsPart`)
+    -- putting the rows of all entries, each beginning with its number, fills the part (`FillsPart`)
     pub kept_filled : (c : CampaignValue) (es : List (ℕ × V)) → es ≡ entries (values c) → (old new : Database)
         → PutsRows (table_of part) 1 (rows_in_order line es) old new → FillsPart c part old new
     kept_filled c =

@@ -71,7 +71,8 @@ module _ (c : MarkedCampaign) where
   own_rewritten old new did before text was =
       one_changed (Becomes c (own_after c before text)) Own _ old new (did before text was) (λ rows. rows)
 
-  -- rewriting a table's marked rows rewrites its part (`RewritesParts`), if its rows don't depend on the campaign row
+  -- rewriting a table's marked rows rewrites its part (`RewritesParts`), if its rows don't depend on the campaign row,
+  -- for which the empty row `[]` stands here
   pub part_rewritten : (part : Part)
       → ((own : Row) (before after : List Row) → Becomes c [] part before after → Becomes c own part before after)
       → (old new : Database)

@@ -46,7 +46,7 @@ pub record Remaining (table : Table) (Wanted : Set) (rest all : Row → Bool) (o
   pub others : (t : Table) → Has all_tables t → t.tree ≢ table.tree → now.trees t.tree ≡ old.trees t.tree
 
 module _ (table : Table) (Wanted : Set) where
-  -- before the first step all rows that `all` chooses are left to rewrite
+  -- before the first step all rows that `all` chooses are left to rewrite, if `rest` chooses the same rows
   pub all_remaining : (rest all : Row → Bool) → ((r : Row) → rest r ≡ all r) → (s : State)
       → DoesInside HasTables (Remaining table Wanted rest all) s s
   all_remaining rest all same s = (
@@ -185,7 +185,7 @@ module _ (table : Table) (Wanted : Set) where
       (λ r. first_column_passes (is_among all) r)
       (λ r. ap (λ ns. first_column_passes (is_among ns) r) is ∙ next_number n rest r)
 
-  -- when no number is left to rewrite, the rows of all marked numbers are rewritten
+  -- when no number is left to rewrite, the rows of all marked numbers are rewritten, if these are the numbers `all`
   pub numbers_rewritten : (marks : FinSet nat_cmp) (rest all : List ℕ) → rest ≡ [] → from_list all ≡ marks
       → (old new : State)
       → DoesInside HasTables (RemainingNumbers rest all) old new
@@ -213,7 +213,8 @@ module _ (p : Row → Bool) (Key New Wanted : Set) (found : (r : Row) → p r �
       back true is wanted = inl (olds r is wanted)
       back false is was = inr (was, λ key. true≢false (sym (finds r key) ∙ is))
 
-  -- replacing the rows of a key by the wanted rows of the key rewrites the rows that the test finds, and no others
+  -- replacing the rows of a key by the wanted rows of the key, with all other tables as they were, rewrites the rows
+  -- that the test finds, and no others
   pub rewrites_key : (table : Table) (old new : Database)
       → ((r : Row) → Has (rows_in table new.trees) r ↔ (New r ⊎ (Has (rows_in table old.trees) r × ¬ Key r)))
       → ((t : Table) → Has all_tables t → t.tree ≢ table.tree → new.trees t.tree ≡ old.trees t.tree)
@@ -229,7 +230,8 @@ kept_only (inr kept) = kept
 
 -- ---- a row that is put or deleted
 
--- `line` makes the row of a number and its value, `values` are the values by number, and `n` is a number
+-- `line` makes the row of a number and its value, which begins with the number (`numbered`); `values` are the values by
+-- number, and `n` is a number
 module _ {V : Type 0} (table : Table) (line : ℕ → V → Row) (numbered : (n : ℕ) (v : V) → take 1 (line n v) ≡ int n ∷ []) (values : FinMap nat_cmp V) (n : ℕ) where
   wanted_at : (r : Row) → first_column_passes (equals_number n) r ≡ true → RowsOf line values r
       → (v : V) × (get values n ≡ Some v) × (r ≡ line n v)

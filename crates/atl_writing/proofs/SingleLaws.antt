@@ -112,7 +112,8 @@ module _ (table : Table) (Wanted : Set) (finds : (ℕ → ℕ → Bool) → Row 
           one_less_amount (is_owner_and_thing owner x.0) (is_key owner now) (is_key owner rest) (is_key owner all)
           (λ n t. ap (λ es. is_key owner es n t) is ∙ and-or_distrib_left (equals_number owner n) (equals_number x.0 t) (is_among (map (λ e. e.0) rest) t))
 
-      -- when no thing of an owner is left to rewrite, all amounts of the owner's listed things are rewritten
+      -- when no thing of an owner is left to rewrite, the amounts of all its things, those of the map `numbers`, are
+      -- rewritten
       pub singles_rewritten : (owner : ℕ) (numbers : FinMap nat_cmp V) (rest all : List (ℕ × V)) → rest ≡ []
           → all ≡ entries numbers → (old new : State)
           → DoesInside HasTables (RemainingSingles (is_key owner rest) (is_key owner all)) old new
@@ -133,7 +134,7 @@ module _ (table : Table) (Wanted : Set) (finds : (ℕ → ℕ → Bool) → Row 
           one_less_amount (is_owner_and_listed x.0 x.1) (is_listed now) (is_listed rest) (is_listed all)
           (λ n t. ap (λ es. is_listed es n t) is)
 
-    -- when no owner is left to rewrite, all single marked amounts are rewritten
+    -- when no owner is left to rewrite, all single marked amounts, those in `things`, are rewritten
     pub owners_rewritten : (things : MarkedThings) (rest all : List (ℕ × FinMap nat_cmp (Unit {0}))) → rest ≡ []
         → all ≡ entries things → (old new : State)
         → DoesInside HasTables (RemainingSingles (is_listed rest) (is_listed all)) old new

@@ -57,7 +57,8 @@ module _ {S : Type 0} (g : Ghosts S) {own : Statements} {A : Type 0} {r : Result
       two_steps g (λ old mid new first second. inside_weaker HasTables (DoesBoth First Second) Does old new (λ has did. both old.now did.0 new.now did.1 did.2) (inside_then HasTables First Second old mid new first second)) one two
 
 module _ {S : Type 0} (g : Ghosts S) (old begun mid end : Held S) (begins : begun ≡ record old { in_transaction = true }) (Before : Database → Type 0) (Does : Database → Database → Type 0) where
-  -- BEGIN, step and end together: on a clean disk a crash leaves what it could before, or the step done (`Survives`)
+  -- BEGIN, step and end together: on a clean disk a crash leaves what it could before, or the step done (`Survives`).
+  -- Premises: what a crash may leave is unchanged by the step; the end adds at most the tables after the step.
   pub crash_after : Survives (state g begun) (state g mid) (λ _. ⊥)
       → (HasCleanDisk (state g mid) → DoesInside Before Does (state g begun) (state g mid))
       → Survives (state g mid) (state g end) (λ db. db ≡ (state g mid).now.trees)
@@ -72,7 +73,8 @@ module _ {S : Type 0} (g : Ghosts S) (old begun mid end : Held S) (begins : begu
       ))
       (survives_begin g old (state g mid) _ (rw begins at one)) two
 
-  -- BEGIN, step and commit together: on a clean disk the step is done and all is committed (`Commits`)
+  -- BEGIN, step and commit together: on a clean disk the step is done and all is committed (`Commits`), if the commit
+  -- succeeds
   pub committed_after : (HasCleanDisk (state g mid) → DoesInside Before Does (state g begun) (state g mid))
       → Survives (state g mid) (state g end) (λ db. db ≡ (state g mid).now.trees)
       → (HasCleanDisk (state g end) → IsTrue (state g mid).in_transaction × Shows (state g mid) (state g end) (state g mid).now (state g mid).now false × KeepsCounts (state g mid) (state g end) × ((state g end).marks ≡ []))

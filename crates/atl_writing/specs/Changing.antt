@@ -38,7 +38,7 @@ abbrev pub own_after : MarkedCampaign → CampaignRowValue → List ℕ → Row
 own_after c before text = campaign_row (campaign_row_after c.marks.row c.value before) text
 
 -- In each table the rows with a marked key become those that the campaign has, and all others stay (`AreRewritten`).
--- The campaign row said `before`; it keeps this world text.
+-- The campaign row said `before`, which it still says unless it is marked; it keeps this world text.
 pub record WritesMarked (c : MarkedCampaign) (before : CampaignRowValue) (text : List ℕ) (old new : Database) : Type 0 where
   pub rows : (part : Part)
       → AreRewritten (table_of part) (is_marked c.marks part) (rows_for (own_after c before text) c.value part) old new

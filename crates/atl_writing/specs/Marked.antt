@@ -1,4 +1,5 @@
 -- Which rows of each table are marked, by the marks of a campaign. The table `has` has the items and skills of units.
+-- A test of a row is false where a column that it looks at is missing or isn't a whole number from 0.
 use Rattle.std.specs.Prelude.{◌==◌, ◌+◌, ◌*◌, ◌&&◌, ◌||◌, ℕ, Bool, true, false, pos, suc, is_some, nat_le, ◌∷◌}
 use Rattle.std.specs.Ordering.{nat_cmp}
 use Rattle.std.specs.FinMap.{get}
@@ -19,7 +20,7 @@ first_column_passes is_so (Int (pos n) ∷ row) = is_so n
 first_column_passes is_so row = false
 
 -- Whether the test `is_so`, the first argument, is true of the entry and the thing of a row of `books`. The entry is
--- given by its index, the first column less 1; the thing by its number, the second column.
+-- given by its index, the first column (from 1) less 1; the thing by its number, the second column.
 abbrev pub entry_and_thing_pass : (ℕ → ℕ → Bool) → Row → Bool
 entry_and_thing_pass is_so (Int (pos (suc entry)) ∷ Int (pos thing) ∷ row) = is_so entry thing
 entry_and_thing_pass is_so row = false

@@ -73,7 +73,7 @@ abbrev pub things_under : ThingKind → Option Unit → FinMap nat_cmp ℕ
 things_under Item = items_under
 things_under Skill = days_under
 
--- how much the unit with the number `n` has of the item or skill `thing`, 0 if there is no such unit
+-- how much the unit with the number `n` has of the item or skill `thing`, 0 if it has none or there is no such unit
 abbrev pub amount_under : FinMap nat_cmp Unit → ℕ → ThingKind → ℕ → ℕ
 amount_under units n sort thing = amount_of (things_under sort (get units n)) thing
 

@@ -83,7 +83,8 @@ pub fn put_upgraded<S: Alter>(
 }
 
 /// Reads the rows of the table `campaign` as SQL shows them, whatever their values are. `conn` is
-/// in no transaction. Nothing is changed. A fault is Memory, Store or Refused, never OtherType.
+/// in no transaction. Nothing is committed. A fault is Memory, Store or Refused, never OtherType.
+/// All this is promised on a clean disk (docs/PROVED.md, "Premises").
 pub fn select_campaign<S: Alter>(conn: &mut Connection<S>) -> Result<Vec<Row>, ReadFault>
     requires { conn.old.in_transaction ≡ false }
     ensures { Asks S.Store (selection campaign_table 1) conn.old result conn.new }

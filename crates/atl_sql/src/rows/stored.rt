@@ -44,7 +44,8 @@ pub trait Stored: Drop + Sized {
 
     /// Reads what the table's SELECT shows; under the tables of a campaign this is each row of the
     /// table, in the order of its key. Rows of the tables `has`, `books` and `market` come with
-    /// rowids. `conn` is in no transaction. Nothing is changed. `ReadFault` has the faults.
+    /// rowids. `conn` is in no transaction. Nothing is committed. `ReadFault` has the faults. All
+    /// this is promised on a clean disk (docs/PROVED.md, "Premises").
     final fn read<S: Alter>(alloc: Global, conn: &mut Connection<S>) -> Result<Vec<Self>, ReadFault>
         requires { conn.old.in_transaction ≡ false }
         ensures select { ReadsRows S.Store (select_of_part part).select conn.old forms shown result
@@ -118,7 +119,7 @@ pub fn parse_rows<T: Stored>(alloc: Global, rows: &[Row]) -> Result<Vec<T>, Read
 }
 
 /// Gives the rows that a SELECT shows, or the fault of its refusal. The SELECT is asked in a
-/// transaction of its own, which is rolled back: so nothing is changed, whatever the schema is.
+/// transaction of its own, which is rolled back: so nothing is committed, whatever the schema is.
 pub(crate) fn select<S: Alter>(conn: &mut Connection<S>, sql: &str) -> Result<Vec<Row>, ReadFault>
     requires { conn.old.in_transaction ≡ false }
     ensures { Asks S.Store sql.now conn.old result conn.new }
