@@ -3,26 +3,18 @@
 ghost use Rattle.std.specs.Prelude.{IfOk};
 ghost use Rattle.atl_campaign.specs.Good.{IsGood};
 
+use super::crowd::checked;
 use super::months::{own_mailings, small_world};
 use super::row_text::assert_row;
 use atl_campaign::parts::{Parts, StoredBooks, StoredHas};
 use atl_campaign::{Campaign, LAST_MONTH, founded};
 use atl_month::close_month;
-use atl_state::check;
 use atl_tables::read_world;
 use atl_test_worlds::ISLE_WITH_MARKET;
 use atl_world::{Entries, MarkedNumbers, Numbered, Text, World, name_ok};
 use std::alloc::{AllocError, Global};
 use std::process::Abort;
 use std::test::Fail;
-
-/// The campaign that `check` of atl_state makes of rows, with nothing marked; rows that it refuses
-/// are a failure.
-fn checked(alloc: Global, world: &World, rows: Parts) -> Result<Campaign, Fail>
-    ensures { IfOk result (λ campaign. IsGood world.now campaign.value) }
-{
-    Ok(check(alloc, world, rows)?)
-}
 
 fn join(alloc: Global, world: &World, campaign: &mut Campaign, name: &str) -> Result<(), Fail>
     requires { IsGood world.now campaign.old.value }

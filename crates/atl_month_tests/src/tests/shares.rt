@@ -22,12 +22,12 @@ static SHARED: [(u64, &[u64], &[u64]); 8] = [
     ),
 ];
 
-fn assert_shares(rt: &impl Abort, pot: u64, actual: &[u64], wanted: &[u64]) {
+pub(crate) fn assert_shares(rt: &impl Abort, pot: u64, actual: &[u64], wanted: &[u64]) {
     assert_eq!(rt; actual, wanted, "of {pot}");
 }
 
 /// Whether no want is more than 999,999,999.
-fn are_small(wants: &[u64]) -> bool
+pub(crate) fn are_small(wants: &[u64]) -> bool
     ensures { IsTrue result → All (λ want. want ≤ 999999999) wants.now }
 {
     wants.iter().all(|want| *want <= 999_999_999)
