@@ -1,4 +1,4 @@
--- Laws of reports: a report depends only on the faction's view, faulty lines and own events.
+-- Laws of reports: in one world a report depends only on the faction's view, faulty lines and own events.
 -- `w` is the world, `v` a faction's view, and `faults` are the faulty lines of its mailing. `events` and `others` are
 -- two lists of events, and `c` and `d` two campaigns.
 use Rattle.std.proofs.Common.{◌++◌, ap, ◌∙◌}
@@ -13,7 +13,6 @@ unfolding report_of orders_part
 others_events_are_not_reported w v faults events others h =
     ap (λ own. header_line v ++ ((codes "Orders:\n" ++ results_text faults own) ++ region_parts w v.regions)) h
 
--- a report depends only on the faction's view, its faulty lines and its own events
 pub only_what_is_seen_is_reported : OnlyWhatIsSeenIsReported
 unfolding view_of
 only_what_is_seen_is_reported w c d faction faults events others seen results_text =

@@ -1,8 +1,8 @@
 -- Laws of the lists of units: the numbers gathered from a region's lists are those of the units that a faction sees
 -- there.
--- `levels` has a region's lists of units by hiding level. `es` are entries: of these lists, each a level and its list,
--- or of units by number. `q` is the number that is asked for, and `ns` a list of units' numbers. A set of numbers is a
--- map from each of them to `tt`.
+-- `levels` has a region's lists of units by hiding level, the level of observation from which other factions see them.
+-- `es` are entries: of these lists, each a level and its list, or of units by number. `q` is the number that is asked
+-- for, and `ns` a list of units' numbers. A set of numbers is a map from each of them to `tt`.
 use Rattle.std.proofs.Common.{◌≡◌, ◌==◌, ℕ, Bool, true, false, cond, ◌&&◌, ◌||◌, nat_le, List, [], ◌∷◌, filter, map, Option, Some, None, is_some, unwrap_or, refl, sym, ap, ◌∙◌, inl, inr, arith}
 use Rattle.std.specs.Prelude.{option_map, Result, Ok, Err, IfOk}
 use Rattle.std.specs.Ordering.{nat_cmp, eq_by_cmp}
@@ -328,7 +328,7 @@ module _ (w : WorldValue) (c : CampaignValue) (watch : Watch) where
       ∙ next_shown e.0 ns (e.1.region == watch.region) (Some e.1) h.0
       ∙ ap shown (sym (chosen-cons (λ (u : Unit). u.region == watch.region) e es))
 
--- to look up the units seen in a region by number, and to view each, gives the views of the units seen there
+-- to look up the units seen in the watched region by number, and to view each, gives the views of the units seen there
 pub views_of_seen : (w : WorldValue) (c : CampaignValue) (watch : Watch)
     → filter_map (λ (e : ℕ × Prim.Unit {0}). option_map (unit_view c watch.faction e.0) (get c.units e.0)) (map (λ e. (e.0, tt)) (filter (λ e. is_seen_there w watch (get c.units e.0)) (entries c.units)))
     ≡ unit_views w c watch
@@ -338,8 +338,8 @@ views_of_seen w c watch =
 
 -- ---- what the functions ask
 
--- Let the code's result `r`, if it is Ok, be the set gathered from the faction's own units in a region (`own`) and from
--- the region's lists by hiding level (`levels`). Then it has the numbers of the units that the faction sees there.
+-- Let the code's result `r`, if it is Ok, be the set gathered from the faction's own units in the watched region (`own`)
+-- and from the region's lists up to the watch's level (`levels`). Then it has just the numbers of the units seen there.
 pub gathered_are_seen : {E : Type 0} (r : Result (FinMap nat_cmp (Prim.Unit {0})) E) (w : WorldValue) (c : CampaignValue) (watch : Watch) (own : List ℕ) (levels : FinMap nat_cmp (List ℕ))
     → AreLevels w c watch.region levels → own ≡ own_units_in c watch.faction watch.region
     → IfOk r (λ seen. seen ≡ numbers_seen own levels watch.observation)

@@ -38,7 +38,7 @@ number_goes_on lists of n key rest =
     ∙ by_key (of == key) (get lists key) (list_of lists of) rest n (same_list lists key of)
 
 -- a region's list, followed by the numbers of its structures still to come, is the same before and after the next
--- structure is added to its list
+-- structure, s of number n, is added to the list of its own region
 pub site_goes_on : (sites : FinMap nat_cmp (List ℕ)) (n : ℕ) (s : Structure) (es : List (ℕ × Structure)) (region : ℕ)
     → list_of (with_listed sites s.region n) region ++ numbers_among (λ (t : Structure). t.region == region) es
     ≡ list_of sites region ++ numbers_among (λ (t : Structure). t.region == region) ((n, s) ∷ es)

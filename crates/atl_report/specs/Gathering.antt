@@ -17,8 +17,8 @@ abbrev pub with_region : FinMap nat_cmp (Prim.Unit {0}) → ℕ → Option Regio
 with_region seen n None = seen
 with_region seen n (Some r) = insert seen n tt
 
--- the set of region numbers with that of a unit's region added, where the unit is the faction's, has men, and its
--- region exists
+-- the set of region numbers with that of a unit's region added, where there is such a unit, it is the faction's and has
+-- men, and its region exists; else the same set
 abbrev pub with_watched : CampaignValue → ℕ → FinMap nat_cmp (Prim.Unit {0}) → Option Unit → FinMap nat_cmp (Prim.Unit {0})
 with_watched c f seen None = seen
 with_watched c f seen (Some u) = if is_watching f (Some u) then with_region seen u.region (get c.regions u.region) else seen
@@ -56,7 +56,7 @@ abbrev pub with_levels : ℕ → FinMap nat_cmp (Prim.Unit {0}) → List (ℕ ×
 with_levels observation seen [] = seen
 with_levels observation seen (e ∷ es) = with_levels observation (with_level observation seen e.0 e.1) es
 
--- `numbers_seen own levels observation`: the numbers of a faction's own units in a region, and those of all units there
--- whose hiding level is at most the given level of observation
+-- `numbers_seen own levels observation`: the numbers of `own`, a faction's units in a region, and those of the lists in
+-- `levels` up to `observation`. `levels` has the region's units by the level of observation from which others see them.
 abbrev pub numbers_seen : List ℕ → FinMap nat_cmp (List ℕ) → ℕ → FinMap nat_cmp (Prim.Unit {0})
 numbers_seen own levels observation = with_levels observation (with_numbers empty own) (entries levels)

@@ -201,7 +201,8 @@ OthersEventsAreNotReported =
     → own_events v.faction events ≡ own_events v.faction others
     → report_of w v faults events ≡ report_of w v faults others
 
--- the law that a faction that sees the same of two campaigns gets one report, for the same faulty lines and own events
+-- the law that a faction that sees the same of two campaigns of one world gets one report, for the same faulty lines
+-- and own events
 abbrev pub OnlyWhatIsSeenIsReported : Type 0
 OnlyWhatIsSeenIsReported =
     (w : WorldValue) (c d : CampaignValue) (faction : ℕ) (faults : List FaultyLine) (events others : List Event)

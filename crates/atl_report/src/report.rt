@@ -378,14 +378,14 @@ pub fn report_text(
     Ok(out)
 }
 
-/// The law that events of other factions make no difference to a faction's report. It does nothing.
+/// The law that events of other factions make no difference to a faction's report, for the same view
+/// and faulty lines. It does nothing.
 pub fn others_events_are_not_reported()
     ensures { OthersEventsAreNotReported }
 {}
 
-/// The law that a report depends only on the faction's view, its faulty lines and its own events.
-/// Two campaigns of one world with the same view, faulty lines and own events give one report. It
-/// does nothing.
+/// The law that two campaigns of one world give a faction the same report, if its view, its faulty
+/// lines and its own events are the same. It does nothing.
 pub fn only_what_is_seen_is_reported()
     ensures { OnlyWhatIsSeenIsReported }
 {}

@@ -232,9 +232,9 @@ fn region_views(
 }
 
 /// What a faction sees, as `view` gives it, from lists of each region's structures and units that
-/// are right for the campaign (`lists_of`). With these lists the views of many factions go over the
-/// campaign only once. The call goes over the faction's units and what it sees, and no further:
-/// units that are hidden from it cost nothing. AllocError without memory.
+/// are right for the campaign. The call makes the lists that it lacks; with those of `lists_of` it
+/// goes over the faction's units and what it sees, and no further, so that many views go over the
+/// campaign only once. AllocError without memory.
 #[tactic(auto, unfolding(crate::specs::Sight::view_of))]
 pub fn view_over(
     alloc: Global,

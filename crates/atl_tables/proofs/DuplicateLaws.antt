@@ -107,8 +107,8 @@ thing_names_differ_by_titles all h =
       kinds = array_names_differ (λ d. d.name) (codes "kind") (codes "name") all.kinds (second_part_has_no_fault skills kinds after_items);
     }
 
--- no two terrains, no two items, no two skills and no two kinds have the same name (`ThingNamesDiffer`), if all
--- conditions on names and numbers hold (`names_differ`)
+-- no two terrains, no two items, no two skills and no two kinds have the same name, ignoring ASCII case
+-- (`ThingNamesDiffer`), if all conditions on names and numbers hold (`names_differ`)
 pub thing_names_differ : (all : WorldDraft) → first_fault (names_differ all) ≡ None → ThingNamesDiffer all
 unfolding names_differ
 thing_names_differ all h =

@@ -1,5 +1,6 @@
 -- Laws for loops over an array of tables: the first fault of its elements, and the values read so far. `conditions`
--- gives the conditions on an element, and `record_of` its value, both by the element's path and table.
+-- gives the conditions on an element, and `record_of` its value, both by the element's path and table. d is the element
+-- at index i of the array at the path `key`, and `ds` are the elements after it.
 use Rattle.std.proofs.Common.{◌≡◌, ℕ, ◌+◌, ◌<◌, List, [], ◌∷◌, ◌++◌, length, drop, get_or, Option, None, sym, ap, subst, ◌∙◌, append_assoc}
 use Rattle.toml.specs.Data.{Data, Items, item, Members}
 use Rattle.toml.specs.View.{view, items_view}
@@ -18,8 +19,7 @@ pub elements_from_index : (vs : List Value) (i : ℕ) (v : Value) → i < length
 elements_from_index vs i v h e =
     items_view-drop vs i v h ∙ ap (λ (x : Value). item (view x) (items_view (drop (i + 1) vs))) (sym e)
 
--- d is the element at index i of the array at the path `key`, `ds` are the elements after it, and `total` is the first
--- fault of all of them
+-- `total` is the first fault of all elements from d on
 module _ (conditions : List ℕ → Members → Conditions) (key : List ℕ) (i : ℕ) (d : Data) (ds : Items) (total : Option WorldFault) where
   -- where d has no fault, the first fault of the elements after it is that of d and these
   pub later_elements_have_same_fault : first_fault (elements_conditions conditions key i (item d ds)) ≡ total

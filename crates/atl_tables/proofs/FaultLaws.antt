@@ -62,8 +62,8 @@ pub result_by_condition_is_by_list : {X Y : Type 0} (view : X → Y) (r : Result
 result_by_condition_is_by_list view r None v h = h
 result_by_condition_is_by_list view r (Some f) v h = h
 
--- if `?` returns the error of a call, and that error is the first fault of the conditions, or Memory
--- (`IsFaultOrMemory`), the function returns this fault, or Memory, as it should (`Gives`)
+-- if r, here the result of a function, is the error e that `?` returns, and e is the first fault of the conditions, or
+-- Memory (`IsFaultOrMemory`), the function returns what it should (`Gives`)
 pub gives_error : {X Y : Type 0} (view : X → Y) (r : Result X WorldFault) (e : WorldFault) (fault : Option WorldFault) (v : Y)
     → IsErrAnd r (λ f. f ≡ e) → IsFaultOrMemory e fault → Gives view r fault v
 gives_error view r e fault v h s = let p = err_from_is_err_and r h in rw (p.1, p.2) s

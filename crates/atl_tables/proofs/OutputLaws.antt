@@ -23,7 +23,8 @@ put_first : (k : String Global) (d : Data) (es : List (String Global × Value))
 put_first k d [] h = refl
 put_first k d (e ∷ es) h = rw h refl
 
--- `in_byte_order`, which puts a table's entries into byte order of their keys, leaves entries in this order as they are
+-- `in_byte_order`, which sorts a table's entries by the bytes of their keys, leaves them as they are, if they are in
+-- this order and no key comes twice
 pub entries_in_order : (es : List (String Global × Value)) → IsStrictlySortedBy string_cmp (keys_of es)
     → in_byte_order (members_view es) ≡ entries_view es
 unfolding in_byte_order IsStrictlySortedBy

@@ -1,5 +1,6 @@
 -- Arrays of tables of the world file: the conditions on their elements, and the list of values that they give. `key` is
--- the path of an array. `conditions` gives the conditions on a table by its path and members, `record_of` its value.
+-- the path of an array, and `at` that of an element, d. `conditions` gives the conditions on a table by its path and
+-- members, `record_of` its value.
 use Rattle.std.specs.Prelude.{ℕ, ◌+◌, List, [], ◌∷◌, ◌++◌, Result}
 use Rattle.toml.specs.Data.{Data, Items, no_items, item, Members, no_members, as_table}
 use Rattle.atl_tables.specs.Faults.{Conditions, fault_of, value_or}
@@ -10,19 +11,18 @@ use Rattle.atl_tables.specs.declared.fault.WorldFault.{WorldFault}
 abbrev pub element_table : List ℕ → Data → Members
 element_table at d = value_or no_members (value_or_wrong_type at (as_table d))
 
--- The conditions on one element of an array, where `at` is the element's path: it is a table, else the fault WrongType;
--- and then those that `conditions` gives for the table (`element_table`).
+-- the conditions on an element of an array: it is a table, else the fault WrongType; and then those on the table
 abbrev pub element_conditions : (List ℕ → Members → Conditions) → List ℕ → Data → Conditions
 element_conditions conditions at d = fault_of (value_or_wrong_type at (as_table d)) ∷ conditions at (element_table at d)
 
--- the conditions on the elements of an array from the index i on, in their order (`element_conditions`)
+-- the conditions on elements of an array, in their order (`element_conditions`); the first has the index i
 abbrev pub elements_conditions : (List ℕ → Members → Conditions) → List ℕ → ℕ → Items → Conditions
 elements_conditions conditions key i no_items = []
 elements_conditions conditions key i (item d ds) =
     element_conditions conditions (element_path key i) d
     ++ elements_conditions conditions key (i + 1) ds
 
--- the values of the elements of an array from the index i on, each by its path and its table (`element_table`)
+-- the values of elements of an array, each by its path and its table (`element_table`); the first has the index i
 abbrev pub elements_of : {A : Type 0} → (List ℕ → Members → A) → List ℕ → ℕ → Items → List A
 elements_of record_of key i no_items = []
 elements_of record_of key i (item d ds) =

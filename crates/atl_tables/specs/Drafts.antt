@@ -140,7 +140,7 @@ pub record AreOptionalTables (t : OptionalTables) : Type 0 where
   pub few_kinds : length t.kinds ≤ most_kinds
 
 -- All tables of a world file have names that keep the rule of names, and numbers in their ranges, except those of
--- neighbours. There are no more of each than a world may have.
+-- neighbours. There are no more terrains, items, skills, kinds and regions than a world may have.
 pub record IsWorldDraft (t : WorldDraft) : Type 0 where
   pub rules : AreRulesDraft t.rules
   pub terrains : All IsTerrainDraft t.terrains

@@ -2,7 +2,7 @@
 use Rattle.std.specs.Prelude.{ℕ, ◌+◌, List, [], ◌∷◌, ◌++◌}
 use Rattle.atl_tables.specs.Faults.{Conditions}
 
--- the conditions on each element of a list together with its index, in order, where the first has the index i
+-- the conditions that `conditions` gives for each element of a list and its index, in order; the first has the index i
 abbrev pub conditions_on_each : {A : Type 0} → (ℕ → A → Conditions) → ℕ → List A → Conditions
 conditions_on_each conditions i [] = []
 conditions_on_each conditions i (x ∷ xs) = conditions i x ++ conditions_on_each conditions (i + 1) xs

@@ -23,7 +23,7 @@ conditions_of table at t = (table at t).conditions
 abbrev pub value_of : {A : Type 0} → TableReader A → List ℕ → Members → A
 value_of table at t = (table at t).value
 
--- reads the keys of `first`, and then those of `next`, which may depend on the value that `first` gives
+-- reads the keys of `first`, then those of `next`, which may depend on the value of `first`; gives the value of `next`
 infixl 10 ◌>>=◌
 abbrev pub ◌>>=◌ : {A B : Type 0} → TableReader A → (A → TableReader B) → TableReader B
 first >>= next = λ at t. record {
@@ -43,27 +43,27 @@ as_one_condition table = λ at t. record { conditions = first_fault (conditions_
 abbrev pub one_key : {A : Type 0} → A → KeyReader A → TableReader A
 one_key d key = λ at t. record { conditions = fault_of (key at t) ∷ []; value = value_or d (key at t) }
 
--- `number_key least most key` reads a key that must be a number from least to most
+-- `number_key least most key` reads a key that must be a number from least to most; with a fault its value is 0
 abbrev pub number_key : ℕ → ℕ → List ℕ → TableReader ℕ
 number_key least most key = one_key 0 (number_at least most key)
 
--- `number_or_key default least most key` reads a key that is a number from least to most, or missing, which gives the
--- default
+-- `number_or_key default least most key` reads a key that is a number from least to most, or missing; the value is the
+-- default if it is missing or has a fault
 abbrev pub number_or_key : ℕ → ℕ → ℕ → List ℕ → TableReader ℕ
 number_or_key default least most key = one_key default (number_or_at default least most key)
 
--- reads a key that must be a name
+-- reads a key that must be a name; with a fault its value is the empty text
 abbrev pub name_key : List ℕ → TableReader (List ℕ)
 name_key key = one_key [] (name_at key)
 
--- reads a key that must be a text
+-- reads a key that must be a text; with a fault its value is the empty text
 abbrev pub text_key : List ℕ → TableReader (List ℕ)
 text_key key = one_key [] (text_at key)
 
--- reads a key that is a text, or missing, which gives None
+-- reads a key that is a text, or missing; the value is None if it is missing or has a fault
 abbrev pub optional_text_key : List ℕ → TableReader (Option (List ℕ))
 optional_text_key key = one_key None (optional_text_at key)
 
--- reads a key that must be true or false
+-- reads a key that must be true or false; with a fault its value is false
 abbrev pub flag_key : List ℕ → TableReader Bool
 flag_key key = one_key false (flag_at key)

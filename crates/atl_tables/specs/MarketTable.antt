@@ -66,7 +66,7 @@ unfoldable pub markets_keys : List ℕ → Members → Conditions
 markets_keys at t =
     list_conditions market_keys (market_path at) (optional_array_at most_markets (market_path at) (codes "market") t)
 
--- the markets that the table `[[region]]` at a path gives, as read, in the order of the file
+-- the markets that the table `[[region]]` at a path gives, in the order of the file, none if their array has a fault
 unfoldable pub markets_from : List ℕ → Members → List MarketDraft
 markets_from at t = list_of market_from (market_path at) (optional_array_at most_markets (market_path at) (codes "market") t)
 
@@ -88,6 +88,6 @@ market_of all d = record {
   restock = d.restock;
 }
 
--- the markets of a region, each under the number of its item; of two with the same item the first counts
+-- the markets of a region, each under the number of its item; of two with the same number the first counts
 abbrev pub markets_of : WorldDraft → List MarketDraft → FinMap nat_cmp Market
 markets_of all ds = by_number (λ m. m.item) (map (market_of all) ds)

@@ -18,7 +18,7 @@ use Rattle.atl_tables.specs.declared.fault.WorldFault.TheVariants.{TwoNames}
 use Rattle.atl_tables.specs.declared.output_table.Output.{Output}
 use Rattle.atl_tables.specs.declared.world_draft.WorldDraft.{WorldDraft}
 
--- entries sorted by key, with the entry of `key` put in before the first entry with a greater key
+-- entries sorted by key, with `key` and its value d put in before the first greater key, or at the end without one
 abbrev pub put_key : List ℕ → Data → List (List ℕ × Data) → List (List ℕ × Data)
 put_key key d [] = (key, d) ∷ []
 put_key key d (e ∷ es) = if is_lt (slice_cmp nat_cmp key e.0) then (key, d) ∷ e ∷ es else e ∷ put_key key d es
@@ -49,7 +49,7 @@ output_path at = path at (codes "output")
 abbrev pub output_table : List ℕ → Members → Members
 output_table at t = value_or no_members (optional_table_at (codes "output") at t)
 
--- reads the table `output` of a terrain: the conditions on it, and the amounts that it gives
+-- reads the table `output` of a terrain: it is a table or missing, and then its entries in the byte order of their keys
 unfoldable pub output_at : TableReader (List Output)
 output_at = λ at t. record {
   conditions = fault_of (optional_table_at (codes "output") at t)

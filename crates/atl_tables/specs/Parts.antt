@@ -12,7 +12,7 @@ use Rattle.atl_tables.specs.declared.reading.WorldParts.{WorldParts}
 use Rattle.atl_tables.specs.declared.world_draft.WorldDraft.{WorldDraft}
 
 -- the parts of the world that `all`, the tables of a file as they were read, describe: numbers are in place of the
--- names by which a table refers to others; skills are left out, since they refer to none
+-- names by which a table refers to others, 0 or None for an unknown name; skills are left out, since they refer to none
 abbrev pub world_parts_of : WorldDraft → WorldParts
 world_parts_of all = record {
   rules = rules_of all;

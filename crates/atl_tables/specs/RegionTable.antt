@@ -75,7 +75,7 @@ side_keys at t =
     ∷ fault_of (west_at at t)
     ∷ []
 
--- the numbers of the neighbours on the four sides that the table `[[region]]` at a path gives
+-- the numbers of the neighbours on the four sides in the table `[[region]]` at a path, None for a missing or faulty key
 unfoldable pub sides_from : List ℕ → Members → Sides
 sides_from at t = record {
   north = value_or None (north_at at t);

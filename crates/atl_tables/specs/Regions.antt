@@ -1,4 +1,4 @@
--- The condition that no two regions have the same number.
+-- The condition that no two regions have the same number. `all` has the regions of the file as read, in order.
 use Rattle.std.specs.Prelude.{ℕ, Bool, ◌==◌, List, [], ◌∷◌, take, codes, Some, None, if◌then◌else◌}
 use Rattle.std.specs.List.{list_any}
 use Rattle.atl_tables.specs.declared.fault.WorldFault.TheVariants.{TwoNames}

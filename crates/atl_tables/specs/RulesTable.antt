@@ -61,7 +61,7 @@ rules_at = do
 abbrev pub rules_table : Members → Members
 rules_table doc = value_or no_members (table_at (codes "rules") doc)
 
--- the conditions on the table `[rules]`: the document has it, and its keys have no fault
+-- the conditions on the table `[rules]`: the document has it, it is a table, and its keys have no fault
 unfoldable pub rules_conditions : Members → Conditions
 rules_conditions doc = fault_of (table_at (codes "rules") doc) ∷ conditions_of rules_at (codes "rules") (rules_table doc)
 

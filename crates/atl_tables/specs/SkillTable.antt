@@ -14,7 +14,7 @@ skill_at = do
   fee ← number_key 0 most_price (codes "fee")
   value_only (record { name = name; fee = fee })
 
--- the conditions on the table `[[skill]]` at a path: `name` keeps the rule of names, `fee` its range; none is missing
+-- the conditions on the table `[[skill]]` at a path: `name` is a name, and `fee` a number in its range; none is missing
 abbrev pub skill_keys : List ℕ → Members → Conditions
 skill_keys = conditions_of skill_at
 

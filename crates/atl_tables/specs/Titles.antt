@@ -9,7 +9,7 @@ use Rattle.atl_tables.specs.Faults.{Conditions}
 use Rattle.atl_tables.specs.Keys.{path, element_path}
 use Rattle.atl_world.specs.Names.{same_name}
 
--- `title` gives the name of an element
+-- `title` gives the name of an element, and `all` are the elements of an array
 module _ {A : Type 0} (title : A → List ℕ) where
   -- The condition that no element before x, the i-th of the array at a path (the first text), has the name of x,
   -- ignoring ASCII case. Its fault is TwoNames at the path of the key of x's name (the second text).

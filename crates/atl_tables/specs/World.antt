@@ -44,7 +44,7 @@ unfoldable pub regions_in : Format → Members → List RegionDraft
 regions_in First doc = map as_draft (list_of old_region_from (codes "region") (array_at most_regions (codes "region") doc))
 regions_in Second doc = list_of region_from (codes "region") (array_at most_regions (codes "region") doc)
 
--- all tables of a document, read with a default in place of each fault; names are not looked up
+-- all tables of a document in a format, read with a default in place of each fault; names are not looked up
 unfoldable pub tables_of : Format → Members → WorldDraft
 tables_of format doc = record {
   rules = rules_in doc;
@@ -144,7 +144,7 @@ document_conditions format doc = keys_conditions format doc ++ table_conditions 
 
 -- ---- the world of a text in a format, or its first fault
 
--- the world of a document in a format, or its first fault; NotToml without a document
+-- the world of a document in a format, or its first fault; NotToml without a document (None: the text is no TOML)
 abbrev pub world_of_document : Format → Option Members → Result WorldValue WorldFault
 world_of_document format None = Err NotToml
 world_of_document format (Some doc) = fault_or_value (first_fault (document_conditions format doc)) (world_of_tables (tables_of format doc))
