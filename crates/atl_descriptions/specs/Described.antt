@@ -11,7 +11,7 @@ use Rattle.sqlite_sql.specs.declared.ops.BinaryOp.TheVariants.{Compare}
 use Rattle.sqlite_sql.specs.declared.ops.CompareOp.TheVariants.{Eq}
 use Rattle.atl_descriptions.specs.declared.table.UniqueKey.{UniqueKey}
 
--- the unique keys besides the row's number, each by its columns' indexes in a stored row: one, or none
+-- the unique keys besides the row's number, each by its columns' places in a stored row (0 is the rowid): one, or none
 abbrev pub unique_columns : Option UniqueKey → List (List ℕ)
 unique_columns None = []
 unique_columns (Some key) = key.columns.now ∷ []

@@ -59,19 +59,19 @@ campaign_table = table 0 (codes "campaign")
     ∷ text_column (codes "pass") ∷ text_column (codes "world") ∷ [])
     (Some 0) (0 ∷ []) [] (op2 (Compare Eq Binary) (col 1 0) (lit (Int (pos 1))) ∷ [])
 
--- the table `faction`: a row for each faction, gone or not; `joined_as` is unique
+-- the table `faction`: a row for each faction, gone or not; its key is `number`, and `joined_as` is unique
 abbrev pub faction_table : Table
 faction_table = table 1 (codes "faction")
     (integer_column (codes "number") ∷ text_column (codes "joined_as") ∷ text_column (codes "name") ∷ text_column (codes "pass") ∷ integer_column (codes "gone") ∷ [])
     (Some 0) (0 ∷ []) (faction_unique ∷ []) []
 
--- the table `region`: a row for each region
+-- the table `region`: a row for each region; its key is `number`
 abbrev pub region_table : Table
 region_table = table 3 (codes "region")
     (integer_column (codes "number") ∷ integer_column (codes "peasants") ∷ integer_column (codes "money") ∷ [])
     (Some 0) (0 ∷ []) [] []
 
--- the table `unit`: a row for each unit
+-- the table `unit`: a row for each unit; its key is `number`
 abbrev pub unit_table : Table
 unit_table = table 4 (codes "unit")
     (integer_column (codes "number") ∷ integer_column (codes "faction") ∷ text_column (codes "name")
@@ -80,34 +80,34 @@ unit_table = table 4 (codes "unit")
     (Some 0) (0 ∷ []) [] []
 
 -- The table `has`: items and days of study of units. A row says how much (`amount`) a unit has of an item, or how many
--- days in a skill; `sort` tells the two apart, and `thing` is the number of the item or the skill.
+-- days in a skill. Its key is the unit, `sort`, which tells the two apart, and the number of the item or skill, `thing`.
 abbrev pub has_table : Table
 has_table = table 5 (codes "has")
     (integer_column (codes "unit") ∷ integer_column (codes "sort") ∷ integer_column (codes "thing") ∷ integer_column (codes "amount") ∷ [])
     None has_unique (has_unique ∷ []) []
 
--- the table `structure`: a row for each structure
+-- the table `structure`: a row for each structure; its key is `number`
 abbrev pub structure_table : Table
 structure_table = table 7 (codes "structure")
     (integer_column (codes "number") ∷ integer_column (codes "kind") ∷ text_column (codes "name")
     ∷ integer_column (codes "region") ∷ integer_column (codes "done") ∷ integer_column (codes "owner") ∷ [])
     (Some 0) (0 ∷ []) [] []
 
--- the table `mail`: a row for each faction that sent a mailing
+-- the table `mail`: a row for each faction whose mailing is kept for the next month; its key is `faction`
 abbrev pub mail_table : Table
 mail_table = table 8 (codes "mail") (integer_column (codes "faction") ∷ strict_column (codes "text") Blob ∷ []) (Some 0) (0 ∷ []) [] []
 
--- the table `report`: a row for each faction that has a report
+-- the table `report`: a row for each faction that has a report; its key is `faction`
 abbrev pub report_table : Table
 report_table = table 9 (codes "report") (integer_column (codes "faction") ∷ text_column (codes "text") ∷ []) (Some 0) (0 ∷ []) [] []
 
--- the table `books`: a row for each entry and thing whose amount isn't 0
+-- the table `books`: a row for each entry and thing whose amount isn't 0; these two are its key
 abbrev pub books_table : Table
 books_table = table 10 (codes "books")
     (integer_column (codes "entry") ∷ integer_column (codes "thing") ∷ integer_column (codes "amount") ∷ [])
     None books_unique (books_unique ∷ []) []
 
--- the table `market`: a row for each item of a region that is in stock
+-- the table `market`: a row for each item of a region that is in stock; region and item are its key
 abbrev pub market_table : Table
 market_table = table 12 (codes "market")
     (integer_column (codes "region") ∷ integer_column (codes "item") ∷ integer_column (codes "stock") ∷ [])
@@ -179,7 +179,7 @@ IsGroupedPart Goods = ⊤
 IsGroupedPart Markets = ⊤
 IsGroupedPart part = ⊥
 
--- each row of the part has a number of its own as its key; the campaign row, whose id is always 1, doesn't count
+-- the key of the part's table is one number, and the part isn't the campaign row, whose id is always 1
 abbrev pub IsNumberedPart : Part → Type 0
 IsNumberedPart Own = ⊥
 IsNumberedPart Goods = ⊥
@@ -222,7 +222,7 @@ first_tables_and_others count keys tables indexes =
       views = [];
     }
 
--- the index makes nothing unique in any of a campaign's first `count` tables
+-- the index makes nothing unique in any of the first `count` of the ten tables
 abbrev pub IsHarmless : ℕ → Index → Type 0
 IsHarmless count i = (t : Table) → Has (take count all_tables) t → guards i t ≡ false
 
@@ -273,7 +273,7 @@ abbrev pub index_count_in : Format → ℕ
 index_count_in First = 3
 index_count_in Second = index_count
 
--- the schema begins with the tables of a format; others may follow (`Begins`)
+-- the schema begins with the tables of a format and their indexes; what may follow is what `Begins` allows
 abbrev pub HasTablesOf : Format → Schema → Type 0
 HasTablesOf f = Begins (table_count_in f) (index_count_in f)
 
@@ -286,7 +286,7 @@ IsFirstFormatOnly schema = schema ≡ first_tables (table_count_in First) (index
 abbrev pub all_tables_and_others : List Table → List Index → Schema
 all_tables_and_others = first_tables_and_others table_count index_count
 
--- the schema begins with all ten tables of a campaign; others may follow (`Begins`)
+-- the schema begins with the ten tables of a campaign and their indexes; what may follow is what `Begins` allows
 abbrev pub HasAll : Schema → Type 0
 HasAll = Begins table_count index_count
 

@@ -1,4 +1,4 @@
--- What a faction sees of a campaign. See docs/RULES.md, "Sight".
+-- What a faction sees of a campaign. See docs/RULES.md, "Sight". `watch` has the watching faction and watched region.
 use Rattle.std.specs.Prelude.{◌==◌, ◌-◌, ℕ, List, [], map, filter, if◌then◌else◌, Option, Some, None, option_and_then, option_map}
 use Rattle.std.specs.List.{filter_map}
 use Rattle.std.specs.Option.{option_map_or}

@@ -378,8 +378,8 @@ pub fn report_text(
     Ok(out)
 }
 
-/// The law that events of other factions make no difference to a faction's report, for the same view
-/// and faulty lines. It does nothing.
+/// The law that for one view and the same faulty lines, events of other factions make no difference
+/// to a faction's report. It does nothing.
 pub fn others_events_are_not_reported()
     ensures { OthersEventsAreNotReported }
 {}

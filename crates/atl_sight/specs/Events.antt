@@ -31,7 +31,7 @@ abbrev pub name_of_number : ℕ → List ℕ
 name_of_number number = option_map_or event_fault_name (find (λ fault. event_fault_number fault == number) event_faults) []
 
 -- the line of an event with this outcome, which is `e.outcome`: done with an amount `n`, the fault of number `k`, or
--- `n` men that starved
+-- `n` men that starved, which names neither the line nor the verb
 abbrev pub event_text : Event → Outcome → List ℕ
 event_text e (Done n) =
     codes "Unit " ▸ decimal e.unit

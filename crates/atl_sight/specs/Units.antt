@@ -35,8 +35,8 @@ skill_view men (skill, days) = record { skill = skill; level = level_of days men
 abbrev pub skill_views : HoldingValue → List SkillView
 skill_views h = map (skill_view h.men) (entries h.days)
 
--- the side of a unit in a faction's view: `Own` with money, items and skills, or `Other` with the number and the name
--- of the unit's faction
+-- the side of a unit in a faction's view: `Own` with money, items and skills where the unit is this faction's, else
+-- `Other` with the number and the name of the unit's faction
 abbrev pub side_of : CampaignValue → ℕ → Unit → Side
 side_of c faction u =
     if u.faction == faction then Own u.holding.money (item_views u.holding) (skill_views u.holding)

@@ -40,7 +40,8 @@ greatest (n ∷ ns) = max n (greatest ns)
 abbrev pub best_observation : WorldValue → CampaignValue → List ℕ → ℕ
 best_observation w c numbers = greatest (map (λ n. observation_of w (get c.units n)) numbers)
 
--- `watch_over w c faction region`: a faction's watch in a region, with the best observation level of its units there
+-- `watch_over w c faction region`: a faction's watch in a region, with the best observation level of its units there, 0
+-- if it has none
 abbrev pub watch_over : WorldValue → CampaignValue → ℕ → ℕ → Watch
 watch_over w c faction region = record {
   faction = faction;
@@ -52,8 +53,8 @@ watch_over w c faction region = record {
 abbrev pub hiding_level : WorldValue → Unit → ℕ
 hiding_level w u = if guards u then 0 else level_in_any u.holding w.rules.stealth
 
--- whether a unit in the watched region is seen: it is the watching faction's own, a guard, or its stealth level is at
--- most the faction's best observation level there
+-- whether a unit, if it is in the watched region, is seen: it is the watching faction's own, it guards, or its stealth
+-- level is at most the faction's best observation level there
 abbrev pub is_seen : WorldValue → Watch → Unit → Bool
 is_seen w watch u = u.faction == watch.faction || (guards u || nat_le (level_in_any u.holding w.rules.stealth) watch.observation)
 

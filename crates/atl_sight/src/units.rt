@@ -9,7 +9,7 @@ use atl_campaign::{Campaign, Holding, Unit, level};
 use atl_world::{Sequence, Text};
 use std::alloc::{AllocError, Global};
 
-/// The name of a faction, as reports show it; empty where there is no such faction.
+/// The name of a faction, as reports show it; empty where there is none. AllocError without memory.
 pub fn shown_name(alloc: Global, campaign: &Campaign, faction: u32) -> Result<Text, AllocError>
     ensures { IfOk result (λ name. name ≡ shown_name (get campaign.now.value.factions faction)) }
 {
@@ -69,7 +69,7 @@ fn side_of(
 }
 
 /// What a faction sees of a unit of this number. Of its own units these are the money, the items and
-/// the skills too; of another's unit, that faction's number and name.
+/// the skills too; of another's, that faction's number and name. AllocError without memory.
 pub fn unit_view(
     alloc: Global,
     campaign: &Campaign,

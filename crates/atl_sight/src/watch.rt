@@ -9,7 +9,7 @@ ghost use Rattle.atl_sight.specs.Watching.{is_watching, own_units_in, best_obser
 use atl_campaign::{Campaign, Unit, level_in_any};
 use atl_world::World;
 
-/// A faction in a region, with the best observation level of its units there.
+/// A faction in a region, with the best observation level of its units there, 0 if it has none.
 #[derive(Drop, Clone, Copy)]
 pub struct Watch {
     pub faction: u32,
@@ -44,8 +44,8 @@ fn best_observation(world: &World, campaign: &Campaign, numbers: &[u32]) -> u32
     best
 }
 
-/// A faction's watch in a region, with the best observation level of the faction's units there.
-/// `own` must have the numbers of these units, in ascending order.
+/// A faction's watch in a region, with the best observation level of the faction's units there, 0
+/// if it has none. `own` must have the numbers of these units, in ascending order.
 pub fn watch_over(
     world: &World,
     campaign: &Campaign,
