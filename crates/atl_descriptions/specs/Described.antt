@@ -24,7 +24,7 @@ IsIndexOf t key = (key.index.now ≡ codes "sqlite_autoindex_" ++ (t.name ++ cod
 abbrev pub index_of : Table → Option Index
 index_of t = option_map (λ key. automatic t 0 key (t.tree + 1)) (slice_get t.uniques 0)
 
--- the checks of a table: with true the one check `id = 1`, with false none
+-- the checks of a table: the one check `id = 1`, on its first column, if it has one row alone (true); else none
 abbrev pub checks_of : Bool → List Term
 checks_of true = op2 (Compare Eq Binary) (col 1 0) (lit (Int (pos 1))) ∷ []
 checks_of false = []

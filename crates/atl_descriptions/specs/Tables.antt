@@ -80,7 +80,7 @@ unit_table = table 4 (codes "unit")
     (Some 0) (0 ∷ []) [] []
 
 -- The table `has`: items and days of study of units. A row says how much (`amount`) a unit has of an item, or how many
--- days in a skill. Its key is the unit, `sort`, which tells the two apart, and the number of the item or skill, `thing`.
+-- days in a skill. Its key is the unit, `sort`, which tells the two apart, and the number of item or skill (`thing`).
 abbrev pub has_table : Table
 has_table = table 5 (codes "has")
     (integer_column (codes "unit") ∷ integer_column (codes "sort") ∷ integer_column (codes "thing") ∷ integer_column (codes "amount") ∷ [])

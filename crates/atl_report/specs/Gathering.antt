@@ -23,8 +23,8 @@ abbrev pub with_watched : CampaignValue → ℕ → FinMap nat_cmp (Prim.Unit {0
 with_watched c f seen None = seen
 with_watched c f seen (Some u) = if is_watching f (Some u) then with_region seen u.region (get c.regions u.region) else seen
 
--- the set of region numbers with that of each listed unit's region added, where the unit is the faction's, has men, and
--- its region exists
+-- the set of region numbers with that of each listed unit's region added, where there is such a unit, it is the
+-- faction's and has men, and its region exists
 abbrev pub with_all_watched : CampaignValue → ℕ → List ℕ → FinMap nat_cmp (Prim.Unit {0}) → FinMap nat_cmp (Prim.Unit {0})
 with_all_watched c f [] seen = seen
 with_all_watched c f (n ∷ ns) seen = with_all_watched c f ns (with_watched c f seen (get c.units n))

@@ -232,7 +232,7 @@ fn region_views(
 }
 
 /// What a faction sees, as `view` gives it, from lists of each region's structures and units that
-/// are right for the campaign. The call makes the lists that it lacks; with those of `lists_of` it
+/// are right for the campaign. The call makes lists that `lists` lacks; with those of `lists_of` it
 /// goes over the faction's units and what it sees, and no further, so that many views go over the
 /// campaign only once. AllocError without memory.
 #[tactic(auto, unfolding(crate::specs::Sight::view_of))]

@@ -68,8 +68,8 @@ fn side_of(
     })
 }
 
-/// What a faction sees of a unit of this number. Of its own units these are the money, the items and
-/// the skills too; of another's, that faction's number and name. AllocError without memory.
+/// What a faction sees of a unit of this number. Of its own units these are the money, items and
+/// skills too; of another's, that faction's number and name. AllocError without memory.
 pub fn unit_view(
     alloc: Global,
     campaign: &Campaign,

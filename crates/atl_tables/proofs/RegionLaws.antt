@@ -20,7 +20,7 @@ is_some-put v false None = refl
 is_some-put v false (Some w) = refl
 
 -- a map with exactly the numbers of the first i regions has exactly those of the first i + 1, after the number of the
--- i-th one, counted from 0, is put in
+-- i-th one, counted from 0, is put in with a value v
 pub seen_more : {V : Type 0} (m : FinMap nat_cmp V) (v : V) (ds : List RegionDraft) (i : ℕ) (d : RegionDraft)
     → i < length ds → d ≡ get_or ds i d → ((n : ℕ) → is_some (get m n) ≡ some_region_has_number n (take i ds))
     → (n : ℕ) → is_some (get (insert m d.basics.number v) n) ≡ some_region_has_number n (take (i + 1) ds)

@@ -70,7 +70,7 @@ markets_keys at t =
 unfoldable pub markets_from : List ℕ → Members → List MarketDraft
 markets_from at t = list_of market_from (market_path at) (optional_array_at most_markets (market_path at) (codes "market") t)
 
--- the conditions that no two markets of the region at a path name the same item, ignoring ASCII case
+-- the conditions that no two markets of the region at a path name the same item, ignoring ASCII case; else TwoNames
 abbrev pub duplicate_items : List ℕ → List MarketDraft → Conditions
 duplicate_items at ds = no_duplicates (λ d. d.item) (market_path at) (codes "item") ds
 

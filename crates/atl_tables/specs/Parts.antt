@@ -24,7 +24,7 @@ world_parts_of all = record {
 
 -- The parts p of a world have names that keep the rule of names, and numbers in their ranges. Each terrain has an
 -- output of every item of the tables `all`. The parts refer only to terrains, items and skills that `all` have, and no
--- item to itself.
+-- item to itself. Each market of a region is under the number of its item.
 pub record AreWorldPartsOf (all : WorldDraft) (p : WorldParts) : Type 0 where
   pub rules : AreRules (length all.skills) p.rules
   pub terrains : EachIndex (λ i x. IsTerrain (length all.items) x) p.terrains

@@ -84,7 +84,8 @@ sides_from at t = record {
   west = value_or None (west_at at t);
 }
 
--- the conditions on the whole table `[[region]]` at a path in the first format, which reads no markets
+-- the conditions on the table `[[region]]` at a path in the first format, which reads no markets: those of
+-- `basics_keys` as one, and then those on its sides
 unfoldable pub old_region_keys : List ℕ → Members → Conditions
 old_region_keys at t = first_fault (basics_keys at t) ∷ side_keys at t
 
@@ -96,7 +97,8 @@ old_region_from at t = record { basics = basics_from at t; sides = sides_from at
 abbrev pub as_draft : OldRegion → RegionDraft
 as_draft r = record { basics = r.basics; sides = r.sides; markets = [] }
 
--- the conditions on the whole table `[[region]]` at a path in the second format, with its markets
+-- the conditions on the table `[[region]]` at a path in the second format: those of the first as one, and then those on
+-- its markets
 unfoldable pub region_keys : List ℕ → Members → Conditions
 region_keys at t = first_fault (old_region_keys at t) ∷ markets_keys at t
 
@@ -105,7 +107,7 @@ region_keys at t = first_fault (old_region_keys at t) ∷ markets_keys at t
 unfoldable pub region_from : List ℕ → Members → RegionDraft
 region_from at t = record { basics = basics_from at t; sides = sides_from at t; markets = markets_from at t }
 
--- the conditions that no two markets of the i-th region name the same item, ignoring ASCII case
+-- the conditions that no two markets of the i-th region name the same item, ignoring ASCII case; else TwoNames
 unfoldable pub duplicate_market_items : ℕ → RegionDraft → Conditions
 duplicate_market_items i d = duplicate_items (element_path (codes "region") i) d.markets
 

@@ -28,6 +28,7 @@ pub(crate) trait FromTable: Drop {
     // are in their ranges.
     ghost is_sound: { Self → Type 0 };
 
+    /// The value of the table at the path `at`, else the first fault of its keys.
     fn read(alloc: Global, at: &str, table: &Table) -> Result<Self, WorldFault>
         ensures value { Gives (λ x. x) result
             (first_fault (conditions at.now (table_view table.now)))

@@ -107,7 +107,8 @@ impl Titled for ItemDraft {
     }
 }
 
-/// The number of the item with a name; `None` if there is none, or if it is the i-th item itself.
+/// The number of the first item with a name, ignoring ASCII case; `None` if there is none, or if it
+/// is the i-th item itself.
 #[tactic(auto, unfolding(crate::specs::Titles::number_of))]
 fn other_item(items: &[ItemDraft], i: usize, name: &Text) -> Option<u16>
     requires { length items.now ≤ most_numbered }

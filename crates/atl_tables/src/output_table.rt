@@ -73,7 +73,7 @@ pub(crate) fn outputs(
 }
 
 /// Checks that no two keys of the output at a path are equal, ignoring ASCII case, else gives the
-/// fault TwoNames at the second.
+/// fault TwoNames at the first that equals one before it.
 pub(crate) fn no_duplicate_keys(
     alloc: Global,
     at: &str,
@@ -126,7 +126,8 @@ fn amount_of(outputs: &[Output], item: &Text) -> u32
     0
 }
 
-/// How much of each item of the world a terrain's output gives in a month, at the item's number.
+/// How much of each item of the world a terrain's output gives in a month, at the item's number; 0
+/// for an item that no key names.
 pub(crate) fn amounts_of(
     alloc: Global,
     items: &[ItemDraft],

@@ -10,8 +10,8 @@ use crate::region_table::RegionDraft;
 use atl_world::Numbered;
 use std::alloc::Global;
 
-/// Checks that no two regions have the same number, else gives the fault TwoNames at the second of
-/// them.
+/// Checks that no two regions have the same number, else gives the fault TwoNames at the first that
+/// has the number of one before it.
 pub(crate) fn no_duplicate_numbers(alloc: Global, drafts: &[RegionDraft]) -> Result<(), WorldFault>
     ensures { Gives (λ u. u) result (first_fault (duplicate_numbers drafts.now)) (tt {0}) }
 {

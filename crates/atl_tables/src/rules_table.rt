@@ -193,8 +193,8 @@ pub(crate) fn rules(alloc: Global, document: &Table) -> Result<RulesDraft, World
     RulesDraft::read(alloc, "rules", table)
 }
 
-/// The rules of the world, with skills by number, else the fault UnknownName at the first key whose
-/// skill isn't there.
+/// The rules of the world, with skills by number, `None` for a missing key; else the fault
+/// UnknownName at the first key whose skill isn't there.
 #[tactic(auto, unfolding(crate::specs::RulesTable::rules_known, crate::specs::RulesTable::rules_of))]
 pub(crate) fn resolve_rules(alloc: Global, all: &WorldDraft) -> Result<Rules, WorldFault>
     requires { IsWorldDraft all.now }

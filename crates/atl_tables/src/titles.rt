@@ -63,7 +63,7 @@ pub(crate) fn first_duplicate<T: Titled>(
 }
 
 /// Checks that no two elements of the array at the path `array` have equal titles, ignoring ASCII
-/// case, else gives the fault TwoNames at the key `key` of the second.
+/// case, else gives the fault TwoNames at the key `key` of the first that equals one before it.
 pub(crate) fn no_duplicate_names<T: Titled>(
     alloc: Global,
     array: &str,
@@ -86,12 +86,13 @@ pub(crate) trait HasUniqueNames: Drop {
     // The conditions that no two names in the i-th table of its array are equal.
     ghost no_duplicates: { ℕ → Self → Conditions };
 
+    /// Checks the i-th table of its array, else gives the fault TwoNames at the first of its names
+    /// that equals one before it.
     fn no_duplicates_inside(&self, alloc: Global, i: usize) -> Result<(), WorldFault>
         ensures { Gives (λ u. u) result (first_fault (no_duplicates i self.now)) (tt {0}) };
 }
 
-/// Checks that no table of an array holds two equal names, else gives the fault TwoNames at the
-/// second of two in the first table that does.
+/// Checks each table of an array for equal names, else gives the first fault of its tables.
 pub(crate) fn no_duplicates_inside<T: HasUniqueNames>(
     alloc: Global,
     holders: &[T],
@@ -119,8 +120,8 @@ pub(crate) fn number_of<T: Titled>(items: &[T], name: &Text) -> Option<u16>
     None
 }
 
-/// The number (the index) of the element that the name under a key refers to, else the fault
-/// UnknownName at the key's path.
+/// The number (the index) of the first element with `name`, which is under a key, ignoring ASCII
+/// case, else the fault UnknownName at the key's path.
 pub(crate) fn known_number<T: Titled>(
     alloc: Global,
     items: &[T],
@@ -141,8 +142,8 @@ pub(crate) fn known_number<T: Titled>(
     }
 }
 
-/// The number (the index) of the element that the name under a key refers to, `None` without a
-/// name, else the fault UnknownName at the key's path.
+/// The number (the index) of the first element with `name`, which is under a key, ignoring ASCII
+/// case; `None` without a name, else the fault UnknownName at the key's path.
 pub(crate) fn known_number_or_none<T: Titled>(
     alloc: Global,
     items: &[T],

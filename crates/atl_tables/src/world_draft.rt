@@ -69,6 +69,8 @@ pub(crate) trait Draft: Drop {
     // refers only to things of the world.
     ghost is_sound: { WorldDraft → ℕ → Self.Record → Type 0 };
 
+    /// The record that the i-th table of its array becomes, with the names looked up in `all`, else
+    /// the fault UnknownName at the first name that refers to nothing.
     fn resolve(&self, alloc: Global, all: &WorldDraft, i: usize) -> Result<Self::Record, WorldFault>
         requires all { IsWorldDraft all.now }
         requires draft { is_draft self.now }
