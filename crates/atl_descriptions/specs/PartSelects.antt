@@ -39,8 +39,8 @@ select_all_columns_with_ids since t key =
       in_table = rows_with_ids_in t;
     }
 
--- how each part is read: goods, books and stocks with their rowids, all others without; stocks are in the second format
--- alone
+-- how each part is read, in the order of its key: goods, books and stocks with their rowids, all others without; stocks
+-- are in the second format alone, the others in both
 abbrev pub select_of_part : Part → PartSelect
 select_of_part Goods = select_all_columns_with_ids First has_table 3
 select_of_part Books = select_all_columns_with_ids First books_table 2

@@ -273,7 +273,8 @@ abbrev pub index_count_in : Format → ℕ
 index_count_in First = 3
 index_count_in Second = index_count
 
--- the schema begins with the tables of a format and their indexes; what may follow is what `Begins` allows
+-- the schema begins with the tables of a format and their indexes, and has no `views`; what follows puts no rule on
+-- these tables (`Begins`)
 abbrev pub HasTablesOf : Format → Schema → Type 0
 HasTablesOf f = Begins (table_count_in f) (index_count_in f)
 
@@ -286,7 +287,8 @@ IsFirstFormatOnly schema = schema ≡ first_tables (table_count_in First) (index
 abbrev pub all_tables_and_others : List Table → List Index → Schema
 all_tables_and_others = first_tables_and_others table_count index_count
 
--- the schema begins with the ten tables of a campaign and their indexes; what may follow is what `Begins` allows
+-- the schema begins with the ten tables of a campaign and their indexes, and has no `views`; what follows puts no rule
+-- on these tables (`Begins`)
 abbrev pub HasAll : Schema → Type 0
 HasAll = Begins table_count index_count
 

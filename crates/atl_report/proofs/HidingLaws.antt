@@ -338,8 +338,8 @@ views_of_seen w c watch =
 
 -- ---- what the functions ask
 
--- Let the code's result `r`, if it is Ok, be the set gathered from the faction's own units in the watched region
--- (`own`), and from the region's lists (`levels`) up to the watch's level. Then it has just the units seen there.
+-- Let the code's result `r`, if it is Ok, be the set gathered from the faction's units in the watched region (`own`),
+-- and from the region's lists up to the watch's level (`levels`). It has just the numbers of the units seen there.
 pub gathered_are_seen : {E : Type 0} (r : Result (FinMap nat_cmp (Prim.Unit {0})) E) (w : WorldValue) (c : CampaignValue) (watch : Watch) (own : List ℕ) (levels : FinMap nat_cmp (List ℕ))
     → AreLevels w c watch.region levels → own ≡ own_units_in c watch.faction watch.region
     → IfOk r (λ seen. seen ≡ numbers_seen own levels watch.observation)

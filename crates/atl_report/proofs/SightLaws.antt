@@ -189,7 +189,7 @@ module _ (c : CampaignValue) (f q : ℕ) where
       all_watched (numbers_of_faction f c.units) empty false (get-empty nat_cmp q)
       ∙ ap (λ t. cond t (there q) None) (or-false (list_any (λ n. watches_in f q (get c.units n)) (numbers_of_faction f c.units)) ∙ region_is_seen_by_unit c f q)
 
--- a set that has just those numbers of a map that pass a test has them in the order of the map
+-- a set that has just those numbers of a map that pass the test `t` has them in the order of the map
 pub chosen_numbers : {V : Type 0} (m : FinMap nat_cmp V) (t : ℕ → Bool) (seen : FinMap nat_cmp (Prim.Unit {0}))
     → ((q : ℕ) → get seen q ≡ cond (t q) (option_map forget_value (get m q)) None)
     → entries seen ≡ map (λ e. (e.0, tt)) (filter (λ e. t e.0) (entries m))

@@ -1,7 +1,7 @@
 -- For proofs alone: the numbers of the regions that a faction sees, gathered from its units one after another. Also
 -- those of the units that it sees in a region, gathered from the region's lists, and lists of units by a key of theirs.
 -- A set of numbers is a map from each of them to `tt`, the only value of the type `Prim.Unit`.
--- `seen` is the set gathered so far, `f` the number of a faction, and `ns` are numbers of units.
+-- `seen` is the set gathered so far, `f` a faction's number, `ns` are numbers of units, and `key` gives a unit's key.
 use Rattle.std.specs.Prelude.{ℕ, List, [], ◌∷◌, nat_le, if◌then◌else◌, Option, Some, None}
 use Rattle.std.specs.Ordering.{nat_cmp}
 use Rattle.std.specs.FinMap.{FinMap, get, insert, empty, entries}

@@ -2,7 +2,7 @@
 use Rattle.std.specs.Prelude.{ℕ, List, [], ◌∷◌}
 use Rattle.atl_world.specs.Texts.{◌▸◌}
 
--- the texts that a function makes of a list's elements, one after another
+-- the texts that `text` makes of a list's elements, one after another
 abbrev pub each_text : {A : Type 0} → (A → List ℕ) → List A → List ℕ
 each_text text [] = []
 each_text text (x ∷ xs) = text x ▸ each_text text xs
