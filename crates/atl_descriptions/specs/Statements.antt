@@ -31,7 +31,8 @@ abbrev pub equations : ℕ → List (List ℕ) → List (List ℕ)
 equations n [] = []
 equations n (name ∷ more) = (name ++ codes " = " ++ parameter n) ∷ equations (n + 1) more
 
--- the text of the INSERT of a row; where a row has its key, the first `key` columns, it sets that row's other columns
+-- the text of the INSERT of a row, whose values are the parameters; where a row has its key, the first `key` columns,
+-- it sets that row's other columns
 abbrev pub upsert : Table → ℕ → List ℕ
 upsert t key =
     codes "INSERT INTO " ++ t.name ++ codes " (" ++ comma_list (column_names t)

@@ -37,7 +37,7 @@ amount_at at (key, d) = integer_in_range (path at key) 0 most_amount (as_integer
 abbrev pub amounts_keys : List ℕ → List (List ℕ × Data) → Conditions
 amounts_keys at es = map (λ e. fault_of (amount_at at e)) es
 
--- what each entry of the table `output` at a path gives: the item, by its name, and its amount
+-- what each entry of the table `output` at a path gives: the item, by its name, and its amount, 0 if that has a fault
 abbrev pub amounts_from : List ℕ → List (List ℕ × Data) → List Output
 amounts_from at es = map (λ e. record { item = e.0; amount = value_or 0 (amount_at at e) }) es
 

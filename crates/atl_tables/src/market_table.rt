@@ -68,8 +68,8 @@ impl FromTable for MarketDraft {
     }
 }
 
-/// The markets of the region at a path in the order of the file, none if it has no key `market`,
-/// else the first fault of their array, which has at most `MOST_MARKETS`, or of one of them.
+/// The markets of the region at a path in the order of the file, none if `market` is missing.
+/// An error is the first fault of their array, of at most `MOST_MARKETS`, or of one of them.
 #[tactic(auto, unfolding(crate::specs::MarketTable::markets_keys, crate::specs::MarketTable::markets_from, crate::specs::Keys::optional_array_at, crate::specs::Arrays::list_conditions, crate::specs::Arrays::list_of))]
 pub(crate) fn markets(
     alloc: Global,

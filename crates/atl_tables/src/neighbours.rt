@@ -35,8 +35,8 @@ fn equals_number(number: u32, other: Option<u32>) -> bool
     }
 }
 
-/// Checks the side `key` of the i-th region, which has the number `number`: the neighbour `other`,
-/// if there is one, must be among the `regions`, and have this region on its side `opposite`.
+/// Checks the side `key` of the i-th region, of number `number`: the neighbour `other`, if there is
+/// one, is among the `regions` and has this region on its side `opposite`, else BadNeighbour.
 fn check_neighbour(
     alloc: Global,
     i: usize,

@@ -143,7 +143,7 @@ pub(crate) fn known_number<T: Titled>(
 }
 
 /// The number (the index) of the first element with `name`, which is under a key, ignoring ASCII
-/// case; `None` without a name, else the fault UnknownName at the key's path.
+/// case; `None` without a name. An error is the fault UnknownName at the key's path.
 pub(crate) fn known_number_or_none<T: Titled>(
     alloc: Global,
     items: &[T],
