@@ -13,7 +13,7 @@ use Rattle.atl_sight.specs.Each.{each_text}
 
 -- ---- a line of the mailing that isn't read
 
--- the line for a line of the mailing that was not read: its line number, and the fault's number and name
+-- the line for a faulty line of the mailing: its line number, and the fault's number and name
 unfoldable pub faulty_line : FaultyLine → List ℕ
 faulty_line f =
     codes "Line " ▸ decimal f.line

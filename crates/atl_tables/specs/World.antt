@@ -80,7 +80,7 @@ optional_conditions doc =
     ++ (list_conditions skill_keys (codes "skill") (optional_array_at most_skills (codes "skill") (codes "skill") doc)
     ++ list_conditions kind_keys (codes "kind") (optional_array_at most_kinds (codes "kind") (codes "kind") doc))
 
--- the conditions on the array of regions of a document in a format, and on the keys of its tables
+-- the conditions on the array of regions of a document in a format, of 1 to most_regions tables, and on their keys
 unfoldable pub regions_conditions : Format → Members → Conditions
 regions_conditions First doc = list_conditions old_region_keys (codes "region") (array_at most_regions (codes "region") doc)
 regions_conditions Second doc = list_conditions region_keys (codes "region") (array_at most_regions (codes "region") doc)
