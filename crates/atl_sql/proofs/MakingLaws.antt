@@ -16,8 +16,8 @@ use Rattle.atl_descriptions.specs.Tables.{all_indexes, all_tables, no_tables, ta
 use Rattle.atl_sql.specs.Inside.{DoesInside, IsBlank}
 use Rattle.atl_sql.specs.Making.{AreEmpty}
 
--- a CREATE TABLE inside a transaction, which adds `table` as the last one, makes of a database without rows one of the
--- schema `after`, without rows (`Extends`)
+-- a CREATE TABLE inside a transaction that adds `table` as the last one (`CreatesTable`) makes of a database of the
+-- schema `before`, without rows, one of the schema `after`, without rows (`Extends`)
 pub extends : (before after : Schema) (table : Table) (old new : State) → IsTrue old.in_transaction
     → new.in_transaction ≡ true → after.tables ≡ before.tables ++ table ∷ []
     → (old.now.schema ≡ before → CreatesTable before after table.tree old.now new.now) → Extends before after old new

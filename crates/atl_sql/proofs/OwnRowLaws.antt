@@ -40,7 +40,7 @@ use Rattle.atl_sql.proofs.Terms.{cast_null, cast_int, upsert_finds_number, one_n
 campaign_table_is_listed : Has all_tables campaign_table
 campaign_table_is_listed = listed Own
 
--- the terms of the INSERT of a campaign row: id and format are fixed, all other columns are parameters
+-- the terms of the INSERT of a campaign row: the id is 1, as its rowid, the format is 2, all else are parameters
 abbrev pub own_terms : List Term
 own_terms =
     lit (Int (pos 1)) ∷ lit Null ∷ lit (Int (pos 2)) ∷ col 0 0 ∷ col 0 1 ∷ col 0 2 ∷ col 0 3 ∷ col 0 4 ∷ col 0 5 ∷ []

@@ -141,13 +141,13 @@ module _ (schema : Schema) (tree : ℕ) (name : List ℕ) (columns : List Column
 
 -- ---- statements by their text
 
--- a statement of this text is plain: without RETURNING, and not reading the time, whatever other tables follow the ten
+-- a statement of this text has no RETURNING and doesn't read the time, whatever tables and indexes follow a campaign's
 abbrev pub AlwaysPlain : List ℕ → Type 0
 AlwaysPlain sql =
     (more : List Table) (indexes : List Index) → IsPlain (understood (all_tables_and_others more indexes) sql)
 
--- inside a transaction a statement of this text with these parameters does `What` to a database with a campaign's
--- tables (`HasTables`), and keeps them and all other tables (`DoesInside`)
+-- inside a transaction a statement of this text with these parameters, if it ends without an error, does `What` to a
+-- database with a campaign's tables (`HasTables`), and keeps all other tables (`DoesInside`)
 abbrev pub DoneBy : List ℕ → Row → (Database → Database → Type 0) → Type 1
 DoneBy sql values What =
     (old new : State) (count : ℕ) (params : Row) → IsTrue old.in_transaction → ExecutesInside 0 sql params old new

@@ -135,8 +135,8 @@ module _ (p : Row → Bool) (f : Row → Env) where
   one_chosen (x ∷ rows) apart r (inr h) is =
       rw (is x (inl refl) ∙ all_has _ rows r apart.0 h, one_chosen rows apart.1 r h (λ y k. is y (inr k)))
 
--- The rowids in the tree are integers, no two alike, and a row `r` has the one in column `position` of `given`. Then
--- the query of the UPDATE has one answer: this rowid, and the values to set.
+-- The rowids in the tree, which isn't a temporary table's, are integers, no two alike. A row `r` has the one in column
+-- `position` of the parameters `given`. Then the query of the UPDATE has one answer: this rowid, and the values to set.
 pub update_finds_its_row : (tree position : ℕ) (project : List Term) (db db' : Trees) (given : Row) (rows : List Row) (r : Row)
     → AreKeyedByRowid (db tree) → Has (db tree) r → column given position ≡ rowid r → db' tree ≡ db tree
     → IsAnswer (update_query tree position project) db' given rows

@@ -58,7 +58,7 @@ pub record Changes (Becomes : Part → List Row → List Row → Type 0) (parts 
   pub done : (part : Part) → Has parts part → Becomes part (rows_in (table_of part) old.trees) (rows_in (table_of part) new.trees)
   pub others : (part : Part) → ¬ Has parts part → new.trees (table_of part).tree ≡ old.trees (table_of part).tree
 
--- `Does` is done for each part of the list, one after another
+-- `Does` is done for each part of the list, one after another; for the empty list nothing changes
 abbrev pub InTurn : (Part → Database → Database → Type 0) → List Part → Database → Database → Type 0
 InTurn Does [] old new = new ≡ old
 InTurn Does (part ∷ parts) old new = (mid : Database) × Does part old mid × InTurn Does parts mid new
@@ -73,7 +73,8 @@ Puts table key row old new = Alters table (put key row (Has (rows_in table old.t
 abbrev pub Drops : Table → ℕ → Row → Database → Database → Type 0
 Drops table key k old new = Alters table (drop_key key k (Has (rows_in table old.trees))) old new
 
--- all these rows are put, one after another, into the table, whose key is its first `key` columns (`Puts`)
+-- all these rows are put, one after another, into `table`, by their first `key` columns (`Puts`); its other rows, and all
+-- other tables of a campaign, are as they were
 abbrev pub PutsRows : Table → ℕ → List Row → Database → Database → Type 0
 PutsRows table key news old new = Alters table (puts key news (Has (rows_in table old.trees))) old new
 
