@@ -73,8 +73,8 @@ Puts table key row old new = Alters table (put key row (Has (rows_in table old.t
 abbrev pub Drops : Table → ℕ → Row → Database → Database → Type 0
 Drops table key k old new = Alters table (drop_key key k (Has (rows_in table old.trees))) old new
 
--- all these rows are put, one after another, into `table`, by their first `key` columns (`Puts`); its other rows, and all
--- other tables of a campaign, are as they were
+-- all these rows are put, one after another, into `table`, whose key is its first `key` columns (`Puts`); its other
+-- rows, and all other tables of a campaign, are as they were
 abbrev pub PutsRows : Table → ℕ → List Row → Database → Database → Type 0
 PutsRows table key news old new = Alters table (puts key news (Has (rows_in table old.trees))) old new
 

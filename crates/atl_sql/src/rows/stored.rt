@@ -99,8 +99,8 @@ pub(crate) fn select_of<T: Record>() -> (Format, &'static str)
     (table.since, table.select)
 }
 
-/// Parses all rows that a SELECT showed; the fault is OtherType for a value of another type, or
-/// Memory.
+/// Parses all rows that a SELECT showed. The fault is OtherType for a value that isn't of its
+/// column's form, or Memory.
 pub fn parse_rows<T: Stored>(alloc: Global, rows: &[Row]) -> Result<Vec<T>, ReadFault>
     ensures ok { IfOk result
         (λ all. map T.shown all.items ≡ map (first_columns (length T.forms)) rows.now) }
