@@ -55,8 +55,8 @@ pub fn put_campaign<S: Alter>(
     )
 }
 
-/// If the only campaign row is of the first format and has the values `row`, sets the format to 2 and
-/// the world text to `world` (`UpgradesCampaignRow`). The statement inserts the row if there is none.
+/// If the only campaign row is of the first format and has the values `row`, gives it the format 2
+/// and this world text (`UpgradesCampaignRow`). The statement inserts the row if there is none.
 pub fn put_upgraded<S: Alter>(
     tx: &mut Transaction<'_, S>,
     row: &CampaignRow<'_>,
