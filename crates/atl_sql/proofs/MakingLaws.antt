@@ -44,7 +44,7 @@ abbrev pub with_tables : List Table → Schema
 with_tables tables =
     record { tables = tables; indexes = take (sum_by (λ t. length t.uniques) tables) all_indexes; views = [] }
 
--- the schema of the first `count` of the ten tables and of the indexes of their keys
+-- the schema of the first `count` of the ten tables, of all if `count` is more, and of the indexes of their keys
 abbrev pub schema_of_first : ℕ → Schema
 schema_of_first count = with_tables (take count all_tables)
 

@@ -18,7 +18,8 @@ use Rattle.atl_sql.specs.Reading.{IsAsked, ReadsRows, GivesTable}
 use Rattle.atl_sql.specs.declared.fault.ReadFault.{ReadFault}
 use Rattle.atl_sql.proofs.KeepLaws.{if_ok}
 
--- the SELECT shows all rows of its table, in `count` columns, if the schema begins with the tables of the format
+-- the SELECT `sql` shows exactly the rows of its table, in some order, as their first `count` columns, if the schema
+-- begins with the tables of the format `f`
 abbrev pub Reads : Format → List ℕ → (Trees → List Row) → ℕ → Type 1
 Reads f sql in_table count = (old new : State) (rows : List Row) → Shown sql [] old new rows → HasTablesOf f old.now.schema → IsPermutation (in_table old.now.trees) (map (first_columns count) rows)
 

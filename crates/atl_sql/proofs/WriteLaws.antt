@@ -33,6 +33,7 @@ abbrev pub HasDone : {S : Type 0} → Ghosts S → Statements → (State → Sta
     → Type 0
 HasDone g own Does old new = Writes g own Does {A = Unit {0}} (Ok (tt {0})) old new
 
+-- if nothing is done, a crash leaves only what it could have left before, and no failure is forgotten (`Survives`)
 pub survives_start : (s : State) → Survives s s (λ _. ⊥)
 survives_start s =
     record { clean = omega arith; shield = λ h. h; counts = omega arith; limit = refl; closes = λ clean up. inl up; crash = λ clean db may. inl may }

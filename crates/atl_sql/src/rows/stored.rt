@@ -140,7 +140,8 @@ fn push_row<T: Stored>(alloc: Global, all: &mut Vec<T>, row: &Row) -> bool
     }
 }
 
-/// Each row is parsed as it comes; None if one couldn't be parsed or kept.
+/// Each row is parsed as it comes; None if one couldn't be parsed or kept. `sql` has no RETURNING
+/// and doesn't read the time (`IsPlain`).
 fn stream<T: Stored, S: Alter>(
     alloc: Global,
     conn: &mut Connection<S>,
@@ -177,8 +178,9 @@ fn read_inside<T: Stored, S: Alter>(
 }
 
 /// Gives all rows that a SELECT shows, each parsed as it comes if the tables are those of the
-/// format `since`. Otherwise, or if one couldn't be parsed or kept, all are parsed after they have
-/// come, so that the first fault is reported.
+/// format `since`. Then the SELECT must have no RETURNING and not read the time (`IsPlain`).
+/// Otherwise, or if one couldn't be parsed or kept, all are parsed after they have come, so that the
+/// first fault is reported.
 pub(crate) fn read_all<T: Stored, S: Alter>(
     alloc: Global,
     conn: &mut Connection<S>,
