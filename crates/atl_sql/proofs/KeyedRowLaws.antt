@@ -1,7 +1,7 @@
 -- Laws on upsert and DELETE in a table whose key is several whole numbers and whose rowid is hidden.
 -- `positions` are the columns of the key, by their indexes in a stored row, where 0 is the rowid. `values` are what SQL
 -- shows of the row that is put, and `k` is the key, or its first columns, by which rows are deleted. `old` and `new`
--- are the states before and after the statement, and `db` are the trees before it.
+-- are the states before and after the statement, and `db` are the trees before it. A tree holds the rows of one table.
 use Rattle.std.proofs.Common.{IsTrue, ◌≡◌, ◌&&◌, ◌||◌, ◌++◌, ◌/◌, ℕ, ℤ, Bool, true, false, not, List, [], ◌∷◌, map, take, length, slice_get, Some, None, Ok, refl, sym, ap, ◌∙◌, subst, inl, inr, true≢false}
 use Rattle.std.specs.List.{AllByRecursion, list_any, list_all}
 use Rattle.std.specs.Ordering.{is_eq}

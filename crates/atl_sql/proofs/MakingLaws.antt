@@ -1,6 +1,6 @@
 -- Laws on making the tables one after another, until all ten are there and empty.
 -- `before` and `after` are the schemas before and after a CREATE TABLE. `a`, `b` and `c` are states one after another,
--- and `count` is how many of the ten tables are made, the first ones.
+-- and `count` is how many of the ten tables are made, the first ones. A tree holds the rows of one table.
 use Rattle.std.proofs.Common.{◌≡◌, ◌++◌, ◌∷◌, ◌+◌, ◌<◌, ◌≤◌, ℕ, List, [], IsTrue, true, length, map, take, refl, sym, ap, ◌∙◌, subst, inl, inr, lit<, arith}
 use Rattle.std.specs.List.{sum_by}
 use Rattle.std.proofs.lemmas.List.{take_all}

@@ -1,7 +1,7 @@
 -- Laws by which the rows that a SELECT shows are all rows of its table.
 -- `in_table` gives the rows of the table by the trees, and `count` is the number of its columns. `old` is the
 -- connection at first, `before` the one on which the SELECT is asked, and `during` the one after the SELECT. `g` is the
--- kind of store.
+-- kind of store. A tree holds the rows of one table.
 use Rattle.std.proofs.Common.{ℕ, List, [], length, map, IsPermutation, Result, sym, subst}
 use Rattle.std.specs.declared.vec.Vec.{Vec}
 use Rattle.sqlite_trees.specs.declared.store.Store.{Ghosts}

@@ -178,9 +178,9 @@ fn read_inside<T: Stored, S: Alter>(
 }
 
 /// Gives all rows that a SELECT shows, each parsed as it comes if the tables are those of the
-/// format `since`. Then the SELECT must have no RETURNING and not read the time (`IsPlain`).
-/// Otherwise, or if one couldn't be parsed or kept, all are parsed after they have come, so that the
-/// first fault is reported.
+/// format `since`: then it must have no RETURNING and not read the time (`IsPlain`). Otherwise, or
+/// if one couldn't be parsed or kept, all are parsed after they have come, so that the first fault
+/// is reported.
 pub(crate) fn read_all<T: Stored, S: Alter>(
     alloc: Global,
     conn: &mut Connection<S>,
