@@ -104,8 +104,8 @@ differ_not (Blob x) b p q h = absurd (true≢false (sym p))
 
 -- ---- the query of the update: the one row that has the rowid
 
--- the query of an upsert's UPDATE: of the rows of a tree with the rowid in column `position` of the parameters, it gives
--- the rowid and the values to set, those of the terms `project`
+-- the query of an upsert's UPDATE: of the rows of a tree with the rowid in column `position` of the parameters, it
+-- gives the rowid and the values to set, those of the terms `project`
 abbrev pub update_query : ℕ → ℕ → List Term → Query
 update_query tree position project =
     record (delete_query tree (op2 (Compare Eq Binary) (col 1 0) (col 0 position) ∷ [])) { project = col 1 0 ∷ project }
