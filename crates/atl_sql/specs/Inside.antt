@@ -90,7 +90,6 @@ pub record LeavesOff (old new : State) : Type 0 where
   pub was_open : IsTrue new.is_open → IsTrue old.is_open
   -- while the connection is open, its tables are those of the last commit before, and nothing was committed
   pub undone : IsTrue new.is_open → (new.now ≡ old.committed) × (new.committed ≡ old.committed)
-  -- afterwards the connection is in no transaction
   pub idle : new.in_transaction ≡ false
 
 -- what a crash may leave besides what it could have left before: trees to which `Does` was done, with other tables kept
