@@ -220,7 +220,7 @@ found_among f n (y ∷ xs) x among some =
         (false≢true (sym (ap is_some is) ∙ ap (λ z. is_some (find nat_cmp n (f z))) (sym (eqb-true x y (unsigned_ties x y ∙ at))) ∙ some))
     by_first rest None is false at h = ap is_some (found_later n (f y) (flat_map f xs) is) ∙ rest h
 
--- what holds of each entry of the lists made of all `xs` holds of each entry of these lists together
+-- if P holds of each entry of the list `f x`, for each x of `xs`, it holds of each entry of these lists together
 pub each_flat : {A : Type 0} (P : ℕ × ℕ → Type 0) (f : A → Entries) (xs : List A)
     → AllByRecursion (λ x. AllByRecursion P (f x)) xs → AllByRecursion P (flat_map f xs)
 each_flat P f [] h = tt

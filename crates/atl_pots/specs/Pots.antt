@@ -82,7 +82,7 @@ OnlyTakersGet =
     × (get c.units number ≡ Some u)
     × HasValue c.regions u.region
 
--- the law that each taker gets a share, of at most its want: each unit with a want that is in a region of the campaign
+-- the law that each unit with a want that is in a region of the campaign, each taker, gets a share, of at most its want
 abbrev pub EachTakerGets : Type 0
 EachTakerGets =
     (pot_of : ℕ → ℕ) (wants : FinMap nat_cmp ℕ) (c : CampaignValue) (number want : ℕ) (u : Unit)

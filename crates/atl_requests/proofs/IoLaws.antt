@@ -1,7 +1,7 @@
 -- Laws on reading and writing in pieces: the bytes read or written so far, with those of one more call. `before`,
 -- `between` and `after` are the bytes, if they are known, that a reader has left or that a writer holds. `seen` are the
 -- bytes read before a call, and `new` those read after it; `sent` are those written before it, or their number. `piece`
--- are the bytes of the call, and `count` is their number.
+-- are the bytes of the call, and `count` is their number. The verdict More says that bytes are missing.
 use Rattle.std.proofs.Common.{◌≡◌, ℕ, ◌+◌, ◌-◌, ◌<◌, List, [], ◌++◌, length, take, drop, Option, Some, None, sym, ap, ◌∙◌, subst, inr, arith}
 use Rattle.std.specs.Io.KnownBytes.{Keeps, Appends, Consumes}
 use Rattle.std.proofs.lemmas.List.{append_assoc, append-nil, length-append}

@@ -1,5 +1,6 @@
 -- What reading a request and writing a reply return and leave, and the numbers of the faults that may end either.
--- `before` and `after` are the bytes, if they are known, that a reader has left or that a writer holds.
+-- `before` and `after` are the bytes, if they are known, that a reader has left or that a writer holds. The verdict on
+-- bytes says that the request is whole or refused, which is final, or that bytes are missing (More).
 use Rattle.std.specs.Prelude.{◌≡◌, ◌≤◌, ◌<◌, ℕ, List, ◌++◌, length, take, string_bytes, Option, Some, None, Result, Ok, Err, ⊤}
 use Rattle.std.specs.Io.KnownBytes.{Keeps, Appends, Consumes, IsAtEnd}
 use Rattle.atl_requests.specs.declared.message.Message.{Message}

@@ -173,7 +173,7 @@ fn receive_in<R: Read>(
 /// Reads until the request is whole or refused, and leaves in `seen`, which must be empty, all
 /// that was read. `reads` must be `none()`. Cut: the input ends before the request is whole.
 /// ReadFault: a read fails, or 1,000,000 reads haven't brought all of it. Memory: there is none for
-/// the bytes, the routes or the request.
+/// the bytes, the routes or the request; then `seen` may lack bytes that were read.
 pub fn receive<R: Read>(
     alloc: Global,
     reader: &mut R,

@@ -35,8 +35,8 @@ update_keeps_world_text head before world text r shows =
     let kept : column r 8 ≡ Text text = ap (λ row. column row 7) shows in
     rw (kept, format, id, cast_int (pos 1), cast_int (pos 2), cast_int (pos head.month), cast_int (pos head.next_faction), cast_int (pos head.next_unit), cast_int (pos head.next_structure)) refl
 
--- inside a transaction, the upsert inserts the campaign row, or changes all columns of this row but id, format and
--- world text (`PutsCampaignRow`)
+-- Inside a transaction, on a campaign's tables, the upsert inserts the row if the table is empty. The only row, if of
+-- the second format, gets the values `head` and keeps its world text (`PutsCampaignRow`).
 pub puts_campaign : (head : CampaignRowValue) (world : List ℕ)
     → DoneBy campaign_upsert (campaign_row_values head world) (PutsCampaignRow head world)
 puts_campaign head world = done_by campaign_upsert (campaign_row_values head world) (PutsCampaignRow head world) (λ old new count inside ran. (

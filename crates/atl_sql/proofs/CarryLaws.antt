@@ -52,7 +52,7 @@ none_share t target new r (i ∷ indexes) plain =
 pub among_all : (tables : List Table) (t : Table) → Has all_tables t → Has (all_tables ++ tables) t
 among_all tables t there = has_left all_tables tables t there
 
--- the trees of a database with a campaign's tables are sound under its schema, as these tables and then the others
+-- if a database has a campaign's tables (`has`), its trees are sound under the schema of these and then its others
 pub sound_under : (db : Database) (has : HasTables db)
     → IsSoundDatabase (all_tables_and_others has.begins.tables has.begins.indexes) db.trees
 sound_under db has = subst (λ s. IsSoundDatabase s db.trees) has.begins.made_of has.sound

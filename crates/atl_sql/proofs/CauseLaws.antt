@@ -165,7 +165,7 @@ module _ {S : Type 0} (g : Ghosts S) (own : Statements) (e : Error) where
 
 -- ---- of a result
 
--- what holds of the error `e` holds of the error of a result that is `e`
+-- if the result `r` is the error `e`, and P holds of `e`, P holds of the error of `r`
 pub property_of_equal_error : {A E : Type 0} (P : E → Type 0) (r : Result A E) (e : E) → IsErrAnd r (λ f. f ≡ e) → P e
     → IfErr r P
 property_of_equal_error P (Ok a) e says p = tt

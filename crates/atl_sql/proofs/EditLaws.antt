@@ -36,7 +36,7 @@ use Rattle.sqlite.proofs.Callers.{one_step}
 use Rattle.atl_descriptions.specs.Sets.{AreKeyedByRowid}
 use Rattle.atl_sql.proofs.ListLaws.{keyed_without, keyed_put, has_map, map_has, AreFound, stays, was_there}
 
--- a step that ended with Ok didn't stop with an error, so it did its work `R`
+-- a step either stopped with an error that is as `Stops` says, or did its work `R`: if it ended with Ok, it did `R`
 pub ok_step_did : {B E R : Type 0} {b : B} {Stops : E → Type 0} → ((stop : E) × Stops stop × (Ok b ≡ Err stop)) ⊎ R → R
 ok_step_did (inl stopped) = absurd (let e = stopped.2 in cc)
 ok_step_did (inr on) = on
@@ -153,7 +153,7 @@ module _ (schema : Schema) (table : Table) (unlinked : (olds news : List Row) �
 
 -- ---- the query of a DELETE, and of a table in the order of its key
 
--- the query of a DELETE: the rowids of all rows of a tree that pass the filter
+-- the query of a DELETE: the rowids of all rows of a tree, given by its number, that pass each term of the filter
 abbrev pub delete_query : ℕ → List Term → Query
 delete_query tree filter = record {
   from = inner tree end;
@@ -197,7 +197,7 @@ module _ (p : Row → Bool) (f : Row → Env) where
       go true is (inr later) more = let it = more later in (it.0, inr it.1, it.2, it.3)
       go false is later more = let it = more later in (it.0, inr it.1, it.2, it.3)
 
--- the query of a DELETE finds exactly the rows that pass its filter
+-- the query of a DELETE finds exactly the rows that pass its filter, if its tree isn't that of a temporary table
 pub found_by : (tree : ℕ) (filter : List Term) (db db' : Trees) (params : Row) (rows : List Row) → db' tree ≡ db tree
     → IsAnswer (delete_query tree filter) db' params rows
     → AreFound (λ r. list_all (holds (params ∷ r ∷ [])) filter) (db tree) rows

@@ -9,6 +9,7 @@ use Rattle.sqlite.specs.Kind.TheVariants.{Integer}
 use Rattle.sqlite_trees.specs.View.{is_int}
 use Rattle.sqlite_schema.specs.Rules.{is_of}
 
+-- a value that a column of the type INTEGER may hold, and that isn't NULL, is an integer
 pub strict_integer_is_int : (v : Value) → is_of Integer v ≡ true → is_null v ≡ false → is_int v ≡ true
 strict_integer_is_int Null typed some = absurd (true≢false some)
 strict_integer_is_int (Int n) typed some = refl

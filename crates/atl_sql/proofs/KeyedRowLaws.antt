@@ -1,7 +1,7 @@
 -- Laws on upsert and DELETE in a table whose key is several whole numbers and whose rowid is hidden.
 -- `positions` are the columns of the key, by their indexes in a stored row, where 0 is the rowid. `values` are what SQL
 -- shows of the row that is put, and `k` is the key, or its first columns, by which rows are deleted. `old` and `new`
--- are the states before and after the statement, and `db` are the trees before it.
+-- are the states before and after the statement, and `db` are the trees before it. A tree holds the rows of one table.
 use Rattle.std.proofs.Common.{IsTrue, ◌≡◌, ◌&&◌, ◌||◌, ◌++◌, ◌/◌, ℕ, ℤ, Bool, true, false, not, List, [], ◌∷◌, map, take, length, slice_get, Some, None, Ok, refl, sym, ap, ◌∙◌, subst, inl, inr, true≢false}
 use Rattle.std.specs.List.{AllByRecursion, list_any, list_all}
 use Rattle.std.specs.Ordering.{is_eq}
@@ -95,7 +95,7 @@ pub record HasKey (t : Table) (at : ℕ) (positions : List ℕ) : Type 0 where
       → conflicts (Some positions) (all_indexes ++ indexes) t new x ≡ (agree_at positions x new || list_any (shares (Some positions) t new x) indexes)
 
 -- the text `sql` means the DELETE of the rows that pass `filter`, in the table with index `at` in the schema and tree
--- `tree`, whatever other tables follow
+-- `tree`, whatever tables and indexes the schema has after a campaign's own
 abbrev pub MeansDelete : ℕ → ℕ → List ℕ → List Term → Type 0
 MeansDelete tree at sql filter =
     (more : List Table) (indexes : List Index) → command_of (understood (all_tables_and_others more indexes) sql) ≡
@@ -103,7 +103,8 @@ MeansDelete tree at sql filter =
 
 -- The text `sql` means an INSERT of one row by `terms`, with an UPDATE by `project` of the row that has its key, the
 -- columns at the indexes `positions`. Of what the UPDATE reads, the column at the index `hole`, after the parameters,
--- is the rowid of that row. `width` is how many terms make a row. The table has the index `at` and the tree `tree`.
+-- is the rowid of that row. `width` is how many terms make a row. The table has the index `at` and the tree `tree`,
+-- whatever tables and indexes the schema has after a campaign's own.
 abbrev pub MeansUpsert : ℕ → ℕ → List ℕ → List ℕ → ℕ → List Term → ℕ → List Term → Type 0
 MeansUpsert tree at positions sql width terms hole project = (more : List Table) (indexes : List Index)
     → command_of (understood (all_tables_and_others more indexes) sql) ≡ InsertOr at Abort (Values terms width) (conflict_clause positions (record { lets = []; body = update_query tree hole project }) ∷ [])

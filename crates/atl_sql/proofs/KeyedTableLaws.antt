@@ -1,6 +1,7 @@
 -- Laws on the statements of the tables `has`, `books`, `market`, whose key is several numbers: what they mean and do.
 -- `puts_has`, `puts_books` and `puts_market` put a row. `drops_has`, `drops_books` and `drops_stock` delete the row of
--- a whole key, `drops_goods` all rows of a unit, and `drops_stocks` all rows of a region.
+-- a whole key, `drops_goods` all rows of a unit, and `drops_stocks` all rows of a region. `sort` is 0 for an item, 1
+-- for a skill. The number after the table says how many columns make the key.
 use Rattle.std.proofs.Common.{◌≡◌, ◌+◌, ◌-◌, ◌++◌, ℕ, ℤ, pos, true, List, [], ◌∷◌, codes, length, map, refl, sym, true≢false}
 use Rattle.std.specs.List.{range_with_len}
 use Rattle.std.proofs.lemmas.Bool.{and_parts, not-true}

@@ -80,6 +80,7 @@ pub record AreFound (p : Row → Bool) (rows found : List Row) : Type 0 where
   pub sound : (x : Row) → Has found x → (r : Row) × Has rows r × (p r ≡ true) × (x ≡ rowid r ∷ [])
   pub complete : (r : Row) → Has rows r → p r ≡ true → Has found (rowid r ∷ [])
 
+-- if all rowids of a tree's rows are integers, the rowid of each is the integer that `id_in` reads from it
 pub is_int_at : (rows : List Row) (r : Row) → AllByRecursion (λ r. is_int (rowid r) ≡ true) rows → Has rows r
     → rowid r ≡ Int (id_in (rowid r))
 is_int_at rows r ints h = int_is (rowid r) (all_has _ rows r ints h)

@@ -1,6 +1,6 @@
 -- Laws on making the tables one after another, until all ten are there and empty.
 -- `before` and `after` are the schemas before and after a CREATE TABLE. `a`, `b` and `c` are states one after another,
--- and `count` is how many of the ten tables are made, the first ones.
+-- and `count` is how many of the ten tables are made, the first ones. A tree holds the rows of one table.
 use Rattle.std.proofs.Common.{◌≡◌, ◌++◌, ◌∷◌, ◌+◌, ◌<◌, ◌≤◌, ℕ, List, [], IsTrue, true, length, map, take, refl, sym, ap, ◌∙◌, subst, inl, inr, lit<, arith}
 use Rattle.std.specs.List.{sum_by}
 use Rattle.std.proofs.lemmas.List.{take_all}
@@ -16,8 +16,8 @@ use Rattle.atl_descriptions.specs.Tables.{all_indexes, all_tables, no_tables, ta
 use Rattle.atl_sql.specs.Inside.{DoesInside, IsBlank}
 use Rattle.atl_sql.specs.Making.{AreEmpty}
 
--- a CREATE TABLE inside a transaction, which adds `table` as the last one, makes of a database without rows one of the
--- schema `after`, without rows (`Extends`)
+-- a CREATE TABLE inside a transaction that adds `table` as the last one (`CreatesTable`) makes of a database of the
+-- schema `before`, without rows, one of the schema `after`, without rows (`Extends`)
 pub extends : (before after : Schema) (table : Table) (old new : State) → IsTrue old.in_transaction
     → new.in_transaction ≡ true → after.tables ≡ before.tables ++ table ∷ []
     → (old.now.schema ≡ before → CreatesTable before after table.tree old.now new.now) → Extends before after old new
@@ -44,7 +44,7 @@ abbrev pub with_tables : List Table → Schema
 with_tables tables =
     record { tables = tables; indexes = take (sum_by (λ t. length t.uniques) tables) all_indexes; views = [] }
 
--- the schema of the first `count` of the ten tables and of the indexes of their keys
+-- the schema of the first `count` of the ten tables, of all if `count` is more, and of the indexes of their keys
 abbrev pub schema_of_first : ℕ → Schema
 schema_of_first count = with_tables (take count all_tables)
 

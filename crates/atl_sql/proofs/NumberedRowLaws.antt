@@ -36,6 +36,7 @@ part_is_numbered part is = record {
   no_index_shares = λ new x. refl;
 }
 
+-- the upsert of the part's table puts a row whose values after its number are of their columns' types (`Fits`)
 pub puts_part : (part : Part) → IsNumberedPart part → (n : ℕ) (values : Row)
     → Fits (drop 1 (table_of part).columns) values → PutsRow (table_of part) 1 (int n ∷ values)
 puts_part Own is = absurd is
@@ -44,6 +45,7 @@ puts_part Books is = absurd is
 puts_part Markets is = absurd is
 puts_part part is = puts_numbered (table_of part).tree _ _ _ _ (place_in part) (part_is_numbered part is)
 
+-- the DELETE of the part's table by a number deletes the row of this number
 pub drops_part : (part : Part) → IsNumberedPart part → (n : ℕ) → DropsKey (table_of part) 1 (int n ∷ [])
 drops_part Own is = absurd is
 drops_part Goods is = absurd is

@@ -1,7 +1,7 @@
 -- Laws on an upsert of the table `campaign`: it inserts the row, or changes some columns of the row that is there.
 -- `head` and `world` are the values and the world text that the statement is given. `project` are the terms of its
 -- UPDATE, where `col 0 n` is the parameter at the index `n`. `old` and `new` are the state or the database before and
--- after.
+-- after. A tree holds the rows of one table.
 use Rattle.std.proofs.Common.{◌≡◌, ℕ, pos, true, List, [], ◌∷◌, ◌++◌, Some, Ok, refl, sym, ap, ◌∙◌, subst, take}
 use Rattle.sqlite.specs.declared.types.Value.TheVariants.{Null, Int}
 use Rattle.sqlite.specs.Command.TheVariants.{InsertOr}
@@ -40,7 +40,7 @@ use Rattle.atl_sql.proofs.Terms.{cast_null, cast_int, upsert_finds_number, one_n
 campaign_table_is_listed : Has all_tables campaign_table
 campaign_table_is_listed = listed Own
 
--- the terms of the INSERT of a campaign row: id and format are fixed, all other columns are parameters
+-- the terms of the INSERT of a campaign row: the id is 1, as its rowid, the format is 2, all else are parameters
 abbrev pub own_terms : List Term
 own_terms =
     lit (Int (pos 1)) ∷ lit Null ∷ lit (Int (pos 2)) ∷ col 0 0 ∷ col 0 1 ∷ col 0 2 ∷ col 0 3 ∷ col 0 4 ∷ col 0 5 ∷ []
@@ -48,7 +48,7 @@ own_terms =
 abbrev stored_own_row : CampaignRowValue → List ℕ → Row
 stored_own_row head world = int 1 ∷ Null ∷ int 2 ∷ campaign_row_values head world
 
--- the row, as SQL shows it, that the UPDATE by these terms makes of a stored row of `campaign`
+-- the row, as SQL shows it, that the UPDATE by these terms makes of a stored row of `campaign`, given head and world
 abbrev pub changed_to : List Term → CampaignRowValue → List ℕ → Row → Row
 changed_to project head world r =
     visible_row campaign_table

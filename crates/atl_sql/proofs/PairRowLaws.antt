@@ -25,7 +25,7 @@ pair_unique = 1 ∷ 2 ∷ []
 abbrev pub pair_terms : List Term
 pair_terms = lit Null ∷ col 0 0 ∷ col 0 1 ∷ col 0 2 ∷ []
 
--- the terms of the UPDATE: the row that is there keeps its key and takes over the third number
+-- the terms of the UPDATE: the row that is there keeps its rowid and its key, and gets the third number given
 abbrev pub pair_update_terms : List Term
 pair_update_terms = col 1 0 ∷ col 1 1 ∷ col 1 2 ∷ col 0 2 ∷ []
 

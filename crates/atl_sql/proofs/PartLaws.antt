@@ -1,5 +1,5 @@
 -- Laws on the tables of a campaign's parts: different parts have different tables.
--- `parts`, `ps` and `qs` are lists of parts. Two parts are told apart by the numbers of their tables' trees.
+-- `parts`, `ps` and `qs` are lists of parts. Parts differ by the number of the tree that holds the rows of their table.
 use Rattle.std.proofs.Common.{◌≡◌, ◌⊎◌, ℕ, Bool, true, false, not, nat_eq, cond, List, [], ◌∷◌, Option, Some, refl, sym, ap, ◌∙◌, inl, inr, true≢false, arith}
 use Rattle.std.specs.List.{find, list_any, list_all}
 use Rattle.std.proofs.lemmas.Bool.Decides.{nat_tests}

@@ -1,7 +1,7 @@
 -- Laws by which the rows that a SELECT shows are all rows of its table.
 -- `in_table` gives the rows of the table by the trees, and `count` is the number of its columns. `old` is the
 -- connection at first, `before` the one on which the SELECT is asked, and `during` the one after the SELECT. `g` is the
--- kind of store.
+-- kind of store. A tree holds the rows of one table.
 use Rattle.std.proofs.Common.{ℕ, List, [], length, map, IsPermutation, Result, sym, subst}
 use Rattle.std.specs.declared.vec.Vec.{Vec}
 use Rattle.sqlite_trees.specs.declared.store.Store.{Ghosts}
@@ -18,7 +18,8 @@ use Rattle.atl_sql.specs.Reading.{IsAsked, ReadsRows, GivesTable}
 use Rattle.atl_sql.specs.declared.fault.ReadFault.{ReadFault}
 use Rattle.atl_sql.proofs.KeepLaws.{if_ok}
 
--- the SELECT shows all rows of its table, in `count` columns, if the schema begins with the tables of the format
+-- the SELECT `sql` shows exactly the rows of its table, in some order, as their first `count` columns, if the schema
+-- begins with the tables of the format `f`
 abbrev pub Reads : Format → List ℕ → (Trees → List Row) → ℕ → Type 1
 Reads f sql in_table count = (old new : State) (rows : List Row) → Shown sql [] old new rows → HasTablesOf f old.now.schema → IsPermutation (in_table old.now.trees) (map (first_columns count) rows)
 

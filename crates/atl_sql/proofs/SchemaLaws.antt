@@ -49,8 +49,8 @@ sorts_plainly Own = refl
 sorts_plainly part = refl
 
 -- A test `r` whether `found` is the index of a described key tests whether it is the index of the first unique key of
--- the part's table (`index_of`). What describes it fits this table: `name` and `tree` of the index, the key's columns
--- `key`, and the tree `at` of the table.
+-- the part's table (`index_of`). What describes it fits this table: `name` and `tree` of the index, its only unique
+-- key, of the columns `key`, and the tree `at` of the table.
 pub is_index : (part : Part) (name key : List ℕ) (tree at : ℕ) → (table_of part).uniques ≡ key ∷ []
     → name ≡ codes "sqlite_autoindex_" ++ ((table_of part).name ++ codes "_1")
     → tree ≡ (table_of part).tree + 1 → at ≡ (table_of part).tree

@@ -39,6 +39,7 @@ market_harmless t there =
     all_has (λ t. guards (automatic market_table 0 market_unique 13) t ≡ false) (take 9 all_tables) t
     (refl, (refl, (refl, (refl, (refl, (refl, (refl, (refl, (refl, tt))))))))) there
 
+-- a schema that begins with the tables of any format begins with those of the first
 pub has_first : (f : Format) (schema : Schema) → HasTablesOf f schema → HasTablesOf First schema
 has_first First schema has = has
 has_first Second schema has =

@@ -2,7 +2,7 @@
 -- `old` and `new` are the states before and after a statement, and `count` is how many rows it changed. `db` are the
 -- trees before it, and `out` has the database after it. `params` and `values` are the parameters of the statement,
 -- `limit` is its step limit, and `g` the kind of store. Before a statement the rowids in the tree are integers, no two
--- alike (`AreKeyedByRowid`).
+-- alike (`AreKeyedByRowid`). A tree holds the rows of one table.
 use Rattle.std.proofs.Common.{IsTrue, ◌≡◌, ◌/◌, ℕ, ℤ, Bool, false, List, [], ◌∷◌, ◌++◌, length, slice_get, Option, Some, None, Result, Ok, sym, ap, ◌∙◌, subst}
 use Rattle.sqlite_value.specs.Order.{Row, column}
 use Rattle.sqlite_trees.specs.Tree.{Trees, rowid}
@@ -141,13 +141,13 @@ module _ (schema : Schema) (tree : ℕ) (name : List ℕ) (columns : List Column
 
 -- ---- statements by their text
 
--- a statement of this text is plain: without RETURNING, and not reading the time, whatever other tables follow the ten
+-- a statement of this text has no RETURNING and doesn't read the time, whatever tables and indexes follow a campaign's
 abbrev pub AlwaysPlain : List ℕ → Type 0
 AlwaysPlain sql =
     (more : List Table) (indexes : List Index) → IsPlain (understood (all_tables_and_others more indexes) sql)
 
--- inside a transaction a statement of this text with these parameters does `What` to a database with a campaign's
--- tables (`HasTables`), and keeps them and all other tables (`DoesInside`)
+-- inside a transaction a statement of this text with these parameters, if it ends without an error, does `What` to a
+-- database with a campaign's tables (`HasTables`), and keeps all other tables (`DoesInside`)
 abbrev pub DoneBy : List ℕ → Row → (Database → Database → Type 0) → Type 1
 DoneBy sql values What =
     (old new : State) (count : ℕ) (params : Row) → IsTrue old.in_transaction → ExecutesInside 0 sql params old new
@@ -168,7 +168,8 @@ pub done_by : (sql : List ℕ) (values : Row) (What : Database → Database → 
 done_by sql values What does old new count params inside h same =
     does old new count inside (subst (λ p. ExecutesInside 0 sql p old new (Ok count)) same h)
 
--- a step that ran a statement which does `What` (`DoneBy`) did `What`; `params` and `values` are the same parameters
+-- A step that ran a statement which does `What` (`DoneBy`) did `What`. It returned r and led from a to b; `params` and
+-- `values` are the same parameters.
 pub runs_with : {S A : Type 0} (g : Ghosts S) {r : Result A Error} {a b : MutBor (Held S)} (sql : List ℕ) (values params : Row) (What : Database → Database → Type 0)
     → DoneBy sql values What → params ≡ values → Writes g (OneStatement sql params) (RunsStatement sql params) r a b
     → Writes g (OneStatement sql values) (DoesInside HasTables What) r a b

@@ -38,8 +38,8 @@ update_upgrades_row head text before r shows =
     let pass : column r 7 ≡ Text head.pass = ap (λ row. column row 6) shows in
     rw (pass, structure, unit, faction, month, id, cast_int (pos 1), cast_int (pos 2), cast_int (pos head.month), cast_int (pos head.next_faction), cast_int (pos head.next_unit), cast_int (pos head.next_structure)) refl
 
--- inside a transaction, the statement gives a campaign row of the first format the second format and a new world text
--- (`UpgradesCampaignRow`)
+-- inside a transaction, on a campaign's tables, the statement gives the only campaign row, if it is of the first format
+-- and of the values `head`, the second format and a new world text (`UpgradesCampaignRow`)
 pub puts_upgraded : (head : CampaignRowValue) (text : List ℕ)
     → DoneBy upgrading_upsert (campaign_row_values head text) (UpgradesCampaignRow head text)
 puts_upgraded head text = done_by upgrading_upsert (campaign_row_values head text) (UpgradesCampaignRow head text) (λ old new count inside ran. (

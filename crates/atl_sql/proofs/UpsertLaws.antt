@@ -1,6 +1,6 @@
 -- Laws on INSERT .. ON CONFLICT (key) DO UPDATE of one row: which rows the table has afterwards.
--- `new` is the row to insert, and `r` a row of the table. `db` are the trees before, and `next`, or those of `w`, the
--- trees after. A query reads `db'`, which has its temporary tables beside the trees of `db`.
+-- `new` is the row to insert, and `r` a row of the table. `db` are the trees before, each with the rows of one table.
+-- `next`, or those of `w`, are the trees after. A query reads `db'`, which adds temporary tables to the trees of `db`.
 use Rattle.std.proofs.Common.{◌≡◌, ◌⊎◌, ℕ, ℤ, Bool, true, false, List, [], ◌∷◌, ◌++◌, map, flat_map, Option, Some, None, Ok, Ordering, Less, Equal, Greater, refl, sym, ap, ◌∙◌, subst, inl, inr, true≢false, arith}
 use Rattle.std.specs.Prelude.{cond}
 use Rattle.std.specs.List.{list_all}
@@ -104,7 +104,8 @@ differ_not (Blob x) b p q h = absurd (true≢false (sym p))
 
 -- ---- the query of the update: the one row that has the rowid
 
--- the query of an upsert's UPDATE: the row whose rowid is column `position` of the parameters, with the values to set
+-- the query of an upsert's UPDATE: of the rows of a tree with the rowid in column `position` of the parameters, it
+-- gives the rowid and the values to set, those of the terms `project`
 abbrev pub update_query : ℕ → ℕ → List Term → Query
 update_query tree position project =
     record (delete_query tree (op2 (Compare Eq Binary) (col 1 0) (col 0 position) ∷ [])) { project = col 1 0 ∷ project }
@@ -135,8 +136,8 @@ module _ (p : Row → Bool) (f : Row → Env) where
   one_chosen (x ∷ rows) apart r (inr h) is =
       rw (is x (inl refl) ∙ all_has _ rows r apart.0 h, one_chosen rows apart.1 r h (λ y k. is y (inr k)))
 
--- The rowids in the tree are integers, no two alike, and a row `r` has the one in column `position` of `given`. Then
--- the query of the UPDATE has one answer: this rowid, and the values to set.
+-- The rowids in the tree, which isn't a temporary table's, are integers, no two alike. A row `r` has the one in column
+-- `position` of the parameters `given`. Then the query of the UPDATE has one answer: this rowid, and the values to set.
 pub update_finds_its_row : (tree position : ℕ) (project : List Term) (db db' : Trees) (given : Row) (rows : List Row) (r : Row)
     → AreKeyedByRowid (db tree) → Has (db tree) r → column given position ≡ rowid r → db' tree ≡ db tree
     → IsAnswer (update_query tree position project) db' given rows

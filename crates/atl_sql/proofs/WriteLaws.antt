@@ -28,11 +28,12 @@ on_ok_of_error (Err e) P failed = tt
 abbrev pub HandsOn : {A : Type 0} → Error → Result A Error → Type 0
 HandsOn e r = IsErr r × IsErrAnd r (λ f. f ≡ e)
 
--- inside a transaction, steps by statements of `own` have done `Does` without an error
+-- steps by statements of `own` have done `Does` without an error, if the disk is clean (`Writes`)
 abbrev pub HasDone : {S : Type 0} → Ghosts S → Statements → (State → State → Type 0) → MutBor (Held S) → MutBor (Held S)
     → Type 0
 HasDone g own Does old new = Writes g own Does {A = Unit {0}} (Ok (tt {0})) old new
 
+-- if nothing is done, a crash leaves only what it could have left before, and no failure is forgotten (`Survives`)
 pub survives_start : (s : State) → Survives s s (λ _. ⊥)
 survives_start s =
     record { clean = omega arith; shield = λ h. h; counts = omega arith; limit = refl; closes = λ clean up. inl up; crash = λ clean db may. inl may }

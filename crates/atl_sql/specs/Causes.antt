@@ -27,7 +27,7 @@ Leads {S} g own (suc count) old new = (mid : Held S) × RunsOne own (state g old
 abbrev pub IsReached : {S : Type 0} → Ghosts S → Statements → Held S → Held S → Type 0
 IsReached g own old new = (count : ℕ) × Leads g own count old new
 
--- a statement of the set `own`, or the commit of the transaction, ended with the error `e`, and led from the state
+-- inside a transaction, a statement of the set `own`, or the commit, ended with the error `e`, and led from the state
 -- `before` to `after`
 abbrev pub IsGiven : Statements → Error → State → State → Type 0
 IsGiven own e before after =

@@ -1,5 +1,5 @@
 -- What is done to the tables inside a transaction, and what a whole transaction leaves. `old` and `new` are the
--- database, or the state of the connection, before and after it.
+-- database, or the state of the connection, before and after it. A tree holds the rows of one table.
 use Rattle.std.specs.Prelude.{◌≡◌, ◌≢◌, ℕ, List, [], ◌∷◌, false, IsTrue}
 use Rattle.sqlite_value.specs.Order.{Row}
 use Rattle.sqlite_schema.specs.declared.schema.Table.{Table}
@@ -31,11 +31,8 @@ pub record Carries (old new : Database) : Type 0 where
 
 -- `Does` is done, the tables of a campaign are there afterwards, and all others are kept with their indexes (`Carries`)
 pub record DoesAndKeeps (Does : Database → Database → Type 0) (old new : Database) : Type 0 where
-  -- the database before and the one after are as `Does` says
   pub does : Does old new
-  -- the tables of a campaign are there afterwards
   pub tables : HasTables new
-  -- no table or index is gone, and tables that aren't a campaign's hold what they held
   pub carries : Carries old new
 
 -- A step on tables that are as `Before` says does `Does` to them, and keeps all other tables (`DoesAndKeeps`). The
@@ -47,7 +44,7 @@ DoesInside Before Does old new = (new.in_transaction ≡ old.in_transaction) × 
 abbrev pub DoesBoth : (Database → Database → Type 0) → (Database → Database → Type 0) → Database → Database → Type 0
 DoesBoth First Second old new = (mid : Database) × First old mid × Second mid new
 
--- afterwards the rows of this table are exactly those of this set, and each other table of a campaign is as it was
+-- afterwards the rows of `table` are exactly those of the set `S`, and each other table of a campaign is as it was
 pub record Alters (table : Table) (S : Set) (old new : Database) : Type 0 where
   pub rows : HasExactly (rows_in table new.trees) S
   pub others : (t : Table) → Has all_tables t → t.tree ≢ table.tree → new.trees t.tree ≡ old.trees t.tree
@@ -58,7 +55,7 @@ pub record Changes (Becomes : Part → List Row → List Row → Type 0) (parts 
   pub done : (part : Part) → Has parts part → Becomes part (rows_in (table_of part) old.trees) (rows_in (table_of part) new.trees)
   pub others : (part : Part) → ¬ Has parts part → new.trees (table_of part).tree ≡ old.trees (table_of part).tree
 
--- `Does` is done for each part of the list, one after another
+-- `Does` is done for each part of the list, one after another; for the empty list nothing changes
 abbrev pub InTurn : (Part → Database → Database → Type 0) → List Part → Database → Database → Type 0
 InTurn Does [] old new = new ≡ old
 InTurn Does (part ∷ parts) old new = (mid : Database) × Does part old mid × InTurn Does parts mid new
@@ -73,20 +70,17 @@ Puts table key row old new = Alters table (put key row (Has (rows_in table old.t
 abbrev pub Drops : Table → ℕ → Row → Database → Database → Type 0
 Drops table key k old new = Alters table (drop_key key k (Has (rows_in table old.trees))) old new
 
--- all these rows are put, one after another, into the table, whose key is its first `key` columns (`Puts`)
+-- all these rows are put, one after another, into `table`, whose key is its first `key` columns (`Puts`); its other
+-- rows, and all other tables of a campaign, are as they were
 abbrev pub PutsRows : Table → ℕ → List Row → Database → Database → Type 0
 PutsRows table key news old new = Alters table (puts key news (Has (rows_in table old.trees))) old new
 
 -- A transaction that succeeded: `Does` is done and other tables are kept (`DoesAndKeeps`), if the tables were as
--- `Before` says. All is committed. The connection is open and in no transaction.
+-- `Before` says. All that the tables hold is committed. Afterwards the connection is open and in no transaction.
 pub record Commits (Before : Database → Type 0) (Does : Database → Database → Type 0) (old new : State) : Type 0 where
-  -- `Does` is done and other tables are kept (`DoesAndKeeps`), if the tables were as `Before` says
   pub does : Before old.now → DoesAndKeeps Does old.now new.now
-  -- all that the tables hold is committed
   pub committed : new.committed ≡ new.now
-  -- afterwards the connection is in no transaction
   pub idle : new.in_transaction ≡ false
-  -- afterwards the connection is open
   pub is_open : IsTrue new.is_open
 
 -- A transaction that failed: while the connection is open, its tables are those of the last commit before.
@@ -96,7 +90,6 @@ pub record LeavesOff (old new : State) : Type 0 where
   pub was_open : IsTrue new.is_open → IsTrue old.is_open
   -- while the connection is open, its tables are those of the last commit before, and nothing was committed
   pub undone : IsTrue new.is_open → (new.now ≡ old.committed) × (new.committed ≡ old.committed)
-  -- afterwards the connection is in no transaction
   pub idle : new.in_transaction ≡ false
 
 -- what a crash may leave besides what it could have left before: trees to which `Does` was done, with other tables kept

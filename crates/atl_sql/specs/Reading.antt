@@ -1,6 +1,6 @@
 -- What reading all rows of a table gives. `old` and `new` are the connection before and after the read. `forms` are the
 -- forms of the columns, and `shown` gives the row that a value was read of. `g` is the kind of store, in memory or in
--- files.
+-- files. A tree holds the rows of one table.
 use Rattle.std.specs.Prelude.{◌≡◌, ◌≢◌, ◌≤◌, ◌⊎◌, ◌++◌, ℕ, List, [], ◌∷◌, length, map, IsTrue, IsPermutation, false, Option, Result, IfOk, IfErr, IfSome, OnOk}
 use Rattle.std.specs.declared.vec.Vec.{Vec}
 use Rattle.sqlite_trees.specs.declared.store.Store.{Ghosts}

@@ -36,7 +36,7 @@ item_of m = as_u32 m.item
 abbrev stock_of : StoredMarket → ℕ
 stock_of m = as_u32 m.stock
 
--- whether a row of `market` is of region n
+-- whether the region of a row of `market`, as it is read, is n
 abbrev pub is_row_of_region : ℕ → StoredMarket → Bool
 is_row_of_region n m = as_u32 m.region == n
 
@@ -77,7 +77,7 @@ abbrev region_lines : ℕ × Region → List StoredMarket
 region_lines e = stock_rows e.0 (entries e.1.stocks)
 
 -- if regions have different numbers, and rows of `market` are exact (`IsExactMarket`), of these regions, and differ in
--- keys, the regions read with them are written as these rows, in some order
+-- keys, the regions read with them are written, in the second format, as these rows, in some order
 pub regions_are_written_as_rows : (markets : List StoredMarket) (regions : List StoredRegion)
     → HaveDistinctNumbers (λ r. as_u32 r.number) regions
     → AllByRecursion (λ m. HasNumber (λ r. as_u32 r.number) regions (as_u32 m.region)) markets

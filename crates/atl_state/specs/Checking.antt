@@ -37,7 +37,8 @@ rule_number Guards = 10
 rule_number Books = 11
 rule_number Mail = 12
 
--- the rows p of format f keep rule r, which is about the rows, about the campaign read from them, or about both
+-- The rows p of format f keep rule r. OneRow, Ranges and Names are about the rows, Known and Books about the rows and
+-- the campaign read from them (`campaign_of`), and all others about this campaign alone.
 abbrev pub KeepsRule : Format → WorldValue → Parts → Rule → Type 0
 KeepsRule f w p OneRow = IsTrue (is_one_campaign_row f p.campaign) × IsTrue (are_of_format f p.markets)
 KeepsRule f w p Ranges = AreRowsInRange w p
@@ -64,7 +65,8 @@ pub record IsFirstBroken (f : Format) (w : WorldValue) (p : Parts) (r : Rule) : 
   pub before : KeepsRulesBelow f w p (rule_number r)
   pub broken : ¬ KeepsRule f w p r
 
--- a campaign uses no markets: nothing is in stock, and no amount is booked under the entries of markets
+-- a campaign uses no markets: nothing is in stock, and the amounts under the entries of markets, those that the first
+-- format lacks, are 0
 pub record IsWithoutMarkets (c : CampaignValue) : Type 0 where
   pub stocks : HasNoStocks c
   pub entries : (e : BooksEntry) (t : Thing) → first_entry_count ≤ entry_index e → amount_in c.books e t ≡ pos 0

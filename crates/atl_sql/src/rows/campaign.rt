@@ -29,8 +29,8 @@ pub struct CampaignRow<'a> {
     pub pass: &'a str,
 }
 
-/// Inserts the campaign row with this world text; a row of the second format that is there is
-/// changed, but keeps its world text (`PutsCampaignRow`).
+/// Inserts the campaign row with this world text if the table is empty. If its only row is of the
+/// second format, this row gets the values `row`, but keeps its world text (`PutsCampaignRow`).
 pub fn put_campaign<S: Alter>(
     tx: &mut Transaction<'_, S>,
     row: &CampaignRow<'_>,
@@ -55,8 +55,8 @@ pub fn put_campaign<S: Alter>(
     )
 }
 
-/// Of a campaign row of the first format with the values `row`, sets the format to 2 and the world
-/// text to `world` (`UpgradesCampaignRow`). The statement inserts the row if there is none.
+/// If the only campaign row is of the first format and has the values `row`, gives it the format 2
+/// and this world text (`UpgradesCampaignRow`). The statement inserts the row if there is none.
 pub fn put_upgraded<S: Alter>(
     tx: &mut Transaction<'_, S>,
     row: &CampaignRow<'_>,

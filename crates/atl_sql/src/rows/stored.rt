@@ -99,8 +99,8 @@ pub(crate) fn select_of<T: Record>() -> (Format, &'static str)
     (table.since, table.select)
 }
 
-/// Parses all rows that a SELECT showed; the fault is OtherType for a value of another type, or
-/// Memory.
+/// Parses all rows that a SELECT showed. The fault is OtherType for a value that isn't of its
+/// column's form, or Memory.
 pub fn parse_rows<T: Stored>(alloc: Global, rows: &[Row]) -> Result<Vec<T>, ReadFault>
     ensures ok { IfOk result
         (λ all. map T.shown all.items ≡ map (first_columns (length T.forms)) rows.now) }
@@ -140,7 +140,8 @@ fn push_row<T: Stored>(alloc: Global, all: &mut Vec<T>, row: &Row) -> bool
     }
 }
 
-/// Each row is parsed as it comes; None if one couldn't be parsed or kept.
+/// Each row is parsed as it comes; None if one couldn't be parsed or kept. `sql` has no RETURNING
+/// and doesn't read the time (`IsPlain`).
 fn stream<T: Stored, S: Alter>(
     alloc: Global,
     conn: &mut Connection<S>,
@@ -177,8 +178,9 @@ fn read_inside<T: Stored, S: Alter>(
 }
 
 /// Gives all rows that a SELECT shows, each parsed as it comes if the tables are those of the
-/// format `since`. Otherwise, or if one couldn't be parsed or kept, all are parsed after they have
-/// come, so that the first fault is reported.
+/// format `since`: then it must have no RETURNING and not read the time (`IsPlain`). Otherwise, or
+/// if one couldn't be parsed or kept, all are parsed after they have come, so that the first fault
+/// is reported.
 pub(crate) fn read_all<T: Stored, S: Alter>(
     alloc: Global,
     conn: &mut Connection<S>,

@@ -1,4 +1,5 @@
-//! Compares the CHECK clause of a table with that of `campaign`, which is `id = 1`.
+//! Compares the CHECK clause of a table with that of `campaign`, which is `id = 1`. A term is kept
+//! as nodes, which name those below them by their indexes; `root` is the index of the topmost one.
 ghost use Rattle.std.specs.Prelude.{◌≡◌, ◌≢◌, [], ◌∷◌, ℕ, Some, IfSome, IfNone, pos, ◌↔◌, IsTrue};
 ghost use Rattle.std.specs.Option.{option_copied};
 ghost use Rattle.sqlite.specs.declared.types.Value.TheVariants.{Int};

@@ -129,7 +129,7 @@ fn sorted<K: Ord + Copy + Drop>(alloc: Global, keys: &[K]) -> Result<Vec<K>, All
     Ok(sorted)
 }
 
-/// Whether no two of the values are equal by their order. Where the values don't rise, the test
+/// Whether no two of the keys are equal by their order. Where they don't rise strictly, the test
 /// takes n log n steps, and memory for each of them; AllocError without it.
 pub fn are_distinct<K: Ord + Copy + Drop>(alloc: Global, keys: &[K]) -> Result<bool, AllocError>
     ensures { IfOk result (λ yes. IsTrue yes ↔ (IsDistinct (eq_by_cmp K.cmp) keys.now)) }
