@@ -256,7 +256,8 @@ CoveredValue Skills = Option ℕ
 CoveredValue Books = ℤ
 CoveredValue Row = ℕ × (List ℕ × (ℕ × (ℕ × ℕ)))
 
--- what the marks of a part cover under a key; nothing for Units, Goods and Markets, which other parts cover
+-- What the marks of a part cover under a key; nothing for Units, Goods and Markets, which other parts cover. Of a
+-- region it is all but its stocks (Regions), and of a unit all but its goods (Rows).
 abbrev pub covered_value : (p : MarkedPart) → CampaignValue → LookupKey p → CoveredValue p
 covered_value Factions c k = get c.factions k
 covered_value Regions c k = option_map unstocked (get c.regions k)
@@ -526,8 +527,8 @@ module _ (c : MarkedCampaign) (n item amount : ℕ) where
         | inr e ↦ subst (after_regions (with_changed_value stocked c.value.regions n)) (sym (e ∙ ap (λ k. all_of_region (to_restock k)) is)) (either b is).1
       ]
 
--- if all units but n stay the same, marking n, its row and all its goods marks all that changes; n may come, go or
--- change
+-- if `units`, the units after the change, are the same but for n, which may come, go or change, marking n, its row and
+-- all its goods marks all that changes
 pub marks-unit : (c : MarkedCampaign) (units : FinMap nat_cmp Unit) (n : ℕ)
     → ((k : ℕ) → k ≢ n → get units k ≡ get c.value.units k)
     → MarksChanges c (record { value = record c.value { units = units }; marks = mark_unit_added c n })

@@ -24,7 +24,8 @@ module _ {R : Type 0} (shown : R → ℤ) (row : ℕ → ℕ → R) (shows : (th
   amount_rows_one thing amount es h =
       ap (λ b. cond (not b) (row thing amount ∷ amount_rows shown row es) (amount_rows shown row es)) (ap is_zero (shows thing amount) ∙ nonzero_fails_is_zero (pos amount) (λ e. h (pos_is_injective e)))
 
--- an amount in front that isn't 0 gives one row of the table `has` more, in front
+-- an amount in front that isn't 0 gives one row of the table `has` more, in front; n is the unit, and the sort is that
+-- of items (0) or skills (1)
 pub sort_rows_one : (n sort thing amount : ℕ) (es : List (ℕ × ℕ)) → amount ≢ 0
     → rows_of_sort n sort ((thing, amount) ∷ es) ≡ has_row n sort thing amount ∷ rows_of_sort n sort es
 sort_rows_one n sort = amount_rows_one (λ r. r.amount) (has_row n sort) (λ i a. refl)

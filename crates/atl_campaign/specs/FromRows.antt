@@ -104,7 +104,8 @@ region_with_stocks r stocks = record { peasants = as_u32 r.peasants; money = as_
 abbrev pub region_of : List StoredMarket → StoredRegion → Region
 region_of markets r = region_with_stocks r (stocks_of (as_u32 r.number) markets)
 
--- the books with the amount of a row put in, unless there is no such entry, or the thing is none of the books'
+-- the books with the amount of a row put in, or its account taken out of the list if that is 0. They are unchanged if
+-- there is no such entry, or the thing is none of the books'.
 abbrev pub with_books_row : BooksValue → StoredBooks → BooksValue
 with_books_row books r =
     option_map_or (λ e.

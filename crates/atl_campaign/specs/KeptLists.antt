@@ -40,7 +40,8 @@ unlisted_unless lists n key other = if key == other then lists else insert lists
 abbrev pub AreInsideLists : FinMap nat_cmp Unit → FinMap nat_cmp (List ℕ) → Type 0
 AreInsideLists units lists = (s : ℕ) → list_of lists s ≡ numbers_inside s units
 
--- the lists with n moved from the list of structure `from` to that of `to`; structure 0 has no list
+-- the lists with n moved from the list of structure `from` to that of `to`, and unchanged if both are one; structure 0
+-- has no list
 abbrev pub relisted_inside : FinMap nat_cmp (List ℕ) → ℕ → ℕ → ℕ → FinMap nat_cmp (List ℕ)
 relisted_inside lists n from to = if from == to then lists else unlisted_unless (listed_unless lists n to 0) n from 0
 

@@ -219,7 +219,7 @@ is_of_unit c r = is_some (get c.units (as_u32 r.unit))
 abbrev pub is_of_market : WorldValue → StoredMarket → Bool
 is_of_market w r = is_some (market_of w (as_u32 r.region) (as_u32 r.item))
 
--- whether the books of a format have an entry of this number; entries are counted from 1
+-- whether the books of a format have an entry of this number: 1 to 13 in the first format, 1 to 16 in the second
 abbrev pub is_entry_in : Format → ℕ → Bool
 is_entry_in f n = nat_le 1 n && nat_le n (entries_in f)
 

@@ -92,7 +92,7 @@ report_row n text = record { faction = pos n; text = text }
 abbrev pub has_row : ℕ → ℕ → ℕ → ℕ → StoredHas
 has_row n sort thing amount = record { unit = pos n; sort = pos sort; thing = pos thing; amount = pos amount }
 
--- the row of `books` for an entry and a thing; entries are counted from 1
+-- the row of `books` for an entry, a thing and the amount booked; entries are counted from 1, things from 0
 abbrev pub books_row : BooksEntry → Thing → ℤ → StoredBooks
 books_row entry thing amount = record { entry = pos (entry_index entry + 1); thing = pos (thing_index thing); amount = amount }
 
