@@ -2,7 +2,7 @@
 -- `MarksChanges c d` says that from the marked campaign c to d no mark is lost, and all that changed is marked. Whether
 -- a 0 is listed as a stock or in the books needs no mark. In a law of one change, c is the campaign before it, the
 -- record that after it, and n the number of what changes. Where c has no faction or region n, nothing changes and
--- nothing is marked.
+-- nothing is marked. Marks cover a change if all that is not marked stays the same (`Covers`).
 -- In laws of several changes, a, b and c are the campaign, or its marks, at moments in turn. A unit's goods are its
 -- items and days of study. A thing of a unit or region is an item, a skill, or an item in stock, by its number.
 use Rattle.std.proofs.Common.{◌≡◌, ◌≢◌, ◌==◌, ◌||◌, ℕ, Bool, true, false, if◌then◌else◌, Option, Some, None, refl, sym, ap, ◌∙◌, subst, inl, inr, arith, true≢false}
@@ -550,7 +550,7 @@ marks-unit c units n others =
       | _ ↦ λ k free. refl
     ])
 
--- booking an amount, with the amount of its entry and thing marked, marks all that changes
+-- booking z of the thing u under the entry f, with the amount of f and u marked, marks all that changes
 pub marks-amount : (c : MarkedCampaign) (f : BooksEntry) (u : Thing) (z : ℤ)
     → MarksChanges c (record { value = with_booking c.value f u z; marks = mark_amount c f u })
 marks-amount c f u z =

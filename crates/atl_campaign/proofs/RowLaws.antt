@@ -75,8 +75,8 @@ rows_under-none books entry n h =
     ∙ ap (λ rows. rows_under books (accounts_under n entry) ++ rows) (rows_under_one books (entry, thing_at n) ∙ ap (λ z. cond (not (is_zero z)) (books_row entry (thing_at n) z ∷ []) []) h)
     ∙ append-nil (rows_under books (accounts_under n entry))
 
--- The rows of the books written so far, and those of the entries to come, still are `all` together once the rows of the
--- next entry x are written. So far `before` is written and the entries `now` are to come, then `after` and `rest`.
+-- The rows of the books of the first `things` things, those written so far and those of the entries to come, are `all`,
+-- also once those of the next entry x are written. So far `before` is written and `now` to come, then `after` and `rest`.
 pub entry_added : (books : BooksValue) (things : ℕ) (x : BooksEntry) (now rest : List BooksEntry) (before after all : List StoredBooks)
     → now ≡ x ∷ rest → after ≡ before ++ rows_under books (accounts_under things x)
     → before ++ rows_under books (flat_map (accounts_under things) now) ≡ all

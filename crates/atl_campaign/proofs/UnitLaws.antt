@@ -39,7 +39,7 @@ within_both g r n h q e =
     set.contains-insert nat_cmp_total r n q
     ∙ or_keeps_implication (eq_by_cmp nat_cmp q n) (set.contains g q) (set.contains r q) (h q) (sym (set.contains-insert nat_cmp_total g n q) ∙ e)
 
--- all numbers that are marked in some way are still in the dirty set r once n is put into it
+-- if all numbers that pass the test `marked` are in the dirty set r, they still are once n is put into it
 pub within_more : (marked : ℕ → Bool) (r : set.FinSet nat_cmp) (n : ℕ)
     → ((q : ℕ) → marked q ≡ true → set.contains r q ≡ true) → (q : ℕ) → marked q ≡ true
     → set.contains (set.insert r n) q ≡ true

@@ -55,7 +55,7 @@ abbrev pub mark_unit_added : MarkedCampaign → ℕ → Marks
 mark_unit_added c n =
     record c.marks { units = insert c.marks.units n; rows = insert c.marks.rows n; goods = insert c.marks.goods n }
 
--- the marks after a unit was added under the next number: it, its row, its goods and the campaign row are marked too
+-- the marks after a unit was added under the next unit number: it, its row, its goods and the campaign row are marked too
 abbrev pub mark_unit_begun : MarkedCampaign → Marks
 mark_unit_begun c = record (mark_unit_added c c.value.next_unit) { row = true }
 
