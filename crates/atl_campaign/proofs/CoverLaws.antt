@@ -527,8 +527,8 @@ module _ (c : MarkedCampaign) (n item amount : ℕ) where
         | inr e ↦ subst (after_regions (with_changed_value stocked c.value.regions n)) (sym (e ∙ ap (λ k. all_of_region (to_restock k)) is)) (either b is).1
       ]
 
--- if `units`, the units after the change, are the same but for n, which may come, go or change, marking n, its row and
--- all its goods marks all that changes
+-- If `units`, the units after the change, are the same but for n, marking n, its row and all its goods marks all that
+-- changes. n may come, go or change.
 pub marks-unit : (c : MarkedCampaign) (units : FinMap nat_cmp Unit) (n : ℕ)
     → ((k : ℕ) → k ≢ n → get units k ≡ get c.value.units k)
     → MarksChanges c (record { value = record c.value { units = units }; marks = mark_unit_added c n })

@@ -41,8 +41,8 @@ bare_unit r = unit_with_goods r empty empty
 abbrev pub bare_region : StoredRegion → Region
 bare_region r = region_with_stocks r empty
 
--- A unit with the amount of a row of the table `has` put in, whichever unit the row is of: pieces of an item (sort 0)
--- or days of a skill (sort 1). With another sort the unit is unchanged.
+-- A unit with the amount of a row of the table `has` put in, whichever unit the row is of. The amount is of pieces of
+-- an item (sort 0) or of days of a skill (sort 1). With another sort the unit is unchanged.
 abbrev pub with_has_row : StoredHas → Unit → Unit
 with_has_row r u =
     if as_u32 r.sort == 0

@@ -64,8 +64,8 @@ after_join w name pass word c = record c {
   books = after_booking (after_booking c.books Joining Money (pos w.rules.start_money)) Joining People (pos 1);
 }
 
--- what a join with a name, a pass text and a word of the dice gives: NameTaken if the name is taken, or else Full if
--- the campaign is full, or else the new campaign with the numbers of the faction and its unit
+-- What a join with a name, a pass text and a word of the dice gives: NameTaken if the name is taken, or else Full if
+-- the campaign is full. Else it gives the new campaign with the numbers of the faction and its unit.
 unfoldable pub join_of : WorldValue → List ℕ → List ℕ → ℕ → CampaignValue → Result (CampaignValue × (ℕ × ℕ)) JoinFault
 join_of w name pass word c =
     if name_taken c name then Err NameTaken

@@ -91,8 +91,8 @@ pub record MarksAmounts (things : ℕ) (marks : RoomySet) : Type 0 where
   pub room : entry_count * things ≤ marks.room
   pub numbers : AreOfThings things marks.numbers
 
--- the invariant of a `Campaign`: its lists are those of its units, and its dirty set of the books (`marks`) has only
--- amounts of the first `things` things, with room for all of these
+-- The invariant of a `Campaign`: its lists are those of its units. Its dirty set of the books (`marks`) has only
+-- amounts of the first `things` things, with room for all of these.
 pub record AreListsAndMarksKept (units : FinMap nat_cmp Unit) (lists : UnitLists) (things : ℕ) (marks : RoomySet) : Type 0 where
   pub unit_lists : AreUnitLists units lists
   pub amounts : MarksAmounts things marks

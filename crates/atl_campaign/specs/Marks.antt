@@ -116,8 +116,8 @@ marks_code =
 abbrev pub is_thing_marked : FinSet nat_cmp → MarkedThings → ℕ → ℕ → Bool
 is_thing_marked goods things n thing = contains goods n || is_some (map.get (group_of things n) thing)
 
--- a unit is in `units` if its row is marked (in `rows`), or all its items and days are (in `goods`), or `items` or
--- `skills`, which have the single ones, list the unit
+-- a unit is in `units` if its row is marked (in `rows`), or all its items and days are (in `goods`), or it is in
+-- `items` or `skills`, which have single ones
 pub record AreUnitPartsWithin (units rows goods : FinSet nat_cmp) (items skills : MarkedThings) : Type 0 where
   pub rows_within : (n : ℕ) → contains rows n ≡ true → contains units n ≡ true
   pub goods_within : (n : ℕ) → contains goods n ≡ true → contains units n ≡ true

@@ -87,8 +87,8 @@ has_in_range r = is_from 1 1 r.sort || (is_from 0 0 r.sort && is_from 1 holding_
 abbrev pub structure_in_range : WorldValue → StoredStructure → Bool
 structure_in_range w r = is_from 1 most_structures r.number && is_from 1 (size_of w (as_u16 r.kind)) r.done
 
--- how large an amount of the books may be, without its sign: 2*10^14*(month + 1) + 10^9*factions; the month is that of
--- the campaign row (`as_u32`), and `factions` how many rows of `faction` there are
+-- How large an amount of the books may be, without its sign: 2*10^14*(month + 1) + 10^9*factions. The month is that of
+-- the campaign row (`as_u32`), and `factions` how many rows of `faction` there are.
 abbrev pub books_bound : Parts → ℕ
 books_bound p = most_in_month * (as_u32 (campaign_row_of p).month + 1) + most_in_joining * length p.factions
 
