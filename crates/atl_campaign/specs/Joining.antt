@@ -25,8 +25,8 @@ name_taken c name = list_any (λ e. pointwise nat_eq e.1.joined_as name) (entrie
 abbrev pub is_full : CampaignValue → Bool
 is_full c = (nat_le last_faction (len c.factions) || nat_le most_units (len c.units)) || nat_lt last_unit c.next_unit
 
--- the number of the region where a faction begins: the land region at index `word` modulo the count of land regions;
--- `word` is a word of the dice
+-- The number of the region where a faction begins: the land region at index `word` modulo the count of land regions.
+-- `word` is a word of the dice. Land regions are in the order of their numbers, and the first has the index 0.
 abbrev pub home_of : WorldValue → ℕ → ℕ
 home_of w word = slice_index (land_of w) (word % length (land_of w))
 

@@ -62,8 +62,8 @@ ListsUnit n l old new =
     (units : FinMap nat_cmp Unit) (u : Unit) → list_keys_of u ≡ l → get units n ≡ None
     → AreUnitLists units old → AreUnitLists (insert units n u) new
 
--- `new` lists the same units as `old`, of units without a number n: if `old` has the lists of such units, so has `new`.
--- This is what holds when adding unit n runs out of memory.
+-- `new` lists the same units as `old`, where none has the number n: if `old` has the lists of units without a unit n,
+-- so has `new`. This is what holds when adding unit n runs out of memory.
 abbrev pub KeepsLists : ℕ → UnitLists → UnitLists → Type 0
 KeepsLists n old new = (units : FinMap nat_cmp Unit) → get units n ≡ None → AreUnitLists units old → AreUnitLists units new
 
