@@ -73,7 +73,7 @@ mark_item c n item amount =
     let unit = unit_to_supply c.value.units n item amount in
     record c.marks { units = marked_with c.marks.units n unit; items = thing_marked c.marks.items n item unit }
 
--- the marks after a skill of unit n changed, if the unit is there: the unit and that skill are marked too, not its row
+-- the marks after unit n's days of a skill were set: if the unit is there, it and the skill are marked too, not its row
 abbrev pub mark_skill : MarkedCampaign → ℕ → ℕ → Marks
 mark_skill c n skill = record c.marks {
   units = marked_with c.marks.units n (get c.value.units n);
