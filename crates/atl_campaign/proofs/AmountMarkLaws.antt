@@ -47,7 +47,7 @@ pub more_marked : (things : ℕ) (marks : RoomySet) (e : BooksEntry) (t : Thing)
 more_marked things marks e t small are =
     record { room = are.room; numbers = more_of_things things marks.numbers e t small are.numbers }
 
--- one more amount, of one of the first `things` things, has room in the dirty set of the books
+-- one more amount, of one of the first `things` things, has room in a dirty set that keeps MarksAmounts
 pub fits_amount : (things : ℕ) (marks : RoomySet) (e : BooksEntry) (t : Thing) → thing_index t < things
     → MarksAmounts things marks → set.len (amount_marked marks.numbers e t) ≤ marks.room
 fits_amount things marks e t small are =

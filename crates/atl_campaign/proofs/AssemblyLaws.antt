@@ -122,7 +122,7 @@ IfOk-text (Err x) some bytes e h f = tt
 
 -- ---- a test that all rows pass
 
--- the row at index i passes a test that all rows pass
+-- the row r at index i, which is less than the count of rows, passes a test p that all rows pass
 pub row_passes_test : {R : Type 0} (p : R → Bool) (rows : List R) (i : ℕ) (r : R) → i < length rows
     → r ≡ get_or rows i r → list_all p rows ≡ true → p r ≡ true
 row_passes_test p [] i r h is all = absurd (omega arith)

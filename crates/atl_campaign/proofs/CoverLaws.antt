@@ -2,7 +2,7 @@
 -- `MarksChanges c d` says that from the marked campaign c to d no mark is lost, and all that changed is marked. Whether
 -- a 0 is listed as a stock or in the books needs no mark. In a law of one change, c is the campaign before it, the
 -- record that after it, and n the number of what changes. Where c has no faction or region n, nothing changes and
--- nothing is marked.
+-- nothing is marked. Marks cover a change if all that is not marked stays the same (`Covers`).
 -- In laws of several changes, a, b and c are the campaign, or its marks, at moments in turn. A unit's goods are its
 -- items and days of study. A thing of a unit or region is an item, a skill, or an item in stock, by its number.
 use Rattle.std.proofs.Common.{◌≡◌, ◌≢◌, ◌==◌, ◌||◌, ℕ, Bool, true, false, if◌then◌else◌, Option, Some, None, refl, sym, ap, ◌∙◌, subst, inl, inr, arith, true≢false}
@@ -256,7 +256,8 @@ CoveredValue Skills = Option ℕ
 CoveredValue Books = ℤ
 CoveredValue Row = ℕ × (List ℕ × (ℕ × (ℕ × ℕ)))
 
--- what the marks of a part cover under a key; nothing for Units, Goods and Markets, which other parts cover
+-- What the marks of a part cover under a key; nothing for Units, Goods and Markets, which other parts cover. Of a
+-- region it is all but its stocks (Regions), and of a unit all but its goods (Rows).
 abbrev pub covered_value : (p : MarkedPart) → CampaignValue → LookupKey p → CoveredValue p
 covered_value Factions c k = get c.factions k
 covered_value Regions c k = option_map unstocked (get c.regions k)
@@ -526,8 +527,8 @@ module _ (c : MarkedCampaign) (n item amount : ℕ) where
         | inr e ↦ subst (after_regions (with_changed_value stocked c.value.regions n)) (sym (e ∙ ap (λ k. all_of_region (to_restock k)) is)) (either b is).1
       ]
 
--- if all units but n stay the same, marking n, its row and all its goods marks all that changes; n may come, go or
--- change
+-- If `units`, the units after the change, are the same but for n, marking n, its row and all its goods marks all that
+-- changes. n may come, go or change.
 pub marks-unit : (c : MarkedCampaign) (units : FinMap nat_cmp Unit) (n : ℕ)
     → ((k : ℕ) → k ≢ n → get units k ≡ get c.value.units k)
     → MarksChanges c (record { value = record c.value { units = units }; marks = mark_unit_added c n })
@@ -549,7 +550,7 @@ marks-unit c units n others =
       | _ ↦ λ k free. refl
     ])
 
--- booking an amount, with the amount of its entry and thing marked, marks all that changes
+-- booking z of the thing u under the entry f, with the amount of f and u marked, marks all that changes
 pub marks-amount : (c : MarkedCampaign) (f : BooksEntry) (u : Thing) (z : ℤ)
     → MarksChanges c (record { value = with_booking c.value f u z; marks = mark_amount c f u })
 marks-amount c f u z =

@@ -43,7 +43,7 @@ use Rattle.atl_campaign.proofs.AmountMarkLaws.{none_marked}
 use Rattle.atl_records.proofs.BookLaws.{booked-after_booking, booked-no_amounts, amount-no_amounts, AreBooks-no_amounts, AreBooks-after_booking, IsWithin-after_booking, booked_for}
 
 -- The invariant of a `Campaign` (AreListsAndMarksKept) holds if the lists are those of the units, and no amount of the
--- books is marked. The dirty set has to have room for all amounts of the first `things` things.
+-- books is marked. The dirty set has room for just the amounts of the first `things` things.
 pub AreKept-without_marks : (things : ℕ) (units : FinMap nat_cmp Unit) (lists : UnitLists) → AreUnitLists units lists
     → AreListsAndMarksKept units lists things (record { numbers = set.empty; room = entry_count * things })
 AreKept-without_marks things units lists listed =

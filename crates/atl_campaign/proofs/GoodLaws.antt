@@ -22,7 +22,7 @@ use Rattle.atl_world.proofs.EveryLaws.{every-empty, every-insert, there-new, the
 
 -- ---- mail and reports
 
--- mail and reports of some factions stay of factions that exist, as long as each of these factions does
+-- mail and reports of some factions are also of the factions `later`, if each number of the first has a faction there
 pub posted-there : {factions later : FinMap nat_cmp Faction} {mail reports : FinMap nat_cmp (List ℕ)}
     → ((n : ℕ) → HasValue factions n → HasValue later n) → AreOfFactions factions mail reports
     → AreOfFactions later mail reports

@@ -67,7 +67,7 @@ one_or_none_in_front : {R : Type 0} (b : Bool) (r : R) (rows : List R)
 one_or_none_in_front true r rows = refl
 one_or_none_in_front false r rows = refl
 
--- filtering each row in a list of its own, and joining what is left, is filtering all rows
+-- filtering the row `f x` of each x in a list of its own, and joining what is left, is filtering all these rows
 pub filter_lines : {X R : Type 0} (test : R → Bool) (f : X → R) (xs : List X)
     → flat_map (λ x. filter test (f x ∷ [])) xs ≡ filter test (map f xs)
 filter_lines test f [] = refl

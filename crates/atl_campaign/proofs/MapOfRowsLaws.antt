@@ -122,8 +122,8 @@ each_apart key number same P r apart [] h d = tt
 each_apart key number same P r apart (s ∷ rows) h d =
     (apart s h.0 d.0, each_apart key number same P r apart rows h.1 d.1)
 
--- no two rows have the same number, if P holds of each row, the rows have distinct keys, and rows of which P holds have
--- different numbers if their keys differ; `same` compares two keys
+-- No two rows have the same number, if P holds of each row, the rows have distinct keys, and rows of which P holds have
+-- different numbers if their keys differ. `same` compares two keys.
 pub HaveDistinctNumbers-keys : {R K : Type 0} (key : R → K) (number : R → ℕ) (same : K → K → Bool) (P : R → Type 0)
     → ((r s : R) → P r → P s → same (key r) (key s) ≡ false → number s ≢ number r)
     → (rows : List R) → AllByRecursion P rows → IsDistinct same (map key rows) → HaveDistinctNumbers number rows

@@ -20,8 +20,8 @@ place_in k d [] h = absurd h
 place_in k d (n ∷ ns) (inl same) = (0, omega arith, sym same)
 place_in k d (n ∷ ns) (inr rest) = let (i, l, at) = place_in k d ns rest in (suc i, omega arith, at)
 
--- the first listed number that passes a test is on the list and passes, or is 0 where none passes (`first_or_zero`), if
--- all listed numbers are 1 or more
+-- If all numbers on the list ns are 1 or more, the first that passes the test q is on it and passes, or is 0 where none
+-- passes (`first_or_zero`).
 pub first_of : (q : ℕ → Bool) (ns : List ℕ) → ((k : ℕ) → IsListed k ns → 1 ≤ k) →
     (first_or_zero (filter q ns) ≢ 0 → IsListed (first_or_zero (filter q ns)) ns × (q (first_or_zero (filter q ns)) ≡ true))
     × (first_or_zero (filter q ns) ≡ 0 → (k : ℕ) → IsListed k ns → q k ≡ false)

@@ -71,7 +71,8 @@ pub place_none : (c : MarkedCampaign) (n r s : ℕ) → get c.value.units n ≡ 
 unfolding place_marked
 place_none c n r s none = sym (ap (place_marked_at c n r s) none)
 
--- moving a unit that stays in its structure only sets where it is (`put_marked`), and no structure gets another owner
+-- moving a unit that stays in its structure sets where it is, and marks it and its row (`put_marked`), and no structure
+-- gets another owner
 pub place_stays : (c : MarkedCampaign) (n r s : ℕ) (u : Unit) → get c.value.units n ≡ Some u → (u.structure == s) ≡ true
     → put_marked c n r s ≡ place_marked c n r s
 unfolding place_marked
@@ -79,8 +80,8 @@ place_stays c n r s u is same =
     sym
     (ap (place_marked_at c n r s) is ∙ ap (λ b. if b then put_marked c n r s else handed_marked (handed_marked (put_marked c n r s) u.structure n (heir c.value u.structure n)) s 0 n) same)
 
--- moving a unit to another structure gives the one that it leaves to the next owner (`heir`), if the unit owned that,
--- and gives the unit the one that it enters, if nobody (0) owns that
+-- Moving a unit to another structure puts it there, and marks it and its row (`put_marked`). The structure left goes to
+-- the next owner (`heir`) if the unit owned it, and the one entered to the unit if it had no owner; both with a mark.
 pub place_leaves : (c : MarkedCampaign) (n r s : ℕ) (u : Unit) → get c.value.units n ≡ Some u
     → (u.structure == s) ≡ false
     → handed_marked (handed_marked (put_marked c n r s) u.structure n (heir c.value u.structure n)) s 0 n
@@ -95,8 +96,8 @@ pub gone_none : (c : MarkedCampaign) (n : ℕ) → get c.value.units n ≡ None 
 unfolding gone_marked
 gone_none c n none = sym (ap (gone_marked_at c n) none)
 
--- removing a unit that is there takes it out, and hands the structure that it was inside, if it owned that, to the next
--- owner
+-- removing a unit that is there takes it out, marked with its row and goods. The structure that it was inside, if it
+-- owned that, goes to the next owner (`heir`) and is marked.
 pub gone_some : (c : MarkedCampaign) (n : ℕ) (u : Unit) → get c.value.units n ≡ Some u
     → handed_marked (taken_marked c n) u.structure n (heir c.value u.structure n) ≡ gone_marked c n
 unfolding gone_marked

@@ -273,7 +273,7 @@ same_symm : (a b : Key) → is_same_key a b ≡ is_same_key b a
 same_symm =
     (eq_by_cmp_equiv (then_total (then_total (on_total (λ (t : Key). t.0) int_cmp_total) (on_total (λ (t : Key). t.1) int_cmp_total)) (on_total (λ (t : Key). t.2) int_cmp_total))).symm
 
--- rows in another order still have distinct keys
+-- rows with distinct keys, which the function `key` gives, still have distinct keys in another order
 pub keys_permuted : {R : Type 0} (key : R → Key) (xs ys : List R) → IsPermutation xs ys
     → IsDistinct (λ a b. is_same_key (key a) (key b)) xs → HaveDistinctKeys key ys
 keys_permuted key xs ys h d =

@@ -24,7 +24,8 @@ module _ {R : Type 0} (shown : R → ℤ) (row : ℕ → ℕ → R) (shows : (th
   amount_rows_one thing amount es h =
       ap (λ b. cond (not b) (row thing amount ∷ amount_rows shown row es) (amount_rows shown row es)) (ap is_zero (shows thing amount) ∙ nonzero_fails_is_zero (pos amount) (λ e. h (pos_is_injective e)))
 
--- an amount in front that isn't 0 gives one row of the table `has` more, in front
+-- An amount in front that isn't 0 gives one row of the table `has` more, in front. n is the unit, and the sort is 0
+-- (items) or 1 (skills).
 pub sort_rows_one : (n sort thing amount : ℕ) (es : List (ℕ × ℕ)) → amount ≢ 0
     → rows_of_sort n sort ((thing, amount) ∷ es) ≡ has_row n sort thing amount ∷ rows_of_sort n sort es
 sort_rows_one n sort = amount_rows_one (λ r. r.amount) (has_row n sort) (λ i a. refl)
@@ -74,8 +75,8 @@ rows_under-none books entry n h =
     ∙ ap (λ rows. rows_under books (accounts_under n entry) ++ rows) (rows_under_one books (entry, thing_at n) ∙ ap (λ z. cond (not (is_zero z)) (books_row entry (thing_at n) z ∷ []) []) h)
     ∙ append-nil (rows_under books (accounts_under n entry))
 
--- The rows of the books written so far, and those of the entries to come, still are `all` together once the rows of the
--- next entry x are written. So far `before` is written and the entries `now` are to come, then `after` and `rest`.
+-- The rows of the books of the first `things` things are `all`, those written so far with those of the entries to come.
+-- Before the next entry x is written, they are `before` and those of `now`; after it, `after` and those of `rest`.
 pub entry_added : (books : BooksValue) (things : ℕ) (x : BooksEntry) (now rest : List BooksEntry) (before after all : List StoredBooks)
     → now ≡ x ∷ rest → after ≡ before ++ rows_under books (accounts_under things x)
     → before ++ rows_under books (flat_map (accounts_under things) now) ≡ all

@@ -39,7 +39,7 @@ within_both g r n h q e =
     set.contains-insert nat_cmp_total r n q
     ∙ or_keeps_implication (eq_by_cmp nat_cmp q n) (set.contains g q) (set.contains r q) (h q) (sym (set.contains-insert nat_cmp_total g n q) ∙ e)
 
--- all numbers that are marked in some way are still in the dirty set r once n is put into it
+-- if all numbers that pass the test `marked` are in the dirty set r, they still are once n is put into it
 pub within_more : (marked : ℕ → Bool) (r : set.FinSet nat_cmp) (n : ℕ)
     → ((q : ℕ) → marked q ≡ true → set.contains r q ≡ true) → (q : ℕ) → marked q ≡ true
     → set.contains (set.insert r n) q ≡ true
@@ -200,7 +200,8 @@ room_inserted : (units : FinMap nat_cmp Unit) (marks more : RoomySet) (n : ℕ) 
     → set.len more.numbers + len (insert units n w) ≤ more.room
 room_inserted units marks more n w h = let l = insert_adds_at_most_one units n w in let as_many = ap set.len h.same in omega (arith, h.room, l, as_many)
 
--- a dirty set that has room for one unit more (IsWider) has room for the mark of any unit, new or not
+-- a dirty set `more` with room for its marks, for each unit and for one more (IsWider) has room to mark any unit n, new
+-- or not
 pub fits-new : (units : FinMap nat_cmp Unit) (marks more : RoomySet) (n : ℕ) (w : Unit) → IsWider units marks more
     → set.len (set.insert more.numbers n) ≤ more.room
 fits-new units marks more n w h = fits-inserted units more.numbers more.room n w (room_inserted units marks more n w h)
@@ -210,8 +211,8 @@ HasRoom-added : (units : FinMap nat_cmp Unit) (marks more : RoomySet) (n : ℕ) 
 HasRoom-added units marks more n w h =
     Room-inserted units more.numbers more.room n w (room_inserted units marks more n w h)
 
--- The units' invariant (AreUnits) still holds once unit w is put under n, new or not, and n is marked. The dirty sets
--- are then marks2, rows2 and goods2, which have room for one unit more than before (IsWider).
+-- The units' invariant (AreUnits) still holds once unit w is put under n, new or not, and n, its row and all its goods
+-- are marked. marks2, rows2 and goods2 are the dirty sets with room for their marks, each unit and one more (IsWider).
 pub AreUnits-added : (units : FinMap nat_cmp Unit) (marks rows goods marks2 rows2 goods2 : RoomySet) (items skills : MarkedThings) (n : ℕ) (w : Unit)
     → IsWider units marks marks2 → IsWider units rows rows2 → IsWider units goods goods2
     → AreUnits units marks rows goods items skills

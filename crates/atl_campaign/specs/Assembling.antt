@@ -1,4 +1,4 @@
--- For proofs alone: how a campaign is built from rows: maps with nothing marked, then goods and stocks row by row.
+-- For proofs alone: how a campaign is built from rows: maps with nothing marked, then items, days, stocks by row.
 -- A number that doesn't fit 32 bits (of a kind 16), also a negative one, is read as the largest. A flag is set if it is
 -- any number but 0. Of rows for one key the last counts, and an amount of 0 is listed too.
 use Rattle.std.specs.Prelude.{ℕ, ◌==◌, List, [], ◌∷◌, if◌then◌else◌}
@@ -22,7 +22,8 @@ use Rattle.atl_campaign.specs.Regions.{unmarked_regions}
 abbrev pub without_marks : {V : Type 0} → FinMap nat_cmp V → MarkedMapValue V
 without_marks m = record { values = m; marks = set.empty }
 
--- the factions, regions, structures, mail and reports that are read from rows, by number, with nothing marked
+-- the factions, regions (with stocks), structures, mail and reports that are read from rows, with nothing marked; mail
+-- and reports are by the numbers of their factions
 abbrev pub campaign_maps_of : Parts → CampaignMaps
 campaign_maps_of p = record {
   factions = without_marks (by_number (λ r. as_u32 r.number) faction_of p.factions);
@@ -40,8 +41,8 @@ bare_unit r = unit_with_goods r empty empty
 abbrev pub bare_region : StoredRegion → Region
 bare_region r = region_with_stocks r empty
 
--- A unit with the amount of a row of the table `has` put in: pieces of an item (sort 0) or days of a skill (sort 1).
--- With another sort the unit is unchanged.
+-- A unit with the amount of a row of the table `has` put in, whichever unit the row is of. The amount is of pieces of
+-- an item (sort 0) or of days of a skill (sort 1). With another sort the unit is unchanged.
 abbrev pub with_has_row : StoredHas → Unit → Unit
 with_has_row r u =
     if as_u32 r.sort == 0
@@ -50,7 +51,7 @@ with_has_row r u =
     then record u { holding = record u.holding { days = insert u.holding.days (as_u32 r.thing) (as_u32 r.amount) } }
     else u
 
--- a region with the stock of a row of the table `market` put in
+-- a region with the stock of a row of the table `market` put in, whichever region the row is of
 abbrev pub with_market_row : StoredMarket → Region → Region
 with_market_row r x = record x { stocks = insert x.stocks (as_u32 r.item) (as_u32 r.stock) }
 

@@ -18,8 +18,8 @@ use Rattle.atl_records.specs.Books.{BooksValue, after_booking, books_code, no_am
 use Rattle.atl_records.specs.Holdings.{with_amount_of}
 use Rattle.atl_campaign.specs.Marks.{Marks, marks_code, no_marks}
 
--- A campaign: its month, pass text, next numbers and books, and its factions, regions, units, structures, mail and
--- reports by number. Mail and reports are by the numbers of their factions.
+-- A campaign: its month, pass text and books, the numbers that the next faction, unit and structure get, and its
+-- factions, regions, units, structures, mail and reports by number. Mail and reports are by their factions' numbers.
 pub record CampaignValue : Type 0 where
   -- the number of the month last closed; 0 before the first
   pub month : ℕ
@@ -215,7 +215,7 @@ with_owner c n owner = structure_changed (λ s. record s { owner = owner }) c n
 abbrev pub with_month : CampaignValue → ℕ → CampaignValue
 with_month c n = record c { month = n }
 
--- the campaign with n, of either sign, added to what is booked of thing t under entry e
+-- the campaign with n, of either sign, added to what is booked of thing t under entry e; a sum of 0 isn't listed
 abbrev pub with_booking : CampaignValue → BooksEntry → Thing → ℤ → CampaignValue
 with_booking c e t n = record c { books = after_booking c.books e t n }
 
@@ -223,7 +223,8 @@ with_booking c e t n = record c { books = after_booking c.books e t n }
 abbrev pub without_mail : CampaignValue → CampaignValue
 without_mail c = record c { mail = empty }
 
--- the campaign with a structure put under the next structure number, which rises by one
+-- the campaign with a structure put under the next structure number, in place of one that has it, if any; the number
+-- rises by one
 abbrev pub with_structure_begun : CampaignValue → Structure → CampaignValue
 with_structure_begun c s = record c { next_structure = c.next_structure + 1; structures = insert c.structures c.next_structure s }
 
@@ -231,7 +232,7 @@ with_structure_begun c s = record c { next_structure = c.next_structure + 1; str
 abbrev pub with_unit : CampaignValue → ℕ → Unit → CampaignValue
 with_unit c n u = record c { units = insert c.units n u }
 
--- the campaign with a unit put under the next unit number, which rises by one
+-- the campaign with a unit put under the next unit number, in place of one that has it, if any; the number rises by one
 abbrev pub with_unit_begun : CampaignValue → Unit → CampaignValue
 with_unit_begun c u = record c { next_unit = c.next_unit + 1; units = insert c.units c.next_unit u }
 

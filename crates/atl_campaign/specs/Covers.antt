@@ -37,7 +37,8 @@ days_under None = empty
 days_under (Some u) = u.holding.days
 
 -- Of each item, or each skill (`under` picks which), that is not marked, each unit has as much in `before` as in
--- `after`, or it is listed in neither. `goods` has the units all of whose goods are marked, `things` the single marks.
+-- `after`, or it is listed in neither. A unit that isn't there lists nothing. `goods` has the units all of whose goods
+-- are marked, `things` the single marks.
 abbrev pub SameThings : FinSet nat_cmp → MarkedThings → (Option Unit → FinMap nat_cmp ℕ) → FinMap nat_cmp Unit
     → FinMap nat_cmp Unit → Type 0
 SameThings goods things under before after =
@@ -81,8 +82,8 @@ pub record Covers (m : Marks) (before after : CampaignValue) : Type 0 where
 abbrev pub StaysMarked : FinSet nat_cmp → FinSet nat_cmp → Type 0
 StaysMarked before after = (n : ℕ) → contains before n ≡ true → contains after n ≡ true
 
--- each item, skill or stock that is marked before some changes, by itself (in `things`) or with all of its unit or
--- region (in `goods`), is marked after them, in either way
+-- Each item, skill or stock that is marked before some changes is marked after them. It is marked by itself (`things`,
+-- after them `things_after`) or with all of its unit or region (`goods`, after them `goods_after`).
 abbrev pub ThingsStayMarked : (goods : FinSet nat_cmp) (things : MarkedThings)
     (goods_after : FinSet nat_cmp) (things_after : MarkedThings) → Type 0
 ThingsStayMarked goods things goods_after things_after =

@@ -18,8 +18,8 @@ founded_region plan = record { peasants = plan.peasants; money = plan.money; sto
 abbrev pub thing_count : WorldValue → ℕ
 thing_count w = 2 + length w.items
 
--- the campaign right after founding: `empty_campaign` with the pass text given, the world's regions, and books of the
--- world's things, in which the money and the people of the regions are booked under Founding
+-- The campaign right after founding: `empty_campaign` with the pass text given, the world's regions, and books of the
+-- world's things. There the money and the people of the regions are booked under Founding.
 unfoldable pub founded_of : WorldValue → List ℕ → CampaignValue
 founded_of w pass = let regions = map_values founded_region w.regions in record empty_campaign {
   pass = pass;

@@ -53,8 +53,8 @@ abbrev pub structure_of : StoredStructure → Structure
 structure_of r =
     record { kind = as_u16 r.kind; name = r.name; region = as_u32 r.region; done = as_u32 r.done; owner = as_u32 r.owner }
 
--- the map with each row's value put under its number, in the order of the rows, so a later row replaces an earlier one;
--- the functions `number` and `value` give a row's number and its value
+-- The map with each row's value put under its number, in the order of the rows, so a later row replaces an earlier one.
+-- The functions `number` and `value` give a row's number and its value.
 abbrev pub put_rows : {R V : Type 0} → (R → ℕ) → (R → V) → List R → FinMap nat_cmp V → FinMap nat_cmp V
 put_rows number value [] m = m
 put_rows number value (r ∷ rs) m = put_rows number value rs (insert m (number r) (value r))
@@ -104,7 +104,8 @@ region_with_stocks r stocks = record { peasants = as_u32 r.peasants; money = as_
 abbrev pub region_of : List StoredMarket → StoredRegion → Region
 region_of markets r = region_with_stocks r (stocks_of (as_u32 r.number) markets)
 
--- the books with the amount of a row put in, unless there is no such entry, or the thing is none of the books'
+-- the books with the amount of a row put in, or its account taken out of the list if that is 0. They are unchanged if
+-- there is no such entry, or the thing is none of the books'.
 abbrev pub with_books_row : BooksValue → StoredBooks → BooksValue
 with_books_row books r =
     option_map_or (λ e.

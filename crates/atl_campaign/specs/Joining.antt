@@ -25,8 +25,8 @@ name_taken c name = list_any (λ e. pointwise nat_eq e.1.joined_as name) (entrie
 abbrev pub is_full : CampaignValue → Bool
 is_full c = (nat_le last_faction (len c.factions) || nat_le most_units (len c.units)) || nat_lt last_unit c.next_unit
 
--- the number of the region where a faction begins: the land region at index `word` modulo the count of land regions;
--- `word` is a word of the dice
+-- The number of the region where a faction begins: the land region at index `word` modulo the count of land regions.
+-- `word` is a word of the dice. Land regions are in the order of their numbers, and the first has the index 0.
 abbrev pub home_of : WorldValue → ℕ → ℕ
 home_of w word = slice_index (land_of w) (word % length (land_of w))
 
@@ -64,16 +64,17 @@ after_join w name pass word c = record c {
   books = after_booking (after_booking c.books Joining Money (pos w.rules.start_money)) Joining People (pos 1);
 }
 
--- what a join with a name, a pass text and a word of the dice gives: the new campaign with the numbers of the faction
--- and its unit, or its refusal: NameTaken, or else Full
+-- What a join with a name, a pass text and a word of the dice gives: NameTaken if the name is taken, or else Full if
+-- the campaign is full. Else it gives the new campaign with the numbers of the faction and its unit.
 unfoldable pub join_of : WorldValue → List ℕ → List ℕ → ℕ → CampaignValue → Result (CampaignValue × (ℕ × ℕ)) JoinFault
 join_of w name pass word c =
     if name_taken c name then Err NameTaken
     else (if is_full c then Err Full
     else Ok (after_join w name pass word c, (c.next_faction, c.next_unit)))
 
--- what `join`, with a name, a pass text and a word of the dice, may answer: what the definition `join_of` gives, or the
--- fault Memory. `old` is the campaign before the call, and `new` that after it, which after a fault is the same.
+-- what `join`, with a name, a pass text and a word of the dice, may answer: what the definition `join_of` gives, or
+-- Memory. `numbers` are those of the faction and its unit. `old` is the campaign before the call, and `new` that after
+-- it, which after NameTaken, Full or Memory is the same.
 abbrev pub Joins : WorldValue → List ℕ → List ℕ → ℕ → CampaignValue → Result (ℕ × ℕ) JoinFault → CampaignValue → Type 0
 Joins w name pass word old (Ok numbers) new = join_of w name pass word old ≡ Ok (new, numbers)
 Joins w name pass word old (Err NameTaken) new = (join_of w name pass word old ≡ Err NameTaken) × (new ≡ old)

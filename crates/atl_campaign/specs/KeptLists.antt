@@ -40,7 +40,8 @@ unlisted_unless lists n key other = if key == other then lists else insert lists
 abbrev pub AreInsideLists : FinMap nat_cmp Unit → FinMap nat_cmp (List ℕ) → Type 0
 AreInsideLists units lists = (s : ℕ) → list_of lists s ≡ numbers_inside s units
 
--- the lists with n moved from the list of structure `from` to that of `to`; structure 0 has no list
+-- the lists with n moved from the list of structure `from` to that of `to`, and unchanged if both are one; structure 0
+-- has no list
 abbrev pub relisted_inside : FinMap nat_cmp (List ℕ) → ℕ → ℕ → ℕ → FinMap nat_cmp (List ℕ)
 relisted_inside lists n from to = if from == to then lists else unlisted_unless (listed_unless lists n to 0) n from 0
 
@@ -61,8 +62,8 @@ ListsUnit n l old new =
     (units : FinMap nat_cmp Unit) (u : Unit) → list_keys_of u ≡ l → get units n ≡ None
     → AreUnitLists units old → AreUnitLists (insert units n u) new
 
--- `new` lists the same units as `old`, of units without a number n: if `old` has the lists of such units, so has `new`.
--- This is what holds when adding unit n runs out of memory.
+-- `new` lists the same units as `old`, where none has the number n: if `old` has the lists of units without a unit n,
+-- so has `new`. This is what holds when adding unit n runs out of memory.
 abbrev pub KeepsLists : ℕ → UnitLists → UnitLists → Type 0
 KeepsLists n old new = (units : FinMap nat_cmp Unit) → get units n ≡ None → AreUnitLists units old → AreUnitLists units new
 
@@ -90,8 +91,8 @@ pub record MarksAmounts (things : ℕ) (marks : RoomySet) : Type 0 where
   pub room : entry_count * things ≤ marks.room
   pub numbers : AreOfThings things marks.numbers
 
--- the invariant of a `Campaign`: its lists are those of its units, and its dirty set of the books (`marks`) has only
--- amounts of the first `things` things, with room for all of these
+-- The invariant of a `Campaign`: its lists are those of its units. Its dirty set of the books (`marks`) has only
+-- amounts of the first `things` things, with room for all of these.
 pub record AreListsAndMarksKept (units : FinMap nat_cmp Unit) (lists : UnitLists) (things : ℕ) (marks : RoomySet) : Type 0 where
   pub unit_lists : AreUnitLists units lists
   pub amounts : MarksAmounts things marks

@@ -55,7 +55,7 @@ abbrev pub mark_unit_added : MarkedCampaign → ℕ → Marks
 mark_unit_added c n =
     record c.marks { units = insert c.marks.units n; rows = insert c.marks.rows n; goods = insert c.marks.goods n }
 
--- the marks after a unit was added under the next number: it, its row, its goods and the campaign row are marked too
+-- the marks after a unit was added under the next unit number: it, its row, goods and the campaign row are marked too
 abbrev pub mark_unit_begun : MarkedCampaign → Marks
 mark_unit_begun c = record (mark_unit_added c c.value.next_unit) { row = true }
 
@@ -73,7 +73,7 @@ mark_item c n item amount =
     let unit = unit_to_supply c.value.units n item amount in
     record c.marks { units = marked_with c.marks.units n unit; items = thing_marked c.marks.items n item unit }
 
--- the marks after a skill of unit n changed, if the unit is there: the unit and that skill are marked too, not its row
+-- the marks after unit n's days of a skill were set: if the unit is there, it and the skill are marked too, not its row
 abbrev pub mark_skill : MarkedCampaign → ℕ → ℕ → Marks
 mark_skill c n skill = record c.marks {
   units = marked_with c.marks.units n (get c.value.units n);
@@ -93,23 +93,23 @@ skill_marked c n skill = record c { marks = mark_skill c n skill }
 abbrev pub mark_faction : MarkedCampaign → ℕ → Marks
 mark_faction c n = record c.marks { factions = marked_with c.marks.factions n (get c.value.factions n) }
 
--- the marks after a number of region n, which `of` reads, was set to x: if the region is there and had another number,
--- its row is marked too, and none of its stocks
+-- The marks after a number of region n, which `of` reads, was set to x. If the region is there and had another number,
+-- its row is marked too, and none of its stocks.
 abbrev pub mark_region : (of : Region → ℕ) → MarkedCampaign → ℕ → ℕ → Marks
 mark_region of c n x = record c.marks { regions = marked_with c.marks.regions n (region_to_set of c.value.regions n x) }
 
--- the marks after the peasants of a region, whose number is given first, were set to the last number: its row is marked
--- too, if it is there and had others
+-- The marks after the peasants of a region, whose number is given first, were set to the last number. Its row is marked
+-- too, if it is there and had others.
 abbrev pub mark_peasants : MarkedCampaign → ℕ → ℕ → Marks
 mark_peasants = mark_region (λ r. r.peasants)
 
--- the marks after the money of a region, whose number is given first, was set to the last number: its row is marked
--- too, if it is there and had another amount
+-- The marks after the money of a region, whose number is given first, was set to the last number. Its row is marked
+-- too, if it is there and had another amount.
 abbrev pub mark_region_money : MarkedCampaign → ℕ → ℕ → Marks
 mark_region_money = mark_region (λ r. r.money)
 
--- the marks after a stock of a region was set to the last number: if the region is there and had another amount, that
--- stock is marked too, and no other stock
+-- The marks after a stock of a region was set to the last number. If the region is there and had another amount, that
+-- stock is marked too, and no other stock.
 abbrev pub mark_stock : MarkedCampaign → (region item : ℕ) → ℕ → Marks
 mark_stock c n item amount =
     let region = region_to_restock c.value.regions n item amount in
@@ -118,8 +118,8 @@ mark_stock c n item amount =
       stock_items = thing_marked c.marks.stock_items n item region;
     }
 
--- the marks after a stock of a region was set to the last number without memory for a mark of its own: if the region is
--- there and had another amount, all its stocks are marked too
+-- The marks after a stock of a region was set to the last number without memory for a mark of its own. If the region is
+-- there and had another amount, all its stocks are marked too.
 abbrev pub mark_all_stocks : MarkedCampaign → (region item : ℕ) → ℕ → Marks
 mark_all_stocks c n item amount =
     let region = region_to_restock c.value.regions n item amount in

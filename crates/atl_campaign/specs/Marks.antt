@@ -116,15 +116,15 @@ marks_code =
 abbrev pub is_thing_marked : FinSet nat_cmp → MarkedThings → ℕ → ℕ → Bool
 is_thing_marked goods things n thing = contains goods n || is_some (map.get (group_of things n) thing)
 
--- a unit is in `units` if its row is marked (in `rows`), or all its items and days are (in `goods`), or single ones of
--- them (in `items` or `skills`)
+-- a unit is in `units` if its row is marked (in `rows`), or all its items and days are (in `goods`), or it is in
+-- `items` or `skills`, which have single ones
 pub record AreUnitPartsWithin (units rows goods : FinSet nat_cmp) (items skills : MarkedThings) : Type 0 where
   pub rows_within : (n : ℕ) → contains rows n ≡ true → contains units n ≡ true
   pub goods_within : (n : ℕ) → contains goods n ≡ true → contains units n ≡ true
   pub items_within : (n : ℕ) → is_some (map.get items n) ≡ true → contains units n ≡ true
   pub skills_within : (n : ℕ) → is_some (map.get skills n) ≡ true → contains units n ≡ true
 
--- a region is in `markets` if all its stocks are marked (in `stocks`), or one of them is (in `stock_items`)
+-- a region is in `markets` if all its stocks are marked (in `stocks`), or it is in `stock_items`, which has single ones
 pub record AreStocksWithin (markets stocks : FinSet nat_cmp) (stock_items : MarkedThings) : Type 0 where
   pub stocks_within : (n : ℕ) → contains stocks n ≡ true → contains markets n ≡ true
   pub items_within : (n : ℕ) → is_some (map.get stock_items n) ≡ true → contains markets n ≡ true

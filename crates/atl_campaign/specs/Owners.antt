@@ -25,7 +25,8 @@ abbrev pub owner_after_at : CampaignValue → ℕ → ℕ → Option Structure �
 owner_after_at c s leaving None = 0
 owner_after_at c s leaving (Some x) = if x.owner == leaving then heir c s leaving else x.owner
 
--- the owner of structure s once unit `leaving` has left it; 0 where there is no such structure
+-- The owner of structure s once unit `leaving` has left it; 0 where there is no such structure. The owner stays, but if
+-- `leaving` owns it, it is the lowest-numbered other unit inside, or 0 (nobody) without one.
 abbrev pub owner_after : CampaignValue → ℕ → ℕ → ℕ
 owner_after c s leaving = owner_after_at c s leaving (get c.structures s)
 

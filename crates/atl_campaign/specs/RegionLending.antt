@@ -7,7 +7,7 @@ use Rattle.atl_records.specs.contracts.records.Region as region
 use Rattle.atl_campaign.specs.contracts.regions.Regions.{the_row}
 use Rattle.atl_campaign.specs.Regions.{MarkedRegions}
 
--- after a loan q of region n, which `lend` returns, the regions have q's last value under n, and no mark changes.
--- Without a loan (None) the regions are unchanged.
+-- after a loan q of region n, which `lend` returns, the regions r have q's last value under n, and no mark changes.
+-- Without a loan (None) r is unchanged.
 abbrev pub LendsRegion : MutBor MarkedRegions → ℕ → Option (MutBor Region) → Fml
 LendsRegion r n q = LendsIf the_row region.the_row r q (λ w. record r.now { values = map.insert r.now.values n w }) r.now

@@ -87,8 +87,8 @@ has_in_range r = is_from 1 1 r.sort || (is_from 0 0 r.sort && is_from 1 holding_
 abbrev pub structure_in_range : WorldValue → StoredStructure → Bool
 structure_in_range w r = is_from 1 most_structures r.number && is_from 1 (size_of w (as_u16 r.kind)) r.done
 
--- how large an amount of the books may be, without its sign: 2*10^14*(month + 1) + 10^9*factions; the month is that of
--- the campaign row (`as_u32`), and `factions` how many rows of `faction` there are
+-- How large an amount of the books may be, without its sign: 2*10^14*(month + 1) + 10^9*factions. The month is that of
+-- the campaign row (`as_u32`), and `factions` how many rows of `faction` there are.
 abbrev pub books_bound : Parts → ℕ
 books_bound p = most_in_month * (as_u32 (campaign_row_of p).month + 1) + most_in_joining * length p.factions
 
@@ -219,7 +219,7 @@ is_of_unit c r = is_some (get c.units (as_u32 r.unit))
 abbrev pub is_of_market : WorldValue → StoredMarket → Bool
 is_of_market w r = is_some (market_of w (as_u32 r.region) (as_u32 r.item))
 
--- whether the books of a format have an entry of this number; entries are counted from 1
+-- whether the books of a format have an entry of this number: 1 to 13 in the first format, 1 to 16 in the second
 abbrev pub is_entry_in : Format → ℕ → Bool
 is_entry_in f n = nat_le 1 n && nat_le n (entries_in f)
 

@@ -92,7 +92,7 @@ report_row n text = record { faction = pos n; text = text }
 abbrev pub has_row : ℕ → ℕ → ℕ → ℕ → StoredHas
 has_row n sort thing amount = record { unit = pos n; sort = pos sort; thing = pos thing; amount = pos amount }
 
--- the row of `books` for an entry and a thing; entries are counted from 1
+-- the row of `books` for an entry, a thing and the amount booked; entries are counted from 1, things from 0
 abbrev pub books_row : BooksEntry → Thing → ℤ → StoredBooks
 books_row entry thing amount = record { entry = pos (entry_index entry + 1); thing = pos (thing_index thing); amount = amount }
 
@@ -104,13 +104,13 @@ market_row region item stock = record { region = pos region; item = pos item; st
 abbrev pub rows_by : {V R : Type 0} → (ℕ → V → R) → List (ℕ × V) → List R
 rows_by row es = map (λ e. row e.0 e.1) es
 
--- a row for each listed pair of a number and its amount, in their order, but none that shows the amount 0; `row` makes
--- it of the pair, and `amount` reads the amount that it shows
+-- A row for each listed pair of a number and its amount, in their order, but none that shows the amount 0. `row` makes
+-- it of the pair, and `amount` reads the amount that it shows.
 abbrev pub amount_rows : {R : Type 0} → (R → ℤ) → (ℕ → ℕ → R) → List (ℕ × ℕ) → List R
 amount_rows amount row es = filter (λ r. not (is_zero (amount r))) (rows_by row es)
 
--- the rows of `has` for what unit n has of a sort (0 items, 1 skills), given as pairs of an item or a skill and its
--- amount; there is none for the amount 0
+-- The rows of `has` for what unit n has of a sort (0 items, 1 skills), given as pairs of an item or a skill and its
+-- amount. There is none for the amount 0.
 abbrev pub rows_of_sort : ℕ → ℕ → List (ℕ × ℕ) → List StoredHas
 rows_of_sort n sort es = amount_rows (λ r. r.amount) (has_row n sort) es
 

@@ -14,7 +14,7 @@ use Rattle.atl_campaign.specs.Campaign.{CampaignValue}
 abbrev pub stock_in : FinMap nat_cmp Region → (region item : ℕ) → ℕ
 stock_in regions region item = option_map_or (λ r. amount_of r.stocks item) (get regions region) 0
 
--- how many pieces of an item a region has in stock; 0 where there is no such region
+-- how many pieces of an item a region has in stock; 0 where none is listed or there is no such region
 abbrev pub stock_of : CampaignValue → (region item : ℕ) → ℕ
 stock_of c region item = stock_in c.regions region item
 

@@ -1,5 +1,5 @@
--- For proofs alone: what becomes of the units after a write through one that they lend, and what is marked then. A
--- unit's goods are its items and days of study.
+-- For proofs alone: what becomes of a roster, the units with their marks, after a write through a unit that it lends,
+-- and what is marked then. A unit's goods are its items and days of study.
 use Rattle.std.specs.Prelude.{ℕ, Option}
 use Rattle.std.specs.FinMap as map
 use Rattle.std.specs.FinSet as set

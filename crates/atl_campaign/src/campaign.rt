@@ -118,7 +118,7 @@ impl Campaign {
         &self.pass
     }
 
-    /// The number of the faction that joins next, from 1 to one more than atl_lines' LAST_FACTION.
+    /// The number of the faction that joins next, from 1 to one more than atl_words' LAST_FACTION.
     pub fn next_faction(&self) -> u32
         ensures { result ≡ self.now.value.next_faction }
     {
@@ -195,7 +195,7 @@ impl Campaign {
         self.regions.len()
     }
 
-    /// How many pieces of an item a region has in stock; 0 where the region isn't there.
+    /// How many pieces of an item a region has in stock; 0 where it lists none or isn't there.
     pub fn stock(&self, region: u32, item: u32) -> u32
         ensures { result ≡ stock_of self.now.value region item }
     {

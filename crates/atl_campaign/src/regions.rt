@@ -109,7 +109,7 @@ impl Regions {
         self.values.len()
     }
 
-    /// How many pieces of an item a region has in stock; 0 where the region isn't there.
+    /// How many pieces of an item a region has in stock; 0 where it lists none or isn't there.
     pub(crate) fn stock(&self, number: u32, item: u32) -> u32
         ensures { result ≡ stock_in self.now.values number item }
     {
@@ -145,7 +145,7 @@ impl Regions {
         self.items.iter()
     }
 
-    /// Marks nothing.
+    /// Lends a region, if there is one, and marks nothing.
     fn lend(&mut self, number: u32) -> Option<&mut Region>
         ensures* writes_back { sem 𝓛 (LendsRegion self.entry number result) }
         ensures value { option_copied_mut result ≡ map.get self.old.values number }

@@ -240,8 +240,8 @@ impl Units {
     }
 
     /// Sets how many pieces of an item a unit has, at most 999,999,999. If it had more or fewer,
-    /// that item is marked, and never the unit's row. Without memory the units are as they were,
-    /// but that mark may be set.
+    /// the unit and that item are marked, and never its row. Without memory the units are as they
+    /// were, but those marks may be set.
     pub(crate) fn set_item(
         &mut self,
         alloc: Global,
@@ -270,8 +270,8 @@ impl Units {
         unit.holding.set_amount(item, amount)
     }
 
-    /// Sets a unit's days of a skill over all men, and marks that skill, not the unit's row.
-    /// Without memory the units are as they were, but that mark may be set.
+    /// Sets a unit's days of a skill over all men, and marks the unit and that skill, not its row.
+    /// Without memory the units are as they were, but those marks may be set.
     pub(crate) fn set_days(
         &mut self,
         alloc: Global,

@@ -1,6 +1,7 @@
 //! Puts the rows of items, days of study and stocks into their units and regions. Of rows for one
-//! amount the last counts, and a number that doesn't fit 32 bits is read as the largest. Where
-//! memory runs out, the answer is AllocError, and nothing is said of the units and regions then.
+//! amount the last counts, and a number that doesn't fit 32 bits is read as the largest. The rows
+//! of items and days have to be in their ranges. Where memory runs out, the answer is AllocError,
+//! and nothing is said of the units and regions then.
 ghost use Rattle.std.specs.Prelude.{◌≡◌, OnOk, true};
 ghost use Rattle.std.specs.List.{list_all};
 ghost use Rattle.atl_world.specs.Sums.{with_changed_value};

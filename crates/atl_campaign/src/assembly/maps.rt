@@ -176,9 +176,10 @@ fn unmarked_reports(
     MarkedMap::from_values(alloc, reports)
 }
 
-/// The factions, regions, structures, mail and reports that are read from rows, with nothing
-/// marked. Names and pass texts of factions and names of structures have to keep their rules. The
-/// rows of mail and reports are taken, and all others stay. AllocError: nothing is said of rows.
+/// The factions, regions with their stocks, structures, mail and reports that are read from rows,
+/// with nothing marked. Factions' names and pass texts and structures' names have to keep their
+/// rules. The rows of mail and reports are taken, and all others stay. AllocError: nothing is said
+/// of the rows.
 pub(crate) fn campaign_maps_of(alloc: Global, parts: &mut Parts) -> Result<CampaignMaps, AllocError>
     requires factions { list_all faction_named parts.old.factions ≡ true }
     requires structures { list_all (λ r. name_ok r.name) parts.old.structures ≡ true }

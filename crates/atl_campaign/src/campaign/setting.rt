@@ -183,7 +183,7 @@ impl Campaign {
 
     /// Adds an amount to what is booked of a thing under an entry, and marks that amount. It counts
     /// money, men and peasants, or pieces of an item, and may be negative. The thing has to be one
-    /// of the books' things, and the sum has to fit i64. See docs/RULES.md, "Books".
+    /// of the books' things. The sum has to fit i64; 0 isn't listed. See docs/RULES.md, "Books".
     pub fn book(&mut self, entry: BooksEntry, thing: Thing, amount: i64)
         requires there { thing_index thing < self.old.value.books.things }
         requires fits { FitsSigned w64 (amount_in self.old.value.books entry thing +ℤ amount) }
