@@ -24,11 +24,11 @@ days_for level men = level_days * level * (level + 1) * men
 unfoldable pub level_of : ℕ → ℕ → ℕ
 level_of days men = if men == 0 then 0 else greatest (λ level. nat_le (days_for level men) days) last_level
 
--- the level of a unit's men in a skill, by the days that they have studied it
+-- the level of a unit's men in a skill, by the days that they have studied it; 0 without men
 abbrev pub level_in : HoldingValue → (skill : ℕ) → ℕ
 level_in h skill = level_of (amount_of h.days skill) h.men
 
--- the level of a unit's men in a skill, 0 where no skill is named
+-- the level of a unit's men in a skill (`level_in`), 0 where no skill is named
 abbrev pub level_in_any : HoldingValue → Option ℕ → ℕ
 level_in_any h None = 0
 level_in_any h (Some skill) = level_in h skill

@@ -61,7 +61,7 @@ module _ (old new : Database) (is : IsFirstFormat old) (made : CreatesTable old_
         absurd (free (has_map (λ (u : Table). u.tree) all_tables t (has_left old_schema.tables (market_table ∷ []) t was)));
   }
 
--- the statement that makes the table `market` adds it, empty, to a database of the first format, and keeps all else
+-- the statement that makes the table `market` adds it, empty, to a database of the first format, whose tables stay
 pub adds_markets : (old new : State) → RunsStatement (creation_of Markets) [] old new
     → DoesInside IsFirstFormat AddsMarkets old new
 adds_markets old new ran = (

@@ -42,14 +42,14 @@ pub record HasArrivalWith (c : CampaignValue) (number : ℕ) (faction : Faction)
   pub report_is : get c.reports number ≡ Some report
   pub things : 2 ≤ c.books.things
 
--- the rows of `books` once the amount of `entry` and `thing` is written: its row, or none if it is 0, and the other
--- rows of the set `S`
+-- the rows of `books`, which were those of the set `S`, once the campaign's amount of `entry` and `thing` is written:
+-- its row, or none if it is 0, and the rows of `S` with another key
 abbrev pub rows_with_amount : CampaignValue → BooksEntry → Thing → Set → Set
 rows_with_amount c entry thing S r =
     Has (amount_lines c entry thing) r ⊎ (S r × (take 2 r ≢ books_key (entry_index entry + 1) (thing_index thing)))
 
--- the amount of `entry` and `thing` in the books is written: it has its row, or none if it is 0; all other rows and
--- tables are as they were
+-- the campaign's amount of `entry` and `thing` is written into `books`: it has its row, or none if it is 0; all other
+-- rows and tables are as they were
 abbrev pub WritesAmount : CampaignValue → BooksEntry → Thing → Database → Database → Type 0
 WritesAmount c entry thing old new = Alters books_table (rows_with_amount c entry thing (Has (rows_in books_table old.trees))) old new
 
@@ -79,8 +79,8 @@ pub record AddsJoin (faction : ℕ) (after : CampaignValue) (text : List ℕ) (o
   pub others : (part : Part) → ¬ Has (Own ∷ Factions ∷ Units ∷ Reports ∷ Books ∷ []) part
       → new.trees (table_of part).tree ≡ old.trees (table_of part).tree
 
--- a join is written (`AddsJoin`), if the table `campaign` held one row, of the second format, whatever else that row
--- said
+-- the join of `faction` is written (`AddsJoin`), and the campaign row keeps its world text, if the table `campaign` held
+-- one row, of the second format, whatever else it said
 abbrev pub WritesJoin : ℕ → CampaignValue → Database → Database → Type 0
 WritesJoin faction after old new =
     (before : CampaignRowValue) (text : List ℕ)

@@ -16,8 +16,8 @@ use Rattle.atl_writing.specs.Rows.{campaign_row_of, row_of_faction, row_of_unit,
 use Rattle.atl_descriptions.specs.Statements.{Statements, OneStatement, Creations, campaign_upsert, upgrading_upsert, deletion, upsert}
 use Rattle.atl_descriptions.specs.Tables.{Part, Markets, books_table, creation_of, faction_table, IsGroupedPart, key_width_of, mail_table, report_table, table_of, unit_table}
 
--- the statement, with its parameters, that writes an amount of the books: it puts the amount's row, or deletes the row
--- if the amount is 0
+-- the statement, with its parameters, that writes the campaign's amount of `entry` and `thing`: it puts the amount's
+-- row, or deletes the row if the amount is 0
 pub data OfAmount (c : CampaignValue) (entry : BooksEntry) (thing : Thing) : List ℕ → Row → Type 0 where
   puts_amount : amount_in c.books entry thing ≢ pos 0
       → OfAmount c entry thing (upsert books_table 2)
@@ -60,8 +60,8 @@ pub data OfChange (c : CampaignValue) : List ℕ → Row → Type 0 where
   -- all rows of one unit are deleted from the table `has`, or all rows of one region from `market`
   drops_group : (part : Part) {n : ℕ} → IsGroupedPart part → OfChange c (deletion (table_of part) 1) (int n ∷ [])
 
--- the statements of an upgrade: make the table `market`, and set the second format and the new world text in the
--- campaign row
+-- the statements of an upgrade: make the table `market`, and set the second format and the new world text `text` in the
+-- campaign row; nothing else of a row that is there changes
 pub data OfUpgrade (text : List ℕ) (c : CampaignValue) : List ℕ → Row → Type 0 where
   upgrades_tables : OfUpgrade text c (creation_of Markets) []
   upgrades_head : OfUpgrade text c upgrading_upsert (campaign_row_values (campaign_row_of c) text)
@@ -85,6 +85,6 @@ pub data OfJoining (faction : ℕ) (c : CampaignValue) : List ℕ → Row → Ty
   -- the people booked under joining are written
   joins_people : {sql : List ℕ} {params : Row} → OfAmount c Joining People sql params → OfJoining faction c sql params
 
--- the one statement of a mailing: it puts the faction's mail
+-- the one statement of a mailing: it puts `text` as the mail of the faction with this number
 abbrev pub OfMail : ℕ → List ℕ → Statements
 OfMail faction text = OneStatement (upsert mail_table 1) (mail_row faction text)

@@ -81,7 +81,7 @@ pub(crate) fn rewrite_campaign_row<S: Alter>(
     Ok(())
 }
 
-/// Whether a campaign row has the id of each campaign row, and the number of a format.
+/// Whether a campaign row has the id 1, as each campaign row has to, and the number of `format`.
 pub fn has_id_and_format(head: &StoredCampaignRow, format: Format) -> bool
     ensures { IsTrue result ↔
         ((head.now.id ≡ pos 1) × (head.now.format ≡ pos (format_number format))) }

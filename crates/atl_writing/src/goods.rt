@@ -1,5 +1,5 @@
 //! Writes what units have into the table `has`: a row for each item and each skill of a unit whose
-//! amount is not 0.
+//! amount is not 0. Each call is a step of a transaction: an error is one that the database gave.
 ghost use Rattle.std.specs.Prelude.{refl};
 ghost use Rattle.atl_descriptions.specs.Tables.{Goods, has_table};
 ghost use Rattle.atl_sql.specs.Shown.{has_row};
@@ -126,8 +126,8 @@ impl Grouped for Unit {
     }
 }
 
-/// Puts or deletes the marked rows of `has`: first those of units whose goods are all marked, then
-/// those of items, and then of skills, that are marked one by one.
+/// Puts the marked rows of `has`, or deletes those that the campaign lacks: first of units whose
+/// goods are all marked, then of items, and then of skills, that are marked one by one.
 pub(crate) fn rewrite_goods<S: Alter>(
     tx: &mut Transaction<'_, S>,
     campaign: &Campaign,

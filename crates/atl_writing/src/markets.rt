@@ -1,4 +1,5 @@
-//! Writes the stocks of markets, one row for each region and item whose stock is not 0.
+//! Writes the stocks of markets, one row for each region and item whose stock is not 0. Each call
+//! is a step of a transaction: an error is one that the database gave.
 ghost use Rattle.std.specs.Prelude.{refl};
 ghost use Rattle.atl_descriptions.specs.Tables.{Markets, market_table};
 ghost use Rattle.atl_sql.specs.Shown.{market_row};
@@ -146,8 +147,8 @@ impl SingleAmounts for SingleStocks {
     }
 }
 
-/// Puts or deletes the marked rows of `market`: first those of regions whose stocks are all marked,
-/// then those of stocks that are marked one by one.
+/// Puts the marked rows of `market`, or deletes those that the campaign lacks: first of regions
+/// whose stocks are all marked, then of stocks that are marked one by one.
 pub(crate) fn rewrite_stocks<S: Alter>(
     tx: &mut Transaction<'_, S>,
     campaign: &Campaign,

@@ -11,7 +11,8 @@ use atl_sql::rows::{put, take_out_number};
 use atl_world::{Entries, MarkedNumbers, Sequence};
 use sqlite::{Alter, Error, Transaction, params};
 
-/// Inserts the row of a faction's mailing into `mail`, or replaces the text of the faction's row.
+/// Inserts the row of a faction's mailing into `mail`, or replaces the text of the faction's row, as
+/// a step of a transaction. An error is one that the database gave.
 pub(crate) fn put_mail<S: Alter>(
     tx: &mut Transaction<'_, S>,
     faction: u32,
