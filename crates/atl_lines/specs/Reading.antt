@@ -51,7 +51,8 @@ pub record LineStep : Type 0 where
 abbrev pub step : Effect → ReaderState → (ℕ → Bool) → LineStep
 step effect state given = record { effect = effect; state = state; given = given }
 
--- the unit that an order is for, in a state of the reader; None if no unit is named, or in a skipped block
+-- the unit that an order is for, in a state of the reader: the unit that is named, or in an open block the new unit by
+-- its alias; None if no unit is named, or in a skipped block
 abbrev pub target : ReaderState → Option UnitRef
 target Nowhere = None
 target (At n) = Some (Number n)
@@ -63,7 +64,8 @@ abbrev pub state_naming_unit : Option ℕ → ReaderState
 state_naming_unit None = Nowhere
 state_naming_unit (Some n) = At n
 
--- the step of a UNIT line: an open block ends, and further orders are for its unit; on a fault they are for no unit
+-- the step of a UNIT line, by the number read after UNIT or its fault: an open block ends, and further orders are for
+-- the unit of this number; with a fault, which is the line's, they are for no unit
 abbrev pub unit_step : (ℕ → Bool) → Result (ℕ × List WordText) LineFault → LineStep
 unit_step given (Ok n) = step nothing (At n.0) given
 unit_step given (Err fault) = step (faulty fault) Nowhere given
@@ -102,12 +104,14 @@ abbrev pub effect_for : UnitRef → Result OrderValue LineFault → Effect
 effect_for unit (Ok order_value) = says unit order_value
 effect_for unit (Err fault) = faulty fault
 
--- the effect of an order's line, given the unit that it is for: the order or a fault, and NoUnit if it is for no unit
+-- the effect of an order's line, given the unit that it is for, if any: NoUnit if it is for none, whatever fault its
+-- words have; else the order, or the fault of its words
 abbrev pub order_effect : Option UnitRef → Result OrderValue LineFault → Effect
 order_effect None order_value = faulty NoUnit
 order_effect (Some unit) order_value = effect_for unit order_value
 
--- the step of a line by its keyword and the words after it; the fault is UnknownOrder if there is no keyword
+-- the step of a line by its keyword and the words after it; the fault is UnknownOrder if there is no keyword. This
+-- fault, and an order other than FORM, leave state and aliases.
 abbrev pub keyword_step : WorldValue → ReaderState → (ℕ → Bool) → Option Keyword → List WordText → LineStep
 keyword_step world state given None ws = step (faulty UnknownOrder) state given
 keyword_step world state given (Some keywords.Unit) ws = unit_step given (number_at ws)

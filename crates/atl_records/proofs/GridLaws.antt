@@ -216,7 +216,7 @@ booked-as_books rows t grid there =
     (λ i. sum_of (map (λ e. each e i) all_entries))
     ∙ ap sum_of (row_listed (row_of rows t) (grid.wide (thing_index t) [] there))
 
--- ---- for the code of Books: `row` is the row at `index`, that of thing t, which has one, and k is the index of entry e
+-- ---- for the code of Books: `row` is the row at `index`, that of thing t, which has a row; k is the index of entry e
 
 pub grid_there : (rows : List (List ℤ)) (books : BooksValue) (t : Thing) → as_books rows ≡ books
     → thing_index t < books.things → thing_index t < length rows

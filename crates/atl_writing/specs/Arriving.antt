@@ -79,8 +79,8 @@ pub record AddsJoin (faction : ℕ) (after : CampaignValue) (text : List ℕ) (o
   pub others : (part : Part) → ¬ Has (Own ∷ Factions ∷ Units ∷ Reports ∷ Books ∷ []) part
       → new.trees (table_of part).tree ≡ old.trees (table_of part).tree
 
--- the join of `faction` is written (`AddsJoin`), and the campaign row keeps its world text, if the table `campaign` held
--- one row, of the second format, whatever else it said
+-- the join of `faction` is written (`AddsJoin`), and the campaign row keeps its world text, if the table `campaign`
+-- held one row, of the second format, whatever else it said
 abbrev pub WritesJoin : ℕ → CampaignValue → Database → Database → Type 0
 WritesJoin faction after old new =
     (before : CampaignRowValue) (text : List ℕ)

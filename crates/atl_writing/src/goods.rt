@@ -43,7 +43,6 @@ struct UnitThings {
     sort: ThingKind,
 }
 
-/// Puts each item or skill as a row of `has`, whose key is unit, kind and thing.
 impl AmountWriter for UnitThings {
     ghost table = { has_table };
 
@@ -95,7 +94,6 @@ pub(crate) fn put_all_goods<S: Alter>(
     Ok(())
 }
 
-/// Rewrites all items and skills of a unit: its rows of `has`, whose key begins with its number.
 impl Grouped for Unit {
     ghost part = { Goods };
 

@@ -39,7 +39,6 @@ struct RegionStocks {
     region: u32,
 }
 
-/// Puts each stock as a row of `market`, whose key is region and item.
 impl AmountWriter for RegionStocks {
     ghost table = { market_table };
 
@@ -83,7 +82,6 @@ pub(crate) fn put_all_stocks<S: Alter>(
     Ok(())
 }
 
-/// Rewrites all stocks of a region: its rows of `market`, whose key begins with its number.
 impl Grouped for Region {
     ghost part = { Markets };
 
@@ -118,7 +116,6 @@ impl Grouped for Region {
 #[derive(Clone, Copy)]
 struct SingleStocks;
 
-/// Rewrites stocks that are marked one by one: each has a row of `market`, by region and item.
 impl SingleAmounts for SingleStocks {
     ghost table = { market_table };
 

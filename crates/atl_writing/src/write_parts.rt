@@ -72,7 +72,6 @@ pub(crate) trait WrittenPart {
             tx.new.conn };
 }
 
-/// Writes the parts of `X`, and then those of `Y`.
 impl<X: WrittenPart, Y: WrittenPart> WrittenPart for (X, Y) {
     ghost parts = { X.parts ++ Y.parts };
 

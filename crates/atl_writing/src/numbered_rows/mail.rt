@@ -1,4 +1,4 @@
-//! The mailings of a campaign as rows of `mail`.
+//! The mailings of a campaign as rows of `mail`. An error is one that the database gave.
 ghost use Rattle.std.specs.Prelude.{refl};
 ghost use Rattle.atl_descriptions.specs.Tables.{Mail, mail_table};
 ghost use Rattle.atl_sql.specs.Shown.{mail_row};
@@ -11,8 +11,7 @@ use atl_sql::rows::{put, take_out_number};
 use atl_world::{Entries, MarkedNumbers, Sequence};
 use sqlite::{Alter, Error, Transaction, params};
 
-/// Inserts the row of a faction's mailing into `mail`, or replaces the text of the faction's row, as
-/// a step of a transaction. An error is one that the database gave.
+/// Inserts the row of a faction's mailing into `mail`, or replaces the text of the faction's row.
 pub(crate) fn put_mail<S: Alter>(
     tx: &mut Transaction<'_, S>,
     faction: u32,
