@@ -1,5 +1,5 @@
--- What each order says: its verb, and what the words after it name. Words after these are ignored. See docs/RULES.md,
--- "Orders".
+-- What each order says: its verb, and its operands, which the words after it name. Words after these are ignored. The
+-- shape of a verb says which operands it takes. See docs/RULES.md, "Orders".
 use Rattle.std.specs.Prelude.{ℕ, List, [], ◌∷◌, codes, Option, Some, None, Result, Ok, Err, ◌==◌, if◌then◌else◌}
 use Rattle.std.specs.List.{slice_range}
 use Rattle.atl_world.specs.Names.{name_ok}
@@ -86,7 +86,7 @@ read_kind world (w ∷ ws) = do
   kind ← kind_at world (w ∷ ws)
   Ok (operands.Kind (Some kind))
 
--- the operands of a verb, read from the words after it by the verb's shape in the order table; or their first fault
+-- the operands of a verb that has this shape, read from the words after it; or their first fault
 abbrev pub read_operands : WorldValue → Shape → List WordText → Result OperandsValue LineFault
 read_operands world shapes.Nothing ws = Ok operands.Nothing
 read_operands world shapes.Alias ws = alias_at ws >>= λ alias. Ok (operands.Alias alias.0)

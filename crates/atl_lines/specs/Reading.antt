@@ -59,7 +59,7 @@ target (At n) = Some (Number n)
 target (Forming parent alias) = Some (Alias alias)
 target (Skipping parent) = None
 
--- the reader's state after a block has ended, by the unit that was named before the block, if one was
+-- the reader's state outside of blocks in which the unit of this number is named, or no unit if it is None
 abbrev pub state_naming_unit : Option ℕ → ReaderState
 state_naming_unit None = Nowhere
 state_naming_unit (Some n) = At n
@@ -70,8 +70,8 @@ abbrev pub unit_step : (ℕ → Bool) → Result (ℕ × List WordText) LineFaul
 unit_step given (Ok n) = step nothing (At n.0) given
 unit_step given (Err fault) = step (faulty fault) Nowhere given
 
--- the step of an END line: the open block ends, and the unit that was named before it, if one was, is named again; the
--- fault is EndAlone if no block is open
+-- the step of an END line: the open block ends, and the unit that was named before it, if one was, is named again; if
+-- no block is open, the fault is EndAlone, and the state stays
 abbrev pub end_step : ReaderState → (ℕ → Bool) → LineStep
 end_step Nowhere given = step (faulty EndAlone) Nowhere given
 end_step (At n) given = step (faulty EndAlone) (At n) given
@@ -82,8 +82,9 @@ end_step (Skipping parent) given = step nothing (state_naming_unit parent) given
 abbrev pub form_value : ℕ → OrderValue
 form_value alias = order_of verbs.Form (operands.Alias alias)
 
--- The step of a FORM line for the unit `parent`, outside of blocks: the order FORM for this unit; a new alias is given,
--- and its block opens. On a fault, as BadAlias for an alias given before, a skipped block opens.
+-- The step of a FORM line for the unit `parent`, outside of blocks, by the alias read after FORM or its fault: the order
+-- FORM for this unit; a new alias is given, and its block opens. On a fault, which is BadAlias for an alias given
+-- before, a skipped block opens.
 abbrev pub block_step : ℕ → (ℕ → Bool) → Result (ℕ × List WordText) LineFault → LineStep
 block_step parent given (Ok n) =
     if given n.0

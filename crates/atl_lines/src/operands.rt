@@ -1,6 +1,6 @@
 //! Reads the next words of a line as a number, a unit or a thing, or gives their first fault. See
 //! docs/RULES.md, "Orders" and "Names in orders". MissingWord comes where the line has no such
-//! word, BadAlias for another word after NEW, and the other faults for any other word.
+//! word, else the fault of a word that isn't as said. Of a unit, BadAlias is for that after NEW.
 ghost use Rattle.std.specs.Prelude.{◌≡◌, ◌≤◌, IfOk};
 ghost use Rattle.atl_words.specs.Limits.{most_number, last_alias};
 ghost use Rattle.atl_words.specs.Words.{words};

@@ -58,17 +58,14 @@ abbrev pub HasPut : Table → Row → Database → Database → Type 0
 HasPut table row old new = HasExactly (rows_in table new.trees) (put 1 row (Has (rows_in table old.trees)))
 
 -- What a join writes: the campaign row, the faction, its unit, which came last, its report, and what joining booked.
--- The campaign row has this world text, and every other row and table is as it was. If `after` lacks the faction, the
--- unit or the report, nothing is said of the table of what it lacks.
+-- The campaign row says what `after` says and has this world text, and every other row and table is as it was. If
+-- `after` lacks the faction, the unit or the report, nothing is said of the table of what it lacks.
 pub record AddsJoin (faction : ℕ) (after : CampaignValue) (text : List ℕ) (old new : Database) : Type 0 where
-  -- the campaign row is that of the campaign after the join, with this world text
   pub campaign : HasExactly (rows_in campaign_table new.trees) (λ r. r ≡ row_of_campaign text after)
-  -- the faction's row is put
   pub member : (f : Faction) → get after.factions faction ≡ Some f → HasPut faction_table (row_of_faction faction f) old new
   -- the row of the faction's unit, which came last, is put
   pub unit : (unit_number : ℕ) (u : Unit) → after.next_unit ≡ unit_number + 1 → get after.units unit_number ≡ Some u
       → HasPut unit_table (row_of_unit unit_number u) old new
-  -- the row of the faction's report is put
   pub report : (report : List ℕ) → get after.reports faction ≡ Some report
       → HasPut report_table (report_row faction report) old new
   -- the two amounts under joining, of money and of people, are written

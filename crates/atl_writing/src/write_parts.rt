@@ -86,7 +86,6 @@ impl<X: WrittenPart, Y: WrittenPart> WrittenPart for (X, Y) {
     }
 }
 
-/// Writes the things of a kind `V`, which the campaign holds in a map: one row under each number.
 impl<V: Mapped + Drop> WrittenPart for Numbered<V> {
     ghost parts = { V.NumberedRow.part ∷ [] };
 

@@ -23,7 +23,6 @@ pub(crate) fn put_mail<S: Alter>(
     put::<StoredMail, S>(tx, params![faction, text])
 }
 
-/// Its row has its faction's number, and the mailing byte for byte.
 impl NumberedRow for Sequence<u8> {
     ghost part = { Mail };
 
