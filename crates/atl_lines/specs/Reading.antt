@@ -82,9 +82,9 @@ end_step (Skipping parent) given = step nothing (state_naming_unit parent) given
 abbrev pub form_value : ℕ → OrderValue
 form_value alias = order_of verbs.Form (operands.Alias alias)
 
--- The step of a FORM line for the unit `parent`, outside of blocks, by the alias read after FORM or its fault: the order
--- FORM for this unit; a new alias is given, and its block opens. On a fault, which is BadAlias for an alias given
--- before, a skipped block opens.
+-- The step of a FORM line for the unit `parent`, outside of blocks, by the alias read after FORM or its fault. A new
+-- alias gives the order FORM for this unit, is given from now on, and its block opens. On a fault, which is BadAlias
+-- for an alias given before, a skipped block opens.
 abbrev pub block_step : ℕ → (ℕ → Bool) → Result (ℕ × List WordText) LineFault → LineStep
 block_step parent given (Ok n) =
     if given n.0

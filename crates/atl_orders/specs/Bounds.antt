@@ -1,5 +1,5 @@
 -- What holds of all mailings that are read: a faction in range, ascending line numbers, and orders with operands of the
--- verb's shape, numbers in range, names by their rule, and things of the world. The shape says which operands there are.
+-- verb's shape, which says of which kind they are, numbers in range, names by their rule, and things of the world.
 use Rattle.std.specs.Prelude.{◌≡◌, ◌≤◌, ◌<◌, ℕ, true, List, [], ◌∷◌, length, Some, None, Ok}
 use Rattle.std.specs.List.{All}
 use Rattle.atl_words.specs.Limits.{most_number, last_alias, last_faction}
