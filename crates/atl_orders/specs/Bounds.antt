@@ -32,7 +32,7 @@ IsUnitRef (Number n) = IsNumber n
 IsUnitRef (Alias alias) = IsAlias alias
 
 -- the operands of an order are in bounds: numbers and aliases in range, in a list one unit or more, names by the rule,
--- and things that a world has
+-- and things that the world has; a flag, a direction, no operand and no kind always are
 abbrev pub AreOperandsOf : WorldValue → OperandsValue → Type 0
 AreOperandsOf world operands.Nothing = Unit {0}
 AreOperandsOf world (operands.Alias alias) = IsAlias alias

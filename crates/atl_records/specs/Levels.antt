@@ -58,10 +58,10 @@ goods_weight w h = sum_by (λ e. e.1 * weight_of w e.0) (entries h.items)
 abbrev pub carried_by_goods : WorldValue → HoldingValue → ℕ
 carried_by_goods w h = sum_by (λ e. e.1 * carry_of w e.0) (entries h.items)
 
--- the weight of a unit: its men, at man_weight each, and its goods
+-- the weight of a unit: its men, at the rule man_weight each, and its goods; money weighs nothing
 abbrev pub load_of : WorldValue → HoldingValue → ℕ
 load_of w h = h.men * w.rules.man_weight + goods_weight w h
 
--- the weight that a unit can carry: its men, at man_carry each, and its goods that carry
+-- the weight that a unit can carry: what its men carry, at the rule man_carry each, and what its goods carry
 abbrev pub carried_by : WorldValue → HoldingValue → ℕ
 carried_by w h = h.men * w.rules.man_carry + carried_by_goods w h

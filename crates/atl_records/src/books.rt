@@ -208,8 +208,8 @@ impl Books {
         self.rows[thing.row_index()][entry.column()]
     }
 
-    /// Sets the amount of a thing under an entry. The books must have the thing. It takes no
-    /// memory.
+    /// Sets the amount of a thing under an entry, also to 0, which isn't listed. The books must
+    /// have the thing. It takes no memory.
     pub fn put(&mut self, entry: BooksEntry, thing: Thing, amount: i64)
         requires { thing_index thing < self.old.things }
         ensures { self.new ≡ with_amount self.old entry thing amount }

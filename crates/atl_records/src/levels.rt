@@ -131,8 +131,8 @@ fn carried_by_goods(world: &World, holding: &Holding) -> u64
     goods_measure(world, holding, Measure::Carry)
 }
 
-/// The weight of a unit: that of its men and of its goods. It takes no memory. See docs/RULES.md,
-/// "Levels and loads".
+/// The weight of a unit: that of its men and of its goods, without its money. It takes no memory.
+/// See docs/RULES.md, "Levels and loads".
 pub fn load(world: &World, holding: &Holding) -> u64
     ensures { result ≡ load_of world.now holding.now }
 {

@@ -71,7 +71,7 @@ abbrev pub RewritesMarked : {V : Type 0} → Table → (ℕ → V → Row) → F
 RewritesMarked table line values marks old new = Rewrites table (begins_marked marks) (RowsOf line values) old new
 
 -- in one table the rows of one unit or region, whose key begins with its number `n`, become those of the set `Wanted`
--- that begin with it; all other rows and tables stay
+-- that begin with `n`; all other rows and tables stay
 abbrev pub RewritesGroup : Table → Set → ℕ → Database → Database → Type 0
 RewritesGroup table Wanted n old new = Rewrites table (first_column_passes (equals_number n)) Wanted old new
 
