@@ -32,7 +32,7 @@ fn own_row(campaign: &Campaign) -> CampaignRow<'_>
 }
 
 /// Without a campaign row, inserts it, in the second format, with this world text. A row of the
-/// second format that is there becomes the campaign's; its own world text stays.
+/// second format, if it is the only one, becomes the campaign's; its own world text stays.
 pub fn put_campaign_row<S: Alter>(
     tx: &mut Transaction<'_, S>,
     campaign: &Campaign,
@@ -49,8 +49,8 @@ pub fn put_campaign_row<S: Alter>(
     put_campaign(tx, &row, world)
 }
 
-/// Gives the campaign row the second format and this world text. It has to be the row of `campaign`
-/// in the first format.
+/// Gives the campaign row the second format and this world text. It has to be the only row, and
+/// that of `campaign` in the first format, with any world text.
 pub(crate) fn upgrade_campaign_row<S: Alter>(
     tx: &mut Transaction<'_, S>,
     campaign: &Campaign,
