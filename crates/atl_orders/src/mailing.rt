@@ -158,8 +158,8 @@ fn find_header(text: &[u8]) -> Result<Header<'_>, MailFault>
 }
 
 /// Whether a text is a mailing of a faction: it has at most `MOST_BYTES` bytes, and its first line
-/// that begins with `#ATLANTIS` names the faction. It takes no memory. See docs/RULES.md, "Reading
-/// a mailing".
+/// that begins with `#ATLANTIS` names the faction. It takes no memory.
+/// See docs/RULES.md, "Reading a mailing".
 pub fn is_mailing_of(faction: u32, text: &[u8]) -> bool
     ensures { IsTrue result ↔ (IsMailingOf faction text.now) }
 {
