@@ -1,6 +1,6 @@
--- How the words after a keyword are read. NEW and the directions are read in any case (`is_word`). See docs/RULES.md,
--- "Orders" and "Names in orders". MissingWord is the fault where the line has no such word; the other fault that a
--- comment names is that of a word that isn't as said. Of a unit, BadAlias is for the word after NEW.
+-- How the words after a keyword are read. NEW and the directions are read in any case (`is_word`).
+-- See docs/RULES.md, "Orders" and "Names in orders". MissingWord comes where the line has no such word; the other fault
+-- that a comment names is that of a word that isn't as said. Of a unit, BadAlias is for the word after NEW.
 use Rattle.std.specs.Prelude.{ℕ, List, [], ◌∷◌, codes, Option, Some, None, Result, Ok, Err, ◌==◌, if◌then◌else◌}
 use Rattle.atl_words.specs.Limits.{last_alias, most_number}
 use Rattle.atl_world.specs.Worlds.{WorldValue}

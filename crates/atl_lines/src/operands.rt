@@ -1,5 +1,5 @@
-//! Reads the next words of a line as a number, a unit or a thing, or gives their first fault. See
-//! docs/RULES.md, "Orders" and "Names in orders". MissingWord comes where the line has no such
+//! Reads the next words of a line as a number, a unit or a thing, or gives their first fault.
+//! See docs/RULES.md, "Orders" and "Names in orders". MissingWord comes where the line has no such
 //! word, else the fault of a word that isn't as said. Of a unit, BadAlias is for that after NEW.
 ghost use Rattle.std.specs.Prelude.{◌≡◌, ◌≤◌, IfOk};
 ghost use Rattle.atl_words.specs.Limits.{most_number, last_alias};
